@@ -3,4 +3,3 @@ pub mod Skipping
 pub mod OpenStack
 pub mod Scanning
 pub mod Scanned
-pub mod HeadView

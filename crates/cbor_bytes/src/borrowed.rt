@@ -1,7 +1,7 @@
 //! Strings where they are in the bytes, in no memory of their own.
 ghost use Rattle.std.specs.Prelude.{◌≡◌, ◌<◌, ◌≤◌, length, IfOk, IfSome, option_map};
 ghost use Rattle.cbor_grammar.specs.declared.width.IntegerWidth.{IntegerWidth};
-ghost use Rattle.cbor_grammar.specs.mirror.StringView.{kind_view, kind_of, borrowed_chunk};
+ghost use Rattle.cbor_grammar.specs.mirror.StringView.{kind_of, borrowed_chunk};
 ghost use Rattle.cbor_grammar.specs.Reading.{Gives, read_content, read_chunk_length, read_chunk};
 
 use crate::strings::{read_chunk_length, split_at};
@@ -16,8 +16,8 @@ pub fn read_borrowed(
     bytes: &[u8],
 ) -> Result<(StringContent<'_>, &[u8])>
     ensures gives { (w : IntegerWidth) → Gives (λ x. (borrowed_chunk w x.0, x.1.now)) result
-        (read_content (kind_view kind) count w bytes.now) }
-    ensures kind { IfOk result (λ x. kind_of x.0 ≡ kind_view kind) }
+        (read_content kind count w bytes.now) }
+    ensures kind { IfOk result (λ x. kind_of x.0 ≡ kind) }
     ensures shorter { IfOk result (λ x. length x.1.now ≤ length bytes.now) }
 {
     let (content, rest) = split_at(bytes, count)?;
@@ -31,8 +31,8 @@ pub fn next_chunk(
     bytes: &[u8],
 ) -> Result<(Option<(StringContent<'_>, IntegerWidth)>, &[u8])>
     ensures gives { Gives (λ x. (option_map (λ c. borrowed_chunk c.1 c.0) x.0, x.1.now)) result
-        (read_chunk (kind_view kind) bytes.now) }
-    ensures kind { IfOk result (λ x. IfSome x.0 (λ c. kind_of c.0 ≡ kind_view kind)) }
+        (read_chunk kind bytes.now) }
+    ensures kind { IfOk result (λ x. IfSome x.0 (λ c. kind_of c.0 ≡ kind)) }
     ensures shorter { IfOk result (λ x. length x.1.now < length bytes.now) }
 {
     let (length, rest) = read_chunk_length(kind.major(), bytes)?;

@@ -1,38 +1,24 @@
 //! Heads (RFC 7049 section 2): the first byte of an item, and the number that goes with it.
 ghost use Rattle.std.specs.Prelude.{◌≡◌, ◌≢◌, ◌<◌, ◌≤◌, length, IfOk, IfErr};
 ghost use Rattle.std.specs.Int.{w8, w16, w32, w64};
+ghost use Rattle.std.specs.Result.{result_map_both};
 ghost use Rattle.cbor_grammar.specs.Head.{FitsStated};
 ghost use Rattle.cbor_grammar.specs.mirror.MajorNumber.{major_number};
-ghost use Rattle.cbor_bytes.specs.mirror.HeadView.{argument_view, head_view, Finds};
 ghost use Rattle.cbor_grammar.specs.Reading.{FitsArgument, read_number, read_argument};
 ghost use Rattle.cbor_grammar.specs.Reading.{simple_or_float, head_of, read_head};
 ghost use Rattle.std.specs.Prelude.{◌-◌, ◌*◌};
 ghost use Rattle.cbor_grammar.specs.WellFormed.{deepest};
 ghost use Rattle.cbor_grammar.specs.Reading.{no_level_left};
 
-use crate::argument::Argument;
+use cbor_grammar::argument::Argument;
+use cbor_grammar::head::ItemHead;
 use cbor_grammar::major::Major;
 use cbor_grammar::strings::StringKind;
 use cbor_grammar::{Error, FloatWidth, IntegerWidth, Result};
 
-/// What a head opens.
-#[derive(Clone, Copy)]
-pub enum ItemHead {
-    Integer(u64, IntegerWidth),
-    Negative(u64, IntegerWidth),
-    /// A string of that many bytes, or one in chunks.
-    String(StringKind, Argument),
-    /// An array of that many items.
-    Array(Argument),
-    /// A map of that many pairs.
-    Map(Argument),
-    Tag(u64, IntegerWidth),
-    Float(u64, FloatWidth),
-    Simple(u8),
-}
-
 fn read_u8(bytes: &[u8]) -> Result<(u8, &[u8])>
-    ensures gives { Finds (λ x. (x.0, x.1.now)) result (read_number w8 bytes.now) }
+    ensures gives { read_number w8 bytes.now
+        ≡ result_map_both (λ x. (x.0, x.1.now)) (λ e. e) result }
     ensures refused { IfErr result (λ e. e ≢ Error.Memory) }
 {
     match bytes {
@@ -42,7 +28,8 @@ fn read_u8(bytes: &[u8]) -> Result<(u8, &[u8])>
 }
 
 fn read_u16(bytes: &[u8]) -> Result<(u16, &[u8])>
-    ensures gives { Finds (λ x. (x.0, x.1.now)) result (read_number w16 bytes.now) }
+    ensures gives { read_number w16 bytes.now
+        ≡ result_map_both (λ x. (x.0, x.1.now)) (λ e. e) result }
     ensures refused { IfErr result (λ e. e ≢ Error.Memory) }
 {
     if bytes.len() < 2 {
@@ -53,7 +40,8 @@ fn read_u16(bytes: &[u8]) -> Result<(u16, &[u8])>
 }
 
 fn read_u32(bytes: &[u8]) -> Result<(u32, &[u8])>
-    ensures gives { Finds (λ x. (x.0, x.1.now)) result (read_number w32 bytes.now) }
+    ensures gives { read_number w32 bytes.now
+        ≡ result_map_both (λ x. (x.0, x.1.now)) (λ e. e) result }
     ensures refused { IfErr result (λ e. e ≢ Error.Memory) }
 {
     if bytes.len() < 4 {
@@ -65,7 +53,8 @@ fn read_u32(bytes: &[u8]) -> Result<(u32, &[u8])>
 }
 
 fn read_u64(bytes: &[u8]) -> Result<(u64, &[u8])>
-    ensures gives { Finds (λ x. (x.0, x.1.now)) result (read_number w64 bytes.now) }
+    ensures gives { read_number w64 bytes.now
+        ≡ result_map_both (λ x. (x.0, x.1.now)) (λ e. e) result }
     ensures refused { IfErr result (λ e. e ≢ Error.Memory) }
 {
     if bytes.len() < 8 {
@@ -82,10 +71,10 @@ fn read_u64(bytes: &[u8]) -> Result<(u64, &[u8])>
 #[tactic(auto, unfolding(cbor_grammar::specs::Reading::read_argument, cbor_grammar::specs::Reading::read_wide))]
 pub(super) fn read_argument(info: u8, bytes: &[u8]) -> Result<(Argument, &[u8])>
     requires { info < 32 }
-    ensures gives { Finds (λ x. (argument_view x.0, x.1.now)) result
-        (read_argument info bytes.now) }
+    ensures gives { read_argument info bytes.now
+        ≡ result_map_both (λ x. (x.0, x.1.now)) (λ e. e) result }
     ensures refused { IfErr result (λ e. e ≢ Error.Memory) }
-    ensures fits { IfOk result (λ x. FitsArgument (argument_view x.0)) }
+    ensures fits { IfOk result (λ x. FitsArgument x.0) }
     ensures shorter { IfOk result (λ x. length x.1.now ≤ length bytes.now) }
 {
     let (number, width, rest) = match info {
@@ -113,52 +102,48 @@ pub(super) fn read_argument(info: u8, bytes: &[u8]) -> Result<(Argument, &[u8])>
     Ok((Argument::Number(number, width), rest))
 }
 
-impl ItemHead {
-    /// In major type 7 a number of up to 8 bits is a simple value; a wider one is a float.
-    fn simple_or_float(number: u64, width: IntegerWidth) -> ItemHead
-        requires { FitsStated width number }
-        ensures { head_view result ≡ simple_or_float number width }
-    {
-        match width {
-            IntegerWidth::Sixteen => ItemHead::Float(number, FloatWidth::Sixteen),
-            IntegerWidth::ThirtyTwo => ItemHead::Float(number, FloatWidth::ThirtyTwo),
-            IntegerWidth::SixtyFour => ItemHead::Float(number, FloatWidth::SixtyFour),
-            IntegerWidth::Zero | IntegerWidth::Eight => ItemHead::Simple(number as u8),
-            // A head states its width.
-            IntegerWidth::Unknown => unreachable!(),
-        }
+/// In major type 7 a number of up to 8 bits is a simple value; a wider one is a float.
+fn simple_or_float(number: u64, width: IntegerWidth) -> ItemHead
+    requires { FitsStated width number }
+    ensures { result ≡ simple_or_float number width }
+{
+    match width {
+        IntegerWidth::Sixteen => ItemHead::Float(number, FloatWidth::Sixteen),
+        IntegerWidth::ThirtyTwo => ItemHead::Float(number, FloatWidth::ThirtyTwo),
+        IntegerWidth::SixtyFour => ItemHead::Float(number, FloatWidth::SixtyFour),
+        IntegerWidth::Zero | IntegerWidth::Eight => ItemHead::Simple(number as u8),
+        // A head states its width.
+        IntegerWidth::Unknown => unreachable!(),
     }
+}
 
-    /// What a head of that major type and argument opens. No item begins with a break.
-    #[tactic(auto, unfolding(cbor_grammar::specs::Reading::head_of))]
-    fn new(major: Major, argument: Argument) -> Result<ItemHead>
-        requires { FitsArgument (argument_view argument) }
-        ensures gives { Finds head_view result
-            (head_of (major_number major) (argument_view argument)) }
-        ensures refused { IfErr result (λ e. e ≢ Error.Memory) }
-    {
-        let head = match (major, argument) {
-            (Major::Bytes, length) => ItemHead::String(StringKind::Bytes, length),
-            (Major::Text, length) => ItemHead::String(StringKind::Text, length),
-            (Major::Array, count) => ItemHead::Array(count),
-            (Major::Map, count) => ItemHead::Map(count),
-            (Major::Unsigned, Argument::Number(value, width)) => ItemHead::Integer(value, width),
-            (Major::Negative, Argument::Number(value, width)) => ItemHead::Negative(value, width),
-            (Major::Tag, Argument::Number(tag, width)) => ItemHead::Tag(tag, width),
-            (Major::Special, Argument::Number(number, width)) => {
-                ItemHead::simple_or_float(number, width)
-            }
-            (_, Argument::Indefinite) => return Err(Error::Head),
-        };
-        Ok(head)
-    }
+/// What a head of that major type and argument opens. No item begins with a break.
+#[tactic(auto, unfolding(cbor_grammar::specs::Reading::head_of))]
+fn head_of(major: Major, argument: Argument) -> Result<ItemHead>
+    requires { FitsArgument argument }
+    ensures gives { head_of (major_number major) argument
+        ≡ result_map_both (λ x. x) (λ e. e) result }
+    ensures refused { IfErr result (λ e. e ≢ Error.Memory) }
+{
+    let head = match (major, argument) {
+        (Major::Bytes, length) => ItemHead::String(StringKind::Bytes, length),
+        (Major::Text, length) => ItemHead::String(StringKind::Text, length),
+        (Major::Array, count) => ItemHead::Array(count),
+        (Major::Map, count) => ItemHead::Map(count),
+        (Major::Unsigned, Argument::Number(value, width)) => ItemHead::Integer(value, width),
+        (Major::Negative, Argument::Number(value, width)) => ItemHead::Negative(value, width),
+        (Major::Tag, Argument::Number(tag, width)) => ItemHead::Tag(tag, width),
+        (Major::Special, Argument::Number(number, width)) => { simple_or_float(number, width) }
+        (_, Argument::Indefinite) => return Err(Error::Head),
+    };
+    Ok(head)
 }
 
 /// The head at the front. Inlined into the loop of each reader.
 #[inline(always)]
 #[tactic(auto, unfolding(cbor_grammar::specs::Reading::read_head))]
 pub fn read_head(bytes: &[u8]) -> Result<(ItemHead, &[u8])>
-    ensures gives { Finds (λ x. (head_view x.0, x.1.now)) result (read_head bytes.now) }
+    ensures gives { read_head bytes.now ≡ result_map_both (λ x. (x.0, x.1.now)) (λ e. e) result }
     ensures refused { IfErr result (λ e. e ≢ Error.Memory) }
     ensures shorter { IfOk result (λ x. length x.1.now < length bytes.now) }
 {
@@ -166,7 +151,7 @@ pub fn read_head(bytes: &[u8]) -> Result<(ItemHead, &[u8])>
         [] => Err(Error::CutShort),
         [first, rest @ ..] => {
             let (argument, rest) = read_argument(*first % 32, rest)?;
-            Ok((ItemHead::new(Major::of(*first), argument)?, rest))
+            Ok((head_of(Major::of(*first), argument)?, rest))
         }
     }
 }

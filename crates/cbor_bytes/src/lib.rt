@@ -5,7 +5,6 @@
 //! `hex_text` finds the bytes of hex with comments.
 #![tactic(auto)]
 
-pub mod argument;
 pub mod borrowed;
 pub mod head;
 pub mod hex_text;

@@ -22,18 +22,16 @@ ghost use Rattle.cbor_grammar.specs.WellFormed.{deepest, levels_left};
 ghost use Rattle.cbor_grammar.specs.Facts.{BeginsWithItem, IsCut, HasFault};
 ghost use Rattle.cbor_bytes.specs.Extent.{IfItem, IfFault, FaultEnds, IsExtent};
 ghost use Rattle.cbor_grammar.specs.Reading.{opened, read_item};
-ghost use Rattle.cbor_grammar.specs.ItemHead.{string};
-ghost use Rattle.cbor_bytes.specs.mirror.HeadView.{argument_view, head_view};
-ghost use Rattle.cbor_grammar.specs.mirror.StringView.{kind_view};
 ghost use Rattle.cbor_bytes.specs.mirror.Skipping.{here, Goes, StopsSo, stop_of};
 ghost use Rattle.cbor_bytes.specs.mirror.Skipping.{skip_content, skip_chunks, after_chunk};
 ghost use Rattle.cbor_bytes.specs.mirror.Skipping.{after_chunk_length};
 ghost use Rattle.cbor_bytes.specs.mirror.Skipping.{skip_item, skip_body, begun};
 
-use crate::argument::Argument;
-use crate::head::{ItemHead, read_argument, read_head};
+use crate::head::{read_argument, read_head};
 pub use answer::Extent;
 use cbor_grammar::Error;
+use cbor_grammar::argument::Argument;
+use cbor_grammar::head::ItemHead;
 use cbor_grammar::level::DEEPEST;
 use cbor_grammar::strings::StringKind;
 use outer::Outer;
@@ -73,9 +71,9 @@ enum Chunk {
 /// The bytes after a string of that length; its head is read already.
 fn after_content(kind: StringKind, count: u64, bytes: &[u8]) -> Result<&[u8], Stop>
     ensures goes { (w : IntegerWidth) → IfOk result (λ rest.
-        Goes (skip_content (kind_view kind) count w) here bytes.now rest.now) }
+        Goes (skip_content kind count w) here bytes.now rest.now) }
     ensures stops { (w : IntegerWidth) → IfErr result (λ stop.
-        StopsSo (skip_content (kind_view kind) count w) bytes.now stop) }
+        StopsSo (skip_content kind count w) bytes.now stop) }
     ensures shorter { IfOk result (λ rest. length rest.now ≤ length bytes.now) }
 {
     if (bytes.len() as u64) < count {
@@ -93,9 +91,9 @@ fn after_content(kind: StringKind, count: u64, bytes: &[u8]) -> Result<&[u8], St
 /// The length of the next chunk of an indefinite string, or `None` at its break, and the bytes
 /// after this head.
 fn read_chunk_length(kind: StringKind, bytes: &[u8]) -> Result<(Option<u64>, &[u8]), Stop>
-    ensures goes { IfOk result (λ x. Goes (skip_chunks (kind_view kind))
-        (after_chunk_length (kind_view kind) x.0) bytes.now x.1.now) }
-    ensures stops { IfErr result (λ stop. StopsSo (skip_chunks (kind_view kind)) bytes.now stop) }
+    ensures goes { IfOk result (λ x. Goes (skip_chunks kind)
+        (after_chunk_length kind x.0) bytes.now x.1.now) }
+    ensures stops { IfErr result (λ stop. StopsSo (skip_chunks kind) bytes.now stop) }
     ensures shorter { IfOk result (λ x. length x.1.now < length bytes.now) }
     ensures few { IfErr result (λ stop. stop ≡ Stop.Cut → length bytes.now ≤ 8) }
 {
@@ -120,8 +118,8 @@ fn read_chunk_length(kind: StringKind, bytes: &[u8]) -> Result<(Option<u64>, &[u
 /// The next chunk of an indefinite string, or its break, and the bytes after it.
 fn read_chunk(kind: StringKind, bytes: &[u8]) -> Result<(Chunk, &[u8]), Stop>
     ensures goes { IfOk result (λ x.
-        Goes (skip_chunks (kind_view kind)) (after_chunk (kind_view kind) x.0) bytes.now x.1.now) }
-    ensures stops { IfErr result (λ stop. StopsSo (skip_chunks (kind_view kind)) bytes.now stop) }
+        Goes (skip_chunks kind) (after_chunk kind x.0) bytes.now x.1.now) }
+    ensures stops { IfErr result (λ stop. StopsSo (skip_chunks kind) bytes.now stop) }
     ensures shorter { IfOk result (λ x. length x.1.now < length bytes.now) }
 {
     let (len, rest) = read_chunk_length(kind, bytes)?;
@@ -134,9 +132,8 @@ fn read_chunk(kind: StringKind, bytes: &[u8]) -> Result<(Chunk, &[u8]), Stop>
 
 /// The bytes after the break of an indefinite string; its opening byte is read already.
 fn after_chunks(kind: StringKind, bytes: &[u8]) -> Result<&[u8], Stop>
-    ensures goes { IfOk result
-        (λ rest. Goes (skip_chunks (kind_view kind)) here bytes.now rest.now) }
-    ensures stops { IfErr result (λ stop. StopsSo (skip_chunks (kind_view kind)) bytes.now stop) }
+    ensures goes { IfOk result (λ rest. Goes (skip_chunks kind) here bytes.now rest.now) }
+    ensures stops { IfErr result (λ stop. StopsSo (skip_chunks kind) bytes.now stop) }
     ensures shorter { IfOk result (λ rest. length rest.now ≤ length bytes.now) }
 {
     let mut rest = bytes;
@@ -153,7 +150,7 @@ fn after_chunks(kind: StringKind, bytes: &[u8]) -> Result<&[u8], Stop>
 #[inline(always)]
 fn read_item_head(bytes: &[u8], levels: usize) -> Result<(ItemHead, &[u8]), Stop>
     ensures goes { IfOk result (λ x.
-        Goes (skip_item levels) (skip_body (levels - 1) (head_view x.0)) bytes.now x.1.now) }
+        Goes (skip_item levels) (skip_body (levels - 1) x.0) bytes.now x.1.now) }
     ensures stops { IfErr result (λ stop. StopsSo (skip_item levels) bytes.now stop) }
     ensures shorter { IfOk result (λ x. length x.1.now < length bytes.now) }
     ensures level { IfOk result (λ x. 0 < levels) }
@@ -176,9 +173,9 @@ fn read_item_head(bytes: &[u8], levels: usize) -> Result<(ItemHead, &[u8]), Stop
 /// The bytes after a string of that length, or one in chunks; its head is read already.
 fn after_string(kind: StringKind, len: Argument, bytes: &[u8]) -> Result<&[u8], Stop>
     ensures goes { (left : ℕ) → IfOk result (λ rest. Goes (skip_body left
-        (string (kind_view kind) (argument_view len))) here bytes.now rest.now) }
+        (ItemHead.String kind len)) here bytes.now rest.now) }
     ensures stops { (left : ℕ) → IfErr result (λ stop. StopsSo (skip_body left
-        (string (kind_view kind) (argument_view len))) bytes.now stop) }
+        (ItemHead.String kind len)) bytes.now stop) }
     ensures shorter { IfOk result (λ rest. length rest.now ≤ length bytes.now) }
 {
     match len {
@@ -189,11 +186,11 @@ fn after_string(kind: StringKind, len: Argument, bytes: &[u8]) -> Result<&[u8], 
 
 /// The bytes after an item without parts; its head is read already.
 fn after_atom(head: ItemHead, bytes: &[u8]) -> Result<&[u8], Stop>
-    requires { opened (head_view head) ≡ None }
+    requires { opened head ≡ None }
     ensures goes { (left : ℕ) → IfOk result
-        (λ rest. Goes (skip_body left (head_view head)) here bytes.now rest.now) }
+        (λ rest. Goes (skip_body left head) here bytes.now rest.now) }
     ensures stops { (left : ℕ) → IfErr result
-        (λ stop. StopsSo (skip_body left (head_view head)) bytes.now stop) }
+        (λ stop. StopsSo (skip_body left head) bytes.now stop) }
     ensures shorter { IfOk result (λ rest. length rest.now ≤ length bytes.now) }
 {
     match head {

@@ -2,13 +2,13 @@
 //! 24 takes two bytes. It goes from head to head, and keeps nothing of what is open.
 ghost use Rattle.std.specs.Prelude.{◌≡◌, ◌≢◌, ◌↔◌, ◌<◌, ◌≤◌, ◌⊎◌, ◌/◌, ℕ, List, ◌∷◌, length, drop};
 ghost use Rattle.std.specs.Prelude.{IsTrue, IfSome};
-ghost use Rattle.cbor_bytes.specs.mirror.HeadView.{head_view};
 ghost use Rattle.cbor_grammar.specs.mirror.StrictHeads.{LongSimple, NoLongSimple, StrictHeads};
 ghost use Rattle.cbor_grammar.specs.mirror.StrictHeads.{after_content, IsNumberLen};
 ghost use Rattle.cbor_grammar.specs.mirror.StrictHeads.{BeginsString, IsBodyLen};
 
-use crate::argument::{Argument, after_break};
-use crate::head::{ItemHead, read_head};
+use crate::head::read_head;
+use cbor_grammar::argument::{Argument, after_break};
+use cbor_grammar::head::ItemHead;
 use memchr::memchr;
 
 /// Whether the bytes begin with a simple value below 24 in two bytes.
@@ -40,7 +40,7 @@ fn holds_long_simple(bytes: &[u8]) -> bool
 
 /// How many bytes of content follow a head: those of a string of definite length.
 fn content_len(head: ItemHead) -> u64
-    ensures { (b : List ℕ) → after_content (head_view head) b ≡ drop result b }
+    ensures { (b : List ℕ) → after_content head b ≡ drop result b }
 {
     match head {
         ItemHead::String(_, Argument::Number(count, _)) => count,

@@ -4,11 +4,11 @@ ghost use Rattle.std.specs.Prelude.{IfErr, map, option_map};
 ghost use Rattle.cbor_grammar.specs.mirror.MajorNumber.{major_number};
 ghost use Rattle.cbor_grammar.specs.Reading.{Gives, split_at, read_content, read_chunk_length};
 ghost use Rattle.cbor_grammar.specs.Reading.{read_chunk, read_chunks};
-ghost use Rattle.cbor_grammar.specs.mirror.Counting.{Runs};
+ghost use Rattle.cbor_grammar.specs.mirror.Counting.{GivesIn};
 
-use crate::argument::Argument;
 use crate::head::read_argument;
 use crate::turns::Turns;
+use cbor_grammar::argument::Argument;
 use cbor_grammar::major::Major;
 use cbor_grammar::strings::DefiniteString;
 use cbor_grammar::{Error, IntegerWidth, Result};
@@ -90,7 +90,7 @@ pub fn read_chunks<'a, S: DefiniteString>(
     turns: &mut Turns,
 ) -> Result<(Vec<S>, &'a [u8])>
     requires { turns.old + 2 * length bytes.now < 2 ^ 126 }
-    ensures gives { Runs (λ x. (map S.chunk x.0.items, x.1.now)) turns.old turns.new result
+    ensures gives { GivesIn (λ x. (map S.chunk x.0.items, x.1.now)) turns.old turns.new result
         (read_chunks (length bytes.now) S.kind bytes.now) }
     ensures falls { IfOk result (λ x.
         turns.new + 2 * length x.1.now ≤ turns.old + 2 * length bytes.now) }

@@ -3,16 +3,13 @@ pub mod mirror
 pub mod ItemAnswer
 -- what the crates below define, for callers
 pub use Rattle.cbor_grammar.specs.Answer
-pub use Rattle.cbor_grammar.specs.Appended
-pub use Rattle.cbor_grammar.specs.Argument
 pub use Rattle.cbor_grammar.specs.Bytes
 pub use Rattle.cbor_grammar.specs.Comments
 pub use Rattle.cbor_grammar.specs.Compact
-pub use Rattle.cbor_grammar.specs.ContainerStyle
+pub use Rattle.cbor_grammar.specs.Context
 pub use Rattle.cbor_grammar.specs.DeadEnd
 pub use Rattle.cbor_grammar.specs.Dump
 pub use Rattle.cbor_grammar.specs.Embedded
-pub use Rattle.cbor_grammar.specs.Encoding
 pub use Rattle.cbor_grammar.specs.Estimate
 pub use Rattle.cbor_grammar.specs.Examples
 pub use Rattle.cbor_bytes.specs.Extent
@@ -20,8 +17,6 @@ pub use Rattle.cbor_grammar.specs.Facts
 pub use Rattle.cbor_grammar.specs.Head
 pub use Rattle.cbor_grammar.specs.HexText
 pub use Rattle.cbor_grammar.specs.Item
-pub use Rattle.cbor_grammar.specs.ItemHead
-pub use Rattle.cbor_grammar.specs.Layout
 pub use Rattle.cbor_grammar.specs.Normal
 pub use Rattle.cbor_grammar.specs.Notation
 pub use Rattle.cbor_grammar.specs.NotationRefused

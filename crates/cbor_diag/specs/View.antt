@@ -2,7 +2,7 @@
 use Rattle.std.specs.Prelude.{List, map}
 use Rattle.cbor_grammar.specs.Item as spec
 use Rattle.cbor_grammar.specs.Item.{Item, Items, Pairs}
-use Rattle.cbor_grammar.specs.StringKind.{bytes_kind, text_kind}
+use Rattle.cbor_grammar.specs.declared.strings.StringKind.TheVariants.{Bytes, Text}
 use Rattle.cbor_diag.specs.declared.syntax.DataItem.{DataItem, fold-DataItem}
 use Rattle.cbor_diag.specs.declared.syntax.DataItem.TheOpen.{DataItem-F}
 use Rattle.cbor_grammar.specs.Item.{items_of, pairs_of}
@@ -12,10 +12,10 @@ use Rattle.cbor_grammar.specs.Strings.{byte_chunk, text_chunk}
 abbrev pub view_step : DataItem-F Item → Item
 view_step (DataItem-F.Integer n w) = spec.atom (spec.integer n w)
 view_step (DataItem-F.Negative n w) = spec.atom (spec.negative n w)
-view_step (DataItem-F.ByteString s) = spec.atom (spec.string bytes_kind (byte_chunk s))
-view_step (DataItem-F.TextString s) = spec.atom (spec.string text_kind (text_chunk s))
-view_step (DataItem-F.IndefiniteByteString v) = spec.atom (spec.chunked_string bytes_kind (map byte_chunk v.items))
-view_step (DataItem-F.IndefiniteTextString v) = spec.atom (spec.chunked_string text_kind (map text_chunk v.items))
+view_step (DataItem-F.ByteString s) = spec.atom (spec.string Bytes (byte_chunk s))
+view_step (DataItem-F.TextString s) = spec.atom (spec.string Text (text_chunk s))
+view_step (DataItem-F.IndefiniteByteString v) = spec.atom (spec.chunked_string Bytes (map byte_chunk v.items))
+view_step (DataItem-F.IndefiniteTextString v) = spec.atom (spec.chunked_string Text (map text_chunk v.items))
 view_step (DataItem-F.Array v w) = spec.array (items_of v.items) w
 view_step (DataItem-F.Map v w) = spec.map (pairs_of v.items) w
 view_step (DataItem-F.Tag t w v) = spec.tagged t.0 w v.value

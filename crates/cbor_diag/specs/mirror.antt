@@ -1,4 +1,5 @@
 -- Definitions that mirror the code. Only the checker reads them: no contract of a public call needs them.
+pub mod BytesAnswer
 pub mod Stack
 pub mod DeadEnds
 pub mod ChunkList

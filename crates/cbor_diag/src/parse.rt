@@ -4,6 +4,5 @@ mod hex_text;
 mod notation;
 
 pub use binary::{parse_bytes, parse_bytes_counted, parse_bytes_partial};
-pub(crate) use binary::{read_front, read_whole};
 pub use hex_text::parse_hex;
 pub use notation::{diag_fault, parse_diag};

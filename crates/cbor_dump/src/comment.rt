@@ -4,14 +4,12 @@ ghost use Rattle.std.specs.String.{string_bytes};
 ghost use Rattle.cbor_notes.specs.TagNames.{tag_name};
 ghost use Rattle.cbor_grammar.specs.Comments as spec;
 ghost use Rattle.cbor_dump.specs.mirror.Dumped.{IsHead, head_said};
-ghost use Rattle.cbor_notation.specs.mirror.EncodingView.{in_force};
-ghost use Rattle.cbor_bytes.specs.mirror.HeadView.{head_view};
 ghost use Rattle.cbor_dump.specs.mirror.ShownLines.{comment_text, head_comment, major_word};
 
-use cbor_bytes::head::ItemHead;
 use cbor_grammar::Tag;
+use cbor_grammar::encoding::Encoding;
+use cbor_grammar::head::ItemHead;
 use cbor_grammar::major::Major;
-use cbor_notation::encoding::Encoding;
 use cbor_notation::scalars::push_quoted;
 use cbor_notes::{
     push_element_text, push_escaped_text, push_grouped, push_hex, push_quoted_bytes, tag_name,
@@ -46,8 +44,8 @@ pub(super) enum Comment<'a> {
 impl<'a> Comment<'a> {
     /// What is said of a head, whose bytes these are.
     pub(super) fn of(head: ItemHead, bytes: &'a [u8]) -> Comment<'a>
-        requires { IsHead (head_view head) bytes.now }
-        ensures { comment_text result ≡ head_said (head_view head) }
+        requires { IsHead head bytes.now }
+        ensures { comment_text result ≡ head_said head }
     {
         match head {
             ItemHead::Integer(number, _) => Comment::Head(Major::Unsigned, number),
@@ -202,7 +200,7 @@ fn push_bytes(
     piece: &[u8],
 ) -> Result<(), AllocError>
     ensures { OnOk result (string_bytes out.new
-        ≡ string_bytes out.old ++ spec.bytes_comment (in_force encoding) whole.now piece.now) }
+        ≡ string_bytes out.old ++ spec.bytes_comment encoding whole.now piece.now) }
 {
     match encoding {
         None => push_quoted_bytes(out, piece),

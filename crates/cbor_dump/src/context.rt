@@ -1,10 +1,11 @@
 //! Where in a dump an item is.
 ghost use Rattle.std.specs.Prelude.{◌≡◌, ◌+◌};
+ghost use Rattle.cbor_grammar.specs.Comments.{encoding_below};
 ghost use Rattle.cbor_grammar.specs.Dump as spec;
 ghost use Rattle.cbor_dump.specs.mirror.Dumped.{context_view, IsContext};
 
 use cbor_grammar::Tag;
-use cbor_notation::encoding::{Encoding, encoding_below};
+use cbor_grammar::encoding::Encoding;
 
 /// Where in a dump an item is.
 #[derive(Clone, Copy)]
@@ -67,5 +68,20 @@ impl DumpContext {
             tag: Some(tag),
             shared: known,
         }
+    }
+}
+
+/// The encoding in which a dump shows byte strings below a tag: the tag's own (RFC 7049 section
+/// 2.4.4.2; base 16 below UUIDs and addresses, too), or the one outside.
+fn encoding_below(tag: Tag, outside: Option<Encoding>) -> Option<Encoding>
+    ensures { result ≡ encoding_below tag.0 outside }
+{
+    match tag {
+        Tag::ENCODED_BASE64URL => Some(Encoding::Base64Url),
+        Tag::ENCODED_BASE64 => Some(Encoding::Base64),
+        Tag::ENCODED_BASE16 | Tag::UUID | Tag::IPV4 | Tag::IPV6 | Tag::NETWORK_ADDRESS => {
+            Some(Encoding::Base16)
+        }
+        _ => outside,
     }
 }

@@ -8,8 +8,7 @@ ghost use Rattle.hex.specs.Hex.{encode_lower};
 ghost use Rattle.cbor_notes.specs.Ascii.{line_feed};
 ghost use Rattle.cbor_notes.specs.Columns.{IsColumn, Lacks, uncommented};
 ghost use Rattle.cbor_notes.specs.Layout.{width_of};
-ghost use Rattle.cbor_grammar.specs.Answer.{Outcome, GaveRefusal, RefusedSo};
-ghost use Rattle.cbor_grammar.specs.Appended.{GaveText};
+ghost use Rattle.cbor_grammar.specs.Answer.{Outcome, GaveRefusal, RefusedSo, GaveText};
 ghost use Rattle.cbor_grammar.specs.Dump as spec;
 ghost use Rattle.cbor_grammar.specs.Embedded.{EmbedsExactly, RejectsExactly};
 ghost use Rattle.cbor_grammar.specs.Facts.{IsItem, BeginsWithItem, IsCut, HasFault, IsNoItem};
@@ -40,8 +39,8 @@ fn dump_whole(alloc: Global, bytes: &[u8]) -> cbor_grammar::Result<String>
 /// Returns the one item that the bytes are as a dump: their hex digits, each line with a comment.
 ///
 /// It returns what [`parse_bytes`] and [`DataItem::to_hex`] return one after the other, the errors
-/// of [`parse_bytes`] included. It builds no item but the values of tags that may have a note, so it
-/// takes less time and less memory.
+/// of [`parse_bytes`] included. It builds no item but the values of tags that may have a note, so
+/// it takes less time and less memory.
 ///
 /// ```rust
 /// use cbor_diag::{Error, bytes_to_hex};
@@ -66,7 +65,8 @@ pub fn bytes_to_hex(alloc: Global, bytes: &[u8]) -> cbor_grammar::Result<String>
     ensures refused { RefusedSo result (IsNoItem bytes.now) }
     ensures every_refusal { (e : Error) → IsNoItem bytes.now e → GaveRefusal result e }
 
-    // Without its comments the dump is that item's encoding in hex, and it is read back as the item.
+    // Without its comments the dump is that item's encoding in hex, and it is read back as the
+    // item.
     ensures digits { IfOk result (λ s. (i : Item) × IsItem bytes.now i
         × (uncommented (string_bytes s) ≡ encode_lower (encoded i))) }
     ensures read_back { IfOk result (λ s. (i : Item) × IsItem bytes.now i
@@ -170,8 +170,8 @@ pub fn push_bytes_to_hex_partial(
 /// Returns the item of hex with comments as a dump.
 ///
 /// It returns what [`parse_hex`] and [`DataItem::to_hex`] return one after the other, the errors of
-/// [`parse_hex`] included. It builds no item but the values of tags that may have a note, so it takes
-/// less time and less memory.
+/// [`parse_hex`] included. It builds no item but the values of tags that may have a note, so it
+/// takes less time and less memory.
 ///
 /// ```rust
 /// use cbor_diag::hex_to_hex;

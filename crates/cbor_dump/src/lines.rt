@@ -1,31 +1,29 @@
 //! The lines of heads and of strings.
 ghost use Rattle.std.specs.Prelude.{◌≡◌, ◌<◌, ◌≤◌, ◌+◌, ◌*◌, ◌==◌, ◌++◌, ◌∷◌, [], length, OnOk};
 ghost use Rattle.std.specs.Prelude.{if◌then◌else◌, replicate};
-ghost use Rattle.std.specs.Str.{IsCharBoundary};
 ghost use Rattle.std.specs.String.{string_bytes};
 ghost use Rattle.cbor_grammar.specs.Comments.{simple_comment, text_comment};
 ghost use Rattle.cbor_grammar.specs.Dump as spec;
-ghost use Rattle.cbor_grammar.specs.Pieces.{text_pieces, text_cut as cut_of};
+ghost use Rattle.cbor_grammar.specs.Pieces.{text_pieces};
 ghost use Rattle.cbor_grammar.specs.Reading.{count_width};
 ghost use Rattle.cbor_grammar.specs.WellFormed.{deepest};
 ghost use Rattle.cbor_grammar.specs.Written.{encoded_head, encoded_simple};
 ghost use Rattle.cbor_grammar.specs.StringKind.{major_of};
 ghost use Rattle.cbor_dump.specs.mirror.Dumped.{context_view, tag_number, IsContext, Wrote};
 ghost use Rattle.cbor_dump.specs.mirror.Dumped.{IsHead, line_of_head};
-ghost use Rattle.cbor_notation.specs.mirror.EncodingView.{in_force};
-ghost use Rattle.cbor_bytes.specs.mirror.HeadView.{argument_view, head_view};
 ghost use Rattle.cbor_dump.specs.mirror.ShownLines.{comment_text, shown_line};
 ghost use Rattle.cbor_grammar.specs.mirror.StringView.{borrowed_chunk, bytes_of, kind_of};
 
 use crate::comment::Comment;
 use crate::context::DumpContext;
 use crate::hex_style::HexStyle;
+use crate::width::{PIECE, SHORT_TEXT, text_cut};
 use crate::writer::Writer;
-use cbor_bytes::argument::Argument;
-use cbor_bytes::head::ItemHead;
+use cbor_grammar::argument::Argument;
+use cbor_grammar::encoding::Encoding;
+use cbor_grammar::head::ItemHead;
 use cbor_grammar::strings::StringContent;
 use cbor_grammar::{IntegerWidth, Tag};
-use cbor_notation::encoding::Encoding;
 use cbor_notes::{element_size, push_blanks, push_gap};
 use std::alloc::AllocError;
 
@@ -93,8 +91,8 @@ impl Writer {
         bytes: &[u8],
     ) -> Result<(), AllocError>
         requires depth { depth < 140 }
-        requires bytes { IsHead (head_view head) bytes.now }
-        ensures { OnOk result (Wrote self.old self.new (line_of_head depth (head_view head) ∷ [])) }
+        requires bytes { IsHead head bytes.now }
+        ensures { OnOk result (Wrote self.old self.new (line_of_head depth head ∷ [])) }
     {
         match head {
             ItemHead::Simple(value) => self.simple(depth, value),
@@ -128,7 +126,7 @@ impl Writer {
     pub(super) fn close(&mut self, depth: usize, length: Argument) -> Result<(), AllocError>
         requires { depth < 140 }
         ensures { OnOk result (Wrote self.old self.new
-            (spec.close_lines depth (count_width (argument_view length)))) }
+            (spec.close_lines depth (count_width length))) }
     {
         match length {
             Argument::Number(..) => Ok(()),
@@ -160,14 +158,14 @@ impl Writer {
     ) -> Result<(), AllocError>
         requires { depth < 140 }
         ensures { OnOk result (Wrote self.old self.new
-            (spec.bytes_lines depth (in_force encoding) bytes.now)) }
+            (spec.bytes_lines depth encoding bytes.now)) }
     {
         if bytes.is_empty() {
             return self.piece_line(depth, bytes, &Comment::Empty);
         }
         let mut rest = bytes;
         'pieces: while !rest.is_empty() {
-            let (piece, after) = rest.split_at(rest.len().min(16));
+            let (piece, after) = rest.split_at(rest.len().min(PIECE));
             self.piece_line(depth, piece, &Comment::Bytes(encoding, bytes, piece))?;
             rest = after;
         }
@@ -197,7 +195,7 @@ impl Writer {
         requires { IsContext context.now }
         ensures { OnOk result (Wrote self.old self.new
             (spec.tagged_lines (context.now.depth + 1)
-            (in_force context.now.encoding) (tag_number context.now.tag) bytes.now)) }
+            context.now.encoding (tag_number context.now.tag) bytes.now)) }
     {
         let depth = context.depth + 1;
         let Some(tag) = context.tag else {
@@ -220,7 +218,7 @@ impl Writer {
         if text.is_empty() {
             return self.piece_line(depth, text.as_bytes(), &Comment::Empty);
         }
-        if text.len() <= 24 {
+        if text.len() <= SHORT_TEXT {
             return self.piece_line(depth, text.as_bytes(), &Comment::Text(text));
         }
         let mut rest = text;
@@ -270,13 +268,4 @@ impl Writer {
         )?;
         self.string_content(context, content)
     }
-}
-
-/// After how many bytes a text is cut: at most 16, before a character.
-fn text_cut(rest: &str) -> usize
-    requires { 0 < length rest.now }
-    ensures cut { result ≡ cut_of rest.now }
-    ensures boundary { IsCharBoundary rest.now result }
-{
-    rest.floor_char_boundary(16)
 }

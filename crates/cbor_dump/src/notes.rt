@@ -12,8 +12,9 @@ mod encoded;
 mod shared;
 mod value;
 
-use addresses::{Family, network_note};
+use addresses::{address_note, network_note};
 use cbor_grammar::Tag;
+use cbor_grammar::addresses::Family;
 use cbor_notes::element_size;
 use dates::{date_note, datetime_note, epoch_date_note, epoch_datetime_note};
 use encoded::{base64_note, url_note, uuid_note};
@@ -94,8 +95,8 @@ pub(super) fn value_note(
         Tag::BASE64URL => base64_note(alloc, true, value)?,
         Tag::BASE64 => base64_note(alloc, false, value)?,
         Tag::UUID => uuid_note(alloc, value)?,
-        Tag::IPV4 => Note::plain(alloc, Family::IPv4.note(alloc, value)?),
-        Tag::IPV6 => Note::plain(alloc, Family::IPv6.note(alloc, value)?),
+        Tag::IPV4 => Note::plain(alloc, address_note(alloc, Family::IPv4, value)?),
+        Tag::IPV6 => Note::plain(alloc, address_note(alloc, Family::IPv6, value)?),
         Tag::EPOCH_DATE => Note::plain(alloc, epoch_date_note(alloc, value)?),
         Tag::NETWORK_ADDRESS => Note::plain(alloc, network_note(alloc, value)?),
         Tag::DATE => Note::plain(alloc, date_note(alloc, value)?),

@@ -6,26 +6,23 @@ ghost use Rattle.std.specs.Prelude.{◌≡◌, ◌≤◌, ◌+◌, ℕ, List, Ok
 ghost use Rattle.std.specs.String.{string_bytes};
 ghost use Rattle.cbor_notes.specs.Layout.{width_of};
 ghost use Rattle.cbor_grammar.specs.declared.width.IntegerWidth.{IntegerWidth};
-ghost use Rattle.cbor_grammar.specs.Argument.{indefinite};
 ghost use Rattle.cbor_grammar.specs.Dump as spec;
 ghost use Rattle.cbor_grammar.specs.Item.{Item};
-ghost use Rattle.cbor_grammar.specs.ItemHead as item_head;
 ghost use Rattle.cbor_grammar.specs.Reading.{Fails};
 ghost use Rattle.cbor_grammar.specs.WellFormed.{deepest};
 ghost use Rattle.cbor_grammar.specs.mirror.AtLevel.{read_at, read_behind};
 ghost use Rattle.cbor_dump.specs.mirror.Dumped.{IsContext, Wrote, Dumped, DumpedBehind, dump_at};
 ghost use Rattle.cbor_dump.specs.mirror.Dumped.{embedded_lines, notes_there, value_note_there};
 ghost use Rattle.cbor_dump.specs.mirror.Dumped.{whole_note_there, sequence_notes_there};
-ghost use Rattle.cbor_bytes.specs.mirror.HeadView.{argument_view};
-ghost use Rattle.cbor_grammar.specs.mirror.StringView.{kind_view};
 
 use crate::context::DumpContext;
 use crate::notes::{Value, may_have_note, value_note};
 use crate::width::dump_width;
 use crate::writer::Writer;
-use cbor_bytes::argument::Argument;
 use cbor_bytes::borrowed::{next_chunk, read_borrowed};
-use cbor_bytes::head::{ItemHead, no_level_left, read_head};
+use cbor_bytes::head::{no_level_left, read_head};
+use cbor_grammar::argument::Argument;
+use cbor_grammar::head::ItemHead;
 use cbor_grammar::level::DEEPEST;
 use cbor_grammar::strings::StringKind;
 use cbor_grammar::{Error, Tag};
@@ -113,9 +110,9 @@ fn dump_items<'a>(
     requires context { IsContext context.now }
     requires level { context.now.level ≤ deepest }
     ensures dumped { IfOk result (λ rest. DumpedBehind context.now
-        (item_head.array (argument_view count)) bytes.now rest.now walk.old walk.new) }
+        (ItemHead.Array count) bytes.now rest.now walk.old walk.new) }
     ensures refused { IfErr result (λ e. Fails e (read_behind context.now.level
-        (item_head.array (argument_view count)) bytes.now)) }
+        (ItemHead.Array count) bytes.now)) }
 {
     let inner = context.inside();
     let mut rest = bytes;
@@ -142,9 +139,9 @@ fn dump_pairs<'a>(
     requires context { IsContext context.now }
     requires level { context.now.level ≤ deepest }
     ensures dumped { IfOk result (λ rest. DumpedBehind context.now
-        (item_head.map (argument_view count)) bytes.now rest.now walk.old walk.new) }
+        (ItemHead.Map count) bytes.now rest.now walk.old walk.new) }
     ensures refused { IfErr result (λ e. Fails e (read_behind context.now.level
-        (item_head.map (argument_view count)) bytes.now)) }
+        (ItemHead.Map count) bytes.now)) }
 {
     let inner = context.inside();
     let mut rest = bytes;
@@ -173,9 +170,9 @@ fn dump_tagged<'a>(
     requires context { IsContext context.now }
     requires level { context.now.level ≤ deepest }
     ensures dumped { (w : IntegerWidth) → IfOk result (λ rest. DumpedBehind context.now
-        (item_head.tag tag.0 w) bytes.now rest.now walk.old walk.new) }
+        (ItemHead.Tag tag.0 w) bytes.now rest.now walk.old walk.new) }
     ensures refused { (w : IntegerWidth) → IfErr result (λ e. Fails e (read_behind
-        context.now.level (item_head.tag tag.0 w) bytes.now)) }
+        context.now.level (ItemHead.Tag tag.0 w) bytes.now)) }
 {
     let inner = context.below(tag, walk.shared);
     walk.shared = shared_below(walk.shared, tag)?;
@@ -205,10 +202,9 @@ fn dump_string<'a>(
     requires context { IsContext context.now }
     requires level { context.now.level ≤ deepest }
     ensures dumped { IfOk result (λ rest. DumpedBehind context.now
-        (item_head.string (kind_view head.0) (argument_view head.1)) bytes.now rest.now
-        walk.old walk.new) }
+        (ItemHead.String head.0 head.1) bytes.now rest.now walk.old walk.new) }
     ensures refused { IfErr result (λ e. Fails e (read_behind context.now.level
-        (item_head.string (kind_view head.0) (argument_view head.1)) bytes.now)) }
+        (ItemHead.String head.0 head.1) bytes.now)) }
 {
     let (kind, length) = head;
     match length {
@@ -232,9 +228,9 @@ fn dump_chunks<'a>(
     requires context { IsContext context.now }
     requires level { context.now.level ≤ deepest }
     ensures dumped { IfOk result (λ rest. DumpedBehind context.now
-        (item_head.string (kind_view kind) indefinite) bytes.now rest.now walk.old walk.new) }
+        (ItemHead.String kind Argument.Indefinite) bytes.now rest.now walk.old walk.new) }
     ensures refused { IfErr result (λ e. Fails e (read_behind context.now.level
-        (item_head.string (kind_view kind) indefinite) bytes.now)) }
+        (ItemHead.String kind Argument.Indefinite) bytes.now)) }
 {
     let inner = context.inside();
     let mut rest = bytes;
@@ -379,8 +375,8 @@ fn embedded_sequence(walk: &mut Walk, context: &DumpContext, bytes: &[u8]) -> Re
     Ok(())
 }
 
-/// The note of an embedded item, which is at the front of the bytes: its dump, whose left column has
-/// that width. The item was read before, so the only error is out of memory.
+/// The note of an embedded item, which is at the front of the bytes: its dump, whose left column
+/// has that width. The item was read before, so the only error is out of memory.
 #[cycle(walk)]
 fn embedded_note(
     walk: &mut Walk,

@@ -5,32 +5,30 @@
 ghost use Rattle.std.specs.Prelude.{◌≡◌, ◌<◌, ◌≤◌, ◌+◌, ◌-◌, length, max, IfOk, IfErr};
 ghost use Rattle.std.specs.Str.{IsCharBoundary};
 ghost use Rattle.cbor_notes.specs.Layout.{width_of};
-ghost use Rattle.cbor_grammar.specs.Argument.{indefinite};
 ghost use Rattle.cbor_grammar.specs.Dump.{lines_at_level, top};
-ghost use Rattle.cbor_grammar.specs.ItemHead as item_head;
 ghost use Rattle.cbor_grammar.specs.Pieces.{text_cut as cut_of, text_pieces};
 ghost use Rattle.cbor_grammar.specs.Reading.{Fails, count_width};
 ghost use Rattle.cbor_grammar.specs.WellFormed.{deepest};
-ghost use Rattle.cbor_bytes.specs.mirror.HeadView.{argument_view, head_view};
 ghost use Rattle.cbor_grammar.specs.mirror.AtLevel.{read_at, read_behind};
 ghost use Rattle.cbor_dump.specs.mirror.Dumped.{tag_number};
-ghost use Rattle.cbor_grammar.specs.mirror.StringView.{bytes_of, kind_of, kind_view};
+ghost use Rattle.cbor_grammar.specs.mirror.StringView.{bytes_of, kind_of};
 ghost use Rattle.cbor_dump.specs.mirror.Widths as spec;
 ghost use Rattle.cbor_dump.specs.mirror.Widths.{IsPlace, Measured, MeasuredBehind};
 
-use cbor_bytes::argument::Argument;
 use cbor_bytes::borrowed::{next_chunk, read_borrowed};
-use cbor_bytes::head::{ItemHead, no_level_left, read_head};
+use cbor_bytes::head::{no_level_left, read_head};
 use cbor_grammar::Tag;
+use cbor_grammar::argument::Argument;
+use cbor_grammar::head::ItemHead;
 use cbor_grammar::level::DEEPEST;
 use cbor_grammar::strings::{StringContent, StringKind};
 use cbor_notes::element_size;
 
 /// How many bytes of a string a line shows at most.
-const PIECE: usize = 16;
+pub(crate) const PIECE: usize = 16;
 
 /// How many bytes a text has at most that is shown in one line.
-const SHORT_TEXT: usize = 24;
+pub(crate) const SHORT_TEXT: usize = 24;
 
 /// Where in a dump an item is, as far as its digits depend on it.
 #[derive(Clone, Copy)]
@@ -136,7 +134,7 @@ impl Reach {
     fn end(&mut self, depth: usize, count: Argument)
         requires depth { depth ≤ deepest + 2 }
         ensures { self.new.widest ≡ max self.old.widest
-            (spec.close_width depth (count_width (argument_view count))) }
+            (spec.close_width depth (count_width count)) }
     {
         match count {
             Argument::Number(..) => {}
@@ -178,10 +176,9 @@ impl Reach {
         requires place { IsPlace place }
         requires level { place.level ≤ deepest }
         ensures measured { IfOk result (λ rest. MeasuredBehind place
-            (item_head.array (argument_view count)) bytes.now rest.now self.old.widest
-            self.new.widest) }
+            (ItemHead.Array count) bytes.now rest.now self.old.widest self.new.widest) }
         ensures refused { IfErr result (λ e. Fails e (read_behind place.level
-            (item_head.array (argument_view count)) bytes.now)) }
+            (ItemHead.Array count) bytes.now)) }
     {
         let inner = place.inside();
         let mut rest = bytes;
@@ -208,10 +205,9 @@ impl Reach {
         requires place { IsPlace place }
         requires level { place.level ≤ deepest }
         ensures measured { IfOk result (λ rest. MeasuredBehind place
-            (item_head.map (argument_view count)) bytes.now rest.now self.old.widest
-            self.new.widest) }
+            (ItemHead.Map count) bytes.now rest.now self.old.widest self.new.widest) }
         ensures refused { IfErr result (λ e. Fails e (read_behind place.level
-            (item_head.map (argument_view count)) bytes.now)) }
+            (ItemHead.Map count) bytes.now)) }
     {
         let inner = place.inside();
         let mut rest = bytes;
@@ -237,10 +233,9 @@ impl Reach {
         requires place { IsPlace place }
         requires level { place.level ≤ deepest }
         ensures measured { IfOk result (λ rest. MeasuredBehind place
-            (item_head.string (kind_view head.0) (argument_view head.1)) bytes.now rest.now
-            self.old.widest self.new.widest) }
+            (ItemHead.String head.0 head.1) bytes.now rest.now self.old.widest self.new.widest) }
         ensures refused { IfErr result (λ e. Fails e (read_behind place.level
-            (item_head.string (kind_view head.0) (argument_view head.1)) bytes.now)) }
+            (ItemHead.String head.0 head.1) bytes.now)) }
     {
         let (kind, len) = head;
         match len {
@@ -264,10 +259,10 @@ impl Reach {
         requires place { IsPlace place }
         requires level { place.level ≤ deepest }
         ensures measured { IfOk result (λ rest. MeasuredBehind place
-            (item_head.string (kind_view kind) indefinite) bytes.now rest.now self.old.widest
+            (ItemHead.String kind Argument.Indefinite) bytes.now rest.now self.old.widest
             self.new.widest) }
         ensures refused { IfErr result (λ e. Fails e (read_behind place.level
-            (item_head.string (kind_view kind) indefinite) bytes.now)) }
+            (ItemHead.String kind Argument.Indefinite) bytes.now)) }
     {
         let depth = place.depth + 1;
         let mut rest = bytes;
@@ -296,10 +291,10 @@ impl Reach {
     }
 }
 
-/// How many bytes of a dump a head shows that took this many: the same, but for a simple value below
-/// 24, which one byte shows.
+/// How many bytes of a dump a head shows that took this many: the same, but for a simple value
+/// below 24, which one byte shows.
 fn shown_length(head: ItemHead, taken: usize) -> usize
-    ensures { result ≡ spec.shown_length (head_view head) taken }
+    ensures { result ≡ spec.shown_length head taken }
 {
     match head {
         ItemHead::Simple(value) => { if value < 24 { 1 } else { taken } }
@@ -353,8 +348,8 @@ fn text_piece(text: &str) -> usize
     longest
 }
 
-/// After how many bytes a text is cut: at most 16, before a character.
-fn text_cut(rest: &str) -> usize
+/// After how many bytes a text is cut: at most `PIECE`, before a character.
+pub(crate) fn text_cut(rest: &str) -> usize
     requires { 0 < length rest.now }
     ensures cut { result ≡ cut_of rest.now }
     ensures boundary { IsCharBoundary rest.now result }

@@ -32,8 +32,8 @@ impl Writer {
         }
     }
 
-    /// A writer for an embedded dump with a left column of that width: its lines are lines of a note
-    /// at a depth. It takes the text, and the caller puts it back.
+    /// A writer for an embedded dump with a left column of that width: its lines are lines of a
+    /// note at a depth. It takes the text, and the caller puts it back.
     pub(super) fn embedded(
         &mut self,
         alloc: Global,

@@ -29,11 +29,6 @@ pub record OneOutcome (level : ℕ) (b : List ℕ) : Type 0 where
   pub holds : IsOutcome level b outcome
   pub only : (other : Outcome) → IsOutcome level b other → other ≡ outcome
 
--- An error of a reader of the front of an input is true of it, out of memory aside.
-abbrev pub IsFrontError : ℕ → List ℕ → Error → Type 0
-IsFrontError level b refusal.Memory = Unit {0}
-IsFrontError level b e = IsOutcome level b (fault e)
-
 -- why an input is not one whole item
 abbrev pub IsRefused : ℕ → List ℕ → Error → Type 0
 IsRefused level b refusal.CutShort = Cut level b
@@ -43,17 +38,18 @@ IsRefused level b refusal.TooDeep = Fault level b refusal.TooDeep
 IsRefused level b refusal.Remaining = (i : Item) × (n : ℕ) × (n < length b) × Spells any level (take n b) i
 IsRefused level b _ = ⊥
 
--- An error of a reader of one whole item is true of the input, out of memory aside.
-abbrev pub IsWholeError : ℕ → List ℕ → Error → Type 0
-IsWholeError level b refusal.Memory = Unit {0}
-IsWholeError level b e = IsRefused level b e
+-- an error has this meaning, unless memory ran out
+abbrev pub UnlessMemory : (Error → Type 0) → Error → Type 0
+UnlessMemory Means refusal.Memory = Unit {0}
+UnlessMemory Means e = Means e
 
--- A printer of the front of an input gave this outcome, and of an item its text after the old one, or memory ran out.
-abbrev pub GavePart : (Item → List ℕ) → Result (Option ℕ) Error → List ℕ → List ℕ → Outcome → Type 0
-GavePart text (Ok (Some n)) old new o = (i : Item) × (o ≡ spelled i n) × (new ≡ old ++ text i)
-GavePart text (Ok None) old new o = o ≡ cut
-GavePart text (Err refusal.Memory) old new o = Unit {0}
-GavePart text (Err e) old new o = o ≡ fault e
+-- A call that appends the text of the item at the front gave this outcome, and of an item its text after the old one;
+-- or memory ran out.
+abbrev pub GaveText : (Item → List ℕ) → Result (Option ℕ) Error → List ℕ → List ℕ → Outcome → Type 0
+GaveText text (Ok (Some n)) old new o = (i : Item) × (o ≡ spelled i n) × (new ≡ old ++ text i)
+GaveText text (Ok None) old new o = o ≡ cut
+GaveText text (Err refusal.Memory) old new o = Unit {0}
+GaveText text (Err e) old new o = o ≡ fault e
 
 -- A reader refused so, or memory ran out.
 abbrev pub GaveRefusal : {X : Type 0} → Result X Error → Error → Type 0

@@ -8,7 +8,8 @@ use Rattle.cbor_grammar.specs.Item as spec
 use Rattle.cbor_grammar.specs.Item.{Chunk, Atom, integer, negative, string, chunked_string, float, simple, Item, atom}
 use Rattle.cbor_grammar.specs.Item.{array, tagged, Items, no_items, item, Pairs, no_pairs, pair, item_count, pair_count}
 use Rattle.cbor_grammar.specs.Head.{opening, break_byte, HeadThen}
-use Rattle.cbor_grammar.specs.StringKind.{StringKind, major_of, IsContent}
+use Rattle.cbor_grammar.specs.declared.strings.StringKind.{StringKind}
+use Rattle.cbor_grammar.specs.StringKind.{major_of, IsContent}
 use Rattle.cbor_grammar.specs.WellFormed.{deepest, FitsFloat}
 
 -- An item whose widths are stated has one spelling, but for simple values below 24 (RFC 7049 section

@@ -4,7 +4,8 @@ use Rattle.std.specs.Prelude.{Option, Some, None, if◌then◌else◌}
 use Rattle.hex.specs.Hex.{encode_lower}
 use Rattle.cbor_notes.specs.TagNames.{tag_name}
 use Rattle.cbor_notes.specs.Text.{grouped, quoted_bytes, escaped_text}
-use Rattle.cbor_grammar.specs.Encoding.{Encoding, Base16, Base64, Base64Url}
+use Rattle.cbor_grammar.specs.declared.encoding.Encoding.{Encoding}
+use Rattle.cbor_grammar.specs.declared.encoding.Encoding.TheVariants.{Base16, Base64, Base64Url}
 use Rattle.cbor_grammar.specs.NotationText.{quoted}
 
 abbrev pub in_brackets : List ℕ → List ℕ → List ℕ

@@ -1,7 +1,7 @@
 -- Diagnostic notation on one line, without blanks (RFC 7049 section 6).
 use Rattle.std.specs.Prelude.{ℕ, List}
-use Rattle.cbor_grammar.specs.Encoding.{Encoding}
-use Rattle.cbor_grammar.specs.Layout.{Compact}
+use Rattle.cbor_grammar.specs.declared.encoding.Encoding.{Encoding}
+use Rattle.cbor_grammar.specs.declared.layout.Layout.TheVariants.{Compact}
 use Rattle.cbor_grammar.specs.Item.{Item}
 use Rattle.cbor_grammar.specs.NotationText.{in_encoding, text_at_level}
 

@@ -1,5 +1,5 @@
 -- Where notation is wrong, in the words of the clauses of `diag_fault`.
-use Rattle.std.specs.Prelude.{◌≡◌, ◌≤◌, ◌⊎◌, ◌==◌, ◌||◌, ◌&&◌, not, ℕ, Bool, true, false, if◌then◌else◌, IsTrue}
+use Rattle.std.specs.Prelude.{◌≡◌, ◌≤◌, ◌⊎◌, ◌==◌, ◌||◌, ◌&&◌, not, ℕ, Bool, true, false, if◌then◌else◌}
 use Rattle.std.specs.Prelude.{List, [], ◌∷◌, ◌++◌, length, take, codes}
 use Rattle.cbor_notes.specs.Ascii.{quote, apostrophe, backslash, slash}
 use Rattle.cbor_notes.specs.Token.{in_quotes}
@@ -63,13 +63,13 @@ inside [] = []
 inside (b ∷ opening) = if (b == quote) || (b == apostrophe) then 50 ∷ [] else []
 
 -- With other text in place of an unfinished end, it is such.
-abbrev pub IsCut : {X : Type 0} → (List ℕ → X → Type 0) → List ℕ → Type 0
-IsCut Is text = (front opening back : List ℕ) × (text ≡ front ++ (opening ++ back)) × GoesOn Is (front ++ (opening ++ inside opening))
+abbrev pub CutOf : {X : Type 0} → (List ℕ → X → Type 0) → List ℕ → Type 0
+CutOf Is text = (front opening back : List ℕ) × (text ≡ front ++ (opening ++ back)) × GoesOn Is (front ++ (opening ++ inside opening))
     × IsUnfinished opening back
 
 -- What an error and a number of first bytes say of a text that is no notation. It is cut short, all of it;
 -- or the error says why it is none, and these first bytes are a dead end.
 abbrev pub IsDiagFault : List ℕ → Error → ℕ → Type 0
 IsDiagFault text refusal.CutShort end = (end ≡ length text) × ((i : Item) → ¬ (IsNotation text i))
-    × IsCut IsNotation text
+    × CutOf IsNotation text
 IsDiagFault text e end = IsNoNotation text e × (end ≤ length text) × IsDeadEnd (take end text)

@@ -10,12 +10,14 @@ use Rattle.cbor_notes.specs.Layout.{DumpLine, layout, row, width_of}
 use Rattle.cbor_grammar.specs.declared.error.Error.{Error}
 use Rattle.cbor_grammar.specs.declared.error.Error.TheVariants.{Remaining}
 use Rattle.cbor_grammar.specs.declared.width.IntegerWidth.{IntegerWidth}
-use Rattle.cbor_grammar.specs.Encoding.{Encoding}
+use Rattle.cbor_grammar.specs.declared.encoding.Encoding.{Encoding}
 use Rattle.cbor_grammar.specs.Item as spec
 use Rattle.cbor_grammar.specs.Item.{Chunk, Atom, integer, negative, string, chunked_string, float, simple, Item, atom}
 use Rattle.cbor_grammar.specs.Item.{array, tagged, Items, no_items, item, Pairs, no_pairs, pair, item_count, pair_count}
 use Rattle.cbor_grammar.specs.Head.{opening, break_byte}
-use Rattle.cbor_grammar.specs.StringKind.{StringKind, bytes_kind, text_kind, major_of}
+use Rattle.cbor_grammar.specs.declared.strings.StringKind.{StringKind}
+use Rattle.cbor_grammar.specs.declared.strings.StringKind.TheVariants.{Bytes, Text}
+use Rattle.cbor_grammar.specs.StringKind.{major_of}
 use Rattle.cbor_grammar.specs.Written.{encoded_head, encoded_open, encoded_float, encoded_simple}
 use Rattle.cbor_grammar.specs.Comments.{unsigned_comment, negative_comment, float_comment, simple_comment}
 use Rattle.cbor_grammar.specs.Comments.{counted_comment}
@@ -92,13 +94,13 @@ tagged_lines depth encoding (Some t) bytes = sized_lines depth encoding t (eleme
 
 -- what a string is called in a comment
 abbrev pub string_word : StringKind → List ℕ
-string_word bytes_kind = codes "bytes"
-string_word text_kind = codes "text"
+string_word Bytes = codes "bytes"
+string_word Text = codes "text"
 
 -- the content of a string there, one deeper
 abbrev pub string_content_lines : StringKind → Context → List ℕ → List DumpLine
-string_content_lines bytes_kind p bytes = tagged_lines (p.depth + 1) p.encoding p.tag bytes
-string_content_lines text_kind p bytes = content_lines (p.depth + 1) text_comment (text_pieces bytes)
+string_content_lines Bytes p bytes = tagged_lines (p.depth + 1) p.encoding p.tag bytes
+string_content_lines Text p bytes = content_lines (p.depth + 1) text_comment (text_pieces bytes)
 
 -- a string of definite length: its head, and its content
 abbrev pub string_lines : StringKind → Context → Chunk → List DumpLine
@@ -185,7 +187,7 @@ failed_note what e = record { text = what; below = text_of e ∷ [] }
 
 -- the bytes of a byte string of definite length
 abbrev pub bytes_in : Item → Option (List ℕ)
-bytes_in (atom (string bytes_kind c)) = Some c.bytes
+bytes_in (atom (string Bytes c)) = Some c.bytes
 bytes_in _ = None
 
 -- tag 24: the item that the bytes are, with the lines that `dump` gives it (RFC 7049 section 2.4.4.1)

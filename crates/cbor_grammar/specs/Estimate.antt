@@ -3,7 +3,8 @@ use Rattle.std.specs.Prelude.{ℕ, ◌+◌, ◌*◌, List, length, sum_by}
 use Rattle.std.specs.Fmt.{decimal}
 use Rattle.cbor_grammar.specs.declared.width.FloatWidth.{FloatWidth}
 use Rattle.cbor_grammar.specs.declared.width.FloatWidth.TheVariants as float_width
-use Rattle.cbor_grammar.specs.StringKind.{StringKind, bytes_kind, text_kind}
+use Rattle.cbor_grammar.specs.declared.strings.StringKind.{StringKind}
+use Rattle.cbor_grammar.specs.declared.strings.StringKind.TheVariants.{Bytes, Text}
 use Rattle.cbor_grammar.specs.Item as spec
 use Rattle.cbor_grammar.specs.Item.{Chunk, Atom, integer, negative, string, chunked_string}
 use Rattle.cbor_grammar.specs.Item.{float, simple, Item, atom, array, tagged, Items, no_items, item, Pairs, no_pairs}
@@ -15,8 +16,8 @@ digit_count n = length (decimal n)
 
 -- bytes as digits of base 16
 abbrev pub estimated_string : StringKind → Chunk → ℕ
-estimated_string bytes_kind c = 2 * length c.bytes + 4
-estimated_string text_kind c = length c.bytes + 2
+estimated_string Bytes c = 2 * length c.bytes + 4
+estimated_string Text c = length c.bytes + 2
 
 abbrev pub estimated_chunks : StringKind → List Chunk → ℕ
 estimated_chunks kind cs = sum_by (λ c. estimated_string kind c + 2) cs

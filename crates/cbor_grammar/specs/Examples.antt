@@ -4,14 +4,14 @@ use Rattle.cbor_grammar.specs.declared.width.IntegerWidth.TheVariants.{Unknown, 
 use Rattle.cbor_grammar.specs.Item as spec
 use Rattle.cbor_grammar.specs.Item.{Chunk, Item, Items, atom, array, tagged, integer, string, chunked_string, simple}
 use Rattle.cbor_grammar.specs.Item.{no_items, item, no_pairs, pair}
-use Rattle.cbor_grammar.specs.StringKind.{bytes_kind, text_kind}
+use Rattle.cbor_grammar.specs.declared.strings.StringKind.TheVariants.{Bytes, Text}
 
 abbrev pub small : ℕ → Item
 small n = atom (integer n Zero)
 
 -- tag 32 over the text https://example.com
 abbrev pub uri : Item
-uri = tagged 32 Eight (atom (string text_kind (record { bytes = codes "https://example.com"; width = Zero })))
+uri = tagged 32 Eight (atom (string Text (record { bytes = codes "https://example.com"; width = Zero })))
 
 abbrev pub uri_bytes : List ℕ
 uri_bytes = 0xd8 ∷ 0x20 ∷ 0x73 ∷ codes "https://example.com"
@@ -32,7 +32,7 @@ resolved_count = array (item (small 0) no_items) (Some Zero)
 
 -- a byte string of these bytes, its length in the first byte
 abbrev pub bytes : List ℕ → Item
-bytes b = atom (string bytes_kind (record { bytes = b; width = Zero }))
+bytes b = atom (string Bytes (record { bytes = b; width = Zero }))
 
 -- a tag of one byte over these bytes
 abbrev pub over_bytes : ℕ → List ℕ → Item
@@ -59,7 +59,7 @@ ones n = array (repeated n (small 1)) (Some Zero)
 
 -- an indefinite byte string of two chunks
 abbrev pub two_chunks : Item
-two_chunks = atom (chunked_string bytes_kind
+two_chunks = atom (chunked_string Bytes
     (record { bytes = 1 ∷ []; width = Zero } ∷ record { bytes = 2 ∷ []; width = Zero } ∷ []))
 
 -- a chunk of these bytes, its length in the first byte
@@ -85,7 +85,7 @@ abbrev pub chunk : List ℕ → Chunk
 chunk content = record { bytes = content; width = Unknown }
 
 abbrev pub open_bytes : List ℕ → Item
-open_bytes content = atom (string bytes_kind (chunk content))
+open_bytes content = atom (string Bytes (chunk content))
 
 -- texts that are no item in diagnostic notation
 abbrev pub no_items_in_notation : List (List ℕ)

@@ -5,7 +5,7 @@ use Rattle.cbor_grammar.specs.Item.{Item}
 use Rattle.cbor_grammar.specs.WellFormed.{WellFormed}
 use Rattle.cbor_grammar.specs.Bytes.{any, strict, Spells}
 use Rattle.cbor_grammar.specs.Refused.{Cut, Fault}
-use Rattle.cbor_grammar.specs.Encoding.{Base16}
+use Rattle.cbor_grammar.specs.declared.encoding.Encoding.TheVariants.{Base16}
 use Rattle.cbor_grammar.specs.Compact.{compact}
 use Rattle.cbor_grammar.specs.Pretty.{pretty}
 use Rattle.cbor_grammar.specs.Normal.{normal}

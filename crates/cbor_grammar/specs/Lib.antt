@@ -8,11 +8,8 @@ pub mod Written
 pub mod Bytes
 pub mod Refused
 pub mod Turns
-pub mod Argument
-pub mod ItemHead
 pub mod Reading
 pub mod Answer
-pub mod Appended
 pub mod HexText
 pub mod Notation
 pub mod Examples
@@ -21,9 +18,7 @@ pub mod Pieces
 pub mod Dump
 pub mod Embedded
 pub mod Estimate
-pub mod Encoding
-pub mod Layout
-pub mod ContainerStyle
+pub mod Context
 pub mod NotationText
 pub mod Notes
 pub mod Compact

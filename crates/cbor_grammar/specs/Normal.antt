@@ -8,7 +8,7 @@ use Rattle.cbor_grammar.specs.Item as spec
 use Rattle.cbor_grammar.specs.Item.{Chunk, Atom, integer, negative, string, chunked_string}
 use Rattle.cbor_grammar.specs.Item.{float, simple, Item, atom, array, tagged, Items, no_items, item, Pairs, no_pairs}
 use Rattle.cbor_grammar.specs.Item.{pair}
-use Rattle.cbor_grammar.specs.StringKind.{bytes_kind, text_kind}
+use Rattle.cbor_grammar.specs.declared.strings.StringKind.TheVariants.{Bytes, Text}
 use Rattle.cbor_grammar.specs.Written.{encoded, encoded_items, resolve_float}
 use Rattle.cbor_grammar.specs.Embedded.{embedded_at, sequence_at}
 
@@ -57,9 +57,9 @@ normal_content left into (Some t) b =
 abbrev pub normal_atom : ℕ → (Option ℕ → Item → Item) → Option ℕ → Atom → Atom
 normal_atom left into tag (integer n w) = integer n (normal_width w n)
 normal_atom left into tag (negative n w) = negative n (normal_width w n)
-normal_atom left into tag (string bytes_kind c) =
-    string bytes_kind (record { bytes = normal_content left (into None) tag c.bytes; width = Unknown })
-normal_atom left into tag (string text_kind c) = string text_kind (normal_chunk c)
+normal_atom left into tag (string Bytes c) =
+    string Bytes (record { bytes = normal_content left (into None) tag c.bytes; width = Unknown })
+normal_atom left into tag (string Text c) = string Text (normal_chunk c)
 normal_atom left into tag (chunked_string kind cs) = chunked_string kind (map normal_chunk cs)
 normal_atom left into tag (float bits w) = float bits (resolve_float w)
 normal_atom left into tag (simple n) = simple n

@@ -19,7 +19,9 @@ use Rattle.cbor_grammar.specs.Item.{float, simple, Item, atom, array, tagged, It
 use Rattle.cbor_grammar.specs.Item.{pair}
 use Rattle.cbor_grammar.specs.Head.{FitsWidth}
 use Rattle.cbor_grammar.specs.WellFormed.{deepest}
-use Rattle.cbor_grammar.specs.StringKind.{StringKind, bytes_kind, text_kind, IsContent, no_chunks}
+use Rattle.cbor_grammar.specs.declared.strings.StringKind.{StringKind}
+use Rattle.cbor_grammar.specs.declared.strings.StringKind.TheVariants.{Bytes, Text}
+use Rattle.cbor_grammar.specs.StringKind.{IsContent, no_chunks}
 use Rattle.cbor_grammar.specs.Written.{encoded_items}
 
 -- whitespace and comments, perhaps none
@@ -135,8 +137,8 @@ pub data Notation (Read : List ℕ → Item → Type 0) : List ℕ → List ℕ 
 
 -- a piece of a string: a notation of bytes, or in a text string a text, too
 abbrev pub PieceOf : StringKind → (List ℕ → Item → Type 0) → List ℕ → List ℕ → Type 0
-PieceOf bytes_kind Read text bytes = Notation Read text bytes
-PieceOf text_kind Read text bytes = QuotedBy quote text bytes ⊎ Notation Read text bytes
+PieceOf Bytes Read text bytes = Notation Read text bytes
+PieceOf Text Read text bytes = QuotedBy quote text bytes ⊎ Notation Read text bytes
 
 -- one piece or more, with blanks between them, and what they are together
 pub data Joined (Piece : List ℕ → List ℕ → Type 0) : List ℕ → List ℕ → Type 0 where
@@ -147,8 +149,8 @@ pub data Joined (Piece : List ℕ → List ℕ → Type 0) : List ℕ → List �
 
 -- a text string begins with a text
 abbrev pub BeginsAs : StringKind → List ℕ → Type 0
-BeginsAs bytes_kind text = Unit {0}
-BeginsAs text_kind text = (rest : List ℕ) × (text ≡ codes "\"" ++ rest)
+BeginsAs Bytes text = Unit {0}
+BeginsAs Text text = (rest : List ℕ) × (text ≡ codes "\"" ++ rest)
 
 -- a string: its pieces, which together are UTF-8 in a text string; the width of its length is unstated
 abbrev pub StringOf : StringKind → (List ℕ → Item → Type 0) → List ℕ → Chunk → Type 0
@@ -162,7 +164,7 @@ ChunksOf kind Read text cs = Listed (λ member c. Blanked (λ core. StringOf kin
 
 -- `(_ )`, without a chunk, is a byte string
 abbrev pub ShowsKind : StringKind → List Chunk → Type 0
-ShowsKind kind [] = kind ≡ bytes_kind
+ShowsKind kind [] = kind ≡ Bytes
 ShowsKind kind (c ∷ cs) = Unit {0}
 
 -- Simple values and floats

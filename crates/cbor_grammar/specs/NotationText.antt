@@ -13,12 +13,19 @@ use Rattle.cbor_grammar.specs.declared.width.IntegerWidth.{IntegerWidth}
 use Rattle.cbor_grammar.specs.declared.width.IntegerWidth.TheVariants as width
 use Rattle.cbor_grammar.specs.declared.width.FloatWidth.{FloatWidth}
 use Rattle.cbor_grammar.specs.declared.width.FloatWidth.TheVariants as float_width
-use Rattle.cbor_grammar.specs.Encoding.{Encoding, Base16, Base64, Base64Url}
-use Rattle.cbor_grammar.specs.Layout as content
-use Rattle.cbor_grammar.specs.Layout.{Content, Layout, Compact, Pretty, Context}
-use Rattle.cbor_grammar.specs.ContainerStyle as style
-use Rattle.cbor_grammar.specs.ContainerStyle.{ContainerStyle, OneLine, MultiLine}
-use Rattle.cbor_grammar.specs.StringKind.{StringKind, bytes_kind, text_kind, no_chunks}
+use Rattle.cbor_grammar.specs.declared.encoding.Encoding.{Encoding}
+use Rattle.cbor_grammar.specs.declared.encoding.Encoding.TheVariants.{Base16, Base64, Base64Url}
+use Rattle.cbor_grammar.specs.declared.layout.Content.TheVariants as content
+use Rattle.cbor_grammar.specs.Context.{Context}
+use Rattle.cbor_grammar.specs.declared.layout.Content.{Content}
+use Rattle.cbor_grammar.specs.declared.layout.Layout.{Layout}
+use Rattle.cbor_grammar.specs.declared.layout.Layout.TheVariants.{Compact, Pretty}
+use Rattle.cbor_grammar.specs.declared.layout.ContainerStyle.TheVariants as style
+use Rattle.cbor_grammar.specs.declared.layout.ContainerStyle.{ContainerStyle}
+use Rattle.cbor_grammar.specs.declared.layout.ContainerStyle.TheVariants.{OneLine, MultiLine}
+use Rattle.cbor_grammar.specs.declared.strings.StringKind.{StringKind}
+use Rattle.cbor_grammar.specs.declared.strings.StringKind.TheVariants.{Bytes, Text}
+use Rattle.cbor_grammar.specs.StringKind.{no_chunks}
 use Rattle.cbor_grammar.specs.Item as spec
 use Rattle.cbor_grammar.specs.Item.{Chunk, Atom, integer, negative, string, chunked_string}
 use Rattle.cbor_grammar.specs.Item.{float, simple, Item, atom, array, tagged, Items, no_items, item, Pairs, no_pairs}
@@ -227,8 +234,8 @@ content_text left write content.Sequence c b = sequence_text write c (sequence_a
 
 -- A string of definite length, the bytes of a byte string in the encoding that is in force.
 abbrev pub string_text : StringKind → Encoding → List ℕ → List ℕ
-string_text bytes_kind e b = quoted e b
-string_text text_kind e b = text b
+string_text Bytes e b = quoted e b
+string_text Text e b = text b
 
 -- an indefinite string by the texts of its chunks
 abbrev pub chunks_listed : ContainerStyle → List ℕ → List (List ℕ) → List ℕ
@@ -241,8 +248,8 @@ chunks_text kind e l cs = chunks_listed l (no_chunks kind) (map (λ c. string_te
 abbrev pub atom_text : ℕ → Writer → Context → Atom → List ℕ
 atom_text left write c (integer n w) = number n w
 atom_text left write c (negative n w) = codes "-" ++ number (n + 1) w
-atom_text left write c (string bytes_kind s) = content_text left write c.content c s.bytes
-atom_text left write c (string text_kind s) = text s.bytes
+atom_text left write c (string Bytes s) = content_text left write c.content c s.bytes
+atom_text left write c (string Text s) = text s.bytes
 atom_text left write c (chunked_string kind cs) =
     chunks_text kind c.encoding (item_style c (atom (chunked_string kind cs))) cs
 atom_text left write c (float n w) = float_text n w

@@ -10,8 +10,10 @@ use Rattle.cbor_notes.specs.Element.{element_size}
 use Rattle.cbor_notes.specs.Identifier.{fields_line, base16_line, base58_line, base64_line}
 use Rattle.cbor_notes.specs.Text.{grouped, escaped_text}
 use Rattle.cbor_notes.specs.Url.{is_url}
+use Rattle.cbor_grammar.specs.declared.addresses.Family.{Family}
+use Rattle.cbor_grammar.specs.declared.addresses.Family.TheVariants.{IPv4, IPv6}
 use Rattle.cbor_grammar.specs.Item.{integer, negative, string, float, simple, Item, atom, array, Items, no_items, item}
-use Rattle.cbor_grammar.specs.StringKind.{bytes_kind, text_kind}
+use Rattle.cbor_grammar.specs.declared.strings.StringKind.TheVariants.{Bytes, Text}
 use Rattle.cbor_grammar.specs.Comments.{in_brackets}
 
 -- a note: its text, and the texts one deeper that belong to it
@@ -32,7 +34,7 @@ word_or word otherwise None = otherwise
 
 -- tag 0: the number of seconds from 1970 to a date and time (RFC 3339)
 abbrev pub datetime_note : Item → List ℕ
-datetime_note (atom (string text_kind c)) = word_or (codes "epoch") (codes "error parsing datetime")
+datetime_note (atom (string Text c)) = word_or (codes "epoch") (codes "error parsing datetime")
     (epoch_of_datetime c.bytes)
 datetime_note _ = codes "invalid type for datetime"
 
@@ -55,7 +57,7 @@ epoch_date_note _ = codes "invalid type for epoch date"
 
 -- tag 1004: the number of days from 1970-01-01 to a date
 abbrev pub date_note : Item → List ℕ
-date_note (atom (string text_kind c)) = word_or (codes "epoch") (codes "error parsing date") (epoch_of_date c.bytes)
+date_note (atom (string Text c)) = word_or (codes "epoch") (codes "error parsing date") (epoch_of_date c.bytes)
 date_note _ = codes "invalid type for date"
 
 -- ---- shared values
@@ -79,7 +81,7 @@ url_words valid =
     (if valid then codes "valid" else codes "invalid") ++ codes " URL (checked against URL Standard, not RFC 3986)"
 
 abbrev pub url_note : Item → List ℕ
-url_note (atom (string text_kind c)) = url_words (is_url c.bytes)
+url_note (atom (string Text c)) = url_words (is_url c.bytes)
 url_note _ = codes "invalid type for uri"
 
 -- tags 33 and 34: what a text in base 64 encodes
@@ -91,7 +93,7 @@ decoded_note name (Some lines) = record { text = name ++ codes " decoded"; below
 decoded_note name None = plain_note (codes "invalid data for " ++ name)
 
 abbrev pub base64_note : Bool → Item → Note
-base64_note url (atom (string text_kind c)) = decoded_note (base64_name url) (base64_lines url c.bytes)
+base64_note url (atom (string Text c)) = decoded_note (base64_name url) (base64_lines url c.bytes)
 base64_note url _ = plain_note (codes "invalid type for " ++ base64_name url)
 
 -- tag 37: the fields of a UUID, and its bytes in other bases
@@ -102,28 +104,24 @@ uuid_fields bytes = record {
 }
 
 abbrev pub uuid_note : Item → Note
-uuid_note (atom (string bytes_kind c)) =
+uuid_note (atom (string Bytes c)) =
     if length c.bytes == 16 then uuid_fields c.bytes else plain_note (codes "invalid data length for uuid")
 uuid_note _ = plain_note (codes "invalid type for uuid")
 
 -- ---- network addresses (RFC 9164)
 
-pub data Family : Type 0 where
-  ipv4 : Family
-  ipv6 : Family
-
 abbrev pub family_name : Family → List ℕ
-family_name ipv4 = codes "IPv4"
-family_name ipv6 = codes "IPv6"
+family_name IPv4 = codes "IPv4"
+family_name IPv6 = codes "IPv6"
 
 -- how many bytes an address has
 abbrev pub family_size : Family → ℕ
-family_size ipv4 = 4
-family_size ipv6 = 16
+family_size IPv4 = 4
+family_size IPv6 = 16
 
 abbrev pub address_text : Family → List ℕ → List ℕ
-address_text ipv4 = ipv4_text
-address_text ipv6 = ipv6_text
+address_text IPv4 = ipv4_text
+address_text IPv6 = ipv6_text
 
 -- the family's name, what is shown of it, and that between brackets
 abbrev pub shown : Family → List ℕ → List ℕ → List ℕ
@@ -158,7 +156,7 @@ pub data Zone : Type 0 where
 abbrev pub zone_at : Items → Zone
 zone_at no_items = no_zone
 zone_at (item (atom (integer n w)) is) = zone_text (decimal n)
-zone_at (item (atom (string text_kind c)) is) = zone_text (escaped_text c.bytes)
+zone_at (item (atom (string Text c)) is) = zone_text (escaped_text c.bytes)
 zone_at _ = not_zone
 
 -- an address with the length of its prefix, and perhaps a zone
@@ -187,14 +185,14 @@ interface_note f bytes _ = invalid_address
 
 -- a prefix by its length and its bytes, or an address by its bytes and what follows them
 abbrev pub members_note : Family → Items → List ℕ
-members_note f (item (atom (integer len w)) (item (atom (string bytes_kind c)) is)) = prefix_note f len c.bytes
-members_note f (item (atom (string bytes_kind c)) is) =
+members_note f (item (atom (integer len w)) (item (atom (string Bytes c)) is)) = prefix_note f len c.bytes
+members_note f (item (atom (string Bytes c)) is) =
     if length c.bytes == family_size f then interface_note f c.bytes is else invalid_length f
 members_note f _ = invalid_address
 
 -- tags 52 and 54
 abbrev pub address_note : Family → Item → List ℕ
-address_note f (atom (string bytes_kind c)) = plain_address f c.bytes
+address_note f (atom (string Bytes c)) = plain_address f c.bytes
 address_note f (array is w) = members_note f is
 address_note f _ = invalid_address
 
@@ -207,7 +205,7 @@ network_address bytes =
     else codes "invalid data length for network address"
 
 abbrev pub network_note : Item → List ℕ
-network_note (atom (string bytes_kind c)) = network_address c.bytes
+network_note (atom (string Bytes c)) = network_address c.bytes
 network_note _ = invalid_address
 
 -- ---- typed arrays (RFC 8746)
@@ -215,7 +213,7 @@ network_note _ = invalid_address
 -- why a value is not a typed array with elements of this size; whole elements are shown, and need no note
 abbrev pub typed_array_note : Option ℕ → Item → Option Note
 typed_array_note None _ = None
-typed_array_note (Some size) (atom (string bytes_kind c)) =
+typed_array_note (Some size) (atom (string Bytes c)) =
     if length c.bytes % size == 0 then None else Some (plain_note (codes "invalid data length for typed array"))
 typed_array_note (Some size) _ = Some (plain_note (codes "invalid type for typed array"))
 
@@ -233,8 +231,8 @@ value_note known t i =
     else if t == 33 then Some (base64_note true i)
     else if t == 34 then Some (base64_note false i)
     else if t == 37 then Some (uuid_note i)
-    else if t == 52 then Some (plain_note (address_note ipv4 i))
-    else if t == 54 then Some (plain_note (address_note ipv6 i))
+    else if t == 52 then Some (plain_note (address_note IPv4 i))
+    else if t == 54 then Some (plain_note (address_note IPv6 i))
     else if t == 100 then Some (plain_note (epoch_date_note i))
     else if t == 260 then Some (plain_note (network_note i))
     else if t == 1004 then Some (plain_note (date_note i))

@@ -2,10 +2,11 @@
 -- another each member has a line.
 use Rattle.std.specs.Prelude.{ℕ, ◌+◌, ◌++◌, List, codes}
 use Rattle.cbor_grammar.specs.declared.width.IntegerWidth.{IntegerWidth}
-use Rattle.cbor_grammar.specs.Encoding.{Encoding}
-use Rattle.cbor_grammar.specs.Layout.{Pretty}
-use Rattle.cbor_grammar.specs.ContainerStyle.{ContainerStyle, OneLine, MultiLine}
-use Rattle.cbor_grammar.specs.StringKind.{bytes_kind}
+use Rattle.cbor_grammar.specs.declared.encoding.Encoding.{Encoding}
+use Rattle.cbor_grammar.specs.declared.layout.Layout.TheVariants.{Pretty}
+use Rattle.cbor_grammar.specs.declared.layout.ContainerStyle.{ContainerStyle}
+use Rattle.cbor_grammar.specs.declared.layout.ContainerStyle.TheVariants.{OneLine, MultiLine}
+use Rattle.cbor_grammar.specs.declared.strings.StringKind.TheVariants.{Bytes}
 use Rattle.cbor_grammar.specs.Item as spec
 use Rattle.cbor_grammar.specs.Item.{Chunk, Item, atom, array, tagged, string, chunked_string}
 use Rattle.cbor_grammar.specs.Embedded.{sequence}
@@ -34,7 +35,7 @@ in_lines e level indent i = laid_out (MultiLine indent) e level indent i
 
 -- tag 63 over a byte string (RFC 8742)
 abbrev pub encoded_sequence : IntegerWidth → Chunk → Item
-encoded_sequence w b = tagged 63 w (atom (string bytes_kind b))
+encoded_sequence w b = tagged 63 w (atom (string Bytes b))
 
 -- its text at this level, the items in the bytes laid out so, however long they are
 abbrev pub sequence_laid_out : ContainerStyle → Encoding → ℕ → ℕ → IntegerWidth → List ℕ → List ℕ

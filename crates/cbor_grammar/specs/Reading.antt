@@ -10,13 +10,16 @@ use Rattle.cbor_grammar.specs.declared.width.IntegerWidth.TheVariants.{Zero, Eig
 use Rattle.cbor_grammar.specs.declared.width.FloatWidth.TheVariants as float_width
 use Rattle.cbor_grammar.specs.declared.error.Error.{Error}
 use Rattle.cbor_grammar.specs.declared.error.Error.TheVariants as refusal
-use Rattle.cbor_grammar.specs.Argument.{Argument, number, indefinite}
+use Rattle.cbor_grammar.specs.declared.argument.Argument.{Argument}
+use Rattle.cbor_grammar.specs.declared.argument.Argument.TheVariants.{Number, Indefinite}
 use Rattle.cbor_grammar.specs.Item as spec
 use Rattle.cbor_grammar.specs.Item.{Chunk, Item, atom, array, tagged, Items, no_items, item, Pairs, no_pairs, pair}
-use Rattle.cbor_grammar.specs.ItemHead as item_head
-use Rattle.cbor_grammar.specs.ItemHead.{ItemHead}
+use Rattle.cbor_grammar.specs.declared.head.ItemHead.TheVariants as item_head
+use Rattle.cbor_grammar.specs.declared.head.ItemHead.{ItemHead}
 use Rattle.cbor_grammar.specs.Head.{FitsStated, break_byte}
-use Rattle.cbor_grammar.specs.StringKind.{StringKind, bytes_kind, text_kind, major_of}
+use Rattle.cbor_grammar.specs.declared.strings.StringKind.{StringKind}
+use Rattle.cbor_grammar.specs.declared.strings.StringKind.TheVariants.{Bytes, Text}
+use Rattle.cbor_grammar.specs.StringKind.{major_of}
 
 -- a value and the bytes after it
 abbrev pub Read : Type 0 → Type 0
@@ -46,46 +49,46 @@ read_number w b =
 
 -- the number after info 24 to 27
 unfoldable pub read_wide : Width → IntegerWidth → List ℕ → Read Argument
-read_wide w width b = read_number w b >>= λ n. Ok (number n.0 width, n.1)
+read_wide w width b = read_number w b >>= λ n. Ok (Number n.0 width, n.1)
 
 -- what the five bits of info say, with the bytes that they ask for
 unfoldable pub read_argument : ℕ → List ℕ → Read Argument
 read_argument info b =
-    if nat_lt info 24 then Ok (number info Zero, b)
+    if nat_lt info 24 then Ok (Number info Zero, b)
     else if info == 24 then read_wide w8 Eight b
     else if info == 25 then read_wide w16 Sixteen b
     else if info == 26 then read_wide w32 ThirtyTwo b
     else if info == 27 then read_wide w64 SixtyFour b
-    else if info == 31 then Ok (indefinite, b)
+    else if info == 31 then Ok (Indefinite, b)
     else Err refusal.Head
 
 -- a number that was read fits the width that it was read in
 abbrev pub FitsArgument : Argument → Type 0
-FitsArgument (number n w) = FitsStated w n
-FitsArgument indefinite = Unit {0}
+FitsArgument (Number n w) = FitsStated w n
+FitsArgument Indefinite = Unit {0}
 
 -- in major type 7 a number of one byte is a simple value, and a wider one the bits of a float
 abbrev pub simple_or_float : ℕ → IntegerWidth → ItemHead
-simple_or_float n Sixteen = item_head.float n float_width.Sixteen
-simple_or_float n ThirtyTwo = item_head.float n float_width.ThirtyTwo
-simple_or_float n SixtyFour = item_head.float n float_width.SixtyFour
-simple_or_float n w = item_head.simple n
+simple_or_float n Sixteen = item_head.Float n float_width.Sixteen
+simple_or_float n ThirtyTwo = item_head.Float n float_width.ThirtyTwo
+simple_or_float n SixtyFour = item_head.Float n float_width.SixtyFour
+simple_or_float n w = item_head.Simple n
 
 -- The major types 0, 1, 6 and 7 have a number. Without one, 7 is the break, with which no item begins.
 abbrev pub numbered : ℕ → Argument → Result ItemHead Error
-numbered major (number n w) =
-    if major == 0 then Ok (item_head.integer n w)
-    else if major == 1 then Ok (item_head.negative n w)
-    else if major == 6 then Ok (item_head.tag n w)
+numbered major (Number n w) =
+    if major == 0 then Ok (item_head.Integer n w)
+    else if major == 1 then Ok (item_head.Negative n w)
+    else if major == 6 then Ok (item_head.Tag n w)
     else Ok (simple_or_float n w)
-numbered major indefinite = Err refusal.Head
+numbered major Indefinite = Err refusal.Head
 
 unfoldable pub head_of : ℕ → Argument → Result ItemHead Error
 head_of major a =
-    if major == 2 then Ok (item_head.string bytes_kind a)
-    else if major == 3 then Ok (item_head.string text_kind a)
-    else if major == 4 then Ok (item_head.array a)
-    else if major == 5 then Ok (item_head.map a)
+    if major == 2 then Ok (item_head.String Bytes a)
+    else if major == 3 then Ok (item_head.String Text a)
+    else if major == 4 then Ok (item_head.Array a)
+    else if major == 5 then Ok (item_head.Map a)
     else numbered major a
 
 unfoldable pub read_head : List ℕ → Read ItemHead
@@ -100,8 +103,8 @@ split_at n b = if nat_lt (length b) n then Err refusal.CutShort else Ok (take n 
 
 -- the string of that content, where its kind may hold it
 abbrev pub checked_chunk : StringKind → IntegerWidth → List ℕ → Result Chunk Error
-checked_chunk bytes_kind w content = Ok (record { bytes = content; width = w })
-checked_chunk text_kind w content =
+checked_chunk Bytes w content = Ok (record { bytes = content; width = w })
+checked_chunk Text w content =
     if is_utf8 content then Ok (record { bytes = content; width = w }) else Err refusal.Utf8
 
 -- a string of that length and its content
@@ -110,8 +113,8 @@ read_content kind n w b = split_at n b >>= λ s. checked_chunk kind w s.0 >>= λ
 
 -- the length in a chunk's head
 abbrev pub length_of : Argument → List ℕ → Read (Option (ℕ × IntegerWidth))
-length_of (number n w) b = Ok (Some (n, w), b)
-length_of indefinite b = Err refusal.Head
+length_of (Number n w) b = Ok (Some (n, w), b)
+length_of Indefinite b = Err refusal.Head
 
 -- the length in the head of the next chunk of an indefinite string of that major type, or none at its break
 unfoldable pub read_chunk_length : ℕ → List ℕ → Read (Option (ℕ × IntegerWidth))
@@ -123,8 +126,8 @@ read_chunk_length major (first ∷ b) =
 
 -- a chunk after its head
 abbrev pub chunk_of : StringKind → Argument → List ℕ → Read (Option Chunk)
-chunk_of kind (number n w) b = read_content kind n w b >>= λ c. Ok (Some c.0, c.1)
-chunk_of kind indefinite b = Err refusal.Head
+chunk_of kind (Number n w) b = read_content kind n w b >>= λ c. Ok (Some c.0, c.1)
+chunk_of kind Indefinite b = Err refusal.Head
 
 -- the next chunk of an indefinite string, or none at its break
 unfoldable pub read_chunk : StringKind → List ℕ → Read (Option Chunk)
@@ -164,14 +167,14 @@ read_chunks (suc n) kind b = (1, read_chunk kind b) >>- λ c. more_chunks (read_
 
 -- an item that holds no item, after its head
 abbrev pub read_atom : ItemHead → List ℕ → Counted Item
-read_atom (item_head.integer n w) b = (0, Ok (atom (spec.integer n w), b))
-read_atom (item_head.negative n w) b = (0, Ok (atom (spec.negative n w), b))
-read_atom (item_head.string kind (number n w)) b =
+read_atom (item_head.Integer n w) b = (0, Ok (atom (spec.integer n w), b))
+read_atom (item_head.Negative n w) b = (0, Ok (atom (spec.negative n w), b))
+read_atom (item_head.String kind (Number n w)) b =
     (0, read_content kind n w b >>= λ c. Ok (atom (spec.string kind c.0), c.1))
-read_atom (item_head.string kind indefinite) b =
+read_atom (item_head.String kind Indefinite) b =
     read_chunks (length b) kind b >>- λ cs. (0, Ok (atom (spec.chunked_string kind cs.0), cs.1))
-read_atom (item_head.float bits w) b = (0, Ok (atom (spec.float bits w), b))
-read_atom (item_head.simple n) b = (0, Ok (atom (spec.simple n), b))
+read_atom (item_head.Float bits w) b = (0, Ok (atom (spec.float bits w), b))
+read_atom (item_head.Simple n) b = (0, Ok (atom (spec.simple n), b))
 read_atom _ b = (0, Err refusal.Head)
 
 -- ---- containers
@@ -195,18 +198,18 @@ pub data Frame : Type 0 where
 
 -- the container that a head opens, if it opens one
 abbrev pub opened : ItemHead → Option Frame
-opened (item_head.array a) = Some (items_in no_items a)
-opened (item_head.map a) = Some (pairs_in no_pairs a)
-opened (item_head.tag n w) = Some (tag_of n w)
+opened (item_head.Array a) = Some (items_in no_items a)
+opened (item_head.Map a) = Some (pairs_in no_pairs a)
+opened (item_head.Tag n w) = Some (tag_of n w)
 opened _ = None
 
 abbrev pub one_less : Argument → Argument
-one_less (number (suc n) w) = number n w
+one_less (Number (suc n) w) = Number n w
 one_less a = a
 
 abbrev pub count_width : Argument → Option IntegerWidth
-count_width (number n w) = Some w
-count_width indefinite = None
+count_width (Number n w) = Some w
+count_width Indefinite = None
 
 -- the container with one more part
 abbrev pub put : Frame → Item → Frame
@@ -223,9 +226,9 @@ after_break (first ∷ b) = if first == break_byte then Some b else None
 
 -- the bytes after the members or pairs, if none is to come
 abbrev pub after_members : Argument → List ℕ → Option (List ℕ)
-after_members (number zero w) b = Some b
-after_members (number (suc n) w) b = None
-after_members indefinite b = after_break b
+after_members (Number zero w) b = Some b
+after_members (Number (suc n) w) b = None
+after_members Indefinite b = after_break b
 
 -- the bytes after the container, if it ends here
 abbrev pub after_end : Frame → List ℕ → Option (List ℕ)

@@ -9,7 +9,9 @@ use Rattle.cbor_grammar.specs.Item.{Chunk, Item}
 use Rattle.cbor_grammar.specs.Head.{opening, break_byte, HeadThen}
 use Rattle.cbor_grammar.specs.WellFormed.{deepest}
 use Rattle.cbor_grammar.specs.Bytes.{any, Spells, SpellsChunks}
-use Rattle.cbor_grammar.specs.StringKind.{StringKind, text_kind, major_of}
+use Rattle.cbor_grammar.specs.declared.strings.StringKind.{StringKind}
+use Rattle.cbor_grammar.specs.declared.strings.StringKind.TheVariants.{Text}
+use Rattle.cbor_grammar.specs.StringKind.{major_of}
 
 -- A head asks for more bytes than follow it: info 24, 25, 26 and 27 ask for 1, 2, 4 and 8.
 pub data CutHead : List ℕ → Type 0 where
@@ -137,8 +139,7 @@ pub data Fault : ℕ → List ℕ → Error → Type 0 where
       → level ≤ deepest → InsideString kind b rest → NoChunk kind rest
       → Fault level b Head
   -- after whole chunks of an indefinite text a chunk that is not UTF-8 by itself
-  bad_chunk_text : {level : ℕ} {b : List ℕ} (rest : List ℕ)
-      → level ≤ deepest → InsideString text_kind b rest → BadText rest
+  bad_chunk_text : {level : ℕ} {b : List ℕ} (rest : List ℕ) → level ≤ deepest → InsideString Text b rest → BadText rest
       → Fault level b Utf8
   -- after whole parts of a container a next part, and no break, that has a fault
   bad_part : {level : ℕ} {b : List ℕ} {error : Error} (next : Next) (rest : List ℕ)

@@ -9,7 +9,7 @@ use Rattle.cbor_grammar.specs.declared.width.FloatWidth.TheVariants as float_wid
 use Rattle.cbor_grammar.specs.Item as spec
 use Rattle.cbor_grammar.specs.Item.{Chunk, Atom, integer, negative, string, chunked_string, float, simple, Item, atom}
 use Rattle.cbor_grammar.specs.Item.{array, tagged, Items, no_items, item, Pairs, no_pairs, pair}
-use Rattle.cbor_grammar.specs.StringKind.{bytes_kind, text_kind}
+use Rattle.cbor_grammar.specs.declared.strings.StringKind.TheVariants.{Bytes, Text}
 
 abbrev pub same_width : IntegerWidth → IntegerWidth → Bool
 same_width Unknown Unknown = true
@@ -39,10 +39,10 @@ same_chunk c d = pointwise nat_eq c.bytes d.bytes && same_width c.width d.width
 abbrev pub same_atom : Atom → Atom → Bool
 same_atom (integer n v) (integer m w) = nat_eq n m && same_width v w
 same_atom (negative n v) (negative m w) = nat_eq n m && same_width v w
-same_atom (string bytes_kind c) (string bytes_kind d) = same_chunk c d
-same_atom (string text_kind c) (string text_kind d) = same_chunk c d
-same_atom (chunked_string bytes_kind cs) (chunked_string bytes_kind ds) = pointwise same_chunk cs ds
-same_atom (chunked_string text_kind cs) (chunked_string text_kind ds) = pointwise same_chunk cs ds
+same_atom (string Bytes c) (string Bytes d) = same_chunk c d
+same_atom (string Text c) (string Text d) = same_chunk c d
+same_atom (chunked_string Bytes cs) (chunked_string Bytes ds) = pointwise same_chunk cs ds
+same_atom (chunked_string Text cs) (chunked_string Text ds) = pointwise same_chunk cs ds
 same_atom (float n v) (float m w) = nat_eq n m && same_float_width v w
 same_atom (simple n) (simple m) = nat_eq n m
 same_atom a b = false

@@ -8,7 +8,8 @@ use Rattle.cbor_grammar.specs.Item as spec
 use Rattle.cbor_grammar.specs.Item.{Chunk, Atom, integer, negative, string, chunked_string, float, simple, Item, atom}
 use Rattle.cbor_grammar.specs.Item.{array, tagged, Items, no_items, item, Pairs, no_pairs, pair, item_count, pair_count}
 use Rattle.cbor_grammar.specs.Head.{FitsWidth}
-use Rattle.cbor_grammar.specs.StringKind.{StringKind, IsContent}
+use Rattle.cbor_grammar.specs.declared.strings.StringKind.{StringKind}
+use Rattle.cbor_grammar.specs.StringKind.{IsContent}
 
 -- the deepest level of an item; the outermost is at level 1
 abbrev pub deepest : ℕ

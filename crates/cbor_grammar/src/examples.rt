@@ -5,15 +5,15 @@ ghost use Rattle.std.specs.Prelude.{◌≡◌, [], ◌∷◌, ◌++◌, codes, l
 ghost use Rattle.cbor_grammar.specs.declared.error.Error.TheVariants.{Head, Utf8, TooDeep};
 ghost use Rattle.cbor_grammar.specs.declared.width.IntegerWidth.TheVariants.{Unknown, Zero, Eight};
 ghost use Rattle.cbor_grammar.specs.declared.width.IntegerWidth.TheVariants.{Sixteen};
+ghost use Rattle.cbor_grammar.specs.declared.strings.StringKind.TheVariants.{Bytes};
 ghost use Rattle.cbor_grammar.specs.Item.{atom, array, simple, integer, chunked_string, item};
 ghost use Rattle.cbor_grammar.specs.Item.{no_items};
 ghost use Rattle.cbor_grammar.specs.Item.{tagged};
-ghost use Rattle.cbor_grammar.specs.StringKind.{bytes_kind};
 ghost use Rattle.cbor_grammar.specs.WellFormed.{WellFormed};
 ghost use Rattle.cbor_grammar.specs.Written.{encoded, encoded_open, resolve};
 ghost use Rattle.cbor_grammar.specs.Bytes.{any, strict, Spells};
 ghost use Rattle.cbor_grammar.specs.Refused.{Cut, Fault};
-ghost use Rattle.cbor_grammar.specs.Encoding.{Base16};
+ghost use Rattle.cbor_grammar.specs.declared.encoding.Encoding.TheVariants.{Base16};
 ghost use Rattle.cbor_grammar.specs.Embedded.{embedded, sequence};
 ghost use Rattle.cbor_grammar.specs.Compact.{compact};
 ghost use Rattle.cbor_grammar.specs.Dump.{dump, lines};
@@ -143,14 +143,13 @@ pub(crate) fn pretty_text()
         ≡ codes
         "[\n    [\n        1,\n        1,\n        1,\n        1,\n        1,\n        1,\n        1,\n        1,\n        1,\n        1,\n        1,\n        1,\n    ],\n]" }
     ensures open { pretty Base16 1 0 open_map ≡ codes "{_ 1: 2}" }
-    ensures empty { pretty Base16 1 0 (atom (chunked_string bytes_kind [])) ≡ codes "''_" }
+    ensures empty { pretty Base16 1 0 (atom (chunked_string Bytes [])) ≡ codes "''_" }
 {}
 
 /// Dumps: the one column of digits, a break, strings without content, the pieces of a text,
 /// elements, a sequence with a rest, and shared values, a key before its value.
 pub(crate) fn dumps()
-    ensures chunks { dump (atom (chunked_string bytes_kind (zero_chunk (1 ∷ []) ∷ [])))
-        ≡ codes
+    ensures chunks { dump (atom (chunked_string Bytes (zero_chunk (1 ∷ []) ∷ []))) ≡ codes
         "5f       # bytes(*)\n   41    #   bytes(1)\n      01 #     \"\\x01\"\n   ff    #   break\n" }
     ensures nothing { dump (bytes []) ≡ codes "40 # bytes(0)\n   #   \"\"\n" }
     ensures pieces { map length (text_pieces (replicate 15 97 ++ 0xc3 ∷ 0xa9 ∷ replicate 8 98)) ≡ 15

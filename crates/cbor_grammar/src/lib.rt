@@ -2,12 +2,18 @@
 //! contracts of the other crates cite, and the laws of these definitions.
 //!
 //! `specs/` has the definitions, and `proofs/` the lemmas that follow from them alone. The code is
-//! the types that they speak of: widths, tags, strings and errors. The calls are in `cbor_diag`.
+//! the types that they speak of: heads, widths, tags, strings, layouts and errors. The calls are
+//! in `cbor_diag`.
 #![tactic(auto)]
 
+pub mod addresses;
+pub mod argument;
+pub mod encoding;
 pub mod error;
 mod examples;
+pub mod head;
 mod laws;
+pub mod layout;
 pub mod level;
 pub mod major;
 pub mod strings;

@@ -5,13 +5,12 @@ ghost use Rattle.cbor_grammar.specs.declared.width.IntegerWidth.{IntegerWidth};
 ghost use Rattle.cbor_grammar.specs.Head.{FitsWidth};
 ghost use Rattle.cbor_grammar.specs.Item.{Chunk};
 ghost use Rattle.cbor_grammar.specs.Reading.{Gives, checked_chunk};
-ghost use Rattle.cbor_grammar.specs.StringKind.{StringKind, bytes_kind, text_kind};
+ghost use Rattle.cbor_grammar.specs.declared.strings.StringKind.{StringKind};
 ghost use Rattle.cbor_grammar.specs.StringKind.{major_of, IsContent};
 ghost use Rattle.cbor_grammar.specs.Strings.{byte_chunk, text_chunk};
 ghost use Rattle.cbor_grammar.specs.WellFormed.{IsChunk};
 ghost use Rattle.cbor_grammar.specs.mirror.MajorNumber.{major_number};
 ghost use Rattle.cbor_grammar.specs.mirror.StringView.{borrowed_chunk, bytes_of, kind_of};
-ghost use Rattle.cbor_grammar.specs.mirror.StringView.{kind_view};
 
 use crate::error::{Error, Result};
 use crate::major::Major;
@@ -21,7 +20,9 @@ use std::alloc::Global;
 /// The two kinds of strings (RFC 7049 section 2.1, major types 2 and 3).
 #[derive(Clone, Copy)]
 pub enum StringKind {
+    /// Byte strings, which hold any bytes.
     Bytes,
+    /// Text strings, which hold UTF-8.
     Text,
 }
 
@@ -44,7 +45,7 @@ fn is_text(content: &[u8]) -> bool
 impl StringKind {
     /// The major type of the heads of such strings.
     pub fn major(self) -> Major
-        ensures { major_number result ≡ major_of (kind_view self) }
+        ensures { major_number result ≡ major_of self }
     {
         match self {
             StringKind::Bytes => Major::Bytes,
@@ -54,7 +55,7 @@ impl StringKind {
 
     /// Whether a string of this kind may have this content: a text has to be UTF-8.
     pub fn may_hold(self, content: &[u8]) -> bool
-        ensures { IsTrue result ↔ IsContent (kind_view self) content.now }
+        ensures { IsTrue result ↔ IsContent self content.now }
     {
         match self {
             StringKind::Bytes => true,
@@ -66,8 +67,8 @@ impl StringKind {
     #[tactic(auto, using(crate::proofs::shared::Utf8::utf8_fails, crate::proofs::shared::Utf8::utf8_passes))]
     pub fn content(self, content: &[u8]) -> Result<StringContent<'_>>
         ensures gives { (w : IntegerWidth) → Gives (borrowed_chunk w) result
-            (checked_chunk (kind_view self) w content.now) }
-        ensures kind { IfOk result (λ x. kind_of x ≡ kind_view self) }
+            (checked_chunk self w content.now) }
+        ensures kind { IfOk result (λ x. kind_of x ≡ self) }
     {
         match self {
             StringKind::Bytes => Ok(StringContent::Bytes(content)),
@@ -91,7 +92,7 @@ pub enum StringContent<'a> {
 impl<'a> StringContent<'a> {
     /// The kind of the string.
     pub fn kind(self) -> StringKind
-        ensures { kind_view result ≡ kind_of self.entry }
+        ensures { result ≡ kind_of self.entry }
     {
         match self {
             StringContent::Bytes(_) => StringKind::Bytes,
@@ -165,7 +166,7 @@ pub trait DefiniteString: PartialEq + Drop {
 
     /// The kind of the string.
     fn kind() -> StringKind
-        ensures { kind_view result ≡ kind };
+        ensures { result ≡ kind };
 
     /// The string of this content; a text string if that is UTF-8.
     fn new(content: Vec<u8>, bitwidth: IntegerWidth) -> Result<Self>
@@ -193,7 +194,7 @@ pub trait DefiniteString: PartialEq + Drop {
 impl DefiniteString for ByteString {
     ghost chunk = { byte_chunk };
 
-    ghost kind = { bytes_kind };
+    ghost kind = { StringKind.Bytes };
 
     ghost compared = { λ a b. Prim.search rules };
 
@@ -221,7 +222,7 @@ impl DefiniteString for ByteString {
 impl DefiniteString for TextString {
     ghost chunk = { text_chunk };
 
-    ghost kind = { text_kind };
+    ghost kind = { StringKind.Text };
 
     ghost compared = { λ a b. Prim.search rules };
 

@@ -1,9 +1,10 @@
 -- Notation that is made straight from bytes is that of the item that they are.
 use Rattle.std.proofs.Common.{◌≡◌, ℕ, Bool, List, [], ◌∷◌, ◌++◌, take, None, true, false, refl, sym, subst, arith}
-use Rattle.cbor_diag.specs.Encoding.{Base16}
+use Rattle.cbor_grammar.specs.declared.encoding.Encoding.TheVariants.{Base16}
 use Rattle.cbor_diag.specs.Facts.{BeginsWithItem, IsWellFormed, diag_of, pretty_of}
 use Rattle.cbor_diag.specs.Item.{Item}
-use Rattle.cbor_diag.specs.Layout.{Layout, Compact, Pretty}
+use Rattle.cbor_grammar.specs.declared.layout.Layout.{Layout}
+use Rattle.cbor_grammar.specs.declared.layout.Layout.TheVariants.{Compact, Pretty}
 use Rattle.cbor_diag.specs.Normal.{normal_at}
 use Rattle.cbor_diag.specs.Notation.{Reads}
 use Rattle.cbor_diag.specs.NotationText.{in_encoding, text_at_level}

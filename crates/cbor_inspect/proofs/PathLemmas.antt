@@ -1,8 +1,6 @@
 -- Steps lead to one item at most.
 use Rattle.std.proofs.Common.{◌≡◌, ◌↔◌, ℕ, Bool, IsTrue, List, [], ◌∷◌, Some, inl, inr, refl, sym, ap, ◌∙◌}
 use Rattle.std.proofs.Common.{subst, ◌<◌, ◌≤◌, length, map, get_or, Option, None, IfSome, MatchOption}
-use Rattle.std.proofs.Common.{Result, Ok, Err, IfOk}
-use Rattle.cbor_grammar.specs.declared.error.Error.{Error}
 use Rattle.std.specs.Option.{option_map, IfNone}
 use Rattle.std.specs.List.{slice_get, HoldsAt}
 use Rattle.std.proofs.lemmas.Option.{slice_get-map, slice_get_past, slice_get_read}
@@ -126,14 +124,6 @@ key_is a k r other same h =
     let l = plain_other a k other in
     (λ t. same ∙ l.0 (h.0 t), λ e. h.1 (l.1 (sym same ∙ e)))
 
--- past a pair that does not have the key
-pub value_next : (wanted : Item) (p : Item × Item) (ps : List (Item × Item)) → ¬ (IsKey wanted p.0) → (value : Item)
-    → IsValue wanted (p ∷ ps) value ↔ IsValue wanted ps value
-value_next wanted p ps other value = (
-  λ h. elim h [ inl here ↦ absurd (other here.0) | inr later ↦ later.1 ],
-  λ later. inr (other, later),
-)
-
 pub some_value : {B : Type 0} (now : B → DataItem) (r : Option B) (wanted i : Item) (ps : List (DataItem × DataItem))
     (w : Option IntegerWidth) → i ≡ spec.map (pairs_view ps) w
     → IfSome r (λ x. IsValue wanted (pair_views ps) (view (now x)))
@@ -156,10 +146,3 @@ pub after_key : (form : Form) (wanted : DataItem) (steps : List Step) (i next : 
 after_key form wanted steps i next p here h =
     after_step form (step.Key wanted) steps i next p here
     (λ other is. one_member (view wanted) (untagged i) other next is here) h
-
-pub part_after_key : (r : Result Part Error) (form : Form) (wanted : DataItem) (steps rest : List Step) (i next : Item)
-    → steps ≡ step.Key wanted ∷ rest → IsMember (view wanted) (untagged i) next → IfOk r (HasPart form rest next)
-    → IfOk r (HasPart form steps i)
-part_after_key (Ok p) form wanted steps rest i next e here h =
-    subst (λ (s : List Step). HasPart form s i p) (sym e) (after_key form wanted rest i next p here h)
-part_after_key (Err e) form wanted steps rest i next same here h = tt

@@ -5,10 +5,6 @@ use Rattle.cbor_diag.specs.Item.{Item}
 use Rattle.cbor_diag.specs.Facts.{IsItem}
 use Rattle.cbor_inspect.specs.Sequence.{ItemsThen, ShowsEach, IsShownOfFirst}
 
--- before any item
-pub none_shown : (Shows : Item → List ℕ → Type 0) (b : List ℕ) → IsShownOfFirst Shows b [] b
-none_shown Shows b = record { items = []; input_is = refl; output_is = refl }
-
 -- the item at the front
 pub one_shown : (Shows : Item → List ℕ → Type 0) (b : List ℕ) (used : ℕ) (i : Item) (output : List ℕ)
     → IsItem (take used b) i → Shows i output → IsShownOfFirst Shows b output (drop used b)

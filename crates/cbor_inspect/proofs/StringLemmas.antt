@@ -6,7 +6,7 @@ use Rattle.cbor_diag.specs.Item as spec
 use Rattle.cbor_diag.specs.Item.{Chunk, Atom, integer, negative, string, chunked_string, float, simple, Item, atom}
 use Rattle.cbor_diag.specs.Item.{array, tagged}
 use Rattle.cbor_diag.specs.Item.{Items, no_items, item, Pairs, no_pairs, pair}
-use Rattle.cbor_diag.specs.StringKind.{bytes_kind, text_kind}
+use Rattle.cbor_grammar.specs.declared.strings.StringKind.TheVariants.{Bytes, Text}
 use Rattle.cbor_diag.specs.Embedded.{embedded_at, sequence_at}
 use Rattle.cbor_diag.specs.Facts.{normal_of}
 use Rattle.cbor_diag.specs.Normal.{normal_at, normal_atom, normal_chunk, normal_items}
@@ -29,13 +29,13 @@ same_atom : (left : ℕ) (into : Option ℕ → Item → Item) (tag : Option ℕ
     → strings_of tag (normal_atom left into tag a) ≡ strings_of tag a
 same_atom left into tag (integer n w) = refl
 same_atom left into tag (negative n w) = refl
-same_atom left into None (string bytes_kind c) = refl
-same_atom left into (Some t) (string bytes_kind c) =
+same_atom left into None (string Bytes c) = refl
+same_atom left into (Some t) (string Bytes c) =
     content_of (t == 24) (t == 63) c.bytes (normal_embedded (into None) c.bytes (embedded_at left c.bytes))
     (normal_sequence (into None) (sequence_at left c.bytes))
-same_atom left into tag (string text_kind c) = refl
-same_atom left into tag (chunked_string bytes_kind cs) = same_chunks cs
-same_atom left into tag (chunked_string text_kind cs) = refl
+same_atom left into tag (string Text c) = refl
+same_atom left into tag (chunked_string Bytes cs) = same_chunks cs
+same_atom left into tag (chunked_string Text cs) = refl
 same_atom left into tag (float bits w) = refl
 same_atom left into tag (simple n) = refl
 

@@ -3,7 +3,7 @@ use Rattle.std.specs.Prelude.{◌≡◌, ◌⊎◌, List, [], ◌∷◌, map, Op
 use Rattle.cbor_grammar.specs.declared.width.IntegerWidth.TheVariants.{Unknown}
 use Rattle.cbor_diag.specs.Item as spec
 use Rattle.cbor_diag.specs.Item.{Item, atom, integer, negative, string, array, tagged}
-use Rattle.cbor_diag.specs.StringKind.{bytes_kind}
+use Rattle.cbor_grammar.specs.declared.strings.StringKind.TheVariants.{Bytes}
 use Rattle.cbor_diag.specs.declared.syntax.DataItem.{DataItem}
 use Rattle.cbor_diag.specs.View.{view}
 use Rattle.cbor_diag.specs.Facts.{IsItem}
@@ -46,7 +46,7 @@ IsMember wanted _ member = ⊥
 
 -- the item that a byte string is
 abbrev pub IsInside : Item → Item → Type 0
-IsInside (atom (string bytes_kind c)) inner = IsItem c.bytes inner
+IsInside (atom (string Bytes c)) inner = IsItem c.bytes inner
 IsInside _ inner = ⊥
 
 -- where one step leads

@@ -4,7 +4,7 @@ use Rattle.cbor_diag.specs.Item as spec
 use Rattle.cbor_diag.specs.Item.{Atom, integer, negative, string, chunked_string, float, simple, Item, atom, array}
 use Rattle.cbor_diag.specs.Item.{tagged}
 use Rattle.cbor_diag.specs.Item.{Items, no_items, item, Pairs, no_pairs, pair}
-use Rattle.cbor_diag.specs.StringKind.{bytes_kind, text_kind}
+use Rattle.cbor_grammar.specs.declared.strings.StringKind.TheVariants.{Bytes, Text}
 
 -- byte strings right below the tag are shown as the items that they are
 abbrev pub holds_items : Option ℕ → Bool
@@ -15,10 +15,10 @@ holds_items (Some t) = (t == 24) || (t == 63)
 abbrev pub strings_of : Option ℕ → Atom → List (List ℕ)
 strings_of tag (integer n w) = []
 strings_of tag (negative n w) = []
-strings_of tag (string bytes_kind c) = if holds_items tag then [] else c.bytes ∷ []
-strings_of tag (string text_kind c) = []
-strings_of tag (chunked_string bytes_kind cs) = map (λ c. c.bytes) cs
-strings_of tag (chunked_string text_kind cs) = []
+strings_of tag (string Bytes c) = if holds_items tag then [] else c.bytes ∷ []
+strings_of tag (string Text c) = []
+strings_of tag (chunked_string Bytes cs) = map (λ c. c.bytes) cs
+strings_of tag (chunked_string Text cs) = []
 strings_of tag (float bits w) = []
 strings_of tag (simple n) = []
 

@@ -15,3 +15,5 @@ pub mod DigitsFound
 pub mod Tokens
 pub mod OnePiece
 pub mod sound
+pub mod Capped
+pub mod Cursors

@@ -3,5 +3,5 @@ pub mod NotationReading
 pub mod OpenTokens
 pub mod Straight
 pub mod Ahead
-pub mod EncodingView
 pub mod LayoutView
+pub mod Cursor

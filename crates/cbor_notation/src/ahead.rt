@@ -3,35 +3,31 @@
 //!
 //! Each function takes a budget of characters and returns what its part leaves of it, and the bytes
 //! after that part; or `None` where the part takes all of the budget, or where the bytes are cut or
-//! have a fault. Then it does not matter what is returned: the caller reads the same bytes next, and
-//! finds the error. Strings are skipped by their length, and texts aren't tested for UTF-8.
+//! have a fault. Then it does not matter what is returned: the caller reads the same bytes next,
+//! and finds the error. Strings are skipped by their length, and texts aren't tested for UTF-8.
 //!
 //! Each head takes two characters of the budget or more. So one look reads fewer than 30 heads,
 //! however long or deep the container is.
 ghost use Rattle.std.specs.Prelude.{◌≡◌, ℕ, ◌+◌, ◌-◌, ◌<◌, ◌≤◌, List, length, Ok, Option, IfSome};
-ghost use Rattle.cbor_grammar.specs.Argument.{indefinite};
 ghost use Rattle.cbor_grammar.specs.Embedded.{sequence_at};
 ghost use Rattle.cbor_grammar.specs.Estimate.{estimated_string, estimated_chunks};
 ghost use Rattle.cbor_grammar.specs.Estimate.{estimated_items, estimated_pairs};
 ghost use Rattle.cbor_grammar.specs.Item as spec;
 ghost use Rattle.cbor_grammar.specs.Item.{Chunk, Items, Pairs, atom, array, chunked_string};
-ghost use Rattle.cbor_grammar.specs.ItemHead as item_head;
-ghost use Rattle.cbor_grammar.specs.Layout as shown;
+ghost use Rattle.cbor_grammar.specs.declared.layout.Layout.TheVariants as shown;
 ghost use Rattle.cbor_grammar.specs.NotationText.{container_style, indent_of, style_indent};
 ghost use Rattle.cbor_grammar.specs.Reading.{read_content};
 ghost use Rattle.cbor_grammar.specs.WellFormed.{deepest, levels_left};
 ghost use Rattle.cbor_grammar.specs.declared.width.IntegerWidth.{IntegerWidth};
 ghost use Rattle.cbor_notation.specs.mirror.Ahead.{Leaves, Estimates, front_read, body_read};
-ghost use Rattle.cbor_bytes.specs.mirror.HeadView.{argument_view};
-ghost use Rattle.cbor_notation.specs.mirror.LayoutView.{layout_view, style_view};
-ghost use Rattle.cbor_grammar.specs.mirror.StringView.{kind_view};
 
 use crate::budget::{BUDGET, digit_count, float_len, left_after_content, pretty_style};
-use crate::context::{ContainerStyle, Layout};
-use cbor_bytes::argument::Argument;
-use cbor_bytes::head::{ItemHead, read_head};
+use cbor_bytes::head::read_head;
 use cbor_bytes::skip::after_front;
 use cbor_bytes::strings::{read_chunk_length, split_at};
+use cbor_grammar::argument::Argument;
+use cbor_grammar::head::ItemHead;
+use cbor_grammar::layout::{ContainerStyle, Layout};
 use cbor_grammar::strings::StringKind;
 
 /// What a look at bytes finds.
@@ -57,66 +53,63 @@ impl<'a> Ahead<'a> {
     }
 }
 
-impl Layout {
-    /// The style of an array with this count of items, whose bytes after its head these are.
-    pub fn array_style_ahead(self, count: Argument, bytes: &[u8]) -> ContainerStyle
-        ensures style { (levels : ℕ) (is : Items) (w : Option IntegerWidth) (rest : List ℕ)
-            → body_read (item_head.array (argument_view count)) bytes.now levels
-            ≡ Ok (array is w, rest)
-            → style_view result ≡ container_style (layout_view self) (4 + estimated_items is) }
-        ensures indent { style_indent (style_view result) ≡ indent_of (layout_view self) }
-    {
-        match self {
-            Layout::Compact => ContainerStyle::Compact,
-            Layout::Pretty { indent } => style_of(indent, items_ahead(count, bytes, BUDGET)),
-        }
+/// The style of an array with this count of items, whose bytes after its head these are.
+pub fn array_style_ahead(layout: Layout, count: Argument, bytes: &[u8]) -> ContainerStyle
+    ensures style { (levels : ℕ) (is : Items) (w : Option IntegerWidth) (rest : List ℕ)
+        → body_read (ItemHead.Array count) bytes.now levels
+        ≡ Ok (array is w, rest)
+        → result ≡ container_style layout (4 + estimated_items is) }
+    ensures indent { style_indent result ≡ indent_of layout }
+{
+    match layout {
+        Layout::Compact => ContainerStyle::Compact,
+        Layout::Pretty { indent } => style_of(indent, items_ahead(count, bytes, BUDGET)),
     }
+}
 
-    /// The style of a map with this count of pairs, whose bytes after its head these are.
-    pub fn map_style_ahead(self, count: Argument, bytes: &[u8]) -> ContainerStyle
-        ensures style { (levels : ℕ) (ps : Pairs) (w : Option IntegerWidth) (rest : List ℕ)
-            → body_read (item_head.map (argument_view count)) bytes.now levels
-            ≡ Ok (spec.map ps w, rest)
-            → style_view result ≡ container_style (layout_view self) (4 + estimated_pairs ps) }
-        ensures indent { style_indent (style_view result) ≡ indent_of (layout_view self) }
-    {
-        match self {
-            Layout::Compact => ContainerStyle::Compact,
-            Layout::Pretty { indent } => style_of(indent, pairs_ahead(count, bytes, BUDGET)),
-        }
+/// The style of a map with this count of pairs, whose bytes after its head these are.
+pub fn map_style_ahead(layout: Layout, count: Argument, bytes: &[u8]) -> ContainerStyle
+    ensures style { (levels : ℕ) (ps : Pairs) (w : Option IntegerWidth) (rest : List ℕ)
+        → body_read (ItemHead.Map count) bytes.now levels
+        ≡ Ok (spec.map ps w, rest)
+        → result ≡ container_style layout (4 + estimated_pairs ps) }
+    ensures indent { style_indent result ≡ indent_of layout }
+{
+    match layout {
+        Layout::Compact => ContainerStyle::Compact,
+        Layout::Pretty { indent } => style_of(indent, pairs_ahead(count, bytes, BUDGET)),
     }
+}
 
-    /// The style of an indefinite string, whose bytes after its opening byte these are.
-    pub fn chunks_style_ahead(self, kind: StringKind, bytes: &[u8]) -> ContainerStyle
-        ensures style { (levels : ℕ) (cs : List Chunk) (rest : List ℕ)
-            → body_read (item_head.string (kind_view kind) indefinite) bytes.now levels
-            ≡ Ok (atom (chunked_string (kind_view kind) cs), rest)
-            → style_view result
-            ≡ container_style (layout_view self) (4 + estimated_chunks (kind_view kind) cs) }
-        ensures indent { style_indent (style_view result) ≡ indent_of (layout_view self) }
-    {
-        match self {
-            Layout::Compact => ContainerStyle::Compact,
-            Layout::Pretty { indent } => style_of(indent, chunks_ahead(kind, bytes, BUDGET)),
-        }
+/// The style of an indefinite string, whose bytes after its opening byte these are.
+pub fn chunks_style_ahead(layout: Layout, kind: StringKind, bytes: &[u8]) -> ContainerStyle
+    ensures style { (levels : ℕ) (cs : List Chunk) (rest : List ℕ)
+        → body_read (ItemHead.String kind Argument.Indefinite) bytes.now levels
+        ≡ Ok (atom (chunked_string kind cs), rest)
+        → result ≡ container_style layout (4 + estimated_chunks kind cs) }
+    ensures indent { style_indent result ≡ indent_of layout }
+{
+    match layout {
+        Layout::Compact => ContainerStyle::Compact,
+        Layout::Pretty { indent } => style_of(indent, chunks_ahead(kind, bytes, BUDGET)),
     }
+}
 
-    /// The style of a sequence of the items that can be read from `level` one after the other.
-    ///
-    /// Unlike the members of a container, these items count only if they can be read. So those that
-    /// are looked at are read to their end, 15 at most.
-    pub fn sequence_style_ahead(self, level: u8, bytes: &[u8]) -> ContainerStyle
-        requires from { 1 ≤ level }
-        requires to { level ≤ deepest + 1 }
-        ensures style { style_view result ≡ container_style (layout_view self)
-            (4 + estimated_items (sequence_at (levels_left level) bytes.now).0) }
-        ensures indent { style_indent (style_view result) ≡ indent_of (layout_view self) }
-    {
-        match self {
-            Layout::Compact => ContainerStyle::Compact,
-            Layout::Pretty { indent } => {
-                pretty_style(indent, left_after_sequence(level, bytes, BUDGET))
-            }
+/// The style of a sequence of the items that can be read from `level` one after the other.
+///
+/// Unlike the members of a container, these items count only if they can be read. So those that
+/// are looked at are read to their end, 15 at most.
+pub fn sequence_style_ahead(layout: Layout, level: u8, bytes: &[u8]) -> ContainerStyle
+    requires from { 1 ≤ level }
+    requires to { level ≤ deepest + 1 }
+    ensures style { result ≡ container_style layout
+        (4 + estimated_items (sequence_at (levels_left level) bytes.now).0) }
+    ensures indent { style_indent result ≡ indent_of layout }
+{
+    match layout {
+        Layout::Compact => ContainerStyle::Compact,
+        Layout::Pretty { indent } => {
+            pretty_style(indent, left_after_sequence(level, bytes, BUDGET))
         }
     }
 }
@@ -124,8 +117,8 @@ impl Layout {
 /// The style of a container with blanks, by what a look at its members finds.
 fn style_of(indent: usize, members: Option<Ahead<'_>>) -> ContainerStyle
     ensures style { (size : ℕ) (rest : List ℕ) → Leaves members.entry 60 size rest
-        → style_view result ≡ container_style (shown.Pretty indent) size }
-    ensures indent { style_indent (style_view result) ≡ indent }
+        → result ≡ container_style (shown.Pretty indent) size }
+    ensures indent { style_indent result ≡ indent }
 {
     let left = match members {
         Some(ahead) => ahead.left,
@@ -136,8 +129,7 @@ fn style_of(indent: usize, members: Option<Ahead<'_>>) -> ContainerStyle
 
 /// Looks at a string after its head, with this length.
 fn string_ahead(kind: StringKind, len: Argument, bytes: &[u8], budget: usize) -> Option<Ahead<'_>>
-    ensures leaves { Estimates result budget
-        (body_read (item_head.string (kind_view kind) (argument_view len)) bytes.now) }
+    ensures leaves { Estimates result budget (body_read (ItemHead.String kind len) bytes.now) }
     ensures takes { IfSome result (λ ahead. (0 < ahead.left) × (ahead.left + 2 ≤ budget)) }
 {
     match len {
@@ -149,8 +141,8 @@ fn string_ahead(kind: StringKind, len: Argument, bytes: &[u8], budget: usize) ->
 /// Looks at a string of definite length after its head.
 fn content_ahead(kind: StringKind, count: u64, bytes: &[u8], budget: usize) -> Option<Ahead<'_>>
     ensures leaves { (w : IntegerWidth) (c : Chunk) (rest : List ℕ)
-        → read_content (kind_view kind) count w bytes.now ≡ Ok (c, rest)
-        → Leaves result budget (estimated_string (kind_view kind) c) rest }
+        → read_content kind count w bytes.now ≡ Ok (c, rest)
+        → Leaves result budget (estimated_string kind c) rest }
     ensures takes { IfSome result (λ ahead. (0 < ahead.left) × (ahead.left + 2 ≤ budget)) }
 {
     let Ok((content, rest)) = split_at(bytes, count) else {
@@ -162,7 +154,7 @@ fn content_ahead(kind: StringKind, count: u64, bytes: &[u8], budget: usize) -> O
 /// Looks at the chunks of a string after its opening byte: two characters more for each.
 fn chunks_ahead(kind: StringKind, bytes: &[u8], budget: usize) -> Option<Ahead<'_>>
     ensures leaves { Estimates result (4 + budget)
-        (body_read (item_head.string (kind_view kind) indefinite) bytes.now) }
+        (body_read (ItemHead.String kind Argument.Indefinite) bytes.now) }
     ensures takes { IfSome result (λ ahead. (0 < ahead.left) × (ahead.left ≤ budget)) }
 {
     let mut left = budget;
@@ -216,8 +208,7 @@ fn item_ahead(bytes: &[u8], budget: usize) -> Option<Ahead<'_>>
 /// Looks at the items of an array after its head: two characters more for each.
 #[cycle(ahead)]
 fn items_ahead(count: Argument, bytes: &[u8], budget: usize) -> Option<Ahead<'_>>
-    ensures leaves { Estimates result (4 + budget)
-        (body_read (item_head.array (argument_view count)) bytes.now) }
+    ensures leaves { Estimates result (4 + budget) (body_read (ItemHead.Array count) bytes.now) }
     ensures takes { IfSome result (λ ahead. (0 < ahead.left) × (ahead.left ≤ budget)) }
 {
     let mut left = budget;
@@ -237,8 +228,7 @@ fn items_ahead(count: Argument, bytes: &[u8], budget: usize) -> Option<Ahead<'_>
 /// Looks at the keys and values of a map after its head: two characters more for each pair.
 #[cycle(ahead)]
 fn pairs_ahead(count: Argument, bytes: &[u8], budget: usize) -> Option<Ahead<'_>>
-    ensures leaves { Estimates result (4 + budget)
-        (body_read (item_head.map (argument_view count)) bytes.now) }
+    ensures leaves { Estimates result (4 + budget) (body_read (ItemHead.Map count) bytes.now) }
     ensures takes { IfSome result (λ ahead. (0 < ahead.left) × (ahead.left ≤ budget)) }
 {
     let mut left = budget;

@@ -2,15 +2,13 @@
 ghost use Rattle.std.specs.Prelude.{◌≡◌, ◌+◌, ◌-◌, ◌^◌, ◌≤◌, nat_lt, length, map};
 ghost use Rattle.std.specs.Prelude.{if◌then◌else◌};
 ghost use Rattle.cbor_grammar.specs.Item.{Chunk};
-ghost use Rattle.cbor_grammar.specs.ContainerStyle as style;
-ghost use Rattle.cbor_notation.specs.mirror.LayoutView.{layout_view, style_view};
-ghost use Rattle.cbor_grammar.specs.mirror.StringView.{kind_view};
+ghost use Rattle.cbor_grammar.specs.declared.layout.ContainerStyle.TheVariants as style;
 ghost use Rattle.cbor_grammar.specs.NotationText.{container_style};
 ghost use Rattle.cbor_grammar.specs.Estimate.{digit_count, estimated_string, estimated_chunks};
 ghost use Rattle.cbor_grammar.specs.Estimate.{estimated_float};
 
-use crate::context::{ContainerStyle, Layout};
 use cbor_grammar::FloatWidth;
+use cbor_grammar::layout::{ContainerStyle, Layout};
 use cbor_grammar::strings::{DefiniteString, StringKind};
 
 /// The budget for the members of a container, which is long where they take all of it: 60 less
@@ -19,8 +17,7 @@ pub const BUDGET: usize = 56;
 
 /// The style of a container with blanks, by what its members leave of the budget.
 pub fn pretty_style(indent: usize, left: usize) -> ContainerStyle
-    ensures { style_view result
-        ≡ (if nat_lt 0 left then style.OneLine indent else style.MultiLine indent) }
+    ensures { result ≡ (if nat_lt 0 left then style.OneLine indent else style.MultiLine indent) }
 {
     if left > 0 {
         ContainerStyle::OneLine { indent }
@@ -43,7 +40,7 @@ pub fn digit_count(number: u64) -> usize
 /// What a string of `len` bytes leaves of the budget.
 pub(super) fn left_after_content(kind: StringKind, len: usize, budget: usize) -> usize
     ensures leaves { (c : Chunk) → length c.bytes ≡ len
-        → result ≡ budget - estimated_string (kind_view kind) c }
+        → result ≡ budget - estimated_string kind c }
     ensures takes { result ≤ budget - 2 }
 {
     match kind {
@@ -87,15 +84,13 @@ pub fn left_after_chunks<S: DefiniteString>(chunks: &[S], budget: usize) -> usiz
     left
 }
 
-impl Layout {
-    /// The style of an indefinite string of these chunks.
-    pub fn chunks_style<S: DefiniteString>(self, chunks: &[S]) -> ContainerStyle
-        ensures { style_view result ≡ container_style (layout_view self)
-            (4 + estimated_chunks S.kind (map S.chunk chunks.now)) }
-    {
-        match self {
-            Layout::Compact => ContainerStyle::Compact,
-            Layout::Pretty { indent } => pretty_style(indent, left_after_chunks(chunks, BUDGET)),
-        }
+/// The style of an indefinite string of these chunks.
+pub fn chunks_style<S: DefiniteString>(layout: Layout, chunks: &[S]) -> ContainerStyle
+    ensures { result ≡ container_style layout
+        (4 + estimated_chunks S.kind (map S.chunk chunks.now)) }
+{
+    match layout {
+        Layout::Compact => ContainerStyle::Compact,
+        Layout::Pretty { indent } => pretty_style(indent, left_after_chunks(chunks, BUDGET)),
     }
 }

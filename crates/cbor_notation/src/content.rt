@@ -9,21 +9,26 @@ ghost use Rattle.cbor_notation.specs.mirror.NotationReading.{or_refused, base16_
 ghost use Rattle.cbor_notation.specs.mirror.NotationReading.{base64_of, read_decoded};
 ghost use Rattle.cbor_notation.specs.mirror.NotationReading.{h_notation, b_notation};
 
-use crate::scan::{after_byte, after_word};
+use crate::cursor::Cursor;
+use crate::scan::after_byte;
 use cbor_grammar::{Error, Result};
 use hex::FromHexError;
 use memchr::memchr;
 use std::alloc::Global;
 
 /// The content up to the closing quote, without its escapes.
-pub fn read_quoted(alloc: Global, text: &[u8], quote: u8) -> Result<(Vec<u8>, &[u8])>
+pub fn read_quoted(alloc: Global, text: &mut Cursor<'_>, quote: u8) -> Result<Vec<u8>>
     requires { (quote ≡ 34) ⊎ (quote ≡ 39) }
-    ensures gives { Gives (λ x. (x.0.items, x.1.now)) result
-        (or_refused (unquoted quote false text.now)) }
-    ensures shorter { IfOk result (λ x. length x.1.now < length text.now) }
+    ensures gives { Gives (λ x. (x.items, text.new)) result
+        (or_refused (unquoted quote false text.old)) }
+    ensures shorter { IfOk result (λ _. length text.new < length text.old) }
 {
-    match cbor_notes::quoted_at(alloc, text, 0, quote)? {
-        Some((content, end)) => Ok((content, &text[end..])),
+    let rest = text.rest();
+    match cbor_notes::quoted_front(alloc, rest, quote)? {
+        Some((content, end)) => {
+            *text = Cursor::new(&rest[end..]);
+            Ok(content)
+        }
         None => Err(Error::Notation),
     }
 }
@@ -48,13 +53,17 @@ pub fn read_plain(text: &[u8]) -> Option<(&[u8], &[u8])>
 }
 
 /// The digits up to the closing apostrophe, without the blanks between them.
-fn read_digits(alloc: Global, text: &[u8], comments: bool) -> Result<(Vec<u8>, &[u8])>
-    ensures gives { Gives (λ x. (x.0.items, x.1.now)) result
-        (or_refused (digits_of comments text.now)) }
-    ensures shorter { IfOk result (λ x. length x.1.now < length text.now) }
+fn read_digits(alloc: Global, text: &mut Cursor<'_>, comments: bool) -> Result<Vec<u8>>
+    ensures gives { Gives (λ x. (x.items, text.new)) result
+        (or_refused (digits_of comments text.old)) }
+    ensures shorter { IfOk result (λ _. length text.new < length text.old) }
 {
-    match cbor_notes::digits_at(alloc, text, 0, comments)? {
-        Some((digits, end)) => Ok((digits, &text[end..])),
+    let rest = text.rest();
+    match cbor_notes::digits_front(alloc, rest, comments)? {
+        Some((digits, end)) => {
+            *text = Cursor::new(&rest[end..]);
+            Ok(digits)
+        }
         None => Err(Error::Notation),
     }
 }
@@ -74,20 +83,22 @@ pub fn base16(alloc: Global, digits: &[u8]) -> Result<Option<Vec<u8>>>
 
 /// The bytes of hex digits up to the closing apostrophe. Digits without blanks between them, the
 /// usual case, are decoded in place; others are gathered first.
-fn read_base16(alloc: Global, text: &[u8]) -> Result<(Vec<u8>, &[u8])>
-    ensures gives { Gives (λ x. (x.0.items, x.1.now)) result
-        (read_decoded true base16_of text.now) }
-    ensures shorter { IfOk result (λ x. length x.1.now < length text.now) }
+fn read_base16(alloc: Global, text: &mut Cursor<'_>) -> Result<Vec<u8>>
+    ensures gives { Gives (λ x. (x.items, text.new)) result
+        (read_decoded true base16_of text.old) }
+    ensures shorter { IfOk result (λ _. length text.new < length text.old) }
 {
-    if let Some(end) = memchr(b'\'', text) {
+    let rest = text.rest();
+    if let Some(end) = memchr(b'\'', rest) {
         // `None` here: blanks between them, other bytes, or an odd number of digits.
-        if let Some(bytes) = base16(alloc, &text[..end])? {
-            return Ok((bytes, &text[end + 1..]));
+        if let Some(bytes) = base16(alloc, &rest[..end])? {
+            *text = Cursor::new(&rest[end + 1..]);
+            return Ok(bytes);
         }
     }
-    let (digits, rest) = read_digits(alloc, text, true)?;
+    let digits = read_digits(alloc, text, true)?;
     match base16(alloc, &digits)? {
-        Some(bytes) => Ok((bytes, rest)),
+        Some(bytes) => Ok(bytes),
         None => Err(Error::Notation),
     }
 }
@@ -118,15 +129,15 @@ fn base64(alloc: Global, digits: &[u8]) -> Result<Vec<u8>>
 }
 
 /// The bytes of `h'..'` or `h32'..'` after the `h`.
-pub fn h_notation(alloc: Global, text: &[u8]) -> Result<(Vec<u8>, &[u8])>
-    ensures gives { Gives (λ x. (x.0.items, x.1.now)) result (h_notation text.now) }
-    ensures shorter { IfOk result (λ x. length x.1.now < length text.now) }
+pub fn h_notation(alloc: Global, text: &mut Cursor<'_>) -> Result<Vec<u8>>
+    ensures gives { Gives (λ x. (x.items, text.new)) result (h_notation text.old) }
+    ensures shorter { IfOk result (λ _. length text.new < length text.old) }
 {
-    if let Some(quoted) = after_word(text, b"'") {
-        read_base16(alloc, quoted)
-    } else if let Some(quoted) = after_word(text, b"32'") {
-        let (digits, rest) = read_digits(alloc, quoted, true)?;
-        Ok((base32hex(alloc, &digits)?, rest))
+    if text.take_word(b"'") {
+        read_base16(alloc, text)
+    } else if text.take_word(b"32'") {
+        let digits = read_digits(alloc, text, true)?;
+        Ok(base32hex(alloc, &digits)?)
     } else {
         Err(Error::Notation)
     }
@@ -134,16 +145,16 @@ pub fn h_notation(alloc: Global, text: &[u8]) -> Result<(Vec<u8>, &[u8])>
 
 /// The bytes of `b32'..'` or `b64'..'` after the `b`. In base 64 a `/` is a digit, so there are no
 /// comments.
-pub fn b_notation(alloc: Global, text: &[u8]) -> Result<(Vec<u8>, &[u8])>
-    ensures gives { Gives (λ x. (x.0.items, x.1.now)) result (b_notation text.now) }
-    ensures shorter { IfOk result (λ x. length x.1.now < length text.now) }
+pub fn b_notation(alloc: Global, text: &mut Cursor<'_>) -> Result<Vec<u8>>
+    ensures gives { Gives (λ x. (x.items, text.new)) result (b_notation text.old) }
+    ensures shorter { IfOk result (λ _. length text.new < length text.old) }
 {
-    if let Some(quoted) = after_word(text, b"32'") {
-        let (digits, rest) = read_digits(alloc, quoted, true)?;
-        Ok((base32(alloc, &digits)?, rest))
-    } else if let Some(quoted) = after_word(text, b"64'") {
-        let (digits, rest) = read_digits(alloc, quoted, false)?;
-        Ok((base64(alloc, &digits)?, rest))
+    if text.take_word(b"32'") {
+        let digits = read_digits(alloc, text, true)?;
+        Ok(base32(alloc, &digits)?)
+    } else if text.take_word(b"64'") {
+        let digits = read_digits(alloc, text, false)?;
+        Ok(base64(alloc, &digits)?)
     } else {
         Err(Error::Notation)
     }

@@ -4,9 +4,9 @@ ghost use Rattle.std.specs.Prelude.{◌≡◌, ℕ, ◌+◌, ◌<◌, ◌≤◌,
 ghost use Rattle.std.specs.Prelude.{MatchResult, None, Ok};
 ghost use Rattle.std.specs.String.{string_bytes};
 ghost use Rattle.cbor_grammar.specs.declared.width.IntegerWidth.{IntegerWidth};
-ghost use Rattle.cbor_grammar.specs.Answer.{Outcome, GavePart, GaveRefusal, RefusedSo};
+ghost use Rattle.cbor_grammar.specs.Answer.{Outcome, GaveText, GaveRefusal, RefusedSo};
 ghost use Rattle.cbor_grammar.specs.Embedded.{sequence, EmbedsExactly};
-ghost use Rattle.cbor_grammar.specs.Encoding.{Encoding};
+ghost use Rattle.cbor_grammar.specs.declared.encoding.Encoding.{Encoding};
 ghost use Rattle.cbor_grammar.specs.Estimate.{estimated_length, one_line_limit};
 ghost use Rattle.cbor_grammar.specs.Facts.{IsItem, BeginsWithItem, IsCut, HasFault, IsNoItem};
 ghost use Rattle.cbor_grammar.specs.Facts.{BeginsSo, BeginsInOneWay, diag_of, pretty_of, normal_of};
@@ -18,9 +18,9 @@ ghost use Rattle.cbor_grammar.specs.Pretty.{pretty, in_one_line, in_lines, encod
 ghost use Rattle.cbor_grammar.specs.Pretty.{sequence_in_one_line, sequence_in_lines};
 ghost use Rattle.cbor_grammar.specs.WellFormed.{deepest};
 
-use crate::context::Layout;
 use crate::outermost::{hex_text, push_part, push_whole, whole_text};
 use cbor_grammar::Error;
+use cbor_grammar::layout::Layout;
 use std::alloc::Global;
 
 /// Pretty text begins at the left.
@@ -62,8 +62,8 @@ pub fn bytes_to_diag(alloc: Global, bytes: &[u8]) -> cbor_grammar::Result<String
     whole_text(alloc, bytes, Layout::Compact)
 }
 
-/// Appends the text of [`bytes_to_diag`] to `out`, to reuse its memory. The errors are the same, and
-/// after one `out` is unchanged.
+/// Appends the text of [`bytes_to_diag`] to `out`, to reuse its memory. The errors are the same,
+/// and after one `out` is unchanged.
 pub fn push_bytes_to_diag(alloc: Global, bytes: &[u8], out: &mut String) -> cbor_grammar::Result<()>
     // The text of the item that the bytes are, exactly if they are one.
     ensures ok { OnOk result ((i : Item) × IsItem bytes.now i
@@ -112,7 +112,7 @@ pub fn push_bytes_to_diag_partial(
 
     // Bytes begin in exactly one of the three ways, and that one is returned.
     ensures exact { (o : Outcome) → BeginsSo bytes.now o
-        → GavePart diag_of result (string_bytes out.old) (string_bytes out.new) o }
+        → GaveText diag_of result (string_bytes out.old) (string_bytes out.new) o }
     ensures one_of_three { BeginsInOneWay bytes.now }
 
     // Nothing is appended without an item.
@@ -125,8 +125,8 @@ pub fn push_bytes_to_diag_partial(
 /// Returns the item of hex with comments in diagnostic notation (RFC 7049 section 6) on one line,
 /// without blanks.
 ///
-/// It returns what [`parse_hex`] and [`DataItem::to_diag`] return one after the other, the errors of
-/// [`parse_hex`] included. It builds no item, so it takes less time and less memory.
+/// It returns what [`parse_hex`] and [`DataItem::to_diag`] return one after the other, the errors
+/// of [`parse_hex`] included. It builds no item, so it takes less time and less memory.
 ///
 /// ```rust
 /// use cbor_diag::hex_to_diag;
@@ -255,7 +255,7 @@ pub fn push_bytes_to_diag_pretty_partial(
 
     // Bytes begin in exactly one of the three ways, and that one is returned.
     ensures exact { (o : Outcome) → BeginsSo bytes.now o
-        → GavePart pretty_of result (string_bytes out.old) (string_bytes out.new) o }
+        → GaveText pretty_of result (string_bytes out.old) (string_bytes out.new) o }
     ensures one_of_three { BeginsInOneWay bytes.now }
 
     // Nothing is appended without an item.

@@ -5,10 +5,10 @@ ghost use Rattle.std.specs.Prelude.{[], ◌∷◌, codes, Some};
 ghost use Rattle.std.specs.List.{AllByRecursion};
 ghost use Rattle.cbor_grammar.specs.declared.width.IntegerWidth.TheVariants.{Unknown, Zero, Eight};
 ghost use Rattle.cbor_grammar.specs.declared.width.IntegerWidth.TheVariants.{Sixteen};
+ghost use Rattle.cbor_grammar.specs.declared.strings.StringKind.TheVariants.{Bytes, Text};
 ghost use Rattle.cbor_grammar.specs.Item.{atom, array, simple, integer, chunked_string, item};
 ghost use Rattle.cbor_grammar.specs.Item.{no_items};
 ghost use Rattle.cbor_grammar.specs.Item.{Item, tagged, negative, float};
-ghost use Rattle.cbor_grammar.specs.StringKind.{bytes_kind, text_kind};
 ghost use Rattle.cbor_grammar.specs.Embedded.{embedded};
 ghost use Rattle.cbor_grammar.specs.Examples.{small, open_map};
 ghost use Rattle.cbor_grammar.specs.Examples.{bytes};
@@ -43,9 +43,9 @@ pub(crate) fn notation_strings()
     ensures base64 { ReadsUnder 1 (codes "b64'/x/0'") (open_bytes (255 ∷ 31 ∷ 244 ∷ [])) }
     ensures escaped { ReadsUnder 1 (codes "'it\\'s'") (open_bytes (codes "it's")) }
     ensures embedded { ReadsUnder 2 (codes "<<1, >>") (open_bytes (1 ∷ [])) }
-    ensures no_chunks { ReadsUnder 1 (codes "(_ )") (atom (chunked_string bytes_kind [])) }
-    ensures no_bytes { ReadsUnder 1 (codes "''_") (atom (chunked_string bytes_kind [])) }
-    ensures no_texts { ReadsUnder 1 (codes "\"\"_") (atom (chunked_string text_kind [])) }
+    ensures no_chunks { ReadsUnder 1 (codes "(_ )") (atom (chunked_string Bytes [])) }
+    ensures no_bytes { ReadsUnder 1 (codes "''_") (atom (chunked_string Bytes [])) }
+    ensures no_texts { ReadsUnder 1 (codes "\"\"_") (atom (chunked_string Text [])) }
 {}
 
 /// Texts that are no item: an indicator past 3, a value past its width, no whitespace after a last

@@ -9,30 +9,29 @@
 ghost use Rattle.std.specs.Prelude.{◌≡◌, ◌+◌, ◌*◌, ◌<◌, ◌≤◌, ◌^◌, ◌++◌, codes, IfOk, IfErr, OnErr};
 ghost use Rattle.std.specs.Io.{StartsWith};
 ghost use Rattle.std.specs.String.{string_bytes};
-ghost use Rattle.cbor_grammar.specs.ItemHead as item_head;
-ghost use Rattle.cbor_grammar.specs.Layout as shown;
+ghost use Rattle.cbor_grammar.specs.declared.layout.Content.TheVariants as shown;
 ghost use Rattle.cbor_grammar.specs.NotationText.{last_line, rest_text, style_indent};
 ghost use Rattle.cbor_grammar.specs.Reading.{Fails};
 ghost use Rattle.cbor_grammar.specs.WellFormed.{deepest};
-ghost use Rattle.cbor_grammar.specs.mirror.Appends.{AppendsText};
-ghost use Rattle.cbor_bytes.specs.mirror.HeadView.{argument_view};
-ghost use Rattle.cbor_notation.specs.mirror.LayoutView.{context_view, style_view, item_text};
+ghost use Rattle.cbor_notes.specs.Appends.{AppendsText};
+ghost use Rattle.cbor_notation.specs.mirror.LayoutView.{context_view, item_text};
 ghost use Rattle.cbor_notation.specs.mirror.LayoutView.{IsIndented, content_there};
 ghost use Rattle.cbor_notation.specs.mirror.Straight.{Printed, read_there, read_after};
 ghost use Rattle.cbor_notation.specs.mirror.Straight.{string_there, before_chunk, after_chunks};
-ghost use Rattle.cbor_grammar.specs.mirror.StringView.{kind_view};
-ghost use Rattle.cbor_grammar.specs.Argument.{indefinite};
 
-use crate::context::{ContainerStyle, Content, NotationContext};
+use crate::ahead::{array_style_ahead, chunks_style_ahead, map_style_ahead, sequence_style_ahead};
+use crate::context::NotationContext;
 use crate::members::{
     push_closing, push_colon, push_end, push_no_chunks, push_opening, push_rest, push_start,
 };
 use crate::scalars::{
     push_float, push_negative, push_number, push_quoted, push_simple, push_string, push_text,
 };
-use cbor_bytes::argument::Argument;
 use cbor_bytes::borrowed::{next_chunk, read_borrowed};
-use cbor_bytes::head::{ItemHead, no_level_left, read_head};
+use cbor_bytes::head::{no_level_left, read_head};
+use cbor_grammar::argument::Argument;
+use cbor_grammar::head::ItemHead;
+use cbor_grammar::layout::{ContainerStyle, Content};
 use cbor_grammar::level::DEEPEST;
 use cbor_grammar::strings::{StringContent, StringKind};
 use cbor_grammar::{Error, IntegerWidth, Simple, Tag};
@@ -92,13 +91,13 @@ fn push_array_front<'a>(
     requires level { context.now.level ≤ deepest }
     requires indent { IsIndented context.now }
     ensures printed { IfOk result (λ rest. Printed (item_text context.now)
-        (read_after context.now (item_head.array (argument_view count)) bytes.now) rest.now
+        (read_after context.now (ItemHead.Array count) bytes.now) rest.now
         (string_bytes out.old) (string_bytes out.new)) }
     ensures refused { IfErr result (λ e. Fails e
-        (read_after context.now (item_head.array (argument_view count)) bytes.now)) }
+        (read_after context.now (ItemHead.Array count) bytes.now)) }
     ensures begun { OnErr result (StartsWith (string_bytes out.new) (string_bytes out.old)) }
 {
-    let style = context.layout.array_style_ahead(count, bytes);
+    let style = array_style_ahead(context.layout, count, bytes);
     let inner = context.inside(style.members_layout());
     push_opening(out, '[', count.width(), style)?;
     let mut rest = bytes;
@@ -127,13 +126,13 @@ fn push_map_front<'a>(
     requires level { context.now.level ≤ deepest }
     requires indent { IsIndented context.now }
     ensures printed { IfOk result (λ rest. Printed (item_text context.now)
-        (read_after context.now (item_head.map (argument_view count)) bytes.now) rest.now
+        (read_after context.now (ItemHead.Map count) bytes.now) rest.now
         (string_bytes out.old) (string_bytes out.new)) }
     ensures refused { IfErr result (λ e. Fails e
-        (read_after context.now (item_head.map (argument_view count)) bytes.now)) }
+        (read_after context.now (ItemHead.Map count) bytes.now)) }
     ensures begun { OnErr result (StartsWith (string_bytes out.new) (string_bytes out.old)) }
 {
-    let style = context.layout.map_style_ahead(count, bytes);
+    let style = map_style_ahead(context.layout, count, bytes);
     let inner = context.inside(style.members_layout());
     push_opening(out, '{', count.width(), style)?;
     let mut rest = bytes;
@@ -164,10 +163,10 @@ fn push_tag_front<'a>(
     requires level { context.now.level ≤ deepest }
     requires indent { IsIndented context.now }
     ensures printed { IfOk result (λ rest. Printed (item_text context.now)
-        (read_after context.now (item_head.tag head.0 head.1) bytes.now) rest.now
+        (read_after context.now (ItemHead.Tag head.0 head.1) bytes.now) rest.now
         (string_bytes out.old) (string_bytes out.new)) }
     ensures refused { IfErr result (λ e. Fails e
-        (read_after context.now (item_head.tag head.0 head.1) bytes.now)) }
+        (read_after context.now (ItemHead.Tag head.0 head.1) bytes.now)) }
     ensures begun { OnErr result (StartsWith (string_bytes out.new) (string_bytes out.old)) }
 {
     let (tag, width) = head;
@@ -189,10 +188,10 @@ fn push_string_front<'a>(
     requires level { context.now.level ≤ deepest }
     requires indent { IsIndented context.now }
     ensures printed { IfOk result (λ rest. Printed (item_text context.now) (read_after context.now
-        (item_head.string (kind_view head.0) (argument_view head.1)) bytes.now) rest.now
+        (ItemHead.String head.0 head.1) bytes.now) rest.now
         (string_bytes out.old) (string_bytes out.new)) }
     ensures refused { IfErr result (λ e. Fails e (read_after context.now
-        (item_head.string (kind_view head.0) (argument_view head.1)) bytes.now)) }
+        (ItemHead.String head.0 head.1) bytes.now)) }
     ensures begun { OnErr result (StartsWith (string_bytes out.new) (string_bytes out.old)) }
 {
     let (kind, len) = head;
@@ -234,7 +233,7 @@ pub fn push_content(
     requires level { context.now.level ≤ deepest }
     requires indent { IsIndented context.now }
     ensures { AppendsText result out.old out.new
-        (content_there context.now (context_view context.now).content bytes.now) }
+        (content_there context.now context.now.content bytes.now) }
 {
     match context.content {
         Content::Bytes => push_quoted(out, bytes, context.encoding),
@@ -291,9 +290,7 @@ fn push_sequence(
     ensures { AppendsText result out.old out.new
         (content_there context.now shown.Sequence bytes.now) }
 {
-    let style = context
-        .layout
-        .sequence_style_ahead(context.level + 1, bytes);
+    let style = sequence_style_ahead(context.layout, context.level + 1, bytes);
     let inner = context.inside(style.members_layout());
     out.push_str("<<")?;
     let mut rest = bytes;
@@ -326,7 +323,7 @@ fn push_sequence_end(
     style: ContainerStyle,
     context: &NotationContext,
 ) -> Result<(), AllocError>
-    ensures { AppendsText result out.old out.new (last_line (style_view style)
+    ensures { AppendsText result out.old out.new (last_line style
         ++ (codes ">>" ++ rest_text (context_view context.now) rest.now)) }
 {
     push_closing(out, style, '>')?;
@@ -345,13 +342,13 @@ fn push_chunks_front<'a>(
     requires level { context.now.level ≤ deepest }
     requires indent { IsIndented context.now }
     ensures printed { IfOk result (λ rest. Printed (item_text context.now)
-        (read_after context.now (item_head.string (kind_view kind) indefinite) bytes.now) rest.now
+        (read_after context.now (ItemHead.String kind Argument.Indefinite) bytes.now) rest.now
         (string_bytes out.old) (string_bytes out.new)) }
     ensures refused { IfErr result (λ e. Fails e
-        (read_after context.now (item_head.string (kind_view kind) indefinite) bytes.now)) }
+        (read_after context.now (ItemHead.String kind Argument.Indefinite) bytes.now)) }
     ensures begun { OnErr result (StartsWith (string_bytes out.new) (string_bytes out.old)) }
 {
-    let style = context.layout.chunks_style_ahead(kind, bytes);
+    let style = chunks_style_ahead(context.layout, kind, bytes);
     let mut rest = bytes;
     let mut held = 0;
     'chunks: loop {
@@ -370,8 +367,8 @@ fn push_chunks_front<'a>(
 
 /// Writes what is before a chunk, after `held` others.
 fn push_chunk_start(out: &mut String, held: usize, style: ContainerStyle) -> Result<(), AllocError>
-    requires { style_indent (style_view style) < 2 ^ 32 }
-    ensures { AppendsText result out.old out.new (before_chunk (style_view style) held) }
+    requires { style_indent style < 2 ^ 32 }
+    ensures { AppendsText result out.old out.new (before_chunk style held) }
 {
     if held == 0 {
         push_opening(out, '(', None, style)?;
@@ -389,7 +386,7 @@ fn push_chunks_end(
     style: ContainerStyle,
 ) -> Result<(), AllocError>
     ensures { AppendsText result out.old out.new
-        (after_chunks (style_view style) (kind_view kind) held) }
+        (after_chunks style kind held) }
 {
     if held == 0 {
         push_no_chunks(out, kind)

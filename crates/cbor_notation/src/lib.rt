@@ -7,7 +7,7 @@ pub mod budget;
 pub mod content;
 pub mod context;
 pub mod convert;
-pub mod encoding;
+pub mod cursor;
 mod examples;
 pub mod from_bytes;
 mod laws;

@@ -3,18 +3,19 @@
 #![tactic(auto, using(cbor_grammar::proofs::shared::Appending::appending_steps))]
 
 ghost use Rattle.std.specs.Prelude.{◌≡◌, ◌∷◌, [], ◌++◌, ◌<◌, ◌≤◌, ◌^◌, map};
-ghost use Rattle.cbor_grammar.specs.mirror.Appends.{AppendsText};
+ghost use Rattle.cbor_notes.specs.Appends.{AppendsText};
 ghost use Rattle.cbor_grammar.specs.StringKind.{no_chunks};
 ghost use Rattle.cbor_grammar.specs.WellFormed.{deepest};
-ghost use Rattle.cbor_grammar.specs.mirror.StringView.{kind_view};
-ghost use Rattle.cbor_notation.specs.mirror.LayoutView.{style_view, context_view, chunks_there};
+ghost use Rattle.cbor_notation.specs.mirror.LayoutView.{context_view, chunks_there};
 ghost use Rattle.cbor_notation.specs.mirror.LayoutView.{IsIndented, before_member, after_member};
 ghost use Rattle.cbor_grammar.specs.NotationText.{line, last_line, opened, colon, style_indent};
 ghost use Rattle.cbor_grammar.specs.NotationText.{rest_text};
 
-use crate::context::{ContainerStyle, Layout, NotationContext};
+use crate::budget::chunks_style;
+use crate::context::NotationContext;
 use crate::scalars::{push_quoted, push_string};
 use cbor_grammar::IntegerWidth;
+use cbor_grammar::layout::{ContainerStyle, Layout};
 use cbor_grammar::strings::{DefiniteString, StringKind};
 use std::alloc::AllocError;
 
@@ -58,7 +59,7 @@ pub fn push_opening(
     style: ContainerStyle,
 ) -> Result<(), AllocError>
     requires { bracket < 128 }
-    ensures { AppendsText result out.old out.new (opened (style_view style) (bracket ∷ []) width) }
+    ensures { AppendsText result out.old out.new (opened style (bracket ∷ []) width) }
 {
     out.push(bracket)?;
     match (width, style) {
@@ -71,8 +72,8 @@ pub fn push_opening(
 /// Writes what is before a member.
 #[inline(always)]
 pub fn push_start(out: &mut String, style: ContainerStyle, first: bool) -> Result<(), AllocError>
-    requires { style_indent (style_view style) < 2 ^ 32 }
-    ensures { AppendsText result out.old out.new (before_member (style_view style) first) }
+    requires { style_indent style < 2 ^ 32 }
+    ensures { AppendsText result out.old out.new (before_member style first) }
 {
     match style {
         ContainerStyle::MultiLine { indent } => push_line(out, indent + 4),
@@ -85,7 +86,7 @@ pub fn push_start(out: &mut String, style: ContainerStyle, first: bool) -> Resul
 /// Writes what is after a member.
 #[inline(always)]
 pub fn push_end(out: &mut String, style: ContainerStyle) -> Result<(), AllocError>
-    ensures { AppendsText result out.old out.new (after_member (style_view style)) }
+    ensures { AppendsText result out.old out.new (after_member style) }
 {
     match style {
         ContainerStyle::MultiLine { .. } => out.push(','),
@@ -96,7 +97,7 @@ pub fn push_end(out: &mut String, style: ContainerStyle) -> Result<(), AllocErro
 /// Writes what is between a key and its value.
 #[inline(always)]
 pub fn push_colon(out: &mut String, style: ContainerStyle) -> Result<(), AllocError>
-    ensures { AppendsText result out.old out.new (colon (style_view style)) }
+    ensures { AppendsText result out.old out.new (colon style) }
 {
     match style {
         ContainerStyle::Compact => out.push(':'),
@@ -112,7 +113,7 @@ pub fn push_closing(
     bracket: char,
 ) -> Result<(), AllocError>
     requires { bracket < 128 }
-    ensures { AppendsText result out.old out.new (last_line (style_view style) ++ (bracket ∷ [])) }
+    ensures { AppendsText result out.old out.new (last_line style ++ (bracket ∷ [])) }
 {
     if let ContainerStyle::MultiLine { indent } = style {
         push_line(out, indent)?;
@@ -135,7 +136,7 @@ pub fn push_chunks<S: DefiniteString>(
     if chunks.is_empty() {
         return push_no_chunks(out, S::kind());
     }
-    let style = context.layout.chunks_style(chunks);
+    let style = chunks_style(context.layout, chunks);
     push_opening(out, '(', None, style)?;
     let mut first = true;
     'chunks: for chunk in chunks {
@@ -149,7 +150,7 @@ pub fn push_chunks<S: DefiniteString>(
 
 /// Writes an indefinite string of this kind that has no chunks.
 pub(crate) fn push_no_chunks(out: &mut String, kind: StringKind) -> Result<(), AllocError>
-    ensures { AppendsText result out.old out.new (no_chunks (kind_view kind)) }
+    ensures { AppendsText result out.old out.new (no_chunks kind) }
 {
     match kind {
         StringKind::Bytes => out.push_str("''_"),

@@ -7,18 +7,23 @@ ghost use Rattle.cbor_notation.specs.mirror.NotationReading.{read_number, with_w
 ghost use Rattle.cbor_notation.specs.mirror.NotationReading.{read_unsigned_number};
 ghost use Rattle.cbor_notation.specs.mirror.NotationReading.{read_negative_number};
 
+use crate::cursor::Cursor;
 use cbor_grammar::{Error, IntegerWidth, Result};
 
 /// The value and the indicator of the longest number at the front; a value past 2^64 is 2^64 + 1.
-pub fn read_number(text: &[u8]) -> Result<((u128, Option<u8>), &[u8])>
+pub fn read_number(text: &mut Cursor<'_>) -> Result<(u128, Option<u8>)>
     ensures gives { MatchResult result
-        (λ x. (value : ℕ) × (read_number text.now ≡ Ok ((value, x.0.1), x.1.now))
-        × (x.0.0 ≡ capped value))
-        (λ e. (e ≡ Error.Notation) × (read_number text.now ≡ Err Error.Notation)) }
-    ensures shorter { IfOk result (λ x. length x.1.now < length text.now) }
+        (λ x. (value : ℕ) × (read_number text.old ≡ Ok ((value, x.1), text.new))
+        × (x.0 ≡ capped value))
+        (λ e. (e ≡ Error.Notation) × (read_number text.old ≡ Err Error.Notation)) }
+    ensures shorter { IfOk result (λ _. length text.new < length text.old) }
 {
-    match cbor_notes::number_at(text, 0) {
-        Some((value, indicator, end)) => Ok(((value, indicator), &text[end..])),
+    let rest = text.rest();
+    match cbor_notes::number_front(rest) {
+        Some((value, indicator, end)) => {
+            *text = Cursor::new(&rest[end..]);
+            Ok((value, indicator))
+        }
         None => Err(Error::Notation),
     }
 }
@@ -48,28 +53,26 @@ fn with_width(number: u128, indicator: Option<u8>) -> Result<(u64, IntegerWidth)
 }
 
 /// The number of an unsigned integer or a tag at the front, with its width.
-pub fn read_unsigned_number(text: &[u8]) -> Result<((u64, IntegerWidth), &[u8])>
-    ensures gives { Gives (λ x. ((x.0.0, x.0.1), x.1.now)) result
-        (read_unsigned_number text.now) }
+pub fn read_unsigned_number(text: &mut Cursor<'_>) -> Result<(u64, IntegerWidth)>
+    ensures gives { Gives (λ x. ((x.0, x.1), text.new)) result (read_unsigned_number text.old) }
     ensures memory { result ≢ Err Error.Memory }
-    ensures fits { IfOk result (λ x. FitsWidth x.0.1 x.0.0) }
-    ensures shorter { IfOk result (λ x. length x.1.now < length text.now) }
+    ensures fits { IfOk result (λ x. FitsWidth x.1 x.0) }
+    ensures shorter { IfOk result (λ _. length text.new < length text.old) }
 {
-    let ((number, indicator), rest) = read_number(text)?;
-    Ok((with_width(number, indicator)?, rest))
+    let (number, indicator) = read_number(text)?;
+    Ok(with_width(number, indicator)?)
 }
 
 /// The number that is encoded for a negative integer: one less than the number after its `-`.
-pub fn read_negative_number(text: &[u8]) -> Result<((u64, IntegerWidth), &[u8])>
-    ensures gives { Gives (λ x. ((x.0.0, x.0.1), x.1.now)) result
-        (read_negative_number text.now) }
+pub fn read_negative_number(text: &mut Cursor<'_>) -> Result<(u64, IntegerWidth)>
+    ensures gives { Gives (λ x. ((x.0, x.1), text.new)) result (read_negative_number text.old) }
     ensures memory { result ≢ Err Error.Memory }
-    ensures fits { IfOk result (λ x. FitsWidth x.0.1 x.0.0) }
-    ensures shorter { IfOk result (λ x. length x.1.now < length text.now) }
+    ensures fits { IfOk result (λ x. FitsWidth x.1 x.0) }
+    ensures shorter { IfOk result (λ _. length text.new < length text.old) }
 {
-    let ((number, indicator), rest) = read_number(text)?;
+    let (number, indicator) = read_number(text)?;
     if number == 0 {
         return Err(Error::Notation);
     }
-    Ok((with_width(number - 1, indicator)?, rest))
+    Ok(with_width(number - 1, indicator)?)
 }

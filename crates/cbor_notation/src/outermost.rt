@@ -5,7 +5,7 @@
 ghost use Rattle.std.specs.Prelude.{◌≡◌, ◌≤◌, ◌++◌, IfOk, IfErr, IfSome, OnOk, OnErr};
 ghost use Rattle.std.specs.Prelude.{MatchResult, None, Ok};
 ghost use Rattle.std.specs.String.{string_bytes};
-ghost use Rattle.cbor_grammar.specs.Answer.{Outcome, GavePart, GaveRefusal, RefusedSo};
+ghost use Rattle.cbor_grammar.specs.Answer.{Outcome, GaveText, GaveRefusal, RefusedSo};
 ghost use Rattle.cbor_grammar.specs.Facts.{IsItem, BeginsWithItem, IsCut, HasFault, IsNoItem};
 ghost use Rattle.cbor_grammar.specs.Facts.{BeginsSo, BeginsInOneWay, normal_of};
 ghost use Rattle.cbor_grammar.specs.HexText.{IsHexOf, IsHexRefused};
@@ -14,13 +14,13 @@ ghost use Rattle.cbor_grammar.specs.Notation.{IsNotation};
 ghost use Rattle.cbor_grammar.specs.NotationText.{indent_of};
 ghost use Rattle.cbor_grammar.specs.Reading.{Fails, read_item};
 ghost use Rattle.cbor_grammar.specs.WellFormed.{deepest};
-ghost use Rattle.cbor_notation.specs.mirror.LayoutView.{layout_view};
 ghost use Rattle.cbor_notation.specs.mirror.Straight.{Printed, text_in};
 
-use crate::context::{Layout, NotationContext};
+use crate::context::NotationContext;
 use crate::from_bytes::push_front;
 use cbor_bytes::hex_text::{decode, uncommented};
 use cbor_grammar::Error;
+use cbor_grammar::layout::Layout;
 use std::alloc::Global;
 
 /// Writes the item at the front, and returns the bytes after it. After an error the text is what it
@@ -30,7 +30,7 @@ fn push_outermost_front<'a>(
     bytes: &'a [u8],
     layout: Layout,
 ) -> cbor_grammar::Result<&'a [u8]>
-    requires { indent_of (layout_view layout) ≤ 4 }
+    requires { indent_of layout ≤ 4 }
     ensures printed { IfOk result (λ rest. Printed (text_in layout) (read_item deepest bytes.now)
         rest.now (string_bytes out.old) (string_bytes out.new)) }
     ensures refused { IfErr result (λ e. Fails e (read_item deepest bytes.now)) }
@@ -48,7 +48,7 @@ fn push_outermost_front<'a>(
 
 /// Writes the one item that the bytes are, all of them. After an error the text is what it was.
 fn push_only(out: &mut String, bytes: &[u8], layout: Layout) -> cbor_grammar::Result<()>
-    requires { indent_of (layout_view layout) ≤ 4 }
+    requires { indent_of layout ≤ 4 }
     ensures ok { OnOk result ((i : Item) × IsItem bytes.now i
         × (string_bytes out.new ≡ string_bytes out.old ++ text_in layout i)) }
     ensures refused { RefusedSo result (IsNoItem bytes.now) }
@@ -65,7 +65,7 @@ fn push_only(out: &mut String, bytes: &[u8], layout: Layout) -> cbor_grammar::Re
 
 /// The same. It is the one item, and the errors are those that the bytes have.
 pub(super) fn push_whole(out: &mut String, bytes: &[u8], layout: Layout) -> cbor_grammar::Result<()>
-    requires { indent_of (layout_view layout) ≤ 4 }
+    requires { indent_of layout ≤ 4 }
     ensures ok { OnOk result ((i : Item) × IsItem bytes.now i
         × (string_bytes out.new ≡ string_bytes out.old ++ text_in layout i)) }
     ensures every_item { (i : Item) → IsItem bytes.now i → MatchResult result
@@ -84,13 +84,13 @@ pub(super) fn push_part(
     bytes: &[u8],
     layout: Layout,
 ) -> cbor_grammar::Result<Option<usize>>
-    requires { indent_of (layout_view layout) ≤ 4 }
+    requires { indent_of layout ≤ 4 }
     ensures found { IfOk result (λ o. IfSome o (λ n. (i : Item) × BeginsWithItem bytes.now i n
         × (string_bytes out.new ≡ string_bytes out.old ++ text_in layout i))) }
     ensures cut { result ≡ Ok None → IsCut bytes.now }
     ensures fault { RefusedSo result (HasFault bytes.now) }
     ensures exact { (o : Outcome) → BeginsSo bytes.now o
-        → GavePart (text_in layout) result (string_bytes out.old) (string_bytes out.new) o }
+        → GaveText (text_in layout) result (string_bytes out.old) (string_bytes out.new) o }
     ensures one_of_three { BeginsInOneWay bytes.now }
     ensures cut_unchanged { result ≡ Ok None → string_bytes out.new ≡ string_bytes out.old }
     ensures unchanged { OnErr result (string_bytes out.new ≡ string_bytes out.old) }
@@ -107,8 +107,8 @@ pub(super) fn push_part(
 /// For how many bytes of an input memory is taken before its text is written, at most.
 const MOST: usize = 1 << 19;
 
-/// How much memory a text of that many bytes begins with: it is mostly up to twice as long. From C, a
-/// message of 98 bytes takes a quarter less than where its text is made longer again and again.
+/// How much memory a text of that many bytes begins with: it is mostly up to twice as long. From C,
+/// a message of 98 bytes takes a quarter less than where its text is made longer again and again.
 fn first_capacity(len: usize) -> usize {
     2 * len.min(MOST) + 32
 }
@@ -119,7 +119,7 @@ pub(super) fn whole_text(
     bytes: &[u8],
     layout: Layout,
 ) -> cbor_grammar::Result<String>
-    requires { indent_of (layout_view layout) ≤ 4 }
+    requires { indent_of layout ≤ 4 }
     ensures ok { IfOk result (λ s. (i : Item) × IsItem bytes.now i
         × (string_bytes s ≡ text_in layout i)) }
     ensures every_item { (i : Item) → IsItem bytes.now i
@@ -136,7 +136,7 @@ pub(super) fn whole_text(
 
 /// Returns the text of the item of hex with comments.
 pub(super) fn hex_text(alloc: Global, hex: &str, layout: Layout) -> cbor_grammar::Result<String>
-    requires { indent_of (layout_view layout) ≤ 4 }
+    requires { indent_of layout ≤ 4 }
     ensures ok { IfOk result (λ s. (i : Item) × IsHexOf hex.now i
         × (string_bytes s ≡ text_in layout i)) }
     ensures every_item { (i : Item) → IsHexOf hex.now i

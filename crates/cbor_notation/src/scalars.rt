@@ -5,8 +5,7 @@
 ghost use Rattle.std.specs.Prelude.{◌≡◌, ◌+◌, ◌++◌, codes};
 ghost use Rattle.std.specs.Fmt.{decimal};
 ghost use Rattle.std.specs.List.{flat_map, list_any};
-ghost use Rattle.cbor_grammar.specs.mirror.Appends.{AppendsText};
-ghost use Rattle.cbor_notation.specs.mirror.EncodingView.{encoding_view};
+ghost use Rattle.cbor_notes.specs.Appends.{AppendsText};
 ghost use Rattle.cbor_grammar.specs.mirror.StringView.{bytes_of, kind_of};
 ghost use Rattle.cbor_notes.specs.Ascii.{quote};
 ghost use Rattle.cbor_notes.specs.Base64.{standard, url_safe};
@@ -15,8 +14,8 @@ ghost use Rattle.cbor_grammar.specs.WellFormed.{FitsFloat};
 ghost use Rattle.cbor_grammar.specs.NotationText.{indicator, number, prefix, encoded_bytes, quoted};
 ghost use Rattle.cbor_grammar.specs.NotationText.{text, string_text, float_text, simple_text};
 
-use crate::encoding::Encoding;
 use base64::engine::general_purpose::{STANDARD, URL_SAFE_NO_PAD};
+use cbor_grammar::encoding::Encoding;
 use cbor_grammar::strings::StringContent;
 use cbor_grammar::{FloatWidth, IntegerWidth, Simple};
 use cbor_notes::push_hex;
@@ -76,7 +75,7 @@ pub fn push_negative(out: &mut String, value: u64, width: IntegerWidth) -> Resul
 
 /// Writes the prefix of quoted bytes.
 fn push_prefix(out: &mut String, encoding: Encoding) -> Result<(), AllocError>
-    ensures { AppendsText result out.old out.new (prefix (encoding_view encoding)) }
+    ensures { AppendsText result out.old out.new (prefix encoding) }
 {
     match encoding {
         Encoding::Base16 => out.push('h'),
@@ -86,7 +85,7 @@ fn push_prefix(out: &mut String, encoding: Encoding) -> Result<(), AllocError>
 
 /// Writes bytes between quotes.
 pub fn push_quoted(out: &mut String, bytes: &[u8], encoding: Encoding) -> Result<(), AllocError>
-    ensures { AppendsText result out.old out.new (quoted (encoding_view encoding) bytes.now) }
+    ensures { AppendsText result out.old out.new (quoted encoding bytes.now) }
 {
     push_prefix(out, encoding)?;
     out.push('\'')?;
@@ -97,7 +96,7 @@ pub fn push_quoted(out: &mut String, bytes: &[u8], encoding: Encoding) -> Result
 /// Writes bytes as they are between quotes.
 fn push_encoded(out: &mut String, bytes: &[u8], encoding: Encoding) -> Result<(), AllocError>
     ensures { AppendsText result out.old out.new
-        (encoded_bytes (encoding_view encoding) bytes.now) }
+        (encoded_bytes encoding bytes.now) }
 {
     match encoding {
         Encoding::Base16 => push_hex(out, bytes),
@@ -139,7 +138,7 @@ pub(crate) fn push_string(
     encoding: Encoding,
 ) -> Result<(), AllocError>
     ensures { AppendsText result out.old out.new
-        (string_text (kind_of content.entry) (encoding_view encoding) (bytes_of content.entry)) }
+        (string_text (kind_of content.entry) encoding (bytes_of content.entry)) }
 {
     match content {
         StringContent::Bytes(bytes) => push_quoted(out, bytes, encoding),

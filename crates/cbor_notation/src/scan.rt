@@ -22,7 +22,7 @@ pub fn after_blank(text: &[u8]) -> &[u8]
     ensures gives { result.now ≡ skip_blank text.now }
     ensures shorter { length result.now ≤ length text.now }
 {
-    &text[cbor_notes::blank_end(text, 0)..]
+    &text[cbor_notes::blank_len(text)..]
 }
 
 /// The text after this byte, if it begins with it.

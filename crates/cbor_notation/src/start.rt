@@ -3,7 +3,6 @@ ghost use Rattle.std.specs.Prelude.{◌≡◌, ◌≤◌, length};
 ghost use Rattle.cbor_notation.specs.mirror.NotationReading.{begins_piece, begins_string};
 ghost use Rattle.cbor_notation.specs.mirror.NotationReading.{first_start};
 ghost use Rattle.cbor_notation.specs.mirror.NotationReading.{kind_from, rest_of, start_of};
-ghost use Rattle.cbor_grammar.specs.mirror.StringView.{kind_view};
 
 use cbor_grammar::strings::StringKind;
 
@@ -79,7 +78,7 @@ impl Start {
 
     /// The kind of an indefinite string whose first chunk begins so.
     pub fn kind(self) -> StringKind
-        ensures { kind_view result ≡ kind_from self }
+        ensures { result ≡ kind_from self }
     {
         match self {
             Start::Quote => StringKind::Text,
@@ -89,7 +88,7 @@ impl Start {
 
     /// Whether a string of this kind begins so. The first piece of a text string is a text.
     pub fn begins_string(self, kind: StringKind) -> bool
-        ensures { result ≡ begins_string (kind_view kind) self }
+        ensures { result ≡ begins_string kind self }
     {
         match kind {
             StringKind::Bytes => self.begins_piece(kind),
@@ -99,7 +98,7 @@ impl Start {
 
     /// Whether a piece of a string of this kind begins so. Texts are pieces of text strings only.
     pub fn begins_piece(self, kind: StringKind) -> bool
-        ensures { result ≡ begins_piece (kind_view kind) self }
+        ensures { result ≡ begins_piece kind self }
     {
         match self {
             Start::Quote => matches!(kind, StringKind::Text),

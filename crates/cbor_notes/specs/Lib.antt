@@ -1,4 +1,5 @@
 pub mod Address
+pub mod Appends
 pub mod AreBytes
 pub mod Ascii
 pub mod Base32

@@ -1,5 +1,6 @@
 -- Functions that read tokens as the code does, between the code and the sets of texts in `Token`: of a
--- text each gives what it reads and the rest. No public clause names them.
+-- text each gives what it reads and the rest. The calls that read at the front cite them, and those that take a
+-- place cite `Token`.
 use Rattle.std.specs.Prelude.{ℕ, ◌+◌, ◌*◌, Bool, true, false, not, ◌==◌, ◌&&◌, if◌then◌else◌, nat_lt, nat_le, List, []}
 use Rattle.std.specs.Prelude.{◌∷◌, ◌++◌, length, drop, Option, Some, None}
 use Rattle.std.specs.Char.{digit_value}

@@ -3,10 +3,10 @@
 ghost use Rattle.std.specs.Prelude.{◌≡◌, [], ◌++◌, is_some, unwrap_or, ◌-◌, ◌<◌, ◌≤◌, ◌*◌, ◌^◌};
 ghost use Rattle.std.specs.Prelude.{length, take, reverse, option_map, if◌then◌else◌, IfSome};
 ghost use Rattle.std.specs.Prelude.{IfNone, IfOk, OnOk, OnErr, false, true};
-ghost use Rattle.std.specs.Io.{StartsWith};
 ghost use Rattle.std.specs.Int.{IsInRange};
 ghost use Rattle.std.specs.Int.Digits.{number_from_digits};
 ghost use Rattle.std.specs.String.{string_bytes};
+ghost use Rattle.cbor_notes.specs.Appends.{AppendsText};
 ghost use Rattle.cbor_notes.specs.Element as spec;
 ghost use Rattle.cbor_notes.specs.Views.{kind_view};
 
@@ -103,10 +103,7 @@ pub fn push_element_text(text: &mut String, tag: u64, bytes: &[u8]) -> Result<bo
 /// After an error `text` may end with a part of it.
 fn write_value_text(text: &mut String, kind: Kind, bytes: &[u8]) -> Result<(), AllocError>
     requires { IsInRange 1 16 (length bytes.now) }
-    ensures text { OnOk result
-        (string_bytes text.new
-        ≡ string_bytes text.old ++ spec.value_text (kind_view kind) bytes.now) }
-    ensures front { OnErr result (StartsWith (string_bytes text.new) (string_bytes text.old)) }
+    ensures { AppendsText result text.old text.new (spec.value_text (kind_view kind) bytes.now) }
 {
     text.push_str(kind.word())?;
     text.push('(')?;

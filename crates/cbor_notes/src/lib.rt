@@ -46,5 +46,7 @@ pub use text::{
     escaped_text, grouped, push_escaped_text, push_grouped, push_hex, push_quoted_bytes,
     push_spaced_hex, quoted_bytes,
 };
-pub use token::{blank_end, digits_at, number_at, quoted_at};
+pub use token::{
+    blank_end, blank_len, digits_at, digits_front, number_at, number_front, quoted_at, quoted_front,
+};
 pub use url_text::url_verdict;

@@ -3,13 +3,13 @@
 ghost use Rattle.std.specs.Prelude.{◌≡◌, ◌≤◌, ◌<◌, ◌+◌, ◌*◌, [], ◌∷◌, ◌++◌, length, take, IfOk};
 ghost use Rattle.std.specs.Prelude.{OnOk, OnErr, flat_map};
 ghost use Rattle.std.specs.List.{list_any};
-ghost use Rattle.std.specs.Io.{StartsWith};
 ghost use Rattle.std.specs.String.{string_bytes, string_capacity, string_len};
 ghost use Rattle.std.specs.String.Boundary.{IsSplitPoint};
 ghost use Rattle.std.specs.Str.{IsAscii};
 ghost use Rattle.std.specs.Prelude.{codes, false};
 ghost use Rattle.std.specs.Fmt.{digit_glyph, digits};
 ghost use Rattle.hex.specs.Hex.{encode_lower};
+ghost use Rattle.cbor_notes.specs.Appends.{AppendsText};
 ghost use Rattle.cbor_notes.specs.Text as spec;
 ghost use Rattle.cbor_notes.specs.Views.{begins_escape};
 
@@ -78,9 +78,7 @@ pub(crate) fn cut_after_error(
 /// The same as `push_quoted_bytes`, but after an error `text` may end with a part of what was to be
 /// appended.
 fn write_quoted_bytes(text: &mut String, bytes: &[u8]) -> Result<(), AllocError>
-    ensures text { OnOk result
-        (string_bytes text.new ≡ string_bytes text.old ++ spec.quoted_bytes bytes.now) }
-    ensures front { OnErr result (StartsWith (string_bytes text.new) (string_bytes text.old)) }
+    ensures { AppendsText result text.old text.new (spec.quoted_bytes bytes.now) }
 {
     text.push('"')?;
     let mut rest = bytes;
@@ -227,9 +225,7 @@ fn put_hex(out: &mut AsciiBuffer, bytes: &[u8])
 
 /// Appends the two hex digits of `byte` to `text`, in lower case.
 pub(crate) fn push_hex_byte(text: &mut String, byte: u8) -> Result<(), AllocError>
-    ensures text { OnOk result
-        (string_bytes text.new ≡ string_bytes text.old ++ encode_lower (byte ∷ [])) }
-    ensures front { OnErr result (StartsWith (string_bytes text.new) (string_bytes text.old)) }
+    ensures { AppendsText result text.old text.new (encode_lower (byte ∷ [])) }
 {
     let mut digits = [0; 2];
     hex::encode_to_slice([byte], &mut digits).unwrap();
@@ -303,10 +299,7 @@ fn may_begin_escape(byte: u8) -> bool
 /// The same as `push_escaped_text`, but after an error `escaped` may end with a part of what was to
 /// be appended.
 fn write_escaped_text(escaped: &mut String, text: &str) -> Result<(), AllocError>
-    ensures text { OnOk result
-        (string_bytes escaped.new ≡ string_bytes escaped.old ++ spec.escaped_text text.now) }
-    ensures front { OnErr result (StartsWith (string_bytes escaped.new)
-        (string_bytes escaped.old)) }
+    ensures { AppendsText result escaped.old escaped.new (spec.escaped_text text.now) }
 {
     for character in text.chars() {
         push_escaped_char(escaped, character)?;
@@ -315,9 +308,7 @@ fn write_escaped_text(escaped: &mut String, text: &str) -> Result<(), AllocError
 }
 
 fn push_escaped_char(text: &mut String, character: char) -> Result<(), AllocError>
-    ensures text { OnOk result
-        (string_bytes text.new ≡ string_bytes text.old ++ spec.escaped_char character) }
-    ensures front { OnErr result (StartsWith (string_bytes text.new) (string_bytes text.old)) }
+    ensures { AppendsText result text.old text.new (spec.escaped_char character) }
 {
     match character {
         '\t' => text.push_str("\\t"),
@@ -334,9 +325,8 @@ fn push_escaped_char(text: &mut String, character: char) -> Result<(), AllocErro
 
 /// Appends the escape `\u{h}` of a character below U+0100, with its code in hex digits.
 fn push_code(text: &mut String, code: u8) -> Result<(), AllocError>
-    ensures text { OnOk result (string_bytes text.new
-        ≡ string_bytes text.old ++ codes "\\u{" ++ digits 16 false code ++ codes "}") }
-    ensures front { OnErr result (StartsWith (string_bytes text.new) (string_bytes text.old)) }
+    ensures { AppendsText result text.old text.new
+        (codes "\\u{" ++ digits 16 false code ++ codes "}") }
 {
     text.push_str("\\u{")?;
     if code >= 16 {

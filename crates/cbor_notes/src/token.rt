@@ -1,17 +1,19 @@
-//! The tokens of diagnostic notation, and its blanks. Each call takes a place in a text and returns
-//! the longest token that begins there, or the content up to its quote.
+//! The tokens of diagnostic notation, and its blanks. Each call returns the longest token at the
+//! front of a text, or the content up to its quote; the calls that take a place do so from there.
 //!
 //! A text is given as bytes of UTF-8. The caller decides what a token means.
 
 mod content;
 mod number;
 
-ghost use Rattle.std.specs.Prelude.{◌≡◌, ◌<◌, ◌≤◌, drop, length, slice_range, true, IfNone, IfSome};
+ghost use Rattle.std.specs.Prelude.{◌≡◌, ◌==◌, ◌<◌, ◌≤◌, drop, length, position, slice_range, true};
+ghost use Rattle.std.specs.Prelude.{IfNone, IfSome};
+ghost use Rattle.cbor_notes.specs.Ascii.{slash};
 ghost use Rattle.cbor_notes.specs.Token.{Blank, IsLongest, is_whitespace};
 ghost use Rattle.cbor_notes.specs.TokenReading.{after_blank};
 
-pub use content::{digits_at, quoted_at};
-pub use number::number_at;
+pub use content::{digits_at, digits_front, quoted_at, quoted_front};
+pub use number::{number_at, number_front};
 
 /// Returns the end of the longest blank from `at` on. `at` is at most the length of `text`.
 ///
@@ -30,41 +32,59 @@ pub fn blank_end(text: &[u8], at: usize) -> usize
     ensures longest { IsLongest (Blank true) (slice_range text.now at result)
         (drop result text.now) }
 {
-    end_of_blank(text, at, true)
+    let (_, rest) = text.split_at(at);
+    at + blank_len(rest)
 }
 
-/// Where the longest blank from `at` on ends, with comments in it if they are allowed.
-pub(crate) fn end_of_blank(text: &[u8], at: usize, comments: bool) -> usize
-    requires { at ≤ length text.now }
-    ensures within { (at ≤ result) × (result ≤ length text.now) }
-    ensures rest { drop result text.now ≡ after_blank comments (drop at text.now) }
+/// Returns the length of the longest blank at the front. [`blank_end`] says what a blank is.
+///
+/// ```rust
+/// use cbor_notes::blank_len;
+///
+/// assert_eq!(rt; blank_len(b" /two/ 2"), 7);
+/// ```
+pub fn blank_len(text: &[u8]) -> usize
+    ensures within { result ≤ length text.now }
+    ensures rest { drop result text.now ≡ after_blank true text.now }
 {
-    let mut end = at;
-    while let Some(next) = end_of_piece(text, end, comments) {
-        end = next;
-    }
-    end
+    text.len() - after_blank(text, true).len()
 }
 
-/// Where the whitespace or the comment at `at` ends, if there is one.
-fn end_of_piece(text: &[u8], at: usize, comments: bool) -> Option<usize>
-    requires { at ≤ length text.now }
-    ensures within { IfSome result (λ end. (at < end) × (end ≤ length text.now)) }
-    ensures found { IfSome result (λ end.
-        after_blank comments (drop end text.now) ≡ after_blank comments (drop at text.now)) }
-    ensures none { IfNone result (drop at text.now ≡ after_blank comments (drop at text.now)) }
+/// The text after the longest blank at its front, with comments in it if they are allowed.
+pub(crate) fn after_blank(text: &[u8], comments: bool) -> &[u8]
+    ensures gives { result.now ≡ after_blank comments text.now }
+    ensures within { length result.now ≤ length text.now }
 {
-    if at == text.len() {
-        return None;
+    let mut rest = text;
+    'pieces: while let Some(after) = after_piece(rest, comments) {
+        rest = after;
     }
-    if is_whitespace(text[at]) {
-        return Some(at + 1);
+    rest
+}
+
+/// The text after the whitespace or the comment at its front, if it begins with one.
+fn after_piece(text: &[u8], comments: bool) -> Option<&[u8]>
+    ensures found { IfSome result (λ rest.
+        after_blank comments rest.now ≡ after_blank comments text.now) }
+    ensures shorter { IfSome result (λ rest. length rest.now < length text.now) }
+    ensures none { IfNone result (text.now ≡ after_blank comments text.now) }
+{
+    match text {
+        [byte, rest @ ..] if is_whitespace(*byte) => Some(rest),
+        [b'/', rest @ ..] if comments => {
+            let words = words_len(rest)?;
+            let (_, after) = rest.split_at(words + 1);
+            Some(after)
+        }
+        _ => None,
     }
-    if !comments || text[at] != b'/' {
-        return None;
-    }
-    let words = text[at + 1..].iter().position(|byte| *byte == b'/')?;
-    Some(at + words + 2)
+}
+
+/// How many bytes come before the `/` that closes a comment, if one does.
+fn words_len(text: &[u8]) -> Option<usize>
+    ensures { result ≡ position (λ b. b == slash) text.now }
+{
+    text.iter().position(|byte| *byte == b'/')
 }
 
 /// Whether a byte is a space, a tab, a line feed or a carriage return. Most bytes of a text are

@@ -3,11 +3,11 @@
 
 use cbor_notes::{
     Line, base32_decode, base32hex_decode, base58, base64_any_decode, base64_lines, blank_end,
-    date_of_epoch, datetime_of_epoch, digits_at, element_size, element_text, epoch_of_date,
-    epoch_of_datetime, escaped_text, grouped, ipv4_text, ipv6_text, mac_text, merge, number_at,
-    push_blanks, push_element_text, push_escaped_text, push_gap, push_grouped, push_hex,
-    push_quoted_bytes, push_spaced_hex, put_line, quoted_at, quoted_bytes, tag_name, url_verdict,
-    uuid_lines,
+    blank_len, date_of_epoch, datetime_of_epoch, digits_at, digits_front, element_size,
+    element_text, epoch_of_date, epoch_of_datetime, escaped_text, grouped, ipv4_text, ipv6_text,
+    mac_text, merge, number_at, number_front, push_blanks, push_element_text, push_escaped_text,
+    push_gap, push_grouped, push_hex, push_quoted_bytes, push_spaced_hex, put_line, quoted_at,
+    quoted_bytes, quoted_front, tag_name, url_verdict, uuid_lines,
 };
 use std::alloc::Global;
 use std::process::Abort;
@@ -161,6 +161,10 @@ fn of_tokens(rt: &impl Abort) {
     assert_eq!(rt; blank_end(b" /two/ 2", 0), 7);
 
     assert_eq!(rt; number_at(b"0x18_1, 25", 0), Some((24, Some(1), 6)));
+
+    assert_eq!(rt; blank_len(b" /two/ 2"), 7);
+
+    assert_eq!(rt; number_front(b"18_1, 25"), Some((18, Some(1), 4)));
 }
 
 fn of_contents(rt: &impl Abort, alloc: Global) -> Result<(), Fail> {
@@ -173,6 +177,16 @@ fn of_contents(rt: &impl Abort, alloc: Global) -> Result<(), Fail> {
     let (digits, end) = found.unwrap_or((Vec::new(alloc), 0));
     assert_eq!(rt; digits.as_slice(), b"48656c".as_slice());
     assert_eq!(rt; end, 15);
+
+    let found = quoted_front(alloc, br"it\'s', 1", b'\'')?;
+    let (content, len) = found.unwrap_or((Vec::new(alloc), 0));
+    assert_eq!(rt; content.as_slice(), b"it's".as_slice());
+    assert_eq!(rt; len, 6);
+
+    let found = digits_front(alloc, b"48 /i/ 69', 1", true)?;
+    let (digits, len) = found.unwrap_or((Vec::new(alloc), 0));
+    assert_eq!(rt; digits.as_slice(), b"4869".as_slice());
+    assert_eq!(rt; len, 10);
     Ok(())
 }
 

@@ -19,23 +19,23 @@ use Rattle.cbor_view.specs.Sequence.{ItemsThen, IsOutputOfFirst, IsOutputOfAll, 
 -- ---- what reading returns at the front
 
 -- reading returns this error for the bytes
-abbrev IsRefused : List ℕ → Error → Type 0
-IsRefused b e = read_item 128 b ≡ Err e
+abbrev EndsReading : List ℕ → Error → Type 0
+EndsReading b e = read_item 128 b ≡ Err e
 
 item_read : (b front after : List ℕ) (i : Item) → b ≡ front ++ after → IsItem front i → read_item 128 b ≡ Ok (i, after)
 item_read b front after i parts is = ap (read_item 128) parts ∙ item_again 1 128 front i after refl is
 
-end_refused : IsRefused [] refusal.CutShort
+end_refused : EndsReading [] refusal.CutShort
 end_refused = cut_again 1 128 [] refl (nothing (omega arith))
 
-rest_refused : (rest : List ℕ) (e : Error) → EndsTheItems rest e → IsRefused rest e
+rest_refused : (rest : List ℕ) (e : Error) → EndsTheItems rest e → EndsReading rest e
 rest_refused rest e (inl h) = cut_again 1 128 rest refl h.2 ∙ ap Err (sym h.0)
 rest_refused rest e (inr fault) = fault_refuses 1 128 rest e refl fault
 
-no_both : (b after : List ℕ) (i : Item) (e : Error) → read_item 128 b ≡ Ok (i, after) → IsRefused b e → ⊥
+no_both : (b after : List ℕ) (i : Item) (e : Error) → read_item 128 b ≡ Ok (i, after) → EndsReading b e → ⊥
 no_both b after i e found none = let never : ◌≡◌ {A = Read Item} (Ok (i, after)) (Err e) = sym found ∙ none in cc never
 
-one_error : (b : List ℕ) (e d : Error) → IsRefused b e → IsRefused b d → e ≡ d
+one_error : (b : List ℕ) (e d : Error) → EndsReading b e → EndsReading b d → e ≡ d
 one_error b e d none also = let same : ◌≡◌ {A = Read Item} (Err e) (Err d) = sym none ∙ also in cc same
 
 one_front : (b after behind : List ℕ) (i j : Item) → read_item 128 b ≡ Ok (i, after)
@@ -49,7 +49,7 @@ one_front b after behind i j found also =
 
 -- some first items are the first of all items
 continues : (b : List ℕ) (is js : List Item) (rest end : List ℕ) (e : Error) → ItemsThen b is rest → ItemsThen b js end
-    → IsRefused end e
+    → EndsReading end e
     → (ks : List Item) × (js ≡ is ++ ks) × ItemsThen rest ks end
 continues b [] js rest end e first all none = (js, refl, subst (λ (x : List ℕ). ItemsThen x js end) first all)
 continues b (i ∷ is) [] rest end e first all none =
@@ -64,7 +64,7 @@ continues b (i ∷ is) (j ∷ js) rest end e first all none =
     (later.0, (cc), later.2)
 
 -- after all items there are none
-ends_there : (rest : List ℕ) (ks : List Item) (end : List ℕ) (e : Error) → IsRefused rest e → ItemsThen rest ks end
+ends_there : (rest : List ℕ) (ks : List Item) (end : List ℕ) (e : Error) → EndsReading rest e → ItemsThen rest ks end
     → (ks ≡ []) × (rest ≡ end)
 ends_there rest [] end e none all = (refl, all)
 ends_there rest (k ∷ ks) end e none all = absurd
@@ -73,7 +73,7 @@ ends_there rest (k ∷ ks) end e none all = absurd
 -- ---- their output
 
 module _ (to : To) (input a b rest end : List ℕ) (d : Error) (first : IsOutputOfFirst to input a rest)
-    (all : IsOutputOfFirst to input b end) (none : IsRefused end d) where
+    (all : IsOutputOfFirst to input b end) (none : EndsReading end d) where
   -- the output of some first items is a beginning of the whole
   first_output : (more : List ℕ) × (b ≡ a ++ more)
   first_output =
@@ -85,7 +85,7 @@ module _ (to : To) (input a b rest end : List ℕ) (d : Error) (first : IsOutput
       )
 
   -- items that no other follows have the whole output
-  whole_output : (e : Error) → IsRefused rest e → (a ≡ b) × (rest ≡ end)
+  whole_output : (e : Error) → EndsReading rest e → (a ≡ b) × (rest ≡ end)
   whole_output e ends =
       let more = continues input first.items all.items rest end d first.input_is all.input_is none in
       let there = ends_there rest more.0 end e ends more.2 in

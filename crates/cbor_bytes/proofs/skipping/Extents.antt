@@ -17,7 +17,7 @@ use Rattle.cbor_grammar.specs.Answer.{Outcome, spelled, cut, fault, IsOutcome, O
 use Rattle.cbor_grammar.specs.Facts.{BeginsWithItem, IsCut, HasFault}
 use Rattle.cbor_grammar.specs.Reading.{Read, read_item}
 use Rattle.cbor_bytes.specs.Extent.{IfItem, IfFault, FaultEnds, IsExtent}
-use Rattle.cbor_bytes.specs.mirror.Skipping.{rest_of, here, Goes, Shows, StopsSo, skip_item}
+use Rattle.cbor_bytes.specs.mirror.Skipping.{rest_of, here, Goes, FailsAt, StopsSo, skip_item}
 use Rattle.cbor_grammar.proofs.bytes.Heads.{IsBytes, IsBytes-take}
 use Rattle.cbor_grammar.proofs.bytes.FoundAgain.{spelled_begins, item_again}
 use Rattle.cbor_grammar.proofs.bytes.CutShort.{cut_takes, cut_again, fault_no_cut}
@@ -80,7 +80,7 @@ cut_front x y fits c =
 front_is : (n : ℕ) (x y : List ℕ) → n ≡ length x → take n (x ++ y) ≡ x
 front_is n x y is = take_at x y n (sym is)
 
-pub fault_extent : (b : List ℕ) (e : Error) (after : ℕ) → IsBytes b → Shows (skip_item deepest) b e after
+pub fault_extent : (b : List ℕ) (e : Error) (after : ℕ) → IsBytes b → FailsAt (skip_item deepest) b e after
     → IsExtent b (extent.Fault e (length b - after))
 fault_extent b e after fits s =
     let shown : List ℕ = s.before ++ s.last ∷ [] in

@@ -7,50 +7,39 @@ use Rattle.cbor_grammar.specs.declared.error.Error.{Error}
 use Rattle.cbor_bytes.specs.declared.skip.Stop.{Stop}
 use Rattle.cbor_bytes.specs.declared.skip.Stop.TheVariants as stops
 use Rattle.cbor_bytes.specs.declared.skip.due.Due.TheVariants as due
-use Rattle.cbor_bytes.specs.declared.skip.due.Pause.{Pause}
-use Rattle.cbor_bytes.specs.declared.skip.due.Pause.TheVariants as pause
 use Rattle.cbor_bytes.specs.declared.skip.progress.Progress.{Progress}
 use Rattle.cbor_bytes.specs.declared.skip.to_come.ToCome.{ToCome}
 use Rattle.cbor_grammar.specs.Item.{no_items}
 use Rattle.cbor_grammar.specs.Reading.{items_in}
 use Rattle.cbor_grammar.specs.WellFormed.{deepest}
-use Rattle.cbor_bytes.specs.mirror.Skipping.{Skip, here, Goes, Shows, skip_item, frame_of, argument_of}
-use Rattle.cbor_bytes.specs.mirror.Scanning.{skip_from, Waits, PausesSo, PausesIn, IsFew}
-use Rattle.cbor_bytes.specs.mirror.Scanned.{EndsSo, StopsAt}
+use Rattle.cbor_bytes.specs.mirror.Skipping.{Skip, here, Goes, FailsAt, skip_item, frame_of, argument_of}
+use Rattle.cbor_bytes.specs.mirror.Scanning.{skip_from, Waits}
+use Rattle.cbor_bytes.specs.mirror.Scanned.{EndsBefore, StopsAt}
 use Rattle.cbor_bytes.proofs.skipping.Skips.{goes_at, goes_then, shows_then, no_item, behind_first, first_is, empty_is}
 use Rattle.cbor_bytes.proofs.skipping.SkippedParts.{first_goes}
 use Rattle.cbor_bytes.proofs.skipping.Scans.{waits_then}
 use Rattle.cbor_bytes.proofs.skipping.ScannedParts.{goes_more, shows_more}
 
-pub pauses_few : (f : List ℕ → Skip) (b : List ℕ) (p : Pause) → PausesSo f b p → IsFew p
-pauses_few f b (pause.Cut d rest) w = w.few
-pauses_few f b (pause.Fault e after) s = tt
-
-pub pauses_in_few : (outer : List ToCome) (top : ToCome) (f : List ℕ → Skip) (b : List ℕ) (p : Pause)
-    → PausesIn outer top f b p → IsFew p
-pauses_in_few outer top f b (pause.Cut d rest) w = w.few
-pauses_in_few outer top f b (pause.Fault e after) s = tt
-
 -- before the first byte
 pub first_waits : (outer : List ToCome) (top : ToCome) (held : List ℕ) → outer ≡ []
     → frame_of top ≡ items_in no_items (argument_of (Some 1)) → held ≡ []
-    → Waits (skip_item deepest) (skip_from due.Part outer top) [] held
+    → Waits (skip_item deepest) (skip_from outer top due.Part) [] held
 first_waits outer top held none is empty =
-    subst (λ (h : List ℕ). Waits (skip_item deepest) (skip_from due.Part outer top) [] h) (sym empty)
-    (subst (λ (o : List ToCome). Waits (skip_item deepest) (skip_from due.Part o top) [] []) (sym none) (record {
+    subst (λ (h : List ℕ). Waits (skip_item deepest) (skip_from outer top due.Part) [] h) (sym empty)
+    (subst (λ (o : List ToCome). Waits (skip_item deepest) (skip_from o top due.Part) [] []) (sym none) (record {
       goes = first_goes [] top is;
       cut = sym (goes_at (first_goes [] top is)) ∙ no_item deepest;
       few = omega arith;
     }))
 
 -- no more bytes follow than there are
-pub ends_within : {f : List ℕ → Skip} (b : List ℕ) (after : ℕ) → EndsSo f b after → after ≤ length b
+pub ends_within : {f : List ℕ → Skip} (b : List ℕ) (after : ℕ) → EndsBefore f b after → after ≤ length b
 ends_within b after e = omega (arith, ap length e.1.parts, length-append e.1.over e.0, e.2)
 
 pub behind_within : (b : List ℕ) → length (behind_first b) ≤ length b
 behind_within b = omega (arith, length-take (length b - 1) (drop 1 b))
 
-pub shows_within : {f : List ℕ → Skip} (b : List ℕ) (e : Error) (after : ℕ) → Shows f b e after → after ≤ length b
+pub shows_within : {f : List ℕ → Skip} (b : List ℕ) (e : Error) (after : ℕ) → FailsAt f b e after → after ≤ length b
 shows_within b e after s = omega (arith, ap length s.parts, length-append s.before (s.last ∷ s.behind), s.count)
 
 -- the bytes seen so far and the rest are all
@@ -75,7 +64,7 @@ module _ (F G : List ℕ → Skip) (seen held rest all : List ℕ) (w : Waits F 
     unfolding one
     next_goes = subst (Goes F G (seen ++ one)) (sym is) (goes_more one w.goes)
 
-    pub byte_ends : (over : ℕ) → EndsSo G b over → EndsSo F all (over + length (behind_first rest))
+    pub byte_ends : (over : ℕ) → EndsBefore G b over → EndsBefore F all (over + length (behind_first rest))
     byte_ends over e = (
       e.0 ++ behind_first rest,
       subst (λ (z : List ℕ). Goes F here z (e.0 ++ behind_first rest)) next_parts
@@ -83,9 +72,9 @@ module _ (F G : List ℕ → Skip) (seen held rest all : List ℕ) (w : Waits F 
       length-append e.0 (behind_first rest) ∙ ap (λ (n : ℕ). n + length (behind_first rest)) e.2,
     )
 
-    pub byte_shows : (error : Error) (after : ℕ) → Shows G b error after
-        → Shows F all error (after + length (behind_first rest))
-    byte_shows error after s = subst (λ (z : List ℕ). Shows F z error (after + length (behind_first rest))) next_parts
+    pub byte_shows : (error : Error) (after : ℕ) → FailsAt G b error after
+        → FailsAt F all error (after + length (behind_first rest))
+    byte_shows error after s = subst (λ (z : List ℕ). FailsAt F z error (after + length (behind_first rest))) next_parts
         (shows_more (behind_first rest) (shows_then next_goes s))
 
     pub byte_waits : (H : List ℕ → Skip) (left : List ℕ) → Waits G H b left
@@ -97,7 +86,7 @@ module _ (F G : List ℕ → Skip) (seen held rest all : List ℕ) (w : Waits F 
   rest_goes none = subst (λ (z : List ℕ). Goes F G z rest) parts
       (subst (λ (h : List ℕ). Goes F G (seen ++ rest) (h ++ rest)) (empty_is held none) (goes_more rest w.goes))
 
-  pub rest_ends : length held < 1 → (after : ℕ) → EndsSo G rest after → EndsSo F all after
+  pub rest_ends : length held < 1 → (after : ℕ) → EndsBefore G rest after → EndsBefore F all after
   rest_ends none after e = (e.0, goes_then (rest_goes none) e.1, e.2)
 
   pub rest_stops : length held < 1 → (p : Progress) (stop : Stop) → StopsAt p G rest stop → StopsAt p F all stop

@@ -18,7 +18,7 @@ use Rattle.cbor_bytes.specs.Extent.{IsExtent}
 use Rattle.cbor_bytes.specs.declared.skip.scanner.Scanner.{Scanner}
 use Rattle.cbor_bytes.specs.Scanning.{HasScanned, IsAnswer}
 use Rattle.cbor_bytes.specs.mirror.Skipping.{skip_item}
-use Rattle.cbor_bytes.specs.mirror.Scanned.{EndsSo, StopsAt, answer_of}
+use Rattle.cbor_bytes.specs.mirror.Scanned.{EndsBefore, StopsAt, answer_of}
 use Rattle.cbor_grammar.proofs.bytes.Heads.{IsBytes, IsBytes-take}
 use Rattle.cbor_grammar.proofs.bytes.ExactlyOne.{one_outcome}
 use Rattle.cbor_bytes.proofs.skipping.Skips.{goes_at}
@@ -91,7 +91,7 @@ answered_more count p fed more extent.Cut other h = absurd (other refl)
 answered_more count p fed more (extent.Fault e end) other h = extent_stays fed more (extent.Fault e end) h other
 
 pub scanned_more : (count : ℕ) (p : Progress) (b : List ℕ) (r : Result ℕ Stop) → IsBytes b → count ≡ length b
-    → IfOk r (λ after. EndsSo (skip_item deepest) b after)
+    → IfOk r (λ after. EndsBefore (skip_item deepest) b after)
     → IfErr r (λ stop. StopsAt p (skip_item deepest) b stop) → IsAnswer count p b (answer_of count r)
 scanned_more count p b (Ok after) fits is ends stop =
     subst (λ (n : ℕ). IsExtent b (extent.Item n)) (omega (arith, ends.2)) (item_extent b ends.0 fits ends.1)

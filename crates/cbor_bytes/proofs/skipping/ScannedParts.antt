@@ -11,11 +11,10 @@ use Rattle.cbor_bytes.specs.declared.skip.due.Pause.TheVariants as pause
 use Rattle.cbor_bytes.specs.declared.skip.to_come.ToCome.{ToCome}
 use Rattle.cbor_grammar.specs.WellFormed.{deepest}
 use Rattle.cbor_grammar.specs.Reading.{◌>>=◌, after_end}
-use Rattle.cbor_bytes.specs.mirror.Skipping.{Skip, Goes, Shows, skip_item, frame_of, closing, skip_open}
-use Rattle.cbor_bytes.specs.mirror.Scanning.{skip_due, skip_from, Waits, PausesSo, PausesIn}
+use Rattle.cbor_bytes.specs.mirror.Skipping.{Skip, Goes, FailsAt, skip_item, frame_of, closing, skip_open}
+use Rattle.cbor_bytes.specs.mirror.Scanning.{skip_due, skip_from, Waits, Pauses}
 use Rattle.cbor_bytes.proofs.skipping.Skips.{goes_then, goes_within, goes_here, shows_then, stops_within}
 use Rattle.cbor_bytes.proofs.skipping.SkippedParts.{wanted, wanted_err, next_same, part_goes, part_stops, Next}
-use Rattle.cbor_bytes.proofs.skipping.Scans.{waits_then}
 
 module _ (outer : List ToCome) (top next : ToCome) where
   -- a part that goes on so, with one part less to come after it
@@ -30,8 +29,8 @@ module _ (outer : List ToCome) (top next : ToCome) where
       on (Err e) = wanted_err outer top e
 
   pub string_pauses : (f : List ℕ → Skip) (b r : List ℕ) (p : Pause) → None ≡ after_end (frame_of top) b
-      → Next top next → length r < length b → Goes (skip_item (deepest - length outer)) f b r → PausesSo f r p
-      → PausesIn outer next (skip_open outer top) b p
+      → Next top next → length r < length b → Goes (skip_item (deepest - length outer)) f b r → Pauses skip_due f r p
+      → Pauses (skip_from outer next) (skip_open outer top) b p
   string_pauses f b r (pause.Cut d rest) none is lt head w =
       let shorter : length rest.now < length b =
       omega (arith, ap length w.goes.parts, length-append w.goes.over rest.now) in
@@ -46,19 +45,13 @@ module _ (outer : List ToCome) (top next : ToCome) where
 -- before the head of a part
 pub part_waits : (outer : List ToCome) (top : ToCome) (b : List ℕ) → None ≡ after_end (frame_of top) b
     → skip_item (deepest - length outer) b ≡ Err refusal.CutShort → length b ≤ 8
-    → Waits (skip_open outer top) (skip_from due.Part outer top) b b
+    → Waits (skip_open outer top) (skip_from outer top due.Part) b b
 part_waits outer top b none cut few =
     record { goes = goes_here b (λ c. refl); cut = part_stops outer top b stops.Cut none cut; few = few }
 
-pub pauses_in_then : (outer : List ToCome) (top : ToCome) (f g : List ℕ → Skip) (b r : List ℕ) (p : Pause)
-    → Goes f g b r
-    → PausesIn outer top g r p → PausesIn outer top f b p
-pauses_in_then outer top f g b r (pause.Cut d rest) x y = waits_then x y
-pauses_in_then outer top f g b r (pause.Fault e after) x y = shows_then x y
-
 -- what is due of a string, and what is open round it
-pub pauses_open : (outer : List ToCome) (top : ToCome) (f : List ℕ → Skip) (b : List ℕ) (p : Pause) → PausesSo f b p
-    → PausesIn outer top (λ c. f c >>= skip_open outer top) b p
+pub pauses_open : (outer : List ToCome) (top : ToCome) (f : List ℕ → Skip) (b : List ℕ) (p : Pause)
+    → Pauses skip_due f b p → Pauses (skip_from outer top) (λ c. f c >>= skip_open outer top) b p
 pauses_open outer top f b (pause.Cut d rest) w = record {
   goes = goes_within (λ (s : Skip). s >>= skip_open outer top) w.goes;
   cut = ap (λ (s : Skip). s >>= skip_open outer top) w.cut;
@@ -76,8 +69,8 @@ goes_more {r = r} p x = record {
   along = x.along;
 }
 
-pub shows_more : {f : List ℕ → Skip} {b : List ℕ} {e : Error} {after : ℕ} (p : List ℕ) → Shows f b e after
-    → Shows f (b ++ p) e (after + length p)
+pub shows_more : {f : List ℕ → Skip} {b : List ℕ} {e : Error} {after : ℕ} (p : List ℕ) → FailsAt f b e after
+    → FailsAt f (b ++ p) e (after + length p)
 shows_more p s = record {
   before = s.before;
   last = s.last;

@@ -14,20 +14,20 @@ use Rattle.std.proofs.lemmas.List.{drop_at}
 use Rattle.std.proofs.lemmas.List.{take-append-le, drop_more, drop_all}
 use Rattle.std.proofs.lemmas.Str.{IsUtf8-append, IsUtf8-drop, IsUtf8-take, IsUtf8-from_is_utf8, is_utf8-from_IsUtf8}
 use Rattle.std.proofs.lemmas.Str.{IsCharBoundary-from_take, IsCharBoundary-past_char, len_utf8_bounds}
+use Rattle.cbor_bytes.specs.declared.skip.due.Due.{Due}
 use Rattle.cbor_grammar.specs.declared.width.IntegerWidth.{IntegerWidth}
 use Rattle.cbor_grammar.specs.declared.width.IntegerWidth.TheVariants.{Zero}
-use Rattle.cbor_grammar.specs.declared.strings.StringKind as code
-use Rattle.cbor_grammar.specs.declared.strings.StringKind.TheVariants as code_kind
+use Rattle.cbor_grammar.specs.declared.strings.StringKind.{StringKind}
+use Rattle.cbor_grammar.specs.declared.strings.StringKind.TheVariants.{Bytes, Text}
+use Rattle.cbor_grammar.specs.StringKind.{IsContent}
 use Rattle.cbor_grammar.specs.declared.error.Error.TheVariants as refusal
 use Rattle.cbor_bytes.specs.declared.skip.Stop.TheVariants as stops
 use Rattle.cbor_bytes.specs.declared.skip.due.Due.TheVariants as due
 use Rattle.cbor_bytes.specs.declared.skip.due.Pause.{Pause}
 use Rattle.cbor_bytes.specs.declared.skip.due.Pause.TheVariants as pause
-use Rattle.cbor_grammar.specs.StringKind.{StringKind, bytes_kind, text_kind, IsContent}
 use Rattle.cbor_grammar.specs.Reading.{◌>>=◌, read_head, read_argument}
-use Rattle.cbor_grammar.specs.mirror.StringView.{kind_view}
-use Rattle.cbor_bytes.specs.mirror.Skipping.{Skip, rest_of, Goes, Shows, skip_content, skip_chunks, stop_of}
-use Rattle.cbor_bytes.specs.mirror.Scanning.{WholeChars, then_chunks, skip_bad, skip_due, Waits, PausesSo}
+use Rattle.cbor_bytes.specs.mirror.Skipping.{Skip, rest_of, Goes, FailsAt, skip_content, skip_chunks, stop_of}
+use Rattle.cbor_bytes.specs.mirror.Scanning.{WholeChars, then_chunks, skip_bad, skip_due, Waits, Pauses}
 use Rattle.cbor_grammar.proofs.bytes.Heads.{IsBytes}
 use Rattle.cbor_grammar.proofs.bytes.StringRefusals.{bad_content, content_refuses}
 use Rattle.cbor_grammar.proofs.bytes.HeadRefusals.{InfoRefusal, cut_info, bad_info, info_refused}
@@ -43,8 +43,8 @@ content_ok : (kind : StringKind) (n : ℕ) (w : IntegerWidth) (b : List ℕ) →
 content_ok kind n w b long holds = goes_at (content_goes kind n w b long holds)
 
 content_no_text : (n : ℕ) (w : IntegerWidth) (b : List ℕ) → n ≤ length b → ¬ (IsUtf8 (take n b))
-    → skip_content text_kind n w b ≡ Err refusal.Utf8
-content_no_text n w b long bad = ap rest_of (content_refuses text_kind n w b refusal.Utf8
+    → skip_content Text n w b ≡ Err refusal.Utf8
+content_no_text n w b long bad = ap rest_of (content_refuses Text n w b refusal.Utf8
     (bad_content (take n b) (drop n b) (sym (take-append-drop n b)) (omega (arith, length-take n b)) bad))
 
 text_ways : (x : List ℕ) → IsUtf8 x ⊎ ¬ (IsUtf8 x)
@@ -64,10 +64,10 @@ content_width kind n w v b =
     ]
   where
     same : (kind : StringKind) → n ≤ length b → skip_content kind n w b ≡ skip_content kind n v b
-    same bytes_kind long = content_ok bytes_kind n w b long tt ∙ sym (content_ok bytes_kind n v b long tt)
-    same text_kind long =
+    same Bytes long = content_ok Bytes n w b long tt ∙ sym (content_ok Bytes n v b long tt)
+    same Text long =
         elim (text_ways (take n b)) [
-          | inl text ↦ content_ok text_kind n w b long text ∙ sym (content_ok text_kind n v b long text)
+          | inl text ↦ content_ok Text n w b long text ∙ sym (content_ok Text n v b long text)
           | inr bad ↦ content_no_text n w b long bad ∙ sym (content_no_text n v b long bad)
         ]
 
@@ -81,10 +81,10 @@ content_longer kind n w b e =
     ]
   where
     no : (kind : StringKind) → n ≤ length b → skip_content kind n w b ≡ Err refusal.CutShort → ⊥
-    no bytes_kind long e = let ok = content_ok bytes_kind n w b long tt in cc
-    no text_kind long e =
+    no Bytes long e = let ok = content_ok Bytes n w b long tt in cc
+    no Text long e =
         elim (text_ways (take n b)) [
-          | inl text ↦ let ok = content_ok text_kind n w b long text in cc
+          | inl text ↦ let ok = content_ok Text n w b long text in cc
           | inr bad ↦ let wrong = content_no_text n w b long bad in cc
         ]
 
@@ -113,25 +113,24 @@ module _ (n : ℕ) (w : IntegerWidth) (x c : List ℕ) (le : length x ≤ n) whe
   dropped : drop n (x ++ c) ≡ drop (n - length x) c
   dropped = drop_over x c n le
 
-  bytes_over : skip_content bytes_kind n w (x ++ c) ≡ skip_content bytes_kind (n - length x) w c
+  bytes_over : skip_content Bytes n w (x ++ c) ≡ skip_content Bytes (n - length x) w c
   bytes_over =
       elim (cases_lt (length c) (n - length x)) [
-        | inl short ↦ content_cut bytes_kind n w (x ++ c) (omega (arith, length-append x c))
-            ∙ sym (content_cut bytes_kind (n - length x) w c short)
-        | inr long ↦ content_ok bytes_kind n w (x ++ c) (omega (arith, length-append x c)) tt
-            ∙ ap (λ (z : List ℕ). Ok z) dropped ∙ sym (content_ok bytes_kind (n - length x) w c long tt)
+        | inl short ↦ content_cut Bytes n w (x ++ c) (omega (arith, length-append x c))
+            ∙ sym (content_cut Bytes (n - length x) w c short)
+        | inr long ↦ content_ok Bytes n w (x ++ c) (omega (arith, length-append x c)) tt
+            ∙ ap (λ (z : List ℕ). Ok z) dropped ∙ sym (content_ok Bytes (n - length x) w c long tt)
       ]
 
-  text_over : IsUtf8 x → skip_content text_kind n w (x ++ c) ≡ skip_content text_kind (n - length x) w c
+  text_over : IsUtf8 x → skip_content Text n w (x ++ c) ≡ skip_content Text (n - length x) w c
   text_over front =
       elim (cases_lt (length c) (n - length x)) [
-        | inl short ↦ content_cut text_kind n w (x ++ c) (omega (arith, length-append x c))
-            ∙ sym (content_cut text_kind (n - length x) w c short)
+        | inl short ↦ content_cut Text n w (x ++ c) (omega (arith, length-append x c))
+            ∙ sym (content_cut Text (n - length x) w c short)
         | inr long ↦ elim (text_ways (take (n - length x) c)) [
-          | inl text ↦
-              content_ok text_kind n w (x ++ c) (omega (arith, length-append x c))
+          | inl text ↦ content_ok Text n w (x ++ c) (omega (arith, length-append x c))
               (subst IsUtf8 (sym taken) (IsUtf8-append x (take (n - length x) c) front text))
-              ∙ ap (λ (z : List ℕ). Ok z) dropped ∙ sym (content_ok text_kind (n - length x) w c long text)
+              ∙ ap (λ (z : List ℕ). Ok z) dropped ∙ sym (content_ok Text (n - length x) w c long text)
           | inr bad ↦
               content_no_text n w (x ++ c) (omega (arith, length-append x c))
               (λ u. bad (utf8_behind x (take (n - length x) c) front (subst IsUtf8 taken u)))
@@ -141,19 +140,19 @@ module _ (n : ℕ) (w : IntegerWidth) (x c : List ℕ) (le : length x ≤ n) whe
 
   -- after a front that no text begins with
   bad_over : ((y : List ℕ) → ¬ (IsUtf8 (x ++ y))) → (more : ℕ) → length x + suc more ≡ n
-      → skip_content text_kind n w (x ++ c) ≡ skip_bad more c
+      → skip_content Text n w (x ++ c) ≡ skip_bad more c
   bad_over bad more is =
       elim (cases_lt more (length c)) [
         | inl long ↦ content_no_text n w (x ++ c) (omega (arith, length-append x c))
             (λ u. bad (take (n - length x) c) (subst IsUtf8 taken u)) ∙ sym (rw (lt-ltb more (length c) long) refl)
-        | inr short ↦ content_cut text_kind n w (x ++ c) (omega (arith, length-append x c))
+        | inr short ↦ content_cut Text n w (x ++ c) (omega (arith, length-append x c))
             ∙ sym (rw (le-ltb more (length c) short) refl)
       ]
 
 content_over : (kind : StringKind) (n : ℕ) (w : IntegerWidth) (x c : List ℕ) → length x ≤ n → IsContent kind x
     → skip_content kind n w (x ++ c) ≡ skip_content kind (n - length x) w c
-content_over bytes_kind n w x c le holds = bytes_over n w x c le
-content_over text_kind n w x c le holds = text_over n w x c le holds
+content_over Bytes n w x c le holds = bytes_over n w x c le
+content_over Text n w x c le holds = text_over n w x c le holds
 
 -- the first character of a text
 first_char : (z : List ℕ) → 1 ≤ length z → IsUtf8 z
@@ -192,12 +191,12 @@ then_bad true kind more b = go (ltb more (length b))
     go false = refl
 
 -- the rest of a content
-pub content_waits : (kind : code.StringKind) (left n : ℕ) (chunked : Bool) (b : List ℕ) → n ≤ length b
-    → IsContent (kind_view kind) (take n b) → length b < left → length b ≤ n + 8
-    → Waits (λ c. then_chunks chunked (kind_view kind) (skip_content (kind_view kind) left Zero c))
+pub content_waits : (kind : StringKind) (left n : ℕ) (chunked : Bool) (b : List ℕ) → n ≤ length b
+    → IsContent kind (take n b) → length b < left → length b ≤ n + 8
+    → Waits (λ c. then_chunks chunked kind (skip_content kind left Zero c))
     (skip_due (due.Content kind (left - n) chunked)) b (drop n b)
 content_waits kind left n chunked b within holds short few =
-    let k = kind_view kind in
+    let k = kind in
     let count : length (take n b) ≡ n = omega (arith, length-take n b) in
     record {
       goes = record {
@@ -213,13 +212,13 @@ content_waits kind left n chunked b within holds short few =
 
 pub bad_waits : (left n more : ℕ) (chunked : Bool) (b : List ℕ) → WholeChars b n → n + 4 ≤ length b
     → length b + suc more ≡ left
-    → Waits (λ c. then_chunks chunked text_kind (skip_content text_kind left Zero c)) (skip_due (due.BadText more)) b []
+    → Waits (λ c. then_chunks chunked Text (skip_content Text left Zero c)) (skip_due (due.BadText more)) b []
 bad_waits left n more chunked b whole four is = record {
   goes = record {
     over = b;
     parts = sym (append-nil b);
-    along = λ c. ap (then_chunks chunked text_kind) (bad_over left Zero b c (omega arith)
-        (no_text_begins b n whole four) more is) ∙ then_bad chunked text_kind more c;
+    along = λ c. ap (then_chunks chunked Text) (bad_over left Zero b c (omega arith)
+        (no_text_begins b n whole four) more is) ∙ then_bad chunked Text more c;
   };
   cut = rw (le-ltb more 0 (omega arith)) refl;
   few = omega arith;
@@ -246,7 +245,7 @@ bad_text_waits more b le = record {
 }
 
 pub bad_text_shows : (more : ℕ) (b : List ℕ) → more < length b
-    → Shows (skip_bad more) b refusal.Utf8 (length b - more - 1)
+    → FailsAt (skip_bad more) b refusal.Utf8 (length b - more - 1)
 bad_text_shows more b lt =
     let count : length (take more b) ≡ more = omega (arith, length-take more b) in
     record {
@@ -270,9 +269,10 @@ goes_to x same = record { over = x.over; parts = x.parts; along = λ c. x.along 
 pub waits_then : {f g h : List ℕ → Skip} {b r s : List ℕ} → Goes f g b r → Waits g h r s → Waits f h b s
 waits_then x y = record { goes = goes_then x y.goes; cut = y.cut; few = y.few }
 
-pub pauses_then : (f g : List ℕ → Skip) (b r : List ℕ) (p : Pause) → Goes f g b r → PausesSo g r p → PausesSo f b p
-pauses_then f g b r (pause.Cut d rest) x y = waits_then x y
-pauses_then f g b r (pause.Fault e after) x y = shows_then x y
+pub pauses_then : (to : Due → List ℕ → Skip) (f g : List ℕ → Skip) (b r : List ℕ) (p : Pause) → Goes f g b r
+    → Pauses to g r p → Pauses to f b p
+pauses_then to f g b r (pause.Cut d rest) x y = waits_then x y
+pauses_then to f g b r (pause.Fault e after) x y = shows_then x y
 
 -- ---- few bytes
 
@@ -321,20 +321,19 @@ whole_chars_are b n v = record {
   longest = λ m lt le. v.longest m lt;
 }
 
-pub bytes_wait : (kind : code.StringKind) (left : ℕ) (chunked : Bool) (b : List ℕ) → kind ≡ code_kind.Bytes
-    → length b < left
-    → Waits (λ c. then_chunks chunked (kind_view kind) (skip_content (kind_view kind) left Zero c))
+pub bytes_wait : (kind : StringKind) (left : ℕ) (chunked : Bool) (b : List ℕ) → kind ≡ Bytes → length b < left
+    → Waits (λ c. then_chunks chunked kind (skip_content kind left Zero c))
     (skip_due (due.Content kind (left - length b) chunked)) b []
-bytes_wait code_kind.Bytes left chunked b is short =
+bytes_wait Bytes left chunked b is short =
     let none : drop (length b) b ≡ [] = drop_all (length b) b (omega arith) in
-    subst (λ (r : List ℕ). Waits (λ c. then_chunks chunked bytes_kind (skip_content bytes_kind left Zero c))
-    (skip_due (due.Content code_kind.Bytes (left - length b) chunked)) b r) none
-    (content_waits code_kind.Bytes left (length b) chunked b (omega arith) tt short (omega arith))
-bytes_wait code_kind.Text left chunked b is short = absurd cc
+    subst (λ (r : List ℕ). Waits (λ c. then_chunks chunked Bytes (skip_content Bytes left Zero c))
+    (skip_due (due.Content Bytes (left - length b) chunked)) b r) none
+    (content_waits Bytes left (length b) chunked b (omega arith) tt short (omega arith))
+bytes_wait Text left chunked b is short = absurd cc
 
 pub chunked_shows : (chunked : Bool) (kind : StringKind) (left : ℕ) (b : List ℕ) (e : refusal.the_data) (after : ℕ)
-    → Shows (skip_content kind left Zero) b e after
-    → Shows (λ c. then_chunks chunked kind (skip_content kind left Zero c)) b e after
+    → FailsAt (skip_content kind left Zero) b e after
+    → FailsAt (λ c. then_chunks chunked kind (skip_content kind left Zero c)) b e after
 chunked_shows false kind left b e after s = s
 chunked_shows true kind left b e after s = stops_within (skip_content kind left Zero) b (stops.Fault e after)
     (λ r. r >>= skip_chunks kind) (more_keeps kind) s

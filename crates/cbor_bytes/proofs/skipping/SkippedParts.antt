@@ -10,20 +10,21 @@ use Rattle.cbor_grammar.specs.declared.error.Error.TheVariants as refusal
 use Rattle.cbor_bytes.specs.declared.skip.Stop.{Stop}
 use Rattle.cbor_bytes.specs.declared.skip.Stop.TheVariants as stops
 use Rattle.cbor_bytes.specs.declared.skip.to_come.ToCome.{ToCome}
-use Rattle.cbor_grammar.specs.Argument.{Argument, number, indefinite}
-use Rattle.cbor_grammar.specs.Item.{Item, atom, string, no_items, no_pairs}
-use Rattle.cbor_grammar.specs.ItemHead as item_head
-use Rattle.cbor_grammar.specs.ItemHead.{ItemHead}
+use Rattle.cbor_grammar.specs.declared.argument.Argument.{Argument}
+use Rattle.cbor_grammar.specs.declared.argument.Argument.TheVariants.{Number, Indefinite}
+use Rattle.cbor_grammar.specs.Item.{Chunk, Item, atom, string, chunked_string, no_items, no_pairs}
+use Rattle.cbor_grammar.specs.declared.head.ItemHead.TheVariants as item_head
+use Rattle.cbor_grammar.specs.declared.head.ItemHead.{ItemHead}
 use Rattle.cbor_grammar.specs.Head.{break_byte}
-use Rattle.cbor_grammar.specs.StringKind.{StringKind}
+use Rattle.cbor_grammar.specs.declared.strings.StringKind.{StringKind}
 use Rattle.cbor_grammar.specs.WellFormed.{deepest}
 use Rattle.cbor_grammar.specs.Reading.{◌>>=◌, Counted, ◌>>-◌, read_content, Frame, items_in, pairs_in, value_of, tag_of}
 use Rattle.cbor_grammar.specs.Reading.{tagged_with, opened, put, after_break, after_members, after_end, closed}
-use Rattle.cbor_grammar.specs.Reading.{parts_from}
+use Rattle.cbor_grammar.specs.Reading.{parts_from, read_chunks}
 use Rattle.cbor_grammar.specs.Reading.{counted_item, one_less}
 use Rattle.cbor_bytes.specs.mirror.Skipping.{Skip, rest_of, here, Goes, StopsSo, skip_content, skip_item, any_width}
 use Rattle.cbor_bytes.specs.mirror.Skipping.{skip_body, some_item, emptied, frame_of, skip_frame, skip_parts, begun}
-use Rattle.cbor_bytes.specs.mirror.Skipping.{closing, skip_open, ended}
+use Rattle.cbor_bytes.specs.mirror.Skipping.{closing, skip_open, ended, skip_chunks}
 use Rattle.cbor_grammar.proofs.bytes.Heads.{cons_is}
 use Rattle.cbor_grammar.proofs.bytes.Steps.{parts_more, parts_end, item_shortens, open_or}
 use Rattle.cbor_grammar.proofs.bytes.Frames.{end_ways, close_ended}
@@ -34,18 +35,18 @@ use Rattle.cbor_bytes.proofs.skipping.Skips.{goes_here, goes_then, goes_within, 
 
 -- neither does the width of a count
 width_ends : (a : Argument) (b : List ℕ) → after_members (any_width a) b ≡ after_members a b
-width_ends (number zero w) b = refl
-width_ends (number (suc n) w) b = refl
-width_ends indefinite b = refl
+width_ends (Number zero w) b = refl
+width_ends (Number (suc n) w) b = refl
+width_ends Indefinite b = refl
 
 width_twice : (a : Argument) → any_width (any_width a) ≡ any_width a
-width_twice (number n w) = refl
-width_twice indefinite = refl
+width_twice (Number n w) = refl
+width_twice Indefinite = refl
 
 width_less : (a : Argument) → any_width (one_less a) ≡ any_width (one_less (any_width a))
-width_less (number zero w) = refl
-width_less (number (suc n) w) = refl
-width_less indefinite = refl
+width_less (Number zero w) = refl
+width_less (Number (suc n) w) = refl
+width_less Indefinite = refl
 
 -- a container ends where it ends with nothing read
 emptied_ends : (f : Frame) (b : List ℕ) → after_end (emptied f) b ≡ after_end f b
@@ -137,9 +138,9 @@ end_over f b after ends = over f ends
   where
     members : (a : Argument) → after_members a b ≡ Some after
         → (x : List ℕ) × (b ≡ x ++ after) × ((c : List ℕ) → after_members a (x ++ c) ≡ Some c)
-    members (number zero w) is = ([], cc, λ c. refl)
-    members (number (suc n) w) is = absurd cc
-    members indefinite is = (break_byte ∷ [], after_break_is b after is, λ c. refl)
+    members (Number zero w) is = ([], cc, λ c. refl)
+    members (Number (suc n) w) is = absurd cc
+    members Indefinite is = (break_byte ∷ [], after_break_is b after is, λ c. refl)
 
     over : (f : Frame) → after_end f b ≡ Some after
         → (x : List ℕ) × (b ≡ x ++ after) × ((c : List ℕ) → after_end f (x ++ c) ≡ Some c)
@@ -166,14 +167,23 @@ opened_goes left h t b is = goes_here b (λ c. same h c is)
 
     same : (h : ItemHead) (c : List ℕ) → Some (frame_of t) ≡ option_map emptied (opened h)
         → skip_body left h c ≡ begun left (Some t) c
-    same (item_head.array a) c is = alike (items_in no_items a) c cc
-    same (item_head.map a) c is = alike (pairs_in no_pairs a) c cc
-    same (item_head.tag n w) c is = alike (tag_of n w) c cc
+    same (item_head.Array a) c is = alike (items_in no_items a) c cc
+    same (item_head.Map a) c is = alike (pairs_in no_pairs a) c cc
+    same (item_head.Tag n w) c is = alike (tag_of n w) c cc
     same h c is = absurd cc
 
 pub string_same : (left n : ℕ) (w : IntegerWidth) (kind : StringKind) (b : List ℕ)
-    → skip_body left (item_head.string kind (number n w)) b ≡ skip_content kind n w b
+    → skip_body left (item_head.String kind (Number n w)) b ≡ skip_content kind n w b
 string_same left n w kind b = rest_made (read_content kind n w b) (λ c. atom (string kind c))
+
+pub chunks_same : (left : ℕ) (kind : StringKind) (b : List ℕ)
+    → skip_body left (item_head.String kind Indefinite) b ≡ skip_chunks kind b
+chunks_same left kind b = at (read_chunks (length b) kind b)
+  where
+    at : (c : Counted (List Chunk))
+        → rest_of (c >>- λ cs. (0, Ok (atom (chunked_string kind cs.0), cs.1))).1 ≡ rest_of c.1
+    at (n, Ok cs) = refl
+    at (n, Err e) = refl
 
 -- ---- containers in containers
 
@@ -202,17 +212,19 @@ wanted_same : (outer : List ToCome) (top : ToCome) (b : List ℕ) → after_end 
 wanted_same outer top b none = ap (closing deepest outer) (frame_next (deepest - length outer) (frame_of top) b none)
 
 -- the innermost container ends, and nothing is open round it
-pub last_ends : (top : ToCome) (b after : List ℕ) → Some after ≡ after_end (frame_of top) b
-    → Goes (skip_open [] top) here b after
-last_ends top b after some = frame_ends (deepest - 0) (frame_of top) b after (sym some)
+pub last_ends : {f : List ℕ → Skip} {all : List ℕ} (outer : List ToCome) (top : ToCome) (b after : List ℕ)
+    → Goes f (skip_open outer top) all b → outer ≡ [] → Some after ≡ after_end (frame_of top) b → Goes f here all after
+last_ends outer top b after so_far none some =
+    goes_then (rw none at so_far) (frame_ends (deepest - 0) (frame_of top) b after (sym some))
 
 -- the innermost container ends in another one
-pub open_ends : (outer : List ToCome) (t top : ToCome) (b after : List ℕ) → Some after ≡ after_end (frame_of top) b
-    → Goes (skip_open (outer ++ t ∷ []) top) (skip_open outer t) b after
-open_ends outer t top b after some =
+pub open_ends : {f : List ℕ → Skip} {all : List ℕ} (whole outer : List ToCome) (t top : ToCome) (b after : List ℕ)
+    → Goes f (skip_open whole top) all b → whole ≡ outer ++ t ∷ [] → Some after ≡ after_end (frame_of top) b
+    → Goes f (skip_open outer t) all after
+open_ends whole outer t top b after so_far is some =
     let ends = goes_within (closing deepest (outer ++ t ∷ []))
     (frame_ends (deepest - length (outer ++ t ∷ [])) (frame_of top) b after (sym some)) in
-    goes_then ends (goes_here after (λ c. closing_append deepest outer t (Ok c)))
+    goes_then (rw is at so_far) (goes_then ends (goes_here after (λ c. closing_append deepest outer t (Ok c))))
 
 -- ---- the next part
 
@@ -229,10 +241,10 @@ break_front first x y none =
 
 -- what does not end here does not end before more bytes, nor where the bytes are cut
 members_front : (a : Argument) (x y : List ℕ) → after_members a (x ++ y) ≡ None → after_members a x ≡ None
-members_front (number zero w) x y none = absurd cc
-members_front (number (suc n) w) x y none = refl
-members_front indefinite [] y none = refl
-members_front indefinite (first ∷ x) y none = break_front first x (x ++ y) none
+members_front (Number zero w) x y none = absurd cc
+members_front (Number (suc n) w) x y none = refl
+members_front Indefinite [] y none = refl
+members_front Indefinite (first ∷ x) y none = break_front first x (x ++ y) none
 
 end_front : (f : Frame) (x y : List ℕ) → after_end f (x ++ y) ≡ None → after_end f x ≡ None
 end_front (items_in is left) x y none = members_front left x y none
@@ -243,9 +255,9 @@ end_front (tagged_with t w i) x y none = absurd cc
 
 members_more : (a : Argument) (first : ℕ) (x y : List ℕ) → after_members a (first ∷ x) ≡ None
     → after_members a (first ∷ y) ≡ None
-members_more (number zero w) first x y none = absurd cc
-members_more (number (suc n) w) first x y none = refl
-members_more indefinite first x y none = break_front first y x none
+members_more (Number zero w) first x y none = absurd cc
+members_more (Number (suc n) w) first x y none = refl
+members_more Indefinite first x y none = break_front first y x none
 
 end_longer : (f : Frame) (x rest c : List ℕ) → length rest < length (x ++ rest) → after_end f (x ++ rest) ≡ None
     → after_end f (x ++ c) ≡ None
@@ -339,7 +351,7 @@ around_ended zero left r = refl
 around_ended (suc n) left r = ap (λ s. s >>= skip_parts left ended) (around_ended n (left - 1) r) ∙ ends r
   where
     ends : (s : Skip) → (s >>= skip_parts left ended) ≡ s
-    ends (Ok b) = frame_end left (items_in no_items (number 0 Zero)) b b refl
+    ends (Ok b) = frame_end left (items_in no_items (Number 0 Zero)) b b refl
     ends (Err e) = refl
 
 -- the first item inside `n` containers that end after it

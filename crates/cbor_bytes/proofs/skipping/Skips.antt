@@ -8,18 +8,21 @@ use Rattle.std.proofs.lemmas.Str.{IsUtf8-nil}
 use Rattle.cbor_grammar.specs.declared.width.IntegerWidth.{IntegerWidth}
 use Rattle.cbor_grammar.specs.declared.error.Error.{Error}
 use Rattle.cbor_grammar.specs.declared.error.Error.TheVariants as refusal
-use Rattle.cbor_grammar.specs.Argument.{Argument, number, indefinite}
-use Rattle.cbor_grammar.specs.ItemHead.{ItemHead}
+use Rattle.cbor_grammar.specs.declared.argument.Argument.{Argument}
+use Rattle.cbor_grammar.specs.declared.argument.Argument.TheVariants.{Number, Indefinite}
+use Rattle.cbor_grammar.specs.declared.head.ItemHead.{ItemHead}
 use Rattle.cbor_bytes.specs.declared.skip.Stop.{Stop}
 use Rattle.cbor_bytes.specs.declared.skip.Stop.TheVariants as stops
 use Rattle.cbor_grammar.specs.Item.{Chunk}
 use Rattle.cbor_grammar.specs.Head.{break_byte}
-use Rattle.cbor_grammar.specs.StringKind.{StringKind, bytes_kind, text_kind, major_of, IsContent}
+use Rattle.cbor_grammar.specs.declared.strings.StringKind.{StringKind}
+use Rattle.cbor_grammar.specs.declared.strings.StringKind.TheVariants.{Bytes, Text}
+use Rattle.cbor_grammar.specs.StringKind.{major_of, IsContent}
 use Rattle.cbor_grammar.specs.Refused.{BadHead, no_info, no_length}
 use Rattle.cbor_grammar.specs.Reading.{Read, ◌>>=◌, read_argument, head_of, read_head, read_content, chunk_of}
 use Rattle.cbor_grammar.specs.Reading.{read_chunk}
 use Rattle.cbor_grammar.specs.Reading.{Counted, go_on, ◌>>-◌, more_chunks, read_chunks, opened, read_body, counted_item}
-use Rattle.cbor_bytes.specs.mirror.Skipping.{Skip, rest_of, here, Goes, Shows, StopsSo, stop_of, skip_content}
+use Rattle.cbor_bytes.specs.mirror.Skipping.{Skip, rest_of, here, Goes, FailsAt, StopsSo, stop_of, skip_content}
 use Rattle.cbor_bytes.specs.mirror.Skipping.{skip_chunks, skip_item, skip_body}
 use Rattle.cbor_grammar.proofs.bytes.Heads.{IsBytes, IsBytes-rest, bind_ok, ok_is, number_bytes, ArgumentIs, info_takes}
 use Rattle.cbor_grammar.proofs.bytes.Heads.{info_again}
@@ -58,8 +61,8 @@ goes_from same x = record { over = x.over; parts = x.parts; along = λ c. same (
 pub goes_at : {f g : List ℕ → Skip} {b r : List ℕ} → Goes f g b r → f b ≡ g r
 goes_at {f = f} {r = r} x = ap f x.parts ∙ x.along r
 
-pub shows_then : {f g : List ℕ → Skip} {b r : List ℕ} {e : Error} {after : ℕ} → Goes f g b r → Shows g r e after
-    → Shows f b e after
+pub shows_then : {f g : List ℕ → Skip} {b r : List ℕ} {e : Error} {after : ℕ} → Goes f g b r → FailsAt g r e after
+    → FailsAt f b e after
 shows_then {f = f} x s = record {
   before = x.over ++ s.before;
   last = s.last;
@@ -95,7 +98,7 @@ stops_from f g b stop same s = stops_then stop (goes_here b same) s
 
 -- the first byte shows it
 pub shows_first : (f : List ℕ → Skip) (first : ℕ) (b : List ℕ) (e : Error) → f [] ≡ Err refusal.CutShort
-    → f (first ∷ []) ≡ Err e → e ≢ refusal.CutShort → Shows f (first ∷ b) e (length b)
+    → f (first ∷ []) ≡ Err e → e ≢ refusal.CutShort → FailsAt f (first ∷ b) e (length b)
 shows_first f first b e cut fails other = record {
   before = [];
   last = first;
@@ -156,7 +159,7 @@ content_goes kind n w b long holds =
     }
 
 content_bad : (n : ℕ) (w : IntegerWidth) (b : List ℕ) → n ≤ length b → ¬ (IsUtf8 (take n b))
-    → Shows (skip_content text_kind n w) b refusal.Utf8 (length (drop n b))
+    → FailsAt (skip_content Text n w) b refusal.Utf8 (length (drop n b))
 content_bad n w b long bad =
     elim (last_ways (take n b)) [
       | inl none ↦ absurd (bad (rw none IsUtf8-nil))
@@ -169,17 +172,17 @@ content_bad n w b long bad =
             parts = sym (take-append-drop n b) ∙ ap (λ (z : List ℕ). z ++ drop n b) at.2
                 ∙ append_assoc at.0 (at.1 ∷ []) (drop n b);
             count = refl;
-            cut = content_cut text_kind n w at.0 (omega (arith, length-append at.0 (at.1 ∷ [])));
-            fails = ap rest_of (content_refuses text_kind n w (at.0 ++ at.1 ∷ []) refusal.Utf8
+            cut = content_cut Text n w at.0 (omega (arith, length-append at.0 (at.1 ∷ [])));
+            fails = ap rest_of (content_refuses Text n w (at.0 ++ at.1 ∷ []) refusal.Utf8
                 (bad_content (at.0 ++ at.1 ∷ []) [] (sym (append-nil (at.0 ++ at.1 ∷ []))) count (rw (← at.2) bad)));
             other = λ e. absurd cc;
           }
     ]
 
 pub content_shows : (kind : StringKind) (n : ℕ) (w : IntegerWidth) (b : List ℕ) → n ≤ length b
-    → ¬ (IsContent kind (take n b)) → Shows (skip_content kind n w) b refusal.Utf8 (length (drop n b))
-content_shows bytes_kind n w b long bad = absurd (bad tt)
-content_shows text_kind n w b long bad = content_bad n w b long bad
+    → ¬ (IsContent kind (take n b)) → FailsAt (skip_content kind n w) b refusal.Utf8 (length (drop n b))
+content_shows Bytes n w b long bad = absurd (bad tt)
+content_shows Text n w b long bad = content_bad n w b long bad
 
 -- ---- chunks
 
@@ -239,13 +242,13 @@ break_goes kind b = record { over = break_byte ∷ []; parts = refl; along = λ 
 -- the number after five bits of info, whatever is after it
 info_over : (bits : ℕ) (i : Argument) (b rest : List ℕ) → ArgumentIs bits i b rest
     → (x : List ℕ) × (b ≡ x ++ rest) × ((c : List ℕ) → read_argument bits (x ++ c) ≡ Ok (i, c))
-info_over bits (number n w) b rest is =
+info_over bits (Number n w) b rest is =
     (number_bytes w n, is.2, λ c. ap (λ k. read_argument k (number_bytes w n ++ c)) is.1 ∙ info_again w n c is.0)
-info_over bits indefinite b rest is = ([], is.1, λ c. info_opens bits c is.0)
+info_over bits Indefinite b rest is = ([], is.1, λ c. info_opens bits c is.0)
 
 -- a chunk's head, with its content and more chunks after it
 content_then : (kind : StringKind) (n : ℕ) (w : IntegerWidth) (c : List ℕ)
-    → chunks_after kind (chunk_of kind (number n w) c) ≡ (skip_content kind n w c >>= skip_chunks kind)
+    → chunks_after kind (chunk_of kind (Number n w) c) ≡ (skip_content kind n w c >>= skip_chunks kind)
 content_then kind n w c = after (read_content kind n w c)
   where
     after : (read : Read Chunk) → chunks_after kind (read >>= λ c. Ok (Some c.0, c.1))
@@ -267,27 +270,27 @@ chunk_reads kind first b read no_break major e =
     ]
 
 pub chunk_goes : (kind : StringKind) (first n : ℕ) (w : IntegerWidth) (b rest : List ℕ) → IsBytes b → first ≢ break_byte
-    → first / 32 ≡ major_of kind → read_argument (first % 32) b ≡ Ok (number n w, rest)
+    → first / 32 ≡ major_of kind → read_argument (first % 32) b ≡ Ok (Number n w, rest)
     → Goes (skip_chunks kind) (λ c. skip_content kind n w c >>= skip_chunks kind) (first ∷ b) rest
 chunk_goes kind first n w b rest fits no_break major e =
-    let f = info_over (first % 32) (number n w) b rest (info_takes (first % 32) b rest (number n w) fits e) in
+    let f = info_over (first % 32) (Number n w) b rest (info_takes (first % 32) b rest (Number n w) fits e) in
     record {
       over = first ∷ f.0;
       parts = ap (λ (z : List ℕ). first ∷ z) f.1;
       along = λ c. chunks_next kind (first ∷ (f.0 ++ c))
-          ∙ ap (chunks_after kind) (chunk_reads kind first (f.0 ++ c) (Ok (number n w, c)) no_break major (f.2 c))
+          ∙ ap (chunks_after kind) (chunk_reads kind first (f.0 ++ c) (Ok (Number n w, c)) no_break major (f.2 c))
           ∙ content_then kind n w c;
     }
 
 -- no chunk begins so, which the first byte shows
 chunk_shows : (kind : StringKind) (first : ℕ) (b : List ℕ) → read_chunk kind (first ∷ []) ≡ Err refusal.Head
-    → Shows (skip_chunks kind) (first ∷ b) refusal.Head (length b)
+    → FailsAt (skip_chunks kind) (first ∷ b) refusal.Head (length b)
 unfolding read_chunks
 chunk_shows kind first b e = shows_first (skip_chunks kind) first b refusal.Head refl
     (chunks_next kind (first ∷ []) ∙ ap (chunks_after kind) e) (λ same. absurd cc)
 
 pub kind_shows : (kind : StringKind) (first : ℕ) (b : List ℕ) → first ≢ break_byte → first / 32 ≢ major_of kind
-    → Shows (skip_chunks kind) (first ∷ b) refusal.Head (length b)
+    → FailsAt (skip_chunks kind) (first ∷ b) refusal.Head (length b)
 kind_shows kind first b no_break other =
     chunk_shows kind first b (elim (chunk_ways kind first []) [
       | inl way ↦ absurd (no_break way.0)
@@ -299,7 +302,7 @@ kind_shows kind first b no_break other =
 
 -- a stop is a cut, or an error
 stop_either : (from : List ℕ → Skip) (b : List ℕ) (e : Error) (after : ℕ)
-    → (e ≡ refusal.CutShort → from b ≡ Err refusal.CutShort) → (e ≢ refusal.CutShort → Shows from b e after)
+    → (e ≡ refusal.CutShort → from b ≡ Err refusal.CutShort) → (e ≢ refusal.CutShort → FailsAt from b e after)
     → StopsSo from b (stop_of e after)
 stop_either from b refusal.CutShort after cut shows = cut refl
 stop_either from b e after cut shows = shows (λ same. absurd cc)
@@ -310,19 +313,19 @@ bad_info_from (cut_info k small is short) other = absurd (other refl)
 bad_info_from (bad_info least most) other = (bad_info least most, refl)
 
 info_shows : (kind : StringKind) (first : ℕ) (b : List ℕ) (e : Error) → first ≢ break_byte → first / 32 ≡ major_of kind
-    → read_argument (first % 32) b ≡ Err e → e ≢ refusal.CutShort → Shows (skip_chunks kind) (first ∷ b) e (length b)
+    → read_argument (first % 32) b ≡ Err e → e ≢ refusal.CutShort → FailsAt (skip_chunks kind) (first ∷ b) e (length b)
 info_shows kind first b e no_break major h other =
     let bad = bad_info_from (info_refused (first % 32) b e (omega arith) h) other in
-    subst (λ d. Shows (skip_chunks kind) (first ∷ b) d (length b)) bad.1
+    subst (λ d. FailsAt (skip_chunks kind) (first ∷ b) d (length b)) bad.1
     (chunk_shows kind first b (chunk_reads kind first [] (Err refusal.Head) no_break major
     (info_refuses (first % 32) [] refusal.Head bad.0)))
 
 pub indefinite_shows : (kind : StringKind) (first : ℕ) (b rest : List ℕ) → IsBytes b → first ≢ break_byte
-    → first / 32 ≡ major_of kind → read_argument (first % 32) b ≡ Ok (indefinite, rest)
-    → Shows (skip_chunks kind) (first ∷ b) refusal.Head (length b)
+    → first / 32 ≡ major_of kind → read_argument (first % 32) b ≡ Ok (Indefinite, rest)
+    → FailsAt (skip_chunks kind) (first ∷ b) refusal.Head (length b)
 indefinite_shows kind first b rest fits no_break major e =
-    let is = info_takes (first % 32) b rest indefinite fits e in
-    chunk_shows kind first b (chunk_reads kind first [] (Ok (indefinite, [])) no_break major
+    let is = info_takes (first % 32) b rest Indefinite fits e in
+    chunk_shows kind first b (chunk_reads kind first [] (Ok (Indefinite, [])) no_break major
     (info_opens (first % 32) [] is.0))
 
 info_cut : (kind : StringKind) (first : ℕ) (b : List ℕ) → first ≢ break_byte → first / 32 ≡ major_of kind
@@ -395,7 +398,7 @@ bad_alone (no_info least most) = no_info least most
 bad_alone (no_length is major) = no_length is major
 
 bad_shows : (left first : ℕ) (b : List ℕ) → 0 < left → BadHead (first ∷ b)
-    → Shows (skip_item left) (first ∷ b) refusal.Head (length b)
+    → FailsAt (skip_item left) (first ∷ b) refusal.Head (length b)
 unfolding counted_item
 bad_shows zero first b some bad = absurd (omega arith)
 bad_shows (suc left) first b some bad = shows_first (skip_item (suc left)) first b refusal.Head
@@ -404,10 +407,10 @@ bad_shows (suc left) first b some bad = shows_first (skip_item (suc left)) first
     (head_bad (first ∷ []) (bad_alone bad))) (λ same. absurd cc)
 
 head_shows : (left first : ℕ) (b : List ℕ) (e : Error) → 0 < left → IsBytes (first ∷ b) → read_head (first ∷ b) ≡ Err e
-    → e ≢ refusal.CutShort → Shows (skip_item left) (first ∷ b) e (length b)
+    → e ≢ refusal.CutShort → FailsAt (skip_item left) (first ∷ b) e (length b)
 head_shows left first b e some fits h other =
     let bad = bad_head_from (head_refused (first ∷ b) e fits h) other in
-    subst (λ d. Shows (skip_item left) (first ∷ b) d (length b)) bad.1 (bad_shows left first b some bad.0)
+    subst (λ d. FailsAt (skip_item left) (first ∷ b) d (length b)) bad.1 (bad_shows left first b some bad.0)
 
 head_short : (left : ℕ) (b : List ℕ) → 0 < left → read_head b ≡ Err refusal.CutShort
     → skip_item left b ≡ Err refusal.CutShort
@@ -426,7 +429,7 @@ pub no_item : (left : ℕ) → skip_item left [] ≡ Err refusal.CutShort
 no_item left = ap rest_of (item_nothing left)
 
 pub deep_shows : (left first : ℕ) (b : List ℕ) → left ≡ 0
-    → Shows (skip_item left) (first ∷ b) refusal.TooDeep (length b)
+    → FailsAt (skip_item left) (first ∷ b) refusal.TooDeep (length b)
 unfolding counted_item
 deep_shows zero first b none = shows_first (skip_item 0) first b refusal.TooDeep refl refl (λ same. absurd cc)
 deep_shows (suc left) first b none = absurd (omega arith)

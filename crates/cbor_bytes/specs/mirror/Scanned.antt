@@ -6,21 +6,21 @@ use Rattle.cbor_bytes.specs.declared.skip.answer.Extent.TheVariants as extent
 use Rattle.cbor_bytes.specs.declared.skip.Stop.{Stop}
 use Rattle.cbor_bytes.specs.declared.skip.Stop.TheVariants as stops
 use Rattle.cbor_bytes.specs.declared.skip.progress.Progress.{Progress}
-use Rattle.cbor_bytes.specs.mirror.Skipping.{Skip, here, Goes, Shows}
+use Rattle.cbor_bytes.specs.mirror.Skipping.{Skip, here, Goes, FailsAt}
 use Rattle.cbor_bytes.specs.mirror.Scanning.{skip_from, Waits}
 
 -- what is due, and what is open round it
 abbrev pub skip_rest : Progress → List ℕ → Skip
-skip_rest p = skip_from p.due p.containers.outer p.containers.top
+skip_rest p = skip_from p.containers.outer p.containers.top p.due
 
 -- the bytes end so, with this many after what is skipped
-abbrev pub EndsSo : (List ℕ → Skip) → List ℕ → ℕ → Type 0
-EndsSo from b after = (rest : List ℕ) × Goes from here b rest × (length rest ≡ after)
+abbrev pub EndsBefore : (List ℕ → Skip) → List ℕ → ℕ → Type 0
+EndsBefore from b after = (rest : List ℕ) × Goes from here b rest × (length rest ≡ after)
 
 -- why there is no complete item, and what is still to come where the bytes end
 abbrev pub StopsAt : Progress → (List ℕ → Skip) → List ℕ → Stop → Type 0
 StopsAt p from b stops.Cut = Waits from (skip_rest p) b p.held
-StopsAt p from b (stops.Fault error after) = Shows from b error after
+StopsAt p from b (stops.Fault error after) = FailsAt from b error after
 
 -- the answer for this many bytes, of how many follow the item or why there is none
 abbrev pub answer_of : ℕ → Result ℕ Stop → Extent

@@ -9,10 +9,9 @@ use Rattle.cbor_bytes.specs.declared.skip.due.Due.TheVariants as due
 use Rattle.cbor_bytes.specs.declared.skip.due.Pause.{Pause}
 use Rattle.cbor_bytes.specs.declared.skip.due.Pause.TheVariants as pause
 use Rattle.cbor_bytes.specs.declared.skip.to_come.ToCome.{ToCome}
-use Rattle.cbor_grammar.specs.StringKind.{StringKind}
+use Rattle.cbor_grammar.specs.declared.strings.StringKind.{StringKind}
 use Rattle.cbor_grammar.specs.Reading.{◌>>=◌}
-use Rattle.cbor_grammar.specs.mirror.StringView.{kind_view}
-use Rattle.cbor_bytes.specs.mirror.Skipping.{Skip, here, Goes, Shows, skip_content, skip_chunks, skip_open}
+use Rattle.cbor_bytes.specs.mirror.Skipping.{Skip, here, Goes, FailsAt, skip_content, skip_chunks, skip_open}
 
 -- the longest front of some bytes that is UTF-8
 pub record WholeChars (b : List ℕ) (n : ℕ) : Type 0 where
@@ -33,13 +32,13 @@ skip_bad more b = if nat_lt more (length b) then Err Utf8 else Err CutShort
 abbrev pub skip_due : Due → List ℕ → Skip
 skip_due due.Part b = here b
 skip_due (due.Content kind left chunked) b =
-    then_chunks chunked (kind_view kind) (skip_content (kind_view kind) left Zero b)
-skip_due (due.Chunk kind) b = skip_chunks (kind_view kind) b
+    then_chunks chunked kind (skip_content kind left Zero b)
+skip_due (due.Chunk kind) b = skip_chunks kind b
 skip_due (due.BadText more) b = skip_bad more b
 
 -- the same, and then what is open round it
-abbrev pub skip_from : Due → List ToCome → ToCome → List ℕ → Skip
-skip_from d outer top b = skip_due d b >>= skip_open outer top
+abbrev pub skip_from : List ToCome → ToCome → Due → List ℕ → Skip
+skip_from outer top d b = skip_due d b >>= skip_open outer top
 
 -- Skipping goes on so at a rest of few bytes, which end before it does.
 pub record Waits (from to : List ℕ → Skip) (b rest : List ℕ) : Type 0 where
@@ -47,15 +46,11 @@ pub record Waits (from to : List ℕ → Skip) (b rest : List ℕ) : Type 0 wher
   pub cut : to rest ≡ Err CutShort
   pub few : length rest ≤ 8
 
--- why a string is not whole
-abbrev pub PausesSo : (List ℕ → Skip) → List ℕ → Pause → Type 0
-PausesSo from b (pause.Cut d rest) = Waits from (skip_due d) b rest.now
-PausesSo from b (pause.Fault error after) = Shows from b error after
-
--- why an item is not whole, with these containers open at the end
-abbrev pub PausesIn : List ToCome → ToCome → (List ℕ → Skip) → List ℕ → Pause → Type 0
-PausesIn outer top from b (pause.Cut d rest) = Waits from (skip_from d outer top) b rest.now
-PausesIn outer top from b (pause.Fault error after) = Shows from b error after
+-- Why a string or an item is not whole. The first argument says how skipping goes on at what is due: with that alone,
+-- or also with what is open round it.
+abbrev pub Pauses : (Due → List ℕ → Skip) → (List ℕ → Skip) → List ℕ → Pause → Type 0
+Pauses to from b (pause.Cut d rest) = Waits from (to d) b rest.now
+Pauses to from b (pause.Fault error after) = FailsAt from b error after
 
 -- the bytes from there on are few
 abbrev pub IsFew : Pause → Type 0

@@ -13,10 +13,11 @@ use Rattle.cbor_bytes.specs.declared.skip.Chunk.TheVariants as chunks
 use Rattle.cbor_bytes.specs.declared.skip.to_come.ToCome.{ToCome}
 use Rattle.cbor_bytes.specs.declared.skip.to_come.ToCome.TheVariants as to_come
 use Rattle.cbor_grammar.specs.Item.{Item, atom, simple, no_items, no_pairs}
-use Rattle.cbor_grammar.specs.ItemHead.{ItemHead}
+use Rattle.cbor_grammar.specs.declared.head.ItemHead.{ItemHead}
 use Rattle.cbor_grammar.specs.WellFormed.{deepest}
-use Rattle.cbor_grammar.specs.StringKind.{StringKind}
-use Rattle.cbor_grammar.specs.Argument.{Argument, number, indefinite}
+use Rattle.cbor_grammar.specs.declared.strings.StringKind.{StringKind}
+use Rattle.cbor_grammar.specs.declared.argument.Argument.{Argument}
+use Rattle.cbor_grammar.specs.declared.argument.Argument.TheVariants.{Number, Indefinite}
 use Rattle.cbor_grammar.specs.Reading.{Read, ◌>>=◌, read_content, read_chunks, Frame, items_in, pairs_in, value_of}
 use Rattle.cbor_grammar.specs.Reading.{tag_of}
 use Rattle.cbor_grammar.specs.Reading.{tagged_with, opened, read_parts, read_body, counted_item, read_item}
@@ -58,7 +59,7 @@ pub record Goes (from to : List ℕ → Skip) (b rest : List ℕ) : Type 0 where
   pub along : (c : List ℕ) → from (over ++ c) ≡ to c
 
 -- An error that some first bytes show, which end with one more than are cut, and how many follow them.
-pub record Shows (from : List ℕ → Skip) (b : List ℕ) (error : Error) (after : ℕ) : Type 0 where
+pub record FailsAt (from : List ℕ → Skip) (b : List ℕ) (error : Error) (after : ℕ) : Type 0 where
   pub before : List ℕ
   pub last : ℕ
   pub behind : List ℕ
@@ -70,7 +71,7 @@ pub record Shows (from : List ℕ → Skip) (b : List ℕ) (error : Error) (afte
 
 abbrev pub StopsSo : (List ℕ → Skip) → List ℕ → Stop → Type 0
 StopsSo from b stops.Cut = from b ≡ Err CutShort
-StopsSo from b (stops.Fault error after) = Shows from b error after
+StopsSo from b (stops.Fault error after) = FailsAt from b error after
 
 -- where reading refuses so
 abbrev pub stop_of : Error → ℕ → Stop
@@ -94,20 +95,20 @@ some_item = atom (simple 0)
 
 -- this many parts, or all up to a break; the width of a count makes no difference either
 abbrev pub argument_of : Option ℕ → Argument
-argument_of (Some n) = number n Zero
-argument_of None = indefinite
+argument_of (Some n) = Number n Zero
+argument_of None = Indefinite
 
 abbrev pub any_width : Argument → Argument
-any_width (number n w) = number n Zero
-any_width indefinite = indefinite
+any_width (Number n w) = Number n Zero
+any_width Indefinite = Indefinite
 
 -- a container of which as much is to come, and in which nothing was read but a key
 abbrev pub emptied : Frame → Frame
 emptied (items_in is left) = items_in no_items (any_width left)
 emptied (pairs_in ps left) = pairs_in no_pairs (any_width left)
 emptied (value_of ps k left) = value_of no_pairs some_item (any_width left)
-emptied (tag_of t w) = items_in no_items (number 1 Zero)
-emptied (tagged_with t w i) = items_in no_items (number 0 Zero)
+emptied (tag_of t w) = items_in no_items (Number 1 Zero)
+emptied (tagged_with t w i) = items_in no_items (Number 0 Zero)
 
 abbrev pub frame_of : ToCome → Frame
 frame_of (to_come.Items left) = items_in no_items (argument_of left)

@@ -1,9 +1,9 @@
 //! The open containers while the bytes of an item come in pieces.
 ghost use Rattle.std.specs.Prelude.{◌≡◌, ◌<◌, ◌+◌, ◌*◌, [], length, Some, None, IfOk, IfErr};
+ghost use Rattle.cbor_bytes.specs.mirror.Scanning.{Pauses, skip_from};
 ghost use Rattle.cbor_grammar.specs.Item.{no_items};
 ghost use Rattle.cbor_grammar.specs.Reading.{items_in, after_end};
 ghost use Rattle.cbor_bytes.specs.mirror.Skipping.{argument_of, frame_of, here, Goes, skip_open};
-ghost use Rattle.cbor_bytes.specs.mirror.Scanning.{PausesIn};
 
 use super::due::{Due, Pause, after_atom_due};
 use super::packed::Packed;
@@ -37,7 +37,7 @@ impl Containers {
         requires { None ≡ after_end (frame_of self.old.top) bytes.now }
         ensures goes { IfOk result (λ rest. Goes (skip_open self.old.outer self.old.top)
             (skip_open self.new.outer self.new.top) bytes.now rest.now) }
-        ensures pauses { IfErr result (λ pause. PausesIn self.new.outer self.new.top
+        ensures pauses { IfErr result (λ pause. Pauses (skip_from self.new.outer self.new.top)
             (skip_open self.old.outer self.old.top) bytes.now pause) }
         ensures shorter { IfOk result (λ rest. 2 * length rest.now + length self.new.outer
             < 2 * length bytes.now + length self.old.outer) }
@@ -62,7 +62,7 @@ impl Containers {
     pub(super) fn after_item<'a>(&mut self, bytes: &'a [u8]) -> Result<&'a [u8], Pause<'a>>
         ensures goes { IfOk result
             (λ rest. Goes (skip_open self.old.outer self.old.top) here bytes.now rest.now) }
-        ensures pauses { IfErr result (λ pause. PausesIn self.new.outer self.new.top
+        ensures pauses { IfErr result (λ pause. Pauses (skip_from self.new.outer self.new.top)
             (skip_open self.old.outer self.old.top) bytes.now pause) }
     {
         let mut rest = bytes;

@@ -2,21 +2,18 @@
 //!
 //! Each function takes the remaining bytes and returns those after what it skips, or why it pauses.
 ghost use Rattle.std.specs.Prelude.{◌≡◌, ◌<◌, ◌≤◌, ℕ, ◌+◌, length, take, None, IfOk, IfErr, IsUtf8};
-ghost use Rattle.cbor_grammar.specs.ItemHead.{string};
+ghost use Rattle.cbor_bytes.specs.mirror.Scanning.{Pauses};
 ghost use Rattle.cbor_grammar.specs.Reading.{opened};
 ghost use Rattle.cbor_grammar.specs.declared.width.IntegerWidth.TheVariants.{Zero};
-ghost use Rattle.cbor_bytes.specs.mirror.HeadView.{argument_view, head_view};
-ghost use Rattle.cbor_grammar.specs.mirror.StringView.{kind_view};
-ghost use Rattle.cbor_bytes.specs.mirror.Skipping.{here, Goes, Shows, skip_content, skip_chunks};
+ghost use Rattle.cbor_bytes.specs.mirror.Skipping.{here, Goes, FailsAt, skip_content, skip_chunks};
 ghost use Rattle.cbor_bytes.specs.mirror.Skipping.{skip_body};
 ghost use Rattle.cbor_bytes.specs.mirror.Scanning.{WholeChars, then_chunks, skip_bad, skip_due};
-ghost use Rattle.cbor_bytes.specs.mirror.Scanning.{Waits, PausesSo};
-ghost use Rattle.cbor_grammar.specs.StringKind.{text_kind};
+ghost use Rattle.cbor_bytes.specs.mirror.Scanning.{Waits};
 
 use super::{Stop, after_content, read_chunk_length};
-use crate::argument::Argument;
-use crate::head::ItemHead;
 use cbor_grammar::Error;
+use cbor_grammar::argument::Argument;
+use cbor_grammar::head::ItemHead;
 use cbor_grammar::strings::StringKind;
 
 /// What is due next.
@@ -54,7 +51,8 @@ fn whole_chars(bytes: &[u8]) -> usize
 /// What is due in a text of `left` bytes of which fewer are here.
 fn unfinished_text(left: u64, chunked: bool, bytes: &[u8]) -> (Due, &[u8])
     requires { length bytes.now < left }
-    ensures { Waits (λ c. then_chunks chunked text_kind (skip_content text_kind left Zero c))
+    ensures { Waits
+        (λ c. then_chunks chunked StringKind.Text (skip_content StringKind.Text left Zero c))
         (skip_due result.0) bytes.now result.1.now }
 {
     let whole = whole_chars(bytes);
@@ -71,8 +69,7 @@ fn unfinished_text(left: u64, chunked: bool, bytes: &[u8]) -> (Due, &[u8])
 /// What is due in a content of `left` bytes of which fewer are here.
 fn unfinished(kind: StringKind, left: u64, chunked: bool, bytes: &[u8]) -> (Due, &[u8])
     requires { length bytes.now < left }
-    ensures { Waits
-        (λ c. then_chunks chunked (kind_view kind) (skip_content (kind_view kind) left Zero c))
+    ensures { Waits (λ c. then_chunks chunked kind (skip_content kind left Zero c))
         (skip_due result.0) bytes.now result.1.now }
 {
     match kind {
@@ -87,10 +84,9 @@ fn unfinished(kind: StringKind, left: u64, chunked: bool, bytes: &[u8]) -> (Due,
 /// The bytes after a content of `left` bytes.
 fn after_rest(kind: StringKind, left: u64, chunked: bool, bytes: &[u8]) -> Result<&[u8], Pause>
     ensures goes { IfOk result (λ rest.
-        Goes (skip_content (kind_view kind) left Zero) here bytes.now rest.now) }
-    ensures pauses { IfErr result (λ pause. PausesSo
-        (λ c. then_chunks chunked (kind_view kind) (skip_content (kind_view kind) left Zero c))
-        bytes.now pause) }
+        Goes (skip_content kind left Zero) here bytes.now rest.now) }
+    ensures pauses { IfErr result (λ pause. Pauses skip_due
+        (λ c. then_chunks chunked kind (skip_content kind left Zero c)) bytes.now pause) }
     ensures shorter { IfOk result (λ rest. length rest.now ≤ length bytes.now) }
 {
     match after_content(kind, left, bytes) {
@@ -105,10 +101,8 @@ fn after_rest(kind: StringKind, left: u64, chunked: bool, bytes: &[u8]) -> Resul
 
 /// The bytes after the break of an indefinite string.
 fn after_break_due(kind: StringKind, bytes: &[u8]) -> Result<&[u8], Pause>
-    ensures goes { IfOk result
-        (λ rest. Goes (skip_chunks (kind_view kind)) here bytes.now rest.now) }
-    ensures pauses { IfErr result
-        (λ pause. PausesSo (skip_chunks (kind_view kind)) bytes.now pause) }
+    ensures goes { IfOk result (λ rest. Goes (skip_chunks kind) here bytes.now rest.now) }
+    ensures pauses { IfErr result (λ pause. Pauses skip_due (skip_chunks kind) bytes.now pause) }
     ensures shorter { IfOk result (λ rest. length rest.now ≤ length bytes.now) }
 {
     let mut rest = bytes;
@@ -134,11 +128,9 @@ fn after_content_due(
     bytes: &[u8],
 ) -> Result<&[u8], Pause>
     ensures goes { IfOk result (λ rest. Goes
-        (λ c. then_chunks chunked (kind_view kind) (skip_content (kind_view kind) left Zero c))
-        here bytes.now rest.now) }
-    ensures pauses { IfErr result (λ pause. PausesSo
-        (λ c. then_chunks chunked (kind_view kind) (skip_content (kind_view kind) left Zero c))
-        bytes.now pause) }
+        (λ c. then_chunks chunked kind (skip_content kind left Zero c)) here bytes.now rest.now) }
+    ensures pauses { IfErr result (λ pause. Pauses skip_due
+        (λ c. then_chunks chunked kind (skip_content kind left Zero c)) bytes.now pause) }
     ensures shorter { IfOk result (λ rest. length rest.now ≤ length bytes.now) }
 {
     let rest = after_rest(kind, left, chunked, bytes)?;
@@ -152,9 +144,9 @@ fn after_content_due(
 /// The bytes after a string of that length, or one in chunks; its head is read already.
 fn after_string_due(kind: StringKind, len: Argument, bytes: &[u8]) -> Result<&[u8], Pause>
     ensures goes { (left : ℕ) → IfOk result (λ rest. Goes (skip_body left
-        (string (kind_view kind) (argument_view len))) here bytes.now rest.now) }
-    ensures pauses { (left : ℕ) → IfErr result (λ pause. PausesSo (skip_body left
-        (string (kind_view kind) (argument_view len))) bytes.now pause) }
+        (ItemHead.String kind len)) here bytes.now rest.now) }
+    ensures pauses { (left : ℕ) → IfErr result (λ pause. Pauses skip_due (skip_body left
+        (ItemHead.String kind len)) bytes.now pause) }
     ensures shorter { IfOk result (λ rest. length rest.now ≤ length bytes.now) }
 {
     match len {
@@ -165,11 +157,11 @@ fn after_string_due(kind: StringKind, len: Argument, bytes: &[u8]) -> Result<&[u
 
 /// The bytes after an item without parts; its head is read already.
 pub(super) fn after_atom_due(head: ItemHead, bytes: &[u8]) -> Result<&[u8], Pause>
-    requires { opened (head_view head) ≡ None }
+    requires { opened head ≡ None }
     ensures goes { (left : ℕ) → IfOk result
-        (λ rest. Goes (skip_body left (head_view head)) here bytes.now rest.now) }
+        (λ rest. Goes (skip_body left head) here bytes.now rest.now) }
     ensures pauses { (left : ℕ) → IfErr result
-        (λ pause. PausesSo (skip_body left (head_view head)) bytes.now pause) }
+        (λ pause. Pauses skip_due (skip_body left head) bytes.now pause) }
     ensures shorter { IfOk result (λ rest. length rest.now ≤ length bytes.now) }
 {
     match head {
@@ -180,7 +172,7 @@ pub(super) fn after_atom_due(head: ItemHead, bytes: &[u8]) -> Result<&[u8], Paus
 
 /// Why there are no bytes after a text that is not UTF-8, with `more` bytes before its last.
 fn bad_text(more: u64, bytes: &[u8]) -> Pause
-    ensures { PausesSo (skip_bad more) bytes.now result }
+    ensures { Pauses skip_due (skip_bad more) bytes.now result }
 {
     let len = bytes.len() as u64;
     if len <= more {
@@ -195,7 +187,7 @@ impl Due {
     /// The bytes after what is due of a string; all of them if a part is due.
     pub(super) fn after(self, bytes: &[u8]) -> Result<&[u8], Pause>
         ensures goes { IfOk result (λ rest. Goes (skip_due self) here bytes.now rest.now) }
-        ensures pauses { IfErr result (λ pause. PausesSo (skip_due self) bytes.now pause) }
+        ensures pauses { IfErr result (λ pause. Pauses skip_due (skip_due self) bytes.now pause) }
         ensures shorter { IfOk result (λ rest. length rest.now ≤ length bytes.now) }
     {
         match self {

@@ -19,8 +19,8 @@ pub(super) struct Progress {
 impl Progress {
     ghost use Rattle.cbor_bytes.specs.mirror.Skipping.{Skip, skip_item};
     ghost use Rattle.cbor_grammar.specs.WellFormed.{deepest};
-    ghost use Rattle.cbor_bytes.specs.mirror.Scanning.{Waits, PausesIn, IsFew};
-    ghost use Rattle.cbor_bytes.specs.mirror.Scanned.{skip_rest, EndsSo, StopsAt};
+    ghost use Rattle.cbor_bytes.specs.mirror.Scanning.{Waits, IsFew, Pauses, skip_from};
+    ghost use Rattle.cbor_bytes.specs.mirror.Scanned.{skip_rest, EndsBefore, StopsAt};
 
     /// Before the first byte of an item.
     pub(super) fn new() -> Progress
@@ -37,7 +37,8 @@ impl Progress {
     fn pause(&mut self, pause: Pause) -> Stop
         requires { IsFew pause }
         ensures { (from : List ℕ → Skip) (bytes : List ℕ)
-            → PausesIn self.old.containers.outer self.old.containers.top from bytes pause.entry
+            → Pauses (skip_from self.old.containers.outer self.old.containers.top) from bytes
+            pause.entry
             → StopsAt self.new from bytes result }
     {
         match pause {
@@ -52,7 +53,7 @@ impl Progress {
 
     /// How many bytes follow the item, which goes on with these bytes.
     fn after_bytes(&mut self, bytes: &[u8]) -> Result<usize, Stop>
-        ensures whole { IfOk result (λ after. EndsSo (skip_rest self.old) bytes.now after) }
+        ensures whole { IfOk result (λ after. EndsBefore (skip_rest self.old) bytes.now after) }
         ensures stops { IfErr result
             (λ stop. StopsAt self.new (skip_rest self.old) bytes.now stop) }
     {
@@ -70,7 +71,7 @@ impl Progress {
     pub(super) fn after_more(&mut self, bytes: &[u8]) -> Result<usize, Stop>
         ensures whole { (fed : List ℕ)
             → Waits (skip_item deepest) (skip_rest self.old) fed self.old.held
-            → IfOk result (λ after. EndsSo (skip_item deepest) (fed ++ bytes.now) after) }
+            → IfOk result (λ after. EndsBefore (skip_item deepest) (fed ++ bytes.now) after) }
         ensures stops { (fed : List ℕ)
             → Waits (skip_item deepest) (skip_rest self.old) fed self.old.held
             → IfErr result (λ stop. StopsAt self.new (skip_item deepest) (fed ++ bytes.now) stop) }

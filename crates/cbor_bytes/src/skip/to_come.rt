@@ -3,13 +3,12 @@ ghost use Rattle.std.specs.Prelude.{◌≡◌, Some, option_map};
 ghost use Rattle.cbor_grammar.specs.Item.{no_items};
 ghost use Rattle.cbor_grammar.specs.Reading.{items_in, put, after_members, after_end, one_less};
 ghost use Rattle.cbor_grammar.specs.Reading.{opened};
-ghost use Rattle.cbor_bytes.specs.mirror.HeadView.{argument_view, head_view};
 ghost use Rattle.cbor_bytes.specs.mirror.Skipping.{argument_of, any_width, frame_of, emptied};
 ghost use Rattle.cbor_bytes.specs.mirror.Skipping.{some_item};
 ghost use Rattle.cbor_bytes.specs.mirror.OpenStack.{to_come_of};
 
-use crate::argument::{Argument, after_break};
-use crate::head::ItemHead;
+use cbor_grammar::argument::{Argument, after_break};
+use cbor_grammar::head::ItemHead;
 
 /// How many parts are still to come, or `None` for all up to a break.
 type Count = Option<u64>;
@@ -39,7 +38,7 @@ pub(super) enum Kind {
 
 /// The parts of a container of that length.
 fn parts_of(len: Argument) -> Count
-    ensures { argument_of result ≡ any_width (argument_view len) }
+    ensures { argument_of result ≡ any_width len }
 {
     match len {
         Argument::Number(count, _) => Some(count),
@@ -106,7 +105,7 @@ impl ToCome {
 
     /// All of the container that a head opens, or `None` if it opens none.
     pub(super) fn new(head: ItemHead) -> Option<ToCome>
-        ensures { option_map frame_of result ≡ option_map emptied (opened (head_view head)) }
+        ensures { option_map frame_of result ≡ option_map emptied (opened head) }
     {
         match head {
             ItemHead::Array(len) => Some(ToCome::Items(parts_of(len))),

@@ -14,7 +14,8 @@ use Rattle.cbor_notation.specs.declared.start.Start.TheVariants as start
 use Rattle.cbor_grammar.specs.Item.{Chunk, chunked_string, Item, atom, item_count, pair_count}
 use Rattle.cbor_diag.specs.View.{view, items_view, pairs_view}
 use Rattle.cbor_grammar.specs.WellFormed.{IsChunk, WellFormed, WellFormedItems, WellFormedPairs, FitsCount}
-use Rattle.cbor_grammar.specs.StringKind.{StringKind, bytes_kind}
+use Rattle.cbor_grammar.specs.declared.strings.StringKind.{StringKind}
+use Rattle.cbor_grammar.specs.declared.strings.StringKind.TheVariants.{Bytes}
 use Rattle.cbor_grammar.specs.Reading.{Read, ◌>>=◌, Fails}
 use Rattle.cbor_notation.specs.mirror.NotationReading.{or_refused, after_byte, skip_blank, read_pair, first_start}
 use Rattle.cbor_notation.specs.mirror.NotationReading.{rest_of}
@@ -37,7 +38,7 @@ core_by read (b ∷ text) rest s is behind = ap (λ s. core_of read s (b ∷ tex
 -- what bytes begin with
 pub bytes_core : (read : List ℕ → Read Item) (text rest : List ℕ) (s : Start)
     → (s ≡ start.Apostrophe) ⊎ ((s ≡ start.Angle) ⊎ ((s ≡ start.LetterB) ⊎ (s ≡ start.LetterH)))
-    → core_of read s text rest ≡ read_string_item read bytes_kind text
+    → core_of read s text rest ≡ read_string_item read Bytes text
 bytes_core read text rest s (inl e) = rw e refl
 bytes_core read text rest s (inr (inl e)) = rw e refl
 bytes_core read text rest s (inr (inr (inl e))) = rw e refl
@@ -226,11 +227,6 @@ pub pairs_push : (level : ℕ) (vs : List (DataItem × DataItem)) (v : DataItem 
     → WellFormedPairs level (pairs_view (vs ++ v ∷ []))
 pairs_push level [] v held key value = (key, value, tt)
 pairs_push level (w ∷ vs) v held key value = (held.0, held.1, pairs_push level vs v held.2 key value)
-
-pub all_push : {X : Type 0} (P : X → Type 0) (xs : List X) (x : X) → AllByRecursion P xs → P x
-    → AllByRecursion P (xs ++ x ∷ [])
-all_push P [] x held here = (here, tt)
-all_push P (y ∷ xs) x held here = (held.0, all_push P xs x held.1 here)
 
 open_fits : (w : Option IntegerWidth) (n : ℕ) → n < 2 ^ 64 → (w ≡ None) ⊎ (w ≡ Some Unknown) → FitsCount w n
 open_fits w n fits (inl e) = subst (λ x. FitsCount x n) (sym e) tt

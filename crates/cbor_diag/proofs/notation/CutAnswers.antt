@@ -5,7 +5,7 @@ use Rattle.std.specs.Bool.{IsFalse}
 use Rattle.cbor_grammar.specs.declared.error.Error.{Error}
 use Rattle.cbor_grammar.specs.declared.error.Error.TheVariants as refusal
 use Rattle.cbor_grammar.specs.Reading.{Gives}
-use Rattle.cbor_diag.specs.mirror.DeadEnds.{IsRefused}
+use Rattle.cbor_diag.specs.mirror.DeadEnds.{IsRealError}
 
 -- what a callee's answer says, said of what it is part of
 pub dead_from : {P Q : Type 0} (r : Result Bool Error) → (P → Q) → IfOk r (λ dead. IsTrue dead → P)
@@ -20,14 +20,15 @@ cut_from (Ok b) f h = λ is. f (h is)
 cut_from (Err e) f h = tt
 
 -- what was not read
-pub refused_of : {T P : Type 0} (answer : Result T Error) → IsRefused answer → IfErr answer (λ e. e ≢ refusal.Memory → P) → P
+pub refused_of : {T P : Type 0} (answer : Result T Error) → IsRealError answer
+    → IfErr answer (λ e. e ≢ refusal.Memory → P) → P
 refused_of (Ok x) is h = absurd is
 refused_of (Err e) is h = h is
 
-pub was_refused : {T P : Type 0} (answer : Result T Error) (found : Option T) → IfNone found (IsRefused answer)
+pub was_refused : {T P : Type 0} (answer : Result T Error) (found : Option T) → IfNone found (IsRealError answer)
     → found ≡ None → IfErr answer (λ e. e ≢ refusal.Memory → P) → P
 was_refused {T} answer found h is e =
-    refused_of answer (subst (λ (o : Option T). IfNone o (IsRefused answer)) is h) e
+    refused_of answer (subst (λ (o : Option T). IfNone o (IsRealError answer)) is h) e
 
 -- what was read before
 pub was_read : {T : Type 0} (answer : Result T Error) (found : Option T) (x : T) (P : T → Type 0)
@@ -42,12 +43,12 @@ was_given {T} answer found x view read h is g =
     let a : answer ≡ Ok x = subst (λ (o : Option T). IfSome o (λ y. answer ≡ Ok y)) is h in
     subst (λ (r : Result T Error). Gives view r read) a g
 
-pub was_error : {T : Type 0} (answer : Result T Error) (found : Option T) → IfNone found (IsRefused answer)
-    → found ≡ None → IsRefused answer
-was_error {T} answer found h is = subst (λ (o : Option T). IfNone o (IsRefused answer)) is h
+pub was_error : {T : Type 0} (answer : Result T Error) (found : Option T) → IfNone found (IsRealError answer)
+    → found ≡ None → IsRealError answer
+was_error {T} answer found h is = subst (λ (o : Option T). IfNone o (IsRealError answer)) is h
 
 pub error_refused : {T : Type 0} (answer : Result T Error) (e : Error) → answer ≡ Err e → answer ≢ Err refusal.Memory
-    → IsRefused answer
+    → IsRealError answer
 error_refused {T} answer e is other =
-    subst (λ (r : Result T Error). IsRefused r) (sym is)
+    subst (λ (r : Result T Error). IsRealError r) (sym is)
     (λ memory. other (is ∙ ap (λ (f : Error). let r : Result T Error = Err f in r) memory))

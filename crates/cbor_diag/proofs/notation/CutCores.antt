@@ -8,10 +8,10 @@ use Rattle.cbor_notation.specs.declared.start.Start.{Start}
 use Rattle.cbor_notation.specs.declared.start.Start.TheVariants as start
 use Rattle.cbor_grammar.specs.declared.width.IntegerWidth.{IntegerWidth}
 use Rattle.cbor_grammar.specs.Item.{Item, atom, negative}
-use Rattle.cbor_grammar.specs.StringKind.{bytes_kind, text_kind}
+use Rattle.cbor_grammar.specs.declared.strings.StringKind.TheVariants.{Bytes, Text}
 use Rattle.cbor_grammar.specs.Reading.{Read, ◌>>=◌}
 use Rattle.cbor_grammar.specs.Notation.{Members, PairOf, NegativeOf, Notation, as_text, Core, Reads}
-use Rattle.cbor_grammar.specs.DeadEnd.{GoesOn, IsCut, closes_text, content}
+use Rattle.cbor_grammar.specs.DeadEnd.{GoesOn, CutOf, closes_text, content}
 use Rattle.cbor_notation.specs.mirror.NotationReading.{or_refused, first_start, start_of, rest_of, read_item, read_core}
 use Rattle.cbor_notation.specs.mirror.NotationReading.{core_of, piece_of, read_piece, read_members, read_length}
 use Rattle.cbor_notation.specs.mirror.NotationReading.{read_pair}
@@ -44,15 +44,15 @@ module _ (left : ℕ) where
       subst (λ (z : Start). NotRead (core_of (read_item left) z (b ∷ text) rest)) (sym at)
       (subst (λ (t : List ℕ). NotRead (core_of (read_item left) (start_of b) (b ∷ text) t)) (sym behind) refused)
 
-  behind_byte : (b c : ℕ) (text rest : List ℕ) → text ≡ b ∷ rest → b ≡ c → IsCut (Core (Reads left)) (c ∷ rest)
-      → IsCut (Core (Reads left)) text
+  behind_byte : (b c : ℕ) (text rest : List ℕ) → text ≡ b ∷ rest → b ≡ c → CutOf (Core (Reads left)) (c ∷ rest)
+      → CutOf (Core (Reads left)) text
   behind_byte b c text rest is same cut =
-      subst (λ (t : List ℕ). IsCut (Core (Reads left)) t) (sym (is ∙ ap (λ (d : ℕ). d ∷ rest) same)) cut
+      subst (λ (t : List ℕ). CutOf (Core (Reads left)) t) (sym (is ∙ ap (λ (d : ℕ). d ∷ rest) same)) cut
 
   -- what a core is cut short by
   pub minus_core : (text rest : List ℕ) → start.Minus ≡ first_start text → rest ≡ rest_of text → 0 < length text
-      → (NotRead (read_negative_number rest) → IsCut (λ t (x : ℕ × IntegerWidth). NegativeOf t x.0 x.1) (45 ∷ rest))
-      → NotRead (read_core (read_item left) text) → IsCut (Core (Reads left)) text
+      → (NotRead (read_negative_number rest) → CutOf (λ t (x : ℕ × IntegerWidth). NegativeOf t x.0 x.1) (45 ∷ rest))
+      → NotRead (read_core (read_item left) text) → CutOf (Core (Reads left)) text
   minus_core text rest at behind some cut refused =
       let b = starts_as start.Minus text rest at behind some in
       behind_byte b.0 45 text rest b.1 b.2 (negative_cut left (45 ∷ rest) (cut
@@ -61,8 +61,8 @@ module _ (left : ℕ) where
 
   pub bracket_core : (text rest : List ℕ) → start.Bracket ≡ first_start text → rest ≡ rest_of text → 0 < length text
       → (NotRead (read_members (read_item left) 93 (read_length rest).1)
-      → IsCut (Members (Reads left) (93 ∷ [])) (read_length rest).1)
-      → NotRead (read_core (read_item left) text) → IsCut (Core (Reads left)) text
+      → CutOf (Members (Reads left) (93 ∷ [])) (read_length rest).1)
+      → NotRead (read_core (read_item left) text) → CutOf (Core (Reads left)) text
   bracket_core text rest at behind some cut refused =
       let b = starts_as start.Bracket text rest at behind some in
       behind_byte b.0 91 text rest b.1 b.2 (array_cut left rest (cut
@@ -70,37 +70,37 @@ module _ (left : ℕ) where
 
   pub brace_core : (text rest : List ℕ) → start.Brace ≡ first_start text → rest ≡ rest_of text → 0 < length text
       → (NotRead (read_members (read_pair (read_item left)) 125 (read_length rest).1)
-      → IsCut (Members (PairOf (Reads left)) (125 ∷ [])) (read_length rest).1)
-      → NotRead (read_core (read_item left) text) → IsCut (Core (Reads left)) text
+      → CutOf (Members (PairOf (Reads left)) (125 ∷ [])) (read_length rest).1)
+      → NotRead (read_core (read_item left) text) → CutOf (Core (Reads left)) text
   brace_core text rest at behind some cut refused =
       let b = starts_as start.Brace text rest at behind some in
       behind_byte b.0 123 text rest b.1 b.2 (map_cut left rest (cut
       (map_refused left rest (core_refused_at start.Brace text rest at behind some refused))))
 
   pub parenthesis_core : (text rest : List ℕ) → start.Parenthesis ≡ first_start text → rest ≡ rest_of text
-      → 0 < length text → (NotRead (read_chunks (read_item left) rest) → IsCut (Core (Reads left)) (40 ∷ rest))
-      → NotRead (read_core (read_item left) text) → IsCut (Core (Reads left)) text
+      → 0 < length text → (NotRead (read_chunks (read_item left) rest) → CutOf (Core (Reads left)) (40 ∷ rest))
+      → NotRead (read_core (read_item left) text) → CutOf (Core (Reads left)) text
   parenthesis_core text rest at behind some cut refused =
       let b = starts_as start.Parenthesis text rest at behind some in
       behind_byte b.0 40 text rest b.1 b.2 (cut (core_refused_at start.Parenthesis text rest at behind some refused))
 
   pub digit_core : (text rest : List ℕ) → start.Digit ≡ first_start text → rest ≡ rest_of text → 0 < length text
-      → (NotRead (read_integer (read_item left) text) → IsCut (Core (Reads left)) text)
-      → NotRead (read_core (read_item left) text) → IsCut (Core (Reads left)) text
+      → (NotRead (read_integer (read_item left) text) → CutOf (Core (Reads left)) text)
+      → NotRead (read_core (read_item left) text) → CutOf (Core (Reads left)) text
   digit_core text rest at behind some cut refused =
       cut (core_refused_at start.Digit text rest at behind some refused)
 
   pub quote_core : (text rest : List ℕ) → start.Quote ≡ first_start text → rest ≡ rest_of text → 0 < length text
-      → (NotRead (read_string_item (read_item left) text_kind text) → IsCut (Core (Reads left)) text)
-      → NotRead (read_core (read_item left) text) → IsCut (Core (Reads left)) text
+      → (NotRead (read_string_item (read_item left) Text text) → CutOf (Core (Reads left)) text)
+      → NotRead (read_core (read_item left) text) → CutOf (Core (Reads left)) text
   quote_core text rest at behind some cut refused =
       cut (core_refused_at start.Quote text rest at behind some refused)
 
   pub bytes_core_cut : (s : Start) (text rest : List ℕ)
       → ((s ≡ start.Apostrophe) ⊎ (s ≡ start.Angle) ⊎ (s ≡ start.LetterB) ⊎ (s ≡ start.LetterH))
       → s ≡ first_start text → rest ≡ rest_of text → 0 < length text
-      → (NotRead (read_string_item (read_item left) bytes_kind text) → IsCut (Core (Reads left)) text)
-      → NotRead (read_core (read_item left) text) → IsCut (Core (Reads left)) text
+      → (NotRead (read_string_item (read_item left) Bytes text) → CutOf (Core (Reads left)) text)
+      → NotRead (read_core (read_item left) text) → CutOf (Core (Reads left)) text
   bytes_core_cut s text rest (inl is) at behind some cut refused =
       cut (core_refused_at start.Apostrophe text rest (sym is ∙ at) behind some refused)
   bytes_core_cut s text rest (inr (inl is)) at behind some cut refused =
@@ -111,8 +111,8 @@ module _ (left : ℕ) where
       cut (core_refused_at start.LetterH text rest (sym is ∙ at) behind some refused)
 
   pub word_core : (text rest : List ℕ) → start.Other ≡ first_start text → rest ≡ rest_of text → 0 < length text
-      → (NotRead (read_word text) → IsCut (λ t (i : Item). (l : ℕ) → Core (Reads l) t i) text)
-      → NotRead (read_core (read_item left) text) → IsCut (Core (Reads left)) text
+      → (NotRead (read_word text) → CutOf (λ t (i : Item). (l : ℕ) → Core (Reads l) t i) text)
+      → NotRead (read_core (read_item left) text) → CutOf (Core (Reads left)) text
   word_core text rest at behind some cut refused =
       cut_as (λ t (i : Item). (l : ℕ) → Core (Reads l) t i) (Core (Reads left)) text (λ t i h. (i, h left))
       (cut (core_refused_at start.Other text rest at behind some refused))
@@ -146,13 +146,13 @@ module _ (left : ℕ) where
       )
 
   other_piece : (s : Start) (text : List ℕ) → s ≡ first_start text → (s ≡ start.Quote → ⊥)
-      → IsCut (Notation (Reads left)) text → IsPieceCut (Reads left) text
+      → CutOf (Notation (Reads left)) text → IsPieceCut (Reads left) text
   other_piece s text at other cut = (λ is. absurd (other (at ∙ is)), λ quote. cut)
 
-  behind_piece : (b c : ℕ) (text rest : List ℕ) → text ≡ b ∷ rest → b ≡ c → IsCut (Notation (Reads left)) (c ∷ rest)
-      → IsCut (Notation (Reads left)) text
+  behind_piece : (b c : ℕ) (text rest : List ℕ) → text ≡ b ∷ rest → b ≡ c → CutOf (Notation (Reads left)) (c ∷ rest)
+      → CutOf (Notation (Reads left)) text
   behind_piece b c text rest is same cut =
-      subst (λ (t : List ℕ). IsCut (Notation (Reads left)) t) (sym (is ∙ ap (λ (d : ℕ). d ∷ rest) same)) cut
+      subst (λ (t : List ℕ). CutOf (Notation (Reads left)) t) (sym (is ∙ ap (λ (d : ℕ). d ∷ rest) same)) cut
 
   pub apostrophe_piece : (text rest : List ℕ) → start.Apostrophe ≡ first_start text → rest ≡ rest_of text
       → (unquoted 39 false rest ≡ None → closes_text 39 false rest ≡ false)
@@ -171,7 +171,7 @@ module _ (left : ℕ) where
       ))
 
   pub angle_piece : (text rest : List ℕ) → start.Angle ≡ first_start text → rest ≡ rest_of text
-      → (NotRead (read_embedded (read_item left) rest) → IsCut (Notation (Reads left)) (60 ∷ rest))
+      → (NotRead (read_embedded (read_item left) rest) → CutOf (Notation (Reads left)) (60 ∷ rest))
       → NotRead (read_piece (read_item left) text) → IsPieceCut (Reads left) text
   angle_piece text rest at behind cut refused =
       let some = some_start start.Angle text (λ e. absurd cc) at in
@@ -179,13 +179,13 @@ module _ (left : ℕ) where
       other_piece start.Angle text at (λ e. absurd cc) (behind_piece b.0 60 text rest b.1 b.2
       (cut (piece_refused_at start.Angle text rest at behind some refused)))
 
-  each_level : (text : List ℕ) → IsCut (λ t (bytes : List ℕ). (l : ℕ) → Notation (Reads l) t bytes) text
-      → IsCut (Notation (Reads left)) text
+  each_level : (text : List ℕ) → CutOf (λ t (bytes : List ℕ). (l : ℕ) → Notation (Reads l) t bytes) text
+      → CutOf (Notation (Reads left)) text
   each_level text cut = cut_as (λ t (bytes : List ℕ). (l : ℕ) → Notation (Reads l) t bytes) (Notation (Reads left)) text
       (λ t bytes h. (bytes, h left)) cut
 
   pub letter_b_piece : (text rest : List ℕ) → start.LetterB ≡ first_start text → rest ≡ rest_of text
-      → (NotRead (b_notation rest) → IsCut (λ t (bytes : List ℕ). (l : ℕ) → Notation (Reads l) t bytes) (98 ∷ rest))
+      → (NotRead (b_notation rest) → CutOf (λ t (bytes : List ℕ). (l : ℕ) → Notation (Reads l) t bytes) (98 ∷ rest))
       → NotRead (read_piece (read_item left) text) → IsPieceCut (Reads left) text
   letter_b_piece text rest at behind cut refused =
       let some = some_start start.LetterB text (λ e. absurd cc) at in
@@ -194,7 +194,7 @@ module _ (left : ℕ) where
       (each_level (98 ∷ rest) (cut (piece_refused_at start.LetterB text rest at behind some refused))))
 
   pub letter_h_piece : (text rest : List ℕ) → start.LetterH ≡ first_start text → rest ≡ rest_of text
-      → (NotRead (h_notation rest) → IsCut (λ t (bytes : List ℕ). (l : ℕ) → Notation (Reads l) t bytes) (104 ∷ rest))
+      → (NotRead (h_notation rest) → CutOf (λ t (bytes : List ℕ). (l : ℕ) → Notation (Reads l) t bytes) (104 ∷ rest))
       → NotRead (read_piece (read_item left) text) → IsPieceCut (Reads left) text
   letter_h_piece text rest at behind cut refused =
       let some = some_start start.LetterH text (λ e. absurd cc) at in

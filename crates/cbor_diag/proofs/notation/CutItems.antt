@@ -13,29 +13,26 @@ use Rattle.cbor_grammar.specs.declared.error.Error.{Error}
 use Rattle.cbor_diag.specs.declared.parse.notation.fault.Member.{Member}
 use Rattle.cbor_diag.specs.declared.parse.notation.fault.Member.TheVariants as member
 use Rattle.cbor_notation.specs.declared.start.Start.{Start}
-use Rattle.cbor_notation.specs.declared.start.Start.TheVariants as start
 use Rattle.cbor_grammar.specs.declared.width.IntegerWidth.{IntegerWidth}
 use Rattle.cbor_grammar.specs.declared.width.IntegerWidth.TheVariants.{Unknown, Zero}
 use Rattle.cbor_grammar.specs.Item as spec
 use Rattle.cbor_grammar.specs.Item.{Chunk, Item, integer, negative, atom, array, tagged}
 use Rattle.cbor_grammar.specs.Item.{items_of, pairs_of}
-use Rattle.cbor_grammar.specs.StringKind.{StringKind}
+use Rattle.cbor_grammar.specs.declared.strings.StringKind.{StringKind}
 use Rattle.cbor_grammar.specs.Reading.{Read, ◌>>=◌}
 use Rattle.cbor_grammar.specs.Notation.{IsBlank, Blanked, NumberOf, NegativeOf, Members, PairOf, StringOf, Core, Reads}
 use Rattle.cbor_grammar.specs.Notation.{IsNotation}
 use Rattle.cbor_grammar.specs.WellFormed.{deepest}
-use Rattle.cbor_grammar.specs.DeadEnd.{GoesOn, IsCut}
+use Rattle.cbor_grammar.specs.DeadEnd.{GoesOn, CutOf}
 use Rattle.cbor_notation.specs.mirror.NotationReading.{or_refused, skip_blank, after_byte, read_pair, read_chunk}
 use Rattle.cbor_notation.specs.mirror.NotationReading.{read_item}
 use Rattle.cbor_notation.specs.mirror.NotationReading.{read_core, read_integer, integer_or_tag, read_unsigned_number}
 use Rattle.cbor_notation.specs.mirror.NotationReading.{read_number, with_width, read_members, read_length, length_of}
 use Rattle.cbor_notation.specs.mirror.NotationReading.{read_array, read_map, notation_of}
-use Rattle.cbor_grammar.specs.mirror.StringView.{kind_view}
 use Rattle.cbor_diag.specs.mirror.DeadEnds.{NotRead, ends_blank, is_firm, Value, read_member, MemberIs, ChunkIs}
 use Rattle.cbor_grammar.proofs.bytes.Heads.{bind_ok, ok_is}
 use Rattle.cbor_diag.proofs.notation.CutTokens.{blank_goes_on, cut_by}
-use Rattle.cbor_diag.proofs.notation.DeadTokens.{not_bind}
-use Rattle.cbor_diag.proofs.notation.CutLists.{Finds, finds_by, not_made, cut_in, cut_as}
+use Rattle.cbor_diag.proofs.notation.CutLists.{ReadsSuch, finds_by, not_made, cut_in, cut_as}
 use Rattle.cbor_diag.proofs.notation.CutLists.{soft_cut}
 use Rattle.cbor_notation.proofs.notation.sound.Items.{item_sound, reads_blank, pair_sound, pair_blank}
 use Rattle.cbor_notation.proofs.notation.sound.Items.{pairs_list-pairs_of}
@@ -75,7 +72,7 @@ member_behind member.Pair left text blank x h is = (
   reads_behind left h.1 blank x.1 h.4 is,
 )
 member_behind (member.Chunk kind) left text blank x h is =
-    blanked_behind (λ core. StringOf (kind_view kind) (Reads left) core x) text blank h is
+    blanked_behind (λ core. StringOf kind (Reads left) core x) text blank h is
 
 pub member_before : (m : Member) (left : ℕ) (blank text : List ℕ) (x : Value m) → IsBlank blank
     → MemberIs m (Reads left) text x → MemberIs m (Reads left) (blank ++ text) x
@@ -83,18 +80,18 @@ member_before member.Item left blank text x is h = reads_blank left blank text x
 member_before member.Pair left blank text x is h =
     pair_blank left (Reads left) (read_item left) (item_sound left) (reads_blank left) blank text x is h
 member_before (member.Chunk kind) left blank text x is h =
-    blanked_more (λ core. StringOf (kind_view kind) (Reads left) core x) blank text is h
+    blanked_more (λ core. StringOf kind (Reads left) core x) blank text is h
 
-pub item_finds : (left : ℕ) → Finds (read_item left) (Reads left)
+pub item_finds : (left : ℕ) → ReadsSuch (read_item left) (Reads left)
 item_finds left = finds_by left (read_item left) (Reads left) (item_sound left)
 
-pub member_finds : (m : Member) (left : ℕ) → Finds (read_member m (read_item left)) (MemberIs m (Reads left))
+pub member_finds : (m : Member) (left : ℕ) → ReadsSuch (read_member m (read_item left)) (MemberIs m (Reads left))
 member_finds member.Item left = item_finds left
 member_finds member.Pair left = finds_by left (read_pair (read_item left)) (PairOf (Reads left))
     (pair_sound left (Reads left) (read_item left) (item_sound left) (reads_blank left))
-member_finds (member.Chunk kind) left = finds_by (suc left) (read_chunk (read_item left) (kind_view kind))
-    (ChunkIs (kind_view kind) (Reads left))
-    (chunk_sound left (Reads left) (read_item left) (item_sound left) (reads_blank left) (kind_view kind))
+member_finds (member.Chunk kind) left = finds_by (suc left) (read_chunk (read_item left) kind)
+    (ChunkIs kind (Reads left))
+    (chunk_sound left (Reads left) (read_item left) (item_sound left) (reads_blank left) kind)
 
 -- ---- items
 
@@ -118,7 +115,7 @@ pub zero_reads : (left : ℕ) (blank : List ℕ) → IsBlank blank → Reads (su
 unfolding Reads
 zero_reads left blank is = (blank, codes "0", [], refl, is, zero_core (Reads left), nothing)
 
-pub item_blank_cut : (left : ℕ) (text : List ℕ) → ends_blank (skip_blank text) ≡ false → IsCut (Reads (suc left)) text
+pub item_blank_cut : (left : ℕ) (text : List ℕ) → ends_blank (skip_blank text) ≡ false → CutOf (Reads (suc left)) text
 item_blank_cut left text unended =
     let goes = blank_goes_on text unended in
     cut_by (Reads (suc left)) text (
@@ -128,12 +125,12 @@ item_blank_cut left text unended =
           (zero_reads left (text ++ goes.0) goes.1),
     )
 
-pub item_core_cut : (left : ℕ) (text core : List ℕ) → core ≡ skip_blank text → IsCut (Core (Reads left)) core
-    → IsCut (Reads (suc left)) text
+pub item_core_cut : (left : ℕ) (text core : List ℕ) → core ≡ skip_blank text → CutOf (Core (Reads left)) core
+    → CutOf (Reads (suc left)) text
 unfolding Reads
 item_core_cut left text core is cut =
     let blank = blank_left true text in
-    subst (λ (t : List ℕ). IsCut (Reads (suc left)) t)
+    subst (λ (t : List ℕ). CutOf (Reads (suc left)) t)
     (ap (λ (t : List ℕ). blank.0 ++ t) is ∙ sym blank.1)
     (cut_in (Core (Reads left)) (Reads (suc left)) blank.0 [] core
     (λ t i h. (i, (blank.0, t, [], refl, blank.2, h, nothing))) cut)
@@ -147,7 +144,7 @@ core_refused left text core is n =
 
 -- ---- integers and tags
 
-pub unsigned_finds : Finds read_unsigned_number (λ t x. NumberOf t x.0 x.1)
+pub unsigned_finds : ReadsSuch read_unsigned_number (λ t x. NumberOf t x.0 x.1)
 unsigned_finds text after x e =
     let number = bind_ok (read_number text) (λ x. with_width x.0.0 x.0.1 >>= λ n. Ok (n, x.1)) (x, after) e in
     let n = number.0 in
@@ -174,13 +171,13 @@ unsigned_finds text after x e =
         )
 
 module _ (left : ℕ) where
-  pub number_cut : (text : List ℕ) → IsCut (λ t (x : ℕ × IntegerWidth). NumberOf t x.0 x.1) text
-      → IsCut (Core (Reads left)) text
+  pub number_cut : (text : List ℕ) → CutOf (λ t (x : ℕ × IntegerWidth). NumberOf t x.0 x.1) text
+      → CutOf (Core (Reads left)) text
   number_cut text cut = cut_as (λ t (x : ℕ × IntegerWidth). NumberOf t x.0 x.1) (Core (Reads left)) text
       (λ t x h. (atom (integer x.0 x.1), h)) cut
 
-  pub negative_cut : (text : List ℕ) → IsCut (λ t (x : ℕ × IntegerWidth). NegativeOf t x.0 x.1) text
-      → IsCut (Core (Reads left)) text
+  pub negative_cut : (text : List ℕ) → CutOf (λ t (x : ℕ × IntegerWidth). NegativeOf t x.0 x.1) text
+      → CutOf (Core (Reads left)) text
   negative_cut text cut = cut_as (λ t (x : ℕ × IntegerWidth). NegativeOf t x.0 x.1) (Core (Reads left)) text
       (λ t x h. (atom (negative x.0 x.1), h)) cut
 
@@ -190,11 +187,11 @@ module _ (left : ℕ) where
 
   -- a tag whose item is cut short, and one whose close may follow
   pub tag_cut : (text : List ℕ) (n : ℕ × IntegerWidth) (after inner : List ℕ)
-      → read_unsigned_number text ≡ Ok (n, after) → after_byte 40 after ≡ Some inner → IsCut (Reads left) inner
-      → IsCut (Core (Reads left)) text
+      → read_unsigned_number text ≡ Ok (n, after) → after_byte 40 after ≡ Some inner → CutOf (Reads left) inner
+      → CutOf (Core (Reads left)) text
   tag_cut text n after inner found at cut =
       let number = unsigned_finds text after n found in
-      subst (λ (t : List ℕ). IsCut (Core (Reads left)) t)
+      subst (λ (t : List ℕ). CutOf (Core (Reads left)) t)
       (append_assoc number.0 (40 ∷ []) inner
       ∙ sym (number.1 ∙ ap (λ (t : List ℕ). number.0 ++ t) (after_byte_is 40 after inner at)))
       (cut_in (Reads left) (Core (Reads left)) (number.0 ++ 40 ∷ []) (41 ∷ []) inner
@@ -210,17 +207,17 @@ module _ (left : ℕ) where
   tag_read text n after inner i rest last found at item closed refused = rw (found, at, item, closed) at refused
 
   pub item_soft : (text : List ℕ) (x : Item) (after : List ℕ) → read_item left text ≡ Ok (x, after)
-      → is_firm after ≡ false → IsCut (Reads left) text
+      → is_firm after ≡ false → CutOf (Reads left) text
   item_soft text x after found soft =
       let is = item_finds left text after x found in
-      subst (λ (t : List ℕ). IsCut (Reads left) t) (sym is.1)
+      subst (λ (t : List ℕ). CutOf (Reads left) t) (sym is.1)
       (soft_cut (Reads left) (λ t blank i h b. reads_behind left t blank i h b) is.0 after x is.2 soft)
 
   pub tag_ends : (text : List ℕ) (n : ℕ × IntegerWidth) (after inner : List ℕ) (i : Item) (rest : List ℕ)
       → read_unsigned_number text ≡ Ok (n, after) → after_byte 40 after ≡ Some inner
       → read_item left inner ≡ Ok (i, rest)
       → (is_firm rest ≡ false) ⊎ ((last : List ℕ) × (after_byte 41 rest ≡ Some last))
-      → NotRead (read_integer (read_item left) text) → IsCut (Core (Reads left)) text
+      → NotRead (read_integer (read_item left) text) → CutOf (Core (Reads left)) text
   tag_ends text n after inner i rest found at item (inl soft) refused =
       tag_cut text n after inner found at (item_soft inner i rest item soft)
   tag_ends text n after inner i rest found at item (inr closed) refused =
@@ -236,14 +233,14 @@ module _ (left : ℕ) where
       by zero h = absurd h
       by (suc l) h = ((x, zero_item), (t, codes "0", refl, h, zero_reads l [] nothing))
 
-  pub key_cut : (text : List ℕ) → IsCut (Reads left) text → IsCut (PairOf (Reads left)) text
+  pub key_cut : (text : List ℕ) → CutOf (Reads left) text → CutOf (PairOf (Reads left)) text
   key_cut text cut = cut_in (Reads left) (PairOf (Reads left)) [] (codes ":0") text (λ t x h. with_value t x h) cut
 
   pub value_cut : (text : List ℕ) (x : Item) (after value : List ℕ) → read_item left text ≡ Ok (x, after)
-      → after_byte 58 after ≡ Some value → IsCut (Reads left) value → IsCut (PairOf (Reads left)) text
+      → after_byte 58 after ≡ Some value → CutOf (Reads left) value → CutOf (PairOf (Reads left)) text
   value_cut text x after value found at cut =
       let key = item_finds left text after x found in
-      subst (λ (t : List ℕ). IsCut (PairOf (Reads left)) t)
+      subst (λ (t : List ℕ). CutOf (PairOf (Reads left)) t)
       (append_assoc key.0 (58 ∷ []) value
       ∙ sym (key.1 ∙ ap (λ (t : List ℕ). key.0 ++ t) (after_byte_is 58 after value at)))
       (cut_in (Reads left) (PairOf (Reads left)) (key.0 ++ 58 ∷ []) [] value
@@ -275,12 +272,12 @@ module _ (left : ℕ) where
   map_refused text n = not_made (read_members (read_pair (read_item left)) 125 (read_length text).1)
       (λ ps. (spec.map (pairs_of ps.0) (read_length text).0, ps.1)) n
 
-  pub array_cut : (text : List ℕ) → IsCut (Members (Reads left) (93 ∷ [])) (read_length text).1
-      → IsCut (Core (Reads left)) (91 ∷ text)
+  pub array_cut : (text : List ℕ) → CutOf (Members (Reads left) (93 ∷ [])) (read_length text).1
+      → CutOf (Core (Reads left)) (91 ∷ text)
   array_cut text cut = by (after_byte 95 text) refl cut
     where
-      by : (o : Option (List ℕ)) → after_byte 95 text ≡ o → IsCut (Members (Reads left) (93 ∷ [])) (length_of text o).1
-          → IsCut (Core (Reads left)) (91 ∷ text)
+      by : (o : Option (List ℕ)) → after_byte 95 text ≡ o → CutOf (Members (Reads left) (93 ∷ [])) (length_of text o).1
+          → CutOf (Core (Reads left)) (91 ∷ text)
       by None e cut = cut_in (Members (Reads left) (93 ∷ [])) (Core (Reads left)) (91 ∷ []) [] text
           (λ t is h. (
             array (items_of is) (Some Unknown),
@@ -291,7 +288,7 @@ module _ (left : ℕ) where
             ),
           )) cut
       by (Some rest) e cut =
-          subst (λ (t : List ℕ). IsCut (Core (Reads left)) (91 ∷ t)) (sym (after_byte_is 95 text rest e))
+          subst (λ (t : List ℕ). CutOf (Core (Reads left)) (91 ∷ t)) (sym (after_byte_is 95 text rest e))
           (cut_in (Members (Reads left) (93 ∷ [])) (Core (Reads left)) (91 ∷ 95 ∷ []) [] rest
           (λ t is h. (
             array (items_of is) None,
@@ -302,13 +299,13 @@ module _ (left : ℕ) where
             ),
           )) cut)
 
-  pub map_cut : (text : List ℕ) → IsCut (Members (PairOf (Reads left)) (125 ∷ [])) (read_length text).1
-      → IsCut (Core (Reads left)) (123 ∷ text)
+  pub map_cut : (text : List ℕ) → CutOf (Members (PairOf (Reads left)) (125 ∷ [])) (read_length text).1
+      → CutOf (Core (Reads left)) (123 ∷ text)
   map_cut text cut = by (after_byte 95 text) refl cut
     where
       by : (o : Option (List ℕ)) → after_byte 95 text ≡ o
-          → IsCut (Members (PairOf (Reads left)) (125 ∷ [])) (length_of text o).1
-          → IsCut (Core (Reads left)) (123 ∷ text)
+          → CutOf (Members (PairOf (Reads left)) (125 ∷ [])) (length_of text o).1
+          → CutOf (Core (Reads left)) (123 ∷ text)
       by None e cut = cut_in (Members (PairOf (Reads left)) (125 ∷ [])) (Core (Reads left)) (123 ∷ []) [] text
           (λ t ps h. (
             spec.map (pairs_of ps) (Some Unknown),
@@ -319,7 +316,7 @@ module _ (left : ℕ) where
             ),
           )) cut
       by (Some rest) e cut =
-          subst (λ (t : List ℕ). IsCut (Core (Reads left)) (123 ∷ t)) (sym (after_byte_is 95 text rest e))
+          subst (λ (t : List ℕ). CutOf (Core (Reads left)) (123 ∷ t)) (sym (after_byte_is 95 text rest e))
           (cut_in (Members (PairOf (Reads left)) (125 ∷ [])) (Core (Reads left)) (123 ∷ 95 ∷ []) [] rest
           (λ t ps h. (
             spec.map (pairs_of ps) None,
@@ -329,18 +326,3 @@ module _ (left : ℕ) where
               (t, ap (λ (u : List ℕ). 123 ∷ 95 ∷ u) (append-nil t), rw (pairs_list-pairs_of ps) h),
             ),
           )) cut)
-
-  -- ---- pairs that are not read
-
-  pub pair_key_refused : (text : List ℕ) → NotRead (read_item left text) → NotRead (read_pair (read_item left) text)
-  pair_key_refused text refused = not_bind (read_item left text) _ refused
-
-  pub pair_colon_refused : (text : List ℕ) (x : Item) (after : List ℕ) → read_item left text ≡ Ok (x, after)
-      → NotRead (or_refused (after_byte 58 after)) → NotRead (read_pair (read_item left) text)
-  pair_colon_refused text x after found refused = rw found (not_bind (or_refused (after_byte 58 after)) _ refused)
-
-  pub pair_value_refused : (text : List ℕ) (x : Item) (after next : List ℕ) → read_item left text ≡ Ok (x, after)
-      → or_refused (after_byte 58 after) ≡ Ok next → NotRead (read_item left next)
-      → NotRead (read_pair (read_item left) text)
-  pair_value_refused text x after next found colon refused =
-      rw (found, colon) (not_bind (read_item left next) _ refused)

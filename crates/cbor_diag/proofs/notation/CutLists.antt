@@ -7,7 +7,7 @@ use Rattle.cbor_notes.proofs.tokens.Blanks.{blank_left}
 use Rattle.cbor_grammar.specs.declared.error.Error.{Error}
 use Rattle.cbor_grammar.specs.Reading.{Read, ◌>>=◌}
 use Rattle.cbor_grammar.specs.Notation.{IsBlank, Closes, Members}
-use Rattle.cbor_grammar.specs.DeadEnd.{inside as within, GoesOn, IsCut, IsUnfinished, nothing, number, is_in_number}
+use Rattle.cbor_grammar.specs.DeadEnd.{inside as within, GoesOn, CutOf, IsUnfinished, nothing, number, is_in_number}
 use Rattle.cbor_notation.specs.mirror.NotationReading.{skip_blank, after_byte, after_end, more_members, members_from}
 use Rattle.cbor_notation.specs.mirror.NotationReading.{members_or_end, read_members}
 use Rattle.cbor_diag.specs.mirror.DeadEnds.{NotRead, ends_blank, is_settled, is_firm}
@@ -20,8 +20,8 @@ use Rattle.cbor_notation.proofs.notation.sound.Steps.{a_test, Sound, after_byte_
 
 -- What is cut short inside is so with what is before it, and with what closes it.
 pub cut_in : {X Y : Type 0} (Is : List ℕ → X → Type 0) (Such : List ℕ → Y → Type 0) (before close text : List ℕ)
-    → ((t : List ℕ) (x : X) → Is t x → (y : Y) × Such (before ++ (t ++ close)) y) → IsCut Is text
-    → IsCut Such (before ++ text)
+    → ((t : List ℕ) (x : X) → Is t x → (y : Y) × Such (before ++ (t ++ close)) y) → CutOf Is text
+    → CutOf Such (before ++ text)
 cut_in Is Such before close text inside (front, opening, back, is, goes, unended) =
     let made = inside ((front ++ (opening ++ within opening)) ++ goes.0) goes.1 goes.2 in (
       before ++ front,
@@ -37,7 +37,7 @@ cut_in Is Such before close text inside (front, opening, back, is, goes, unended
     )
 
 pub cut_as : {X Y : Type 0} (Is : List ℕ → X → Type 0) (Such : List ℕ → Y → Type 0) (text : List ℕ)
-    → ((t : List ℕ) (x : X) → Is t x → (y : Y) × Such t y) → IsCut Is text → IsCut Such text
+    → ((t : List ℕ) (x : X) → Is t x → (y : Y) × Such t y) → CutOf Is text → CutOf Such text
 cut_as Is Such text so (front, opening, back, is, goes, unended) =
     let made = so ((front ++ (opening ++ within opening)) ++ goes.0) goes.1 goes.2 in
     (front, opening, back, is, (goes.0, made.0, made.1), unended)
@@ -47,12 +47,12 @@ not_made (Ok x) f n = n
 not_made (Err e) f n = tt
 
 -- what is read is such
-abbrev pub Finds : {X : Type 0} → (List ℕ → Read X) → (List ℕ → X → Type 0) → Type 0
-Finds read Is = (text after : List ℕ) (x : _) → read text ≡ Ok (x, after) → (front : List ℕ) × (text ≡ front ++ after)
-    × Is front x
+abbrev pub ReadsSuch : {X : Type 0} → (List ℕ → Read X) → (List ℕ → X → Type 0) → Type 0
+ReadsSuch read Is = (text after : List ℕ) (x : _) → read text ≡ Ok (x, after)
+    → (front : List ℕ) × (text ≡ front ++ after) × Is front x
 
 pub finds_by : {X : Type 0} (levels : ℕ) (read : List ℕ → Read X) (Is : List ℕ → X → Type 0)
-    → ((text : List ℕ) → Sound levels Is text (read text)) → Finds read Is
+    → ((text : List ℕ) → Sound levels Is text (read text)) → ReadsSuch read Is
 finds_by levels read Is sound text after x e = subst (λ (r : Read _). Sound levels Is text r) e (sound text)
 
 -- ---- what a blank or a number may go on behind
@@ -70,7 +70,7 @@ not_settled (b ∷ []) ends e =
 -- Such a text with a blank behind it is such. What may go on behind one is cut short.
 pub soft_cut : {X : Type 0} (Is : List ℕ → X → Type 0) → ((t blank : List ℕ) (x : X) → Is t x → IsBlank blank
     → Is (t ++ blank) x) → (front after : List ℕ) (x : X) → Is front x → is_firm after ≡ false
-    → IsCut Is (front ++ after)
+    → CutOf Is (front ++ after)
 soft_cut Is more front after x is soft =
     elim (a_test (ends_blank (skip_blank after))) [
       | inr unended ↦
@@ -106,13 +106,13 @@ soft_cut Is more front after x is soft =
 abbrev pub ListGoes : {X : Type 0} → (List ℕ → Read X) → (List ℕ → X → Type 0) → ℕ → List ℕ → List ℕ → Type 0
 ListGoes read Is close text rest = NotRead (read_members read close text)
     → (n : ℕ) × (length rest ≤ n) × NotRead (members_from read close (suc n) rest)
-    × (IsCut (FromFirst Is (close ∷ [])) rest → IsCut (Members Is (close ∷ [])) text)
+    × (CutOf (FromFirst Is (close ∷ [])) rest → CutOf (Members Is (close ∷ [])) text)
 
-module _ {X : Type 0} (read : List ℕ → Read X) (Is : List ℕ → X → Type 0) (close : ℕ) (finds : Finds read Is)
+module _ {X : Type 0} (read : List ℕ → Read X) (Is : List ℕ → X → Type 0) (close : ℕ) (finds : ReadsSuch read Is)
     (before : (blank text : List ℕ) (x : X) → IsBlank blank → Is text x → Is (blank ++ text) x)
     (behind : (text blank : List ℕ) (x : X) → Is text x → IsBlank blank → Is (text ++ blank) x) where
   -- an empty list
-  pub list_blank : (text : List ℕ) → ends_blank (skip_blank text) ≡ false → IsCut (Members Is (close ∷ [])) text
+  pub list_blank : (text : List ℕ) → ends_blank (skip_blank text) ≡ false → CutOf (Members Is (close ∷ [])) text
   list_blank text unended =
       let goes = blank_goes_on text unended in
       cut_by (Members Is (close ∷ [])) text (
@@ -122,7 +122,7 @@ module _ {X : Type 0} (read : List ℕ → Read X) (Is : List ℕ → X → Type
       )
 
   pub list_closes : (text : List ℕ) → (more : List ℕ) × Closes (close ∷ []) (skip_blank text ++ more)
-      → IsCut (Members Is (close ∷ [])) text
+      → CutOf (Members Is (close ∷ [])) text
   list_closes text goes =
       let blank = blank_left true text in
       cut_by (Members Is (close ∷ [])) text (
@@ -151,7 +151,7 @@ module _ {X : Type 0} (read : List ℕ → Read X) (Is : List ℕ → X → Type
         length (skip_blank text),
         omega arith,
         subst (λ (r : Read (List X)). NotRead r) (ap (members_or_end read close (skip_blank text)) none) not,
-        λ cut. subst (λ (t : List ℕ). IsCut (Members Is (close ∷ [])) t) (sym blank.1)
+        λ cut. subst (λ (t : List ℕ). CutOf (Members Is (close ∷ [])) t) (sym blank.1)
             (cut_in (FromFirst Is (close ∷ [])) (Members Is (close ∷ [])) blank.0 [] (skip_blank text)
             (λ t xs h. (
               xs,
@@ -162,7 +162,7 @@ module _ {X : Type 0} (read : List ℕ → Read X) (Is : List ℕ → X → Type
 
   -- a member that is cut short
   pub member_cut : (text rest : List ℕ) → ListGoes read Is close text rest → NotRead (read_members read close text)
-      → IsCut Is rest → IsCut (Members Is (close ∷ [])) text
+      → CutOf Is rest → CutOf (Members Is (close ∷ [])) text
   member_cut text rest goes not cut =
       (goes not).3 (cut_in Is (FromFirst Is (close ∷ [])) [] (close ∷ []) rest
       (λ t x h. (x ∷ [], (t, close ∷ [], refl, h, inl refl))) cut)
@@ -173,9 +173,9 @@ module _ {X : Type 0} (read : List ℕ → Read X) (Is : List ℕ → X → Type
     is_found = finds rest after x found
 
     pub member_soft : is_firm after ≡ false → NotRead (read_members read close text)
-        → IsCut (Members Is (close ∷ [])) text
+        → CutOf (Members Is (close ∷ [])) text
     member_soft soft not =
-        member_cut text rest goes not (subst (λ (t : List ℕ). IsCut Is t) (sym is_found.1)
+        member_cut text rest goes not (subst (λ (t : List ℕ). CutOf Is t) (sym is_found.1)
         (soft_cut Is behind is_found.0 after x is_found.2 soft))
 
     pub list_ends : (last : List ℕ) → after_end close after ≡ Some last → NotRead (read_members read close text) → ⊥
@@ -184,7 +184,7 @@ module _ {X : Type 0} (read : List ℕ → Read X) (Is : List ℕ → X → Type
         let from = (goes not).2 in rw (found, ended) at from
 
     pub list_may_end : (more : List ℕ) × Closes (close ∷ []) (after ++ more) → NotRead (read_members read close text)
-        → IsCut (Members Is (close ∷ [])) text
+        → CutOf (Members Is (close ∷ [])) text
     list_may_end end not =
         let is = is_found in
         (goes not).3 (cut_by (FromFirst Is (close ∷ [])) rest (
@@ -209,13 +209,13 @@ module _ {X : Type 0} (read : List ℕ → Read X) (Is : List ℕ → X → Type
       where
         by : (n : ℕ) → length rest ≤ n → NotRead (members_from read close (suc n) rest) → after ≡ 44 ∷ next
             → (m : ℕ) × (length next ≤ m) × NotRead (members_from read close (suc m) next)
-            × (IsCut (FromFirst Is (close ∷ [])) next → IsCut (Members Is (close ∷ [])) text)
+            × (CutOf (FromFirst Is (close ∷ [])) next → CutOf (Members Is (close ∷ [])) text)
         by zero le from comma = absurd (omega (arith, le, shorter, ap length comma))
         by (suc m) le from comma = (
           m,
           omega (arith, le, shorter, ap length comma),
           not_made (members_from read close (suc m) next) (λ xs. (x ∷ xs.0, xs.1)) (rw (found, none, at) at from),
-          λ cut. (goes refused).3 (subst (λ (t : List ℕ). IsCut (FromFirst Is (close ∷ [])) t)
+          λ cut. (goes refused).3 (subst (λ (t : List ℕ). CutOf (FromFirst Is (close ∷ [])) t)
               (append_assoc is_found.0 (44 ∷ []) next ∙ sym (is_found.1 ∙ ap (λ (t : List ℕ). is_found.0 ++ t) comma))
               (cut_in (FromFirst Is (close ∷ [])) (FromFirst Is (close ∷ [])) (is_found.0 ++ 44 ∷ []) [] next
               (λ t xs h. (

@@ -4,7 +4,7 @@ use Rattle.std.proofs.Common.{inr, sym, ◌∙◌, subst, append-nil}
 use Rattle.cbor_diag.specs.declared.parse.notation.fault.Member.{Member}
 use Rattle.cbor_grammar.specs.Reading.{Read}
 use Rattle.cbor_grammar.specs.Notation.{Closes, Members, Reads}
-use Rattle.cbor_grammar.specs.DeadEnd.{IsCut}
+use Rattle.cbor_grammar.specs.DeadEnd.{CutOf}
 use Rattle.cbor_notation.specs.mirror.NotationReading.{skip_blank, after_byte, after_end, read_item, read_members}
 use Rattle.cbor_diag.specs.mirror.DeadEnds.{NotRead, ends_blank, is_firm, Value, read_member, MemberIs}
 use Rattle.cbor_diag.proofs.notation.CutItems.{member_finds, member_before, member_behind}
@@ -18,13 +18,13 @@ module _ (m : Member) (left close : ℕ) where
   abbrev IsOne : List ℕ → Value m → Type 0
   IsOne = MemberIs m (Reads left)
 
-  abbrev pub Goes : List ℕ → List ℕ → Type 0
-  Goes text rest = ListGoes (read_member m (read_item left)) (MemberIs m (Reads left)) close text rest
+  abbrev pub MembersGo : List ℕ → List ℕ → Type 0
+  MembersGo text rest = ListGoes (read_member m (read_item left)) (MemberIs m (Reads left)) close text rest
 
   -- what follows the opening
   pub start_cut : (text first : List ℕ) → first ≡ skip_blank text → (ends_blank first ≡ false)
       ⊎ ((rest : List ℕ) × (after_end close first ≡ Some rest)) ⊎ ((more : List ℕ) × Closes (close ∷ []) (first ++ more))
-      → NotRead (read_members reader close text) → IsCut (Members IsOne (close ∷ [])) text
+      → NotRead (read_members reader close text) → CutOf (Members IsOne (close ∷ [])) text
   start_cut text first is (inl unended) refused =
       list_blank reader IsOne close (member_finds m left) (member_before m left) (member_behind m left) text
       (subst (λ (t : List ℕ). ends_blank t ≡ false) is unended)
@@ -36,23 +36,25 @@ module _ (m : Member) (left close : ℕ) where
       (subst (λ (t : List ℕ). (more : List ℕ) × Closes (close ∷ []) (t ++ more)) is goes)
 
   pub start_goes : (text first : List ℕ) → first ≡ skip_blank text
-      → ((more : List ℕ) → after_end close (first ++ more) ≡ None) → Goes text first
+      → ((more : List ℕ) → after_end close (first ++ more) ≡ None) → MembersGo text first
   start_goes text first is unended =
-      subst (λ (t : List ℕ). Goes text t) (sym is)
+      subst (λ (t : List ℕ). MembersGo text t) (sym is)
       (list_starts reader IsOne close (member_finds m left) (member_before m left) (member_behind m left) text
       (subst (λ (t : List ℕ). after_end close t ≡ None) (append-nil first ∙ is) (unended [])))
 
   -- a member that is not read, and what follows one that is
-  pub one_cut : (text rest : List ℕ) → Goes text rest → IsCut IsOne rest → NotRead (read_members reader close text)
-      → IsCut (Members IsOne (close ∷ [])) text
+  pub one_cut : (text rest : List ℕ) → MembersGo text rest → CutOf IsOne rest
+      → NotRead (read_members reader close text)
+      → CutOf (Members IsOne (close ∷ [])) text
   one_cut text rest goes cut refused =
       member_cut reader IsOne close (member_finds m left) (member_before m left) (member_behind m left) text rest goes
       refused cut
 
-  pub behind_cut : (text rest : List ℕ) (x : Value m) (after : List ℕ) → Goes text rest → reader rest ≡ Ok (x, after)
+  pub behind_cut : (text rest : List ℕ) (x : Value m) (after : List ℕ) → MembersGo text rest
+      → reader rest ≡ Ok (x, after)
       → (is_firm after ≡ false) ⊎ ((last : List ℕ) × (after_end close after ≡ Some last))
       ⊎ ((more : List ℕ) × Closes (close ∷ []) (after ++ more)) → NotRead (read_members reader close text)
-      → IsCut (Members IsOne (close ∷ [])) text
+      → CutOf (Members IsOne (close ∷ [])) text
   behind_cut text rest x after goes found (inl soft) refused =
       member_soft reader IsOne close (member_finds m left) (member_before m left) (member_behind m left) text rest x
       after goes found soft refused
@@ -63,9 +65,9 @@ module _ (m : Member) (left close : ℕ) where
       list_may_end reader IsOne close (member_finds m left) (member_before m left) (member_behind m left) text rest x
       after goes found end refused
 
-  pub next_goes : (text rest : List ℕ) (x : Value m) (after next : List ℕ) → Goes text rest
+  pub next_goes : (text rest : List ℕ) (x : Value m) (after next : List ℕ) → MembersGo text rest
       → reader rest ≡ Ok (x, after) → ((more : List ℕ) → after_end close (after ++ more) ≡ None)
-      → after_byte 44 after ≡ Some next → length after ≤ length rest → Goes text next
+      → after_byte 44 after ≡ Some next → length after ≤ length rest → MembersGo text next
   next_goes text rest x after next goes found unended at shorter =
       list_next reader IsOne close (member_finds m left) (member_before m left) (member_behind m left) text rest x after
       goes found next (subst (λ (t : List ℕ). after_end close t ≡ None) (append-nil after) (unended [])) at shorter

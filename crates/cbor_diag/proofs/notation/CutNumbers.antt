@@ -22,7 +22,7 @@ use Rattle.cbor_grammar.specs.declared.width.FloatWidth.TheVariants as float_wid
 use Rattle.cbor_grammar.specs.Item.{Item, atom, simple, float}
 use Rattle.cbor_grammar.specs.Reading.{Read}
 use Rattle.cbor_grammar.specs.Notation.{NumberOf, NegativeOf, NamedSimple, SimpleOf, Core, Reads}
-use Rattle.cbor_grammar.specs.DeadEnd.{GoesOn, IsCut, closes, plain_digits}
+use Rattle.cbor_grammar.specs.DeadEnd.{GoesOn, CutOf, closes, plain_digits}
 use Rattle.cbor_notation.specs.mirror.NotationReading.{read_number, after_word, read_word, read_simple, read_float}
 use Rattle.cbor_diag.specs.mirror.DeadEnds.{NotRead}
 use Rattle.cbor_notation.specs.mirror.OpenTokens.{is_end, widens, is_prefix, leaves_zero, may_be_negative, may_close}
@@ -125,7 +125,7 @@ widened text x e was none =
 
 -- an unsigned number that more text may widen is cut short
 pub unsigned_cut : (text : List ℕ) (x : (ℕ × Option ℕ) × List ℕ) → read_number text ≡ Ok x
-    → widens x.0.0 x.0.1 x.1 ≡ true → IsCut IsUnsigned text
+    → widens x.0.0 x.0.1 x.1 ≡ true → CutOf IsUnsigned text
 unsigned_cut text x e wider =
     let is = widens_is x.0.0 x.0.1 x.1 wider in
     cut_by IsUnsigned text (51 ∷ [], (x.0.0, SixtyFour), (Some 3, widened text x e is.0 is.1, (refl, is.2)))
@@ -133,7 +133,7 @@ unsigned_cut text x e wider =
 one_digit : (d value : ℕ) → digit_value d < 10 → digit_value d ≡ value → IsNumber (d ∷ []) value None
 one_digit d value is same = decimal_number (d ∷ []) value ((omega arith, (is, tt)), omega (arith, same))
 
-pub unsigned_begins : IsCut IsUnsigned []
+pub unsigned_begins : CutOf IsUnsigned []
 unsigned_begins =
     cut_by IsUnsigned [] (48 ∷ [], (0, Zero), (None, one_digit 48 0 (omega arith) refl, (refl, omega arith)))
 
@@ -147,15 +147,15 @@ no_length (c ∷ text) b is none =
     let some : (length (c ∷ text) == 0) ≡ false = ne_eqb (length (c ∷ text)) 0 (λ e. absurd (omega (arith, e))) in
     absurd (false≢true (sym none ∙ ap not (is ∙ some)))
 
-pub unsigned_none : (text : List ℕ) (b : Bool) → b ≡ (length text == 0) → not b ≡ false → IsCut IsUnsigned text
-unsigned_none text b is none = subst (IsCut IsUnsigned) (sym (no_length text b is none)) unsigned_begins
+pub unsigned_none : (text : List ℕ) (b : Bool) → b ≡ (length text == 0) → not b ≡ false → CutOf IsUnsigned text
+unsigned_none text b is none = subst (CutOf IsUnsigned) (sym (no_length text b is none)) unsigned_begins
 
 -- ---- negative integers
 
 abbrev pub IsNegative : List ℕ → ℕ × IntegerWidth → Type 0
 IsNegative t x = NegativeOf t x.0 x.1
 
-pub negative_begins : IsCut IsNegative (45 ∷ [])
+pub negative_begins : CutOf IsNegative (45 ∷ [])
 negative_begins =
     cut_by IsNegative (45 ∷ []) (
       49 ∷ [],
@@ -163,11 +163,11 @@ negative_begins =
       (49 ∷ [], None, refl, one_digit 49 1 (omega arith) refl, (refl, omega arith)),
     )
 
-pub negative_none : (text : List ℕ) (b : Bool) → b ≡ (length text == 0) → not b ≡ false → IsCut IsNegative (45 ∷ text)
+pub negative_none : (text : List ℕ) (b : Bool) → b ≡ (length text == 0) → not b ≡ false → CutOf IsNegative (45 ∷ text)
 negative_none text b is none =
-    subst (λ (t : List ℕ). IsCut IsNegative (45 ∷ t)) (sym (no_length text b is none)) negative_begins
+    subst (λ (t : List ℕ). CutOf IsNegative (45 ∷ t)) (sym (no_length text b is none)) negative_begins
 
-minus_one : (text : List ℕ) → IsNumber (text ++ 49 ∷ []) 1 None → IsCut IsNegative (45 ∷ text)
+minus_one : (text : List ℕ) → IsNumber (text ++ 49 ∷ []) 1 None → CutOf IsNegative (45 ∷ text)
 minus_one text is =
     cut_by IsNegative (45 ∷ text) (49 ∷ [], (0, Zero), (text ++ 49 ∷ [], None, refl, is, (refl, omega arith)))
 
@@ -181,7 +181,7 @@ prefixed base text is some = record {
   after_is = refl;
 }
 
-prefix_cut : (text : List ℕ) → is_prefix text ≡ true → IsCut IsNegative (45 ∷ text)
+prefix_cut : (text : List ℕ) → is_prefix text ≡ true → CutOf IsNegative (45 ∷ text)
 prefix_cut [] e = absurd (false≢true e)
 prefix_cut (a ∷ []) e = absurd (false≢true e)
 prefix_cut (a ∷ b ∷ c ∷ text) e = absurd (false≢true e)
@@ -200,7 +200,7 @@ prefix_cut (a ∷ b ∷ []) e =
     both a b c d e f = rw (e, f) refl
 
 negative_by : (text : List ℕ) (n : ℕ) (indicator : Option ℕ) (rest : List ℕ) → read_number text ≡ Ok ((n, indicator), rest)
-    → may_be_negative text n indicator rest ≡ true → IsCut IsNegative (45 ∷ text)
+    → may_be_negative text n indicator rest ≡ true → CutOf IsNegative (45 ∷ text)
 negative_by text zero None rest e may =
     elim (or_cases (is_end rest) (is_prefix text) may) [
       | inl is ↦
@@ -226,7 +226,7 @@ negative_by text (suc n) indicator rest e may =
 
 -- so is a negative one
 pub negative_cut : (text : List ℕ) (x : (ℕ × Option ℕ) × List ℕ) → read_number text ≡ Ok x
-    → may_be_negative text x.0.0 x.0.1 x.1 ≡ true → IsCut IsNegative (45 ∷ text)
+    → may_be_negative text x.0.0 x.0.1 x.1 ≡ true → CutOf IsNegative (45 ∷ text)
 negative_cut text x e may = negative_by text x.0.0 x.0.1 x.1 e may
 
 -- ---- simple values
@@ -293,12 +293,12 @@ is_small_cut text x e small not =
 abbrev pub IsWord : List ℕ → Item → Type 0
 IsWord t i = (left : ℕ) → Core (Reads left) t i
 
-simple_goes : (text : List ℕ) → GoesOn SimpleOf text → IsCut IsWord text
+simple_goes : (text : List ℕ) → GoesOn SimpleOf text → CutOf IsWord text
 simple_goes text goes = cut_by IsWord text (goes.0, atom (simple goes.1), λ left. goes.2)
 
 pub simple_word : (text rest : List ℕ) → after_word (codes "simple(") text ≡ Some rest
     → (NotRead (read_simple rest) → GoesOn SimpleOf (codes "simple(" ++ rest)) → NotRead (read_word text)
-    → IsCut IsWord text
+    → CutOf IsWord text
 simple_word text rest at goes not =
     let is = after_word_is (codes "simple(") text rest at in
     simple_goes text (subst (GoesOn SimpleOf) (sym is)
@@ -322,7 +322,7 @@ zeros : AreDigits 16 (codes "0000") 0
 zeros = ((omega arith, (omega arith, (omega arith, (omega arith, (omega arith, tt))))), refl)
 
 pub float_word : (text rest : List ℕ) → after_word (codes "float'") text ≡ Some rest
-    → (NotRead (read_float rest) → closes false false rest ≡ false) → NotRead (read_word text) → IsCut IsWord text
+    → (NotRead (read_float rest) → closes false false rest ≡ false) → NotRead (read_word text) → CutOf IsWord text
 float_word text rest at none not =
     let is = after_word_is (codes "float'") text rest at in (
       [],
@@ -334,14 +334,14 @@ float_word text rest at none not =
     )
 
 named_near : (word text : List ℕ) (n : ℕ) → NamedSimple word n → ((rest : List ℕ) → NotRead (read_word (word ++ rest)) → ⊥)
-    → NotRead (read_word text) → Near word text → IsCut IsWord text
+    → NotRead (read_word text) → Near word text → CutOf IsWord text
 named_near word text n named read not (inl at) =
     absurd (read at.0 (subst (λ (t : List ℕ). NotRead (read_word t)) (after_word_is word text at.0 at.1) not))
 named_near word text n named read not (inr near) =
     simple_goes text (near.0, n, inl (subst (λ (t : List ℕ). NamedSimple t n) (sym near.1) named))
 
 simple_near : (text : List ℕ) → after_word (codes "simple(") text ≡ None → Near (codes "simple(") text
-    → IsCut IsWord text
+    → CutOf IsWord text
 simple_near text none (inl at) = absurd (none_some at.0 (sym none ∙ at.1))
 simple_near text none (inr near) =
     simple_goes text (
@@ -351,7 +351,7 @@ simple_near text none (inr near) =
           (sym (sym (append_assoc text near.0 (codes "0)")) ∙ ap (λ (t : List ℕ). t ++ codes "0)") near.1)) simple_zero,
     )
 
-float_near : (text : List ℕ) → after_word (codes "float'") text ≡ None → Near (codes "float'") text → IsCut IsWord text
+float_near : (text : List ℕ) → after_word (codes "float'") text ≡ None → Near (codes "float'") text → CutOf IsWord text
 float_near text none (inl at) = absurd (none_some at.0 (sym none ∙ at.1))
 float_near text none (inr near) =
     cut_by IsWord text (
@@ -370,7 +370,7 @@ NearAWord text = Near (codes "false") text ⊎ Near (codes "true") text ⊎ Near
     ⊎ Near (codes "undefined") text ⊎ Near (codes "simple(") text ⊎ Near (codes "float'") text
 
 pub near_word : (text : List ℕ) → after_word (codes "simple(") text ≡ None → after_word (codes "float'") text ≡ None
-    → NotRead (read_word text) → NearAWord text → IsCut IsWord text
+    → NotRead (read_word text) → NearAWord text → CutOf IsWord text
 near_word text no_simple no_float not (inl near) =
     named_near (codes "false") text 20 (inl (refl, refl)) (λ rest n. n) not near
 near_word text no_simple no_float not (inr (inl near)) =

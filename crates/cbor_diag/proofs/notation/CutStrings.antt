@@ -16,13 +16,15 @@ use Rattle.cbor_notation.specs.declared.start.Start.TheVariants as start
 use Rattle.cbor_grammar.specs.declared.width.IntegerWidth.TheVariants.{Unknown}
 use Rattle.cbor_grammar.specs.Item.{Chunk, Item, string, chunked_string, atom}
 use Rattle.cbor_grammar.specs.Item.{items_of}
-use Rattle.cbor_grammar.specs.StringKind.{StringKind, bytes_kind, text_kind, IsContent, no_chunks}
+use Rattle.cbor_grammar.specs.declared.strings.StringKind.{StringKind}
+use Rattle.cbor_grammar.specs.declared.strings.StringKind.TheVariants.{Bytes, Text}
+use Rattle.cbor_grammar.specs.StringKind.{IsContent, no_chunks}
 use Rattle.cbor_grammar.specs.Reading.{Read, ◌>>=◌}
 use Rattle.cbor_grammar.specs.Notation.{IsBlank, Members, Notation, as_text, as_items, PieceOf, Joined, one, more}
 use Rattle.cbor_grammar.specs.Notation.{StringOf}
 use Rattle.cbor_grammar.specs.Notation.{ShowsKind, Core, Reads}
 use Rattle.cbor_grammar.specs.Written.{encoded_items}
-use Rattle.cbor_grammar.specs.DeadEnd.{GoesOn, IsCut, IsUnfinished, closes_text, is_piece_start, inside}
+use Rattle.cbor_grammar.specs.DeadEnd.{GoesOn, CutOf, IsUnfinished, closes_text, is_piece_start, inside}
 use Rattle.cbor_grammar.specs.DeadEnd as dead_end
 use Rattle.cbor_notation.specs.mirror.NotationReading.{or_refused, skip_blank, after_byte, after_word, read_item}
 use Rattle.cbor_notation.specs.mirror.NotationReading.{read_members}
@@ -50,22 +52,22 @@ use Rattle.cbor_notation.proofs.notation.sound.Strings.{list_of-items_of, member
 -- ---- empty strings
 
 abbrev pub quotes : StringKind → List ℕ
-quotes bytes_kind = codes "''"
-quotes text_kind = codes "\"\""
+quotes Bytes = codes "''"
+quotes Text = codes "\"\""
 
 abbrev pub empty_chunk : Chunk
 empty_chunk = record { bytes = []; width = Unknown }
 
 empty_string : (kind : StringKind) (R : List ℕ → Item → Type 0) → StringOf kind R (quotes kind) empty_chunk
-empty_string bytes_kind R = (refl, tt, one (as_text refl), tt)
-empty_string text_kind R = (refl, (codes "\"", refl), one (inl refl), IsUtf8-nil)
+empty_string Bytes R = (refl, tt, one (as_text refl), tt)
+empty_string Text R = (refl, (codes "\"", refl), one (inl refl), IsUtf8-nil)
 
 module _ (left : ℕ) where
-  pub string_empty : (kind : StringKind) → IsCut (StringOf kind (Reads left)) []
+  pub string_empty : (kind : StringKind) → CutOf (StringOf kind (Reads left)) []
   string_empty kind = cut_by (StringOf kind (Reads left)) [] (quotes kind, empty_chunk, empty_string kind (Reads left))
 
   pub chunk_blank_cut : (kind : StringKind) (text : List ℕ) → ends_blank (skip_blank text) ≡ false
-      → IsCut (ChunkIs kind (Reads left)) text
+      → CutOf (ChunkIs kind (Reads left)) text
   chunk_blank_cut kind text unended =
       let goes = blank_goes_on text unended in
       cut_by (ChunkIs kind (Reads left)) text (
@@ -84,30 +86,30 @@ module _ (left : ℕ) where
       )
 
   pub chunk_core_cut : (kind : StringKind) (text core : List ℕ) → core ≡ skip_blank text
-      → IsCut (StringOf kind (Reads left)) core → IsCut (ChunkIs kind (Reads left)) text
+      → CutOf (StringOf kind (Reads left)) core → CutOf (ChunkIs kind (Reads left)) text
   chunk_core_cut kind text core is cut =
       let blank = blank_left true text in
-      subst (λ (t : List ℕ). IsCut (ChunkIs kind (Reads left)) t)
+      subst (λ (t : List ℕ). CutOf (ChunkIs kind (Reads left)) t)
       (ap (λ (t : List ℕ). blank.0 ++ t) is ∙ sym blank.1)
       (cut_in (StringOf kind (Reads left)) (ChunkIs kind (Reads left)) blank.0 [] core
       (λ t c h. (c, (blank.0, t, [], refl, blank.2, h, nothing))) cut)
 
   -- ---- indefinite strings
 
-  pub chunks_empty : IsCut (Core (Reads left)) (40 ∷ [])
+  pub chunks_empty : CutOf (Core (Reads left)) (40 ∷ [])
   chunks_empty = cut_by (Core (Reads left)) (40 ∷ []) (
     codes "_)",
-    atom (chunked_string bytes_kind []),
+    atom (chunked_string Bytes []),
     inr (refl, (codes ")", refl, ([], codes ")", refl, nothing, inl refl))),
   )
 
   pub chunks_blank_cut : (opened : List ℕ) → ends_blank (skip_blank opened) ≡ false
-      → IsCut (Core (Reads left)) (40 ∷ 95 ∷ opened)
+      → CutOf (Core (Reads left)) (40 ∷ 95 ∷ opened)
   chunks_blank_cut opened unended =
       let goes = blank_goes_on opened unended in
       cut_by (Core (Reads left)) (40 ∷ 95 ∷ opened) (
         goes.0 ++ codes ")",
-        atom (chunked_string bytes_kind []),
+        atom (chunked_string Bytes []),
         inr (
           refl,
           (
@@ -141,15 +143,15 @@ module _ (left : ℕ) where
       none_opens opening text (dead_end.blank bytes space further b t) is e = cc
       none_opens opening text (dead_end.piece bytes space byte rest b p t) is e = cc
 
-  shown : (kind : StringKind) (opened t : List ℕ) (cs : List Chunk) → ((kind ≡ bytes_kind) ⊎ ((w : List ℕ) × (t ≡ 34 ∷ w)))
+  shown : (kind : StringKind) (opened t : List ℕ) (cs : List Chunk) → ((kind ≡ Bytes) ⊎ ((w : List ℕ) × (t ≡ 34 ∷ w)))
       → Members (ChunkIs kind (Reads left)) (41 ∷ []) t cs → ShowsKind kind cs
   shown kind opened t (c ∷ cs) which h = tt
   shown kind opened t [] (inl is) h = is
   shown kind opened t [] (inr w) h = absurd (quote_blank h.3 h.1 w.0 h.4 (sym h.2 ∙ w.1))
 
   pub chunks_list_cut : (opened first : List ℕ) (kind : StringKind) → first ≡ skip_blank opened
-      → kind ≡ kind_from (first_start first) → IsCut (Members (ChunkIs kind (Reads left)) (41 ∷ [])) first
-      → IsCut (Core (Reads left)) (40 ∷ 95 ∷ opened)
+      → kind ≡ kind_from (first_start first) → CutOf (Members (ChunkIs kind (Reads left)) (41 ∷ [])) first
+      → CutOf (Core (Reads left)) (40 ∷ 95 ∷ opened)
   chunks_list_cut opened first kind is kind_is cut =
       let blank = blank_left true opened in
       let goes = cut.4 in
@@ -181,7 +183,7 @@ module _ (left : ℕ) where
       quoted_start (b ∷ z) e = (z, ap (λ (c : ℕ). c ∷ z) (subst (λ (s : Start). StartIs s b) e (start_is b)))
 
       kinds : (s : Start) → first_start first ≡ s
-          → ((kind ≡ bytes_kind) ⊎ ((w : List ℕ) × ((cut.0 ++ (cut.1 ++ inside cut.1)) ++ cut.4.0 ≡ 34 ∷ w)))
+          → ((kind ≡ Bytes) ⊎ ((w : List ℕ) × ((cut.0 ++ (cut.1 ++ inside cut.1)) ++ cut.4.0 ≡ 34 ∷ w)))
       kinds start.Quote e =
           let q = quoted_start first e in
           let begun = begins_so cut.0 cut.1 cut.2 q.0 cut.5 (sym cut.3 ∙ q.1) in
@@ -198,29 +200,29 @@ module _ (left : ℕ) where
       kinds start.Other e = inl (kind_is ∙ ap kind_from e)
 
   pub chunks_opened : (text opened : List ℕ) → after_byte 95 text ≡ Some opened → ends_blank (skip_blank opened) ≡ false
-      → IsCut (Core (Reads left)) (40 ∷ text)
+      → CutOf (Core (Reads left)) (40 ∷ text)
   chunks_opened text opened at unended =
-      subst (λ (t : List ℕ). IsCut (Core (Reads left)) (40 ∷ t)) (sym (after_byte_is 95 text opened at))
+      subst (λ (t : List ℕ). CutOf (Core (Reads left)) (40 ∷ t)) (sym (after_byte_is 95 text opened at))
       (chunks_blank_cut opened unended)
 
   pub chunks_cut : (text opened first : List ℕ) (kind : StringKind) → after_byte 95 text ≡ Some opened
       → first ≡ skip_blank opened → kind ≡ kind_from (first_start first)
       → (NotRead (read_members (read_chunk (read_item left) kind) 41 first)
-      → IsCut (Members (ChunkIs kind (Reads left)) (41 ∷ [])) first)
-      → NotRead (read_chunks (read_item left) text) → IsCut (Core (Reads left)) (40 ∷ text)
+      → CutOf (Members (ChunkIs kind (Reads left)) (41 ∷ [])) first)
+      → NotRead (read_chunks (read_item left) text) → CutOf (Core (Reads left)) (40 ∷ text)
   chunks_cut text opened first kind at is kind_is cut refused =
       let here : NotRead (chunks_of (read_item left) (kind_from (first_start (skip_blank opened))) (skip_blank opened)) =
       rw at at refused in
       let there : NotRead (chunks_of (read_item left) kind first) =
       subst (λ (k : StringKind). NotRead (chunks_of (read_item left) k first)) (sym kind_is)
       (subst (λ (f : List ℕ). NotRead (chunks_of (read_item left) (kind_from (first_start f)) f)) (sym is) here) in
-      subst (λ (t : List ℕ). IsCut (Core (Reads left)) (40 ∷ t)) (sym (after_byte_is 95 text opened at))
+      subst (λ (t : List ℕ). CutOf (Core (Reads left)) (40 ∷ t)) (sym (after_byte_is 95 text opened at))
       (chunks_list_cut opened first kind is kind_is (cut (not_made (read_members (read_chunk (read_item left) kind) 41
       first) (λ cs. (atom (chunked_string kind cs.0), cs.1)) there)))
 
   -- ---- items in a string
 
-  pub embedded_empty : IsCut (Notation (Reads left)) (60 ∷ [])
+  pub embedded_empty : CutOf (Notation (Reads left)) (60 ∷ [])
   embedded_empty = cut_by (Notation (Reads left)) (60 ∷ []) (
     codes "<>>",
     encoded_items (items_of []),
@@ -233,16 +235,16 @@ module _ (left : ℕ) where
       (t ++ 62 ∷ [], refl, rw (list_of-items_of is) (members_more (Reads left) (62 ∷ []) (62 ∷ []) t is h)) refl
 
   pub embedded_list_cut : (text first : List ℕ) → after_byte 60 text ≡ Some first
-      → IsCut (Members (Reads left) (62 ∷ [])) first → IsCut (Notation (Reads left)) (60 ∷ text)
+      → CutOf (Members (Reads left) (62 ∷ [])) first → CutOf (Notation (Reads left)) (60 ∷ text)
   embedded_list_cut text first at cut =
-      subst (λ (t : List ℕ). IsCut (Notation (Reads left)) (60 ∷ t)) (sym (after_byte_is 60 text first at))
+      subst (λ (t : List ℕ). CutOf (Notation (Reads left)) (60 ∷ t)) (sym (after_byte_is 60 text first at))
       (cut_in (Members (Reads left) (62 ∷ [])) (Notation (Reads left)) (60 ∷ 60 ∷ []) (62 ∷ []) first
       (λ t is h. (encoded_items (items_of is), embedded_goes t is h)) cut)
 
   pub embedded_ends : (text first : List ℕ) (is : List Item) (rest : List ℕ) → after_byte 60 text ≡ Some first
       → read_members (read_item left) 62 first ≡ Ok (is, rest)
       → (rest ≡ []) ⊎ ((last : List ℕ) × (after_byte 62 rest ≡ Some last))
-      → NotRead (read_embedded (read_item left) text) → IsCut (Notation (Reads left)) (60 ∷ text)
+      → NotRead (read_embedded (read_item left) text) → CutOf (Notation (Reads left)) (60 ∷ text)
   embedded_ends text first is rest at found (inl none) refused =
       let members = subst (λ (r : Read (List Item)). Sound left (Members (Reads left) (62 ∷ [])) first r) found
       (members_sound left (Reads left) 62 (read_item left) (item_sound left) (reads_blank left) first) in
@@ -259,9 +261,9 @@ module _ (left : ℕ) where
 
   -- ---- pieces
 
-  string_of_bytes : (text : List ℕ) → IsCut (Joined (Notation (Reads left))) text
-      → IsCut (StringOf bytes_kind (Reads left)) text
-  string_of_bytes text cut = cut_as (Joined (Notation (Reads left))) (StringOf bytes_kind (Reads left)) text
+  string_of_bytes : (text : List ℕ) → CutOf (Joined (Notation (Reads left))) text
+      → CutOf (StringOf Bytes (Reads left)) text
+  string_of_bytes text cut = cut_as (Joined (Notation (Reads left))) (StringOf Bytes (Reads left)) text
       (λ t bytes h. (record { bytes = bytes; width = Unknown }, (refl, tt, h, tt))) cut
 
   -- a text that a piece of the same string may follow
@@ -270,9 +272,8 @@ module _ (left : ℕ) where
       × (text ≡ 34 ∷ (in_quotes 34 bytes ++ 34 ∷ (space ++ rest)))
 
   abbrev StringGoes : StringKind → List ℕ → List ℕ → Type 0
-  StringGoes bytes_kind text rest = IsCut (Joined (Notation (Reads left))) rest
-      → IsCut (StringOf bytes_kind (Reads left)) text
-  StringGoes text_kind text rest = (rest ≡ text) ⊎ TextGoes text rest ⊎ IsCut (StringOf text_kind (Reads left)) text
+  StringGoes Bytes text rest = CutOf (Joined (Notation (Reads left))) rest → CutOf (StringOf Bytes (Reads left)) text
+  StringGoes Text text rest = (rest ≡ text) ⊎ TextGoes text rest ⊎ CutOf (StringOf Text (Reads left)) text
 
   -- the reader finds no pieces from `rest` on
   abbrev pub PiecesGo : StringKind → List ℕ → List ℕ → Type 0
@@ -286,8 +287,8 @@ module _ (left : ℕ) where
       (length text, omega arith, here, by kind)
     where
       by : (k : StringKind) → StringGoes k text text
-      by bytes_kind = λ cut. string_of_bytes text cut
-      by text_kind = inl refl
+      by Bytes = λ cut. string_of_bytes text cut
+      by Text = inl refl
 
   pub pieces_ended : (kind : StringKind) (text rest : List ℕ) → PiecesGo kind text rest
       → begins_piece kind (first_start rest) ≡ false → begins_string kind (first_start text) ≡ true
@@ -298,8 +299,8 @@ module _ (left : ℕ) where
 
   pub no_piece : (kind : StringKind) (rest : List ℕ) → ends_blank rest ≡ false → begins_piece kind (first_start rest) ≡ false
   unfolding start_of
-  no_piece bytes_kind [] e = refl
-  no_piece text_kind [] e = refl
+  no_piece Bytes [] e = refl
+  no_piece Text [] e = refl
   no_piece kind (b ∷ rest) e =
       elim (a_test (b == 47)) [
         | inl this ↦ slash kind b this
@@ -307,8 +308,8 @@ module _ (left : ℕ) where
       ]
     where
       at : (k : StringKind) → begins_piece k (start_of 47) ≡ false
-      at bytes_kind = refl
-      at text_kind = refl
+      at Bytes = refl
+      at Text = refl
 
       slash : (k : StringKind) (c : ℕ) → (c == 47) ≡ true → begins_piece k (start_of c) ≡ false
       slash k c is = subst (λ (d : ℕ). begins_piece k (start_of d) ≡ false) (sym (eqb-true c 47 is)) (at k)
@@ -325,7 +326,7 @@ module _ (left : ℕ) where
       (start_is b) goes) in
       (found.0, found.1, found.2.0)
 
-  text_found : (text : List ℕ) (bytes after : List ℕ) → begins_string text_kind (first_start text) ≡ true
+  text_found : (text : List ℕ) (bytes after : List ℕ) → begins_string Text (first_start text) ≡ true
       → read_piece (read_item left) text ≡ Ok (bytes, after)
       → text ≡ 34 ∷ (in_quotes 34 bytes ++ 34 ∷ after)
   unfolding read_piece start_of
@@ -338,14 +339,14 @@ module _ (left : ℕ) where
       ∙ ap (λ (t : List ℕ). 34 ∷ t)
       (in_quotes-unquoted 34 text (bytes, after) (of_some (unquoted 34 false text) (bytes, after) here))
     where
-      quote_of : (s : Start) → StartIs s b → begins_string text_kind s ≡ true → b ≡ 34
+      quote_of : (s : Start) → StartIs s b → begins_string Text s ≡ true → b ≡ 34
       quote_of start.Quote is h = is
       quote_of _ is h = absurd cc
 
-  starts_piece : (b : ℕ) → begins_piece text_kind (start_of b) ≡ true → is_piece_start b ≡ true
+  starts_piece : (b : ℕ) → begins_piece Text (start_of b) ≡ true → is_piece_start b ≡ true
   starts_piece b goes = by (start_of b) (start_is b) goes
     where
-      by : (s : Start) → StartIs s b → begins_piece text_kind s ≡ true → is_piece_start b ≡ true
+      by : (s : Start) → StartIs s b → begins_piece Text s ≡ true → is_piece_start b ≡ true
       by start.Quote is h = rw is refl
       by start.Apostrophe is h = rw is refl
       by start.Angle is h = rw is refl
@@ -353,14 +354,11 @@ module _ (left : ℕ) where
       by start.LetterH is h = rw is refl
       by _ is h = absurd cc
 
-  text_empty : IsCut (StringOf text_kind (Reads left)) []
-  text_empty = string_empty text_kind
-
-  two_string : StringOf text_kind (Reads left) (34 ∷ 50 ∷ 34 ∷ []) (record { bytes = 50 ∷ []; width = Unknown })
+  two_string : StringOf Text (Reads left) (34 ∷ 50 ∷ 34 ∷ []) (record { bytes = 50 ∷ []; width = Unknown })
   unfolding lib.Utf8.encode
   two_string = (refl, (50 ∷ 34 ∷ [], refl), one (inl refl), IsUtf8-encode 50 refl)
 
-  text_opened : (back : List ℕ) → IsUnfinished (34 ∷ []) back → IsCut (StringOf text_kind (Reads left)) (34 ∷ back)
+  text_opened : (back : List ℕ) → IsUnfinished (34 ∷ []) back → CutOf (StringOf Text (Reads left)) (34 ∷ back)
   text_opened back unended = (
     [],
     34 ∷ [],
@@ -370,17 +368,17 @@ module _ (left : ℕ) where
     unended,
   )
 
-  second_piece : (text rest : List ℕ) → TextGoes text rest → begins_piece text_kind (first_start rest) ≡ true
-      → IsCut (StringOf text_kind (Reads left)) text
+  second_piece : (text rest : List ℕ) → TextGoes text rest → begins_piece Text (first_start rest) ≡ true
+      → CutOf (StringOf Text (Reads left)) text
   second_piece text [] goes begins = absurd cc
   second_piece text (b ∷ rest) goes begins =
-      subst (λ (t : List ℕ). IsCut (StringOf text_kind (Reads left)) t) (sym goes.3)
+      subst (λ (t : List ℕ). CutOf (StringOf Text (Reads left)) t) (sym goes.3)
       (text_opened _ (dead_end.piece goes.0 goes.1 b rest goes.2 (starts_piece b begins) refl))
 
   blank_behind : (text rest : List ℕ) → TextGoes text rest → (goes : (m : List ℕ) × IsBlank (rest ++ m))
-      → IsCut (StringOf text_kind (Reads left)) text
+      → CutOf (StringOf Text (Reads left)) text
   blank_behind text rest goes m =
-      subst (λ (t : List ℕ). IsCut (StringOf text_kind (Reads left)) t) (sym goes.3)
+      subst (λ (t : List ℕ). CutOf (StringOf Text (Reads left)) t) (sym goes.3)
       (text_opened _ (dead_end.blank goes.0 (goes.1 ++ rest) m.0
       (subst (λ (t : List ℕ). IsBlank t) (sym (append_assoc goes.1 rest m.0)) (Blank-append goes.2 m.1)) refl))
 
@@ -394,10 +392,10 @@ module _ (left : ℕ) where
     where
       next_goes : (k : StringKind) → begins_piece k (first_start rest) ≡ true
           → begins_string k (first_start text) ≡ true → StringGoes k text rest → StringGoes k text next
-      next_goes bytes_kind begun begins goes =
-          let piece = piece_found bytes_kind rest bytes after begun found in
+      next_goes Bytes begun begins goes =
+          let piece = piece_found Bytes rest bytes after begun found in
           let blank = blank_left true after in
-          λ cut. goes (subst (λ (t : List ℕ). IsCut (Joined (Notation (Reads left))) t)
+          λ cut. goes (subst (λ (t : List ℕ). CutOf (Joined (Notation (Reads left))) t)
           (ap (λ (t : List ℕ). (piece.0 ++ blank.0) ++ t) is ∙ append_assoc piece.0 blank.0 (skip_blank after)
           ∙ ap (λ (t : List ℕ). piece.0 ++ t) (sym blank.1) ∙ sym piece.1)
           (cut_in (Joined (Notation (Reads left))) (Joined (Notation (Reads left))) (piece.0 ++ blank.0) [] next
@@ -407,9 +405,9 @@ module _ (left : ℕ) where
                 (ap (λ (u : List ℕ). (piece.0 ++ blank.0) ++ u) (append-nil t) ∙ append_assoc piece.0 blank.0 t) refl piece.2
                 blank.2 h,
           )) cut))
-      next_goes text_kind begun begins (inl same) =
-          let here : begins_string text_kind (first_start rest) ≡ true =
-          subst (λ (t : List ℕ). begins_string text_kind (first_start t) ≡ true) (sym same) begins in
+      next_goes Text begun begins (inl same) =
+          let here : begins_string Text (first_start rest) ≡ true =
+          subst (λ (t : List ℕ). begins_string Text (first_start t) ≡ true) (sym same) begins in
           let t = text_found rest bytes after here found in
           let blank = blank_left true after in
           inr (inl (
@@ -419,8 +417,8 @@ module _ (left : ℕ) where
             sym same ∙ t ∙ ap (λ (u : List ℕ). 34 ∷ (in_quotes 34 bytes ++ 34 ∷ u))
                 (blank.1 ∙ ap (λ (u : List ℕ). blank.0 ++ u) (sym is)),
           ))
-      next_goes text_kind begun begins (inr (inl goes)) = inr (inr (second_piece text rest goes begun))
-      next_goes text_kind begun begins (inr (inr cut)) = inr (inr cut)
+      next_goes Text begun begins (inr (inl goes)) = inr (inr (second_piece text rest goes begun))
+      next_goes Text begun begins (inr (inr cut)) = inr (inr cut)
 
       unmade : (r : Read (List ℕ)) → NotRead {Y = List ℕ × List ℕ} (r >>= λ xs. Ok (bytes ++ xs.0, xs.1)) → NotRead r
       unmade (Ok xs) n = n
@@ -442,26 +440,26 @@ module _ (left : ℕ) where
   pub pieces_cut : (kind : StringKind) (text rest : List ℕ) → PiecesGo kind text rest
       → begins_piece kind (first_start rest) ≡ true → IsPieceCut (Reads left) rest
       → begins_string kind (first_start text) ≡ true → NotRead (read_content (read_item left) kind text)
-      → IsCut (StringOf kind (Reads left)) text
-  pieces_cut bytes_kind text rest goes begun piece begins refused =
+      → CutOf (StringOf kind (Reads left)) text
+  pieces_cut Bytes text rest goes begun piece begins refused =
       (goes begins refused).3 (cut_as (Notation (Reads left)) (Joined (Notation (Reads left))) rest
       (λ t bytes h. (bytes, one h)) (piece.1 not_quote))
     where
       not_quote : first_start rest ≡ start.Quote → ⊥
-      not_quote is = false≢true (subst (λ (s : Start). begins_piece bytes_kind s ≡ true) is begun)
-  pieces_cut text_kind text rest goes begun piece begins refused = by (goes begins refused).3
+      not_quote is = false≢true (subst (λ (s : Start). begins_piece Bytes s ≡ true) is begun)
+  pieces_cut Text text rest goes begun piece begins refused = by (goes begins refused).3
     where
-      quote_start : (s : Start) → begins_string text_kind s ≡ true → s ≡ start.Quote
+      quote_start : (s : Start) → begins_string Text s ≡ true → s ≡ start.Quote
       quote_start start.Quote h = refl
       quote_start _ h = absurd cc
 
-      by : StringGoes text_kind text rest → IsCut (StringOf text_kind (Reads left)) text
+      by : StringGoes Text text rest → CutOf (StringOf Text (Reads left)) text
       by (inl same) =
           let here : first_start rest ≡ start.Quote =
           quote_start (first_start rest)
-          (subst (λ (t : List ℕ). begins_string text_kind (first_start t) ≡ true) (sym same) begins) in
+          (subst (λ (t : List ℕ). begins_string Text (first_start t) ≡ true) (sym same) begins) in
           let unclosed = piece.0 here in
-          subst (λ (t : List ℕ). IsCut (StringOf text_kind (Reads left)) t) (sym unclosed.1 ∙ same)
+          subst (λ (t : List ℕ). CutOf (StringOf Text (Reads left)) t) (sym unclosed.1 ∙ same)
           (text_opened unclosed.0 (dead_end.content (inl refl) unclosed.2))
       by (inr (inl goes)) = second_piece text rest goes begun
       by (inr (inr cut)) = cut
@@ -470,25 +468,25 @@ module _ (left : ℕ) where
 
   pub content_cut : (kind : StringKind) (text content rest : List ℕ) → begins_string kind (first_start text) ≡ true
       → read_content (read_item left) kind text ≡ Ok (content, rest) → ends_blank (skip_blank rest) ≡ false
-      → NotRead (read_string (read_item left) kind text) → IsCut (StringOf kind (Reads left)) text
+      → NotRead (read_string (read_item left) kind text) → CutOf (StringOf kind (Reads left)) text
   unfolding read_string read_pieces
-  content_cut bytes_kind text content rest begins found unended refused = absurd (rw found at refused)
-  content_cut text_kind text content rest begins found unended refused = by text begins found
+  content_cut Bytes text content rest begins found unended refused = absurd (rw found at refused)
+  content_cut Text text content rest begins found unended refused = by text begins found
     where
-      by : (t : List ℕ) → begins_string text_kind (first_start t) ≡ true
-          → read_content (read_item left) text_kind t ≡ Ok (content, rest) → IsCut (StringOf text_kind (Reads left)) t
+      by : (t : List ℕ) → begins_string Text (first_start t) ≡ true
+          → read_content (read_item left) Text t ≡ Ok (content, rest) → CutOf (StringOf Text (Reads left)) t
       by t begins found =
           let begun = string_piece (first_start t) begins in
-          let all : read_pieces (read_item left) text_kind (suc (length t)) t ≡ Ok (content, rest) =
-          sym (ap (content_of (read_item left) text_kind t) begins) ∙ found in
-          let pieces = sym (pieces_go (read_item left) text_kind (length t) t begun) ∙ all in
-          let piece = bind_ok (read_piece (read_item left) t) (λ x. read_pieces (read_item left) text_kind (length t)
+          let all : read_pieces (read_item left) Text (suc (length t)) t ≡ Ok (content, rest) =
+          sym (ap (content_of (read_item left) Text t) begins) ∙ found in
+          let pieces = sym (pieces_go (read_item left) Text (length t) t begun) ∙ all in
+          let piece = bind_ok (read_piece (read_item left) t) (λ x. read_pieces (read_item left) Text (length t)
           (skip_blank x.1) >>= λ xs. Ok (x.0 ++ xs.0, xs.1)) (content, rest) pieces in
           let x = piece.0 in
           let is = text_found t x.0 x.1 begins piece.1 in
-          let others = bind_ok (read_pieces (read_item left) text_kind (length t) (skip_blank x.1))
+          let others = bind_ok (read_pieces (read_item left) Text (length t) (skip_blank x.1))
           (λ xs. Ok (x.0 ++ xs.0, xs.1)) (content, rest) piece.2 in
-          elim (a_test (begins_piece text_kind (first_start (skip_blank x.1)))) [
+          elim (a_test (begins_piece Text (first_start (skip_blank x.1)))) [
             | inl goes ↦
                 let blank = blank_left true x.1 in
                 second_piece t (skip_blank x.1) (
@@ -500,19 +498,18 @@ module _ (left : ℕ) where
             | inr ends ↦ stops t x is (length t) others.0 others.1 others.2 ends
           ]
         where
-          string_piece : (s : Start) → begins_string text_kind s ≡ true → begins_piece text_kind s ≡ true
+          string_piece : (s : Start) → begins_string Text s ≡ true → begins_piece Text s ≡ true
           string_piece start.Quote h = refl
           string_piece _ h = absurd cc
 
           stops : (t : List ℕ) (x : List ℕ × List ℕ) → t ≡ 34 ∷ (in_quotes 34 x.0 ++ 34 ∷ x.1) → (n : ℕ)
-              (xs : List ℕ × List ℕ) → read_pieces (read_item left) text_kind n (skip_blank x.1) ≡ Ok xs
+              (xs : List ℕ × List ℕ) → read_pieces (read_item left) Text n (skip_blank x.1) ≡ Ok xs
               → ◌≡◌ {A = Read (List ℕ)} (Ok (x.0 ++ xs.0, xs.1)) (Ok (content, rest))
-              → begins_piece text_kind (first_start (skip_blank x.1)) ≡ false
-              → IsCut (StringOf text_kind (Reads left)) t
+              → begins_piece Text (first_start (skip_blank x.1)) ≡ false → CutOf (StringOf Text (Reads left)) t
           stops t x is zero xs e same ends = absurd cc
           stops t x is (suc n) xs e same ends =
               let left_is : ◌≡◌ {A = List ℕ × List ℕ} ([], skip_blank x.1) xs =
-              ok_is _ xs (sym (pieces_stop (read_item left) text_kind n (skip_blank x.1) ends) ∙ e) in
+              ok_is _ xs (sym (pieces_stop (read_item left) Text n (skip_blank x.1) ends) ∙ e) in
               let whole : ◌≡◌ {A = List ℕ × List ℕ} (x.0 ++ xs.0, xs.1) (content, rest) = ok_is _ (content, rest) same in
               let rest_is : skip_blank x.1 ≡ rest =
               ap (λ (z : List ℕ × List ℕ). z.1) left_is ∙ ap (λ (z : List ℕ × List ℕ). z.1) whole in
@@ -528,7 +525,7 @@ module _ (left : ℕ) where
   pub content_ends : (kind : StringKind) (text content rest : List ℕ) → begins_string kind (first_start text) ≡ true
       → read_content (read_item left) kind text ≡ Ok (content, rest)
       → (ends_blank (skip_blank rest) ≡ false) ⊎ IsContent kind content
-      → NotRead (read_string (read_item left) kind text) → IsCut (StringOf kind (Reads left)) text
+      → NotRead (read_string (read_item left) kind text) → CutOf (StringOf kind (Reads left)) text
   content_ends kind text content rest begins found (inl unended) refused =
       content_cut kind text content rest begins found unended refused
   content_ends kind text content rest begins found (inr is) refused =
@@ -536,13 +533,13 @@ module _ (left : ℕ) where
 
   -- ---- string items
 
-  pub string_item_cut : (kind : StringKind) (text : List ℕ) → IsCut (StringOf kind (Reads left)) text
-      → IsCut (Core (Reads left)) text
+  pub string_item_cut : (kind : StringKind) (text : List ℕ) → CutOf (StringOf kind (Reads left)) text
+      → CutOf (Core (Reads left)) text
   string_item_cut kind text cut = cut_as (StringOf kind (Reads left)) (Core (Reads left)) text
       (λ t c h. (atom (string kind c), h)) cut
 
   pub no_chunks_cut : (kind : StringKind) (text : List ℕ) → (m : List ℕ) × (text ++ m ≡ no_chunks kind)
-      → IsCut (Core (Reads left)) text
+      → CutOf (Core (Reads left)) text
   no_chunks_cut kind text m = cut_by (Core (Reads left)) text (m.0, atom (chunked_string kind []), inl (refl, m.1))
 
   pub no_chunks_read : (kind : StringKind) (text rest : List ℕ) → after_word (no_chunks kind) text ≡ Some rest
@@ -569,14 +566,14 @@ module _ (left : ℕ) where
   -- ---- indefinite strings of no chunks
 
   pub near_cut : (kind : StringKind) (text : List ℕ) → Near (no_chunks kind) text
-      → NotRead (read_string_item (read_item left) kind text) → IsCut (Core (Reads left)) text
+      → NotRead (read_string_item (read_item left) kind text) → CutOf (Core (Reads left)) text
   near_cut kind text (inl begun) refused = absurd (no_chunks_read kind text begun.0 begun.1 refused)
   near_cut kind text (inr goes) refused = no_chunks_cut kind text goes
 
   pub apart_cut : (kind : StringKind) (text : List ℕ)
       → ((m : List ℕ) → after_word (no_chunks kind) (text ++ m) ≡ None)
-      → (NotRead (read_string (read_item left) kind text) → IsCut (StringOf kind (Reads left)) text)
-      → NotRead (read_string_item (read_item left) kind text) → IsCut (Core (Reads left)) text
+      → (NotRead (read_string (read_item left) kind text) → CutOf (StringOf kind (Reads left)) text)
+      → NotRead (read_string_item (read_item left) kind text) → CutOf (Core (Reads left)) text
   apart_cut kind text apart cut refused =
       let none : after_word (no_chunks kind) text ≡ None =
       subst (λ (t : List ℕ). after_word (no_chunks kind) t ≡ None) (append-nil text) (apart []) in

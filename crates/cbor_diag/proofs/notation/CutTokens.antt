@@ -21,7 +21,7 @@ use Rattle.cbor_notes.proofs.tokens.Blanks.{Blank-append, blank_left, length-aft
 use Rattle.cbor_grammar.specs.declared.error.Error.{Error}
 use Rattle.cbor_grammar.specs.Reading.{Read}
 use Rattle.cbor_grammar.specs.DeadEnd as unfinished
-use Rattle.cbor_grammar.specs.DeadEnd.{inside as within, GoesOn, IsCut, IsUnfinished, closes, digits, plain_digits}
+use Rattle.cbor_grammar.specs.DeadEnd.{inside as within, GoesOn, CutOf, IsUnfinished, closes, digits, plain_digits}
 use Rattle.cbor_grammar.specs.Notation.{IsBlank, IsSpace, Closes, Notation, in_base16, in_base32, in_base32hex}
 use Rattle.cbor_grammar.specs.Notation.{in_base64}
 use Rattle.cbor_grammar.specs.Notation.{DigitsIn, Reads}
@@ -32,7 +32,7 @@ use Rattle.cbor_notation.proofs.notation.Ends.{passed_twice}
 use Rattle.cbor_notation.proofs.notation.sound.Steps.{a_test, none_some, after_word_is}
 
 -- what goes on is cut short
-pub cut_by : {X : Type 0} (Is : List ℕ → X → Type 0) (text : List ℕ) → GoesOn Is text → IsCut Is text
+pub cut_by : {X : Type 0} (Is : List ℕ → X → Type 0) (text : List ℕ) → GoesOn Is text → CutOf Is text
 cut_by Is text goes = (text, [], [], sym (append-nil text), subst (GoesOn Is) (sym (append-nil text)) goes, unfinished.nothing)
 
 -- ---- blanks
@@ -168,7 +168,7 @@ empty_h32 left = in_base32hex {bytes = []} [] (no_digits true (codes "h32'")) tt
 
 opened_cut : (letter : ℕ) (word text rest : List ℕ) → after_word word text ≡ Some rest
     → IsBytes (((letter ∷ word) ++ within (letter ∷ word)) ++ codes "'") [] → IsUnfinished (letter ∷ word) rest
-    → IsCut IsBytes (letter ∷ text)
+    → CutOf IsBytes (letter ∷ text)
 opened_cut letter word text rest at empty unfinished = (
   [],
   letter ∷ word,
@@ -180,24 +180,24 @@ opened_cut letter word text rest at empty unfinished = (
 
 -- digits and content whose apostrophe is not closed
 pub b32_cut : (text rest : List ℕ) → after_word (codes "32'") text ≡ Some rest → closes true false rest ≡ false
-    → IsCut IsBytes (98 ∷ text)
+    → CutOf IsBytes (98 ∷ text)
 b32_cut text rest at none = opened_cut 98 (codes "32'") text rest at empty_b32 (digits (inr (inr refl)) none)
 
 pub b64_cut : (text rest : List ℕ) → after_word (codes "64'") text ≡ Some rest → closes false false rest ≡ false
-    → IsCut IsBytes (98 ∷ text)
+    → CutOf IsBytes (98 ∷ text)
 b64_cut text rest at none = opened_cut 98 (codes "64'") text rest at empty_b64 (plain_digits (inl refl) none)
 
 pub h16_cut : (text rest : List ℕ) → after_word (codes "'") text ≡ Some rest → closes true false rest ≡ false
-    → IsCut IsBytes (104 ∷ text)
+    → CutOf IsBytes (104 ∷ text)
 h16_cut text rest at none = opened_cut 104 (codes "'") text rest at empty_h16 (digits (inl refl) none)
 
 pub h32_cut : (text rest : List ℕ) → after_word (codes "32'") text ≡ Some rest → closes true false rest ≡ false
-    → IsCut IsBytes (104 ∷ text)
+    → CutOf IsBytes (104 ∷ text)
 h32_cut text rest at none = opened_cut 104 (codes "32'") text rest at empty_h32 (digits (inr (inl refl)) none)
 
 -- what is near a word, and does not begin with it, goes on
 near_cut : (letter : ℕ) (word text : List ℕ) → after_word word text ≡ None → Near word text
-    → IsBytes (letter ∷ (word ++ codes "'")) [] → IsCut IsBytes (letter ∷ text)
+    → IsBytes (letter ∷ (word ++ codes "'")) [] → CutOf IsBytes (letter ∷ text)
 near_cut letter word text none (inl at) empty = absurd (none_some at.0 (sym none ∙ at.1))
 near_cut letter word text none (inr near) empty =
     cut_by IsBytes (letter ∷ text) (
@@ -208,24 +208,24 @@ near_cut letter word text none (inr near) empty =
     )
 
 pub b32_near : (text : List ℕ) → after_word (codes "32'") text ≡ None → Near (codes "32'") text
-    → IsCut IsBytes (98 ∷ text)
+    → CutOf IsBytes (98 ∷ text)
 b32_near text none near = near_cut 98 (codes "32'") text none near empty_b32
 
 pub b64_near : (text : List ℕ) → after_word (codes "64'") text ≡ None → Near (codes "64'") text
-    → IsCut IsBytes (98 ∷ text)
+    → CutOf IsBytes (98 ∷ text)
 b64_near text none near = near_cut 98 (codes "64'") text none near empty_b64
 
 pub h16_near : (text : List ℕ) → after_word (codes "'") text ≡ None → Near (codes "'") text
-    → IsCut IsBytes (104 ∷ text)
+    → CutOf IsBytes (104 ∷ text)
 h16_near text none near = near_cut 104 (codes "'") text none near empty_h16
 
 pub h32_near : (text : List ℕ) → after_word (codes "32'") text ≡ None → Near (codes "32'") text
-    → IsCut IsBytes (104 ∷ text)
+    → CutOf IsBytes (104 ∷ text)
 h32_near text none near = near_cut 104 (codes "32'") text none near empty_h32
 
 -- what was read, an error, or what a test of the text says
 abbrev pub CutAfter : (List ℕ → Read (List ℕ)) → ℕ → List ℕ → Result Bool Error → Type 0
-CutAfter read letter text r = IfOk r (λ dead. IsFalse dead → NotRead (read text) → IsCut IsBytes (letter ∷ text))
+CutAfter read letter text r = IfOk r (λ dead. IsFalse dead → NotRead (read text) → CutOf IsBytes (letter ∷ text))
 
 pub cut_read : (read : List ℕ → Read (List ℕ)) (letter : ℕ) (text : List ℕ) (x : List ℕ × List ℕ)
     (r : Result Bool Error) → read text ≡ Ok x → r ≡ Ok false → CutAfter read letter text r
@@ -238,5 +238,5 @@ pub cut_error : (read : List ℕ → Read (List ℕ)) (letter : ℕ) (text : Lis
 cut_error read letter text e r is = subst (CutAfter read letter text) (sym is) tt
 
 pub cut_tested : (read : List ℕ → Read (List ℕ)) (letter : ℕ) (text : List ℕ) (dead : Bool) (r : Result Bool Error)
-    → r ≡ Ok dead → (IsFalse dead → NotRead (read text) → IsCut IsBytes (letter ∷ text)) → CutAfter read letter text r
+    → r ≡ Ok dead → (IsFalse dead → NotRead (read text) → CutOf IsBytes (letter ∷ text)) → CutAfter read letter text r
 cut_tested read letter text dead r is cut = subst (CutAfter read letter text) (sym is) cut

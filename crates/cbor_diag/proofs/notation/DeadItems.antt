@@ -10,9 +10,10 @@ use Rattle.cbor_notation.specs.declared.start.Start.{Start}
 use Rattle.cbor_grammar.specs.declared.width.IntegerWidth.{IntegerWidth}
 use Rattle.cbor_grammar.specs.declared.width.IntegerWidth.TheVariants.{Unknown}
 use Rattle.cbor_grammar.specs.Item.{Chunk, Item}
-use Rattle.cbor_grammar.specs.StringKind.{StringKind, bytes_kind, text_kind, no_chunks, IsContent}
+use Rattle.cbor_grammar.specs.declared.strings.StringKind.{StringKind}
+use Rattle.cbor_grammar.specs.declared.strings.StringKind.TheVariants.{Bytes, Text}
+use Rattle.cbor_grammar.specs.StringKind.{IsContent, no_chunks}
 use Rattle.cbor_grammar.specs.Reading.{Read, ◌>>=◌}
-use Rattle.cbor_grammar.specs.mirror.StringView.{kind_view}
 use Rattle.cbor_notation.specs.mirror.NotationReading.{or_refused, skip_blank, after_byte, after_word, after_end}
 use Rattle.cbor_notation.specs.mirror.NotationReading.{members_from, members_or_end, read_members, read_pair}
 use Rattle.cbor_notation.specs.mirror.NotationReading.{read_chunk, read_string, read_content, read_pieces, read_piece}
@@ -36,7 +37,7 @@ use Rattle.cbor_notation.proofs.notation.sound.Steps.{a_test, after_byte_is}
 use Rattle.cbor_notation.proofs.notation.ItemsFound.{notation_again}
 use Rattle.cbor_grammar.specs.WellFormed.{deepest}
 use Rattle.cbor_grammar.specs.Notation.{IsNotation, Reads}
-use Rattle.cbor_grammar.specs.DeadEnd.{IsCut, IsDeadEnd, IsDiagFault}
+use Rattle.cbor_grammar.specs.DeadEnd.{CutOf, IsDeadEnd, IsDiagFault}
 use Rattle.cbor_grammar.specs.NotationRefused.{IsAnswered, IsNoNotation}
 use Rattle.cbor_notation.proofs.notation.sound.Items.{notation_sound}
 
@@ -48,7 +49,7 @@ pub member_grows : (m : Member) (left : ℕ) → Grows (read_member m (read_item
 member_grows member.Item left = item_grows left
 member_grows member.Pair left = pair_grows (read_item left) (item_grows left) (item_begins left)
 member_grows (member.Chunk kind) left =
-    chunk_grows (read_item left) (item_grows left) (item_begins left) (kind_view kind)
+    chunk_grows (read_item left) (item_grows left) (item_begins left) kind
 
 module _ {X : Type 0} (read : List ℕ → Read X) (close : ℕ) where
   pub list_begun : (text rest : List ℕ) → rest ≡ skip_blank text → ends_blank rest ≡ true → Open close rest
@@ -119,8 +120,8 @@ module _ (left : ℕ) where
   piece_dead kind [] goes never (suc n) more = absurd (no_first kind goes)
     where
       no_first : (k : StringKind) → begins_piece k (first_start []) ≡ true → ⊥
-      no_first bytes_kind e = false≢true e
-      no_first text_kind e = false≢true e
+      no_first Bytes e = false≢true e
+      no_first Text e = false≢true e
   piece_dead kind (b ∷ text) goes never (suc n) more =
       not_by (read_piece (read_item left) (b ∷ (text ++ more)) >>= λ x. read_pieces (read_item left) kind n (skip_blank x.1)
       >>= λ xs. Ok (x.0 ++ xs.0, xs.1)) _ (pieces_go (read_item left) kind n (b ∷ (text ++ more)) goes)
@@ -135,8 +136,8 @@ module _ (left : ℕ) where
   pieces_next kind [] bytes after rest goes found is ends never (suc n) more = absurd (no_first kind goes)
     where
       no_first : (k : StringKind) → begins_piece k (first_start []) ≡ true → ⊥
-      no_first bytes_kind e = false≢true e
-      no_first text_kind e = false≢true e
+      no_first Bytes e = false≢true e
+      no_first Text e = false≢true e
   pieces_next kind (b ∷ text) bytes after rest goes found is ends never (suc n) more =
       let read = read_item left in
       let blank : skip_blank (after ++ more) ≡ rest ++ more =
@@ -162,8 +163,8 @@ module _ (left : ℕ) where
   string_pieces_dead kind [] goes never more = absurd (no_first kind goes)
     where
       no_first : (k : StringKind) → begins_string k (first_start []) ≡ true → ⊥
-      no_first bytes_kind e = false≢true e
-      no_first text_kind e = false≢true e
+      no_first Bytes e = false≢true e
+      no_first Text e = false≢true e
   string_pieces_dead kind (b ∷ text) goes never more =
       rw goes (not_bind (read_pieces (read_item left) kind (suc (length (b ∷ (text ++ more)))) (b ∷ (text ++ more))) _
       (never (suc (length (b ∷ (text ++ more)))) more))
@@ -337,8 +338,8 @@ pair_found left text after next rest x y key colon value = ((x, y), rw (key, col
 
 pub content_found : (kind : StringKind) (content : List ℕ) → IsContent kind content
     → checked kind content ≡ Ok (record { bytes = content; width = Unknown })
-content_found bytes_kind content is = refl
-content_found text_kind content is = rw (utf8_passes content is) refl
+content_found Bytes content is = refl
+content_found Text content is = rw (utf8_passes content is) refl
 
 pub chunk_found : (left : ℕ) (kind : StringKind) (text core content rest : List ℕ) → core ≡ skip_blank text
     → read_content (read_item left) kind core ≡ Ok (content, rest) → IsContent kind content
@@ -350,8 +351,8 @@ chunk_found left kind text core content rest is found holds = (
 )
 
 pub no_content : (kind : StringKind) (content : List ℕ) → ¬ (IsContent kind content) → NotRead (checked kind content)
-no_content bytes_kind content not = absurd (not tt)
-no_content text_kind content not = rw (utf8_fails content not) tt
+no_content Bytes content not = absurd (not tt)
+no_content Text content not = rw (utf8_fails content not) tt
 
 -- ---- what is answered
 
@@ -368,7 +369,7 @@ fault_is text refusal.BadHex end is within dead = (is, within, dead)
 fault_is text refusal.Notation end is within dead = (is, within, dead)
 fault_is text refusal.PastWidth end is within dead = (is, within, dead)
 
-pub cut_is : (text : List ℕ) (e : Error) → IsNoNotation text e → IsCut IsNotation text
+pub cut_is : (text : List ℕ) (e : Error) → IsNoNotation text e → CutOf IsNotation text
     → IsDiagFault text refusal.CutShort (length text)
 cut_is text e is cut = (refl, is.none, cut)
 

@@ -24,7 +24,7 @@ use Rattle.cbor_notation.specs.mirror.NotationReading.{numeral, read_word, b_not
 use Rattle.cbor_notation.specs.mirror.NotationReading.{base16_of}
 use Rattle.cbor_notation.specs.mirror.NotationReading.{base32_of, base64_of}
 use Rattle.cbor_grammar.specs.DeadEnd.{closes}
-use Rattle.cbor_diag.specs.mirror.DeadEnds.{NotRead, IsRefused, NeverReads, HasEnd, grown, is_settled}
+use Rattle.cbor_diag.specs.mirror.DeadEnds.{NotRead, IsRealError, NeverReads, HasEnd, grown, is_settled}
 use Rattle.cbor_diag.proofs.notation.GrownTokens.{byte_grown, no_byte_grown, word_grown, number_grown, no_number_grown}
 use Rattle.cbor_diag.proofs.notation.GrownTokens.{decoded_grown}
 use Rattle.cbor_grammar.proofs.bytes.Heads.{bind_ok, ok_is}
@@ -54,7 +54,7 @@ failed r refusal.PastWidth apart f = not_by (Err _) r f tt
 
 -- what a function that returned such an error mirrors is an error
 pub refused : {X Y : Type 0} (view : X → Y) (r : Result X Error) (read : Result Y Error) → Gives view r read
-    → IsRefused r → NotRead read
+    → IsRealError r → NotRead read
 refused view (Ok x) read g is = absurd is
 refused view (Err e) read g is = failed read e is g
 

@@ -13,7 +13,9 @@ use Rattle.cbor_grammar.specs.declared.error.Error.TheVariants as refusal
 use Rattle.cbor_notation.specs.declared.start.Start.{Start}
 use Rattle.cbor_notation.specs.declared.start.Start.TheVariants as start
 use Rattle.cbor_grammar.specs.Item.{Chunk, Item}
-use Rattle.cbor_grammar.specs.StringKind.{StringKind, bytes_kind, text_kind, no_chunks}
+use Rattle.cbor_grammar.specs.declared.strings.StringKind.{StringKind}
+use Rattle.cbor_grammar.specs.declared.strings.StringKind.TheVariants.{Bytes, Text}
+use Rattle.cbor_grammar.specs.StringKind.{no_chunks}
 use Rattle.cbor_grammar.specs.Notation.{Closes}
 use Rattle.cbor_grammar.specs.Reading.{Read, ◌>>=◌}
 use Rattle.cbor_notation.specs.mirror.NotationReading.{or_refused, skip_blank, after_byte, after_word, after_space}
@@ -69,10 +71,6 @@ of_some None x e = absurd cc
 of_some (Some y) x e = ap Some (ok_is y x e)
 
 -- ---- what is firm
-
-pub firm_some : (text : List ℕ) → is_firm text ≡ true → (b : ℕ) × (rest : List ℕ) × (text ≡ b ∷ rest)
-firm_some [] e = absurd (false≢true e)
-firm_some (b ∷ rest) e = (b, rest, refl)
 
 pub firm_blank : (text : List ℕ) → is_firm text ≡ true → ends_blank (skip_blank text) ≡ true
 firm_blank text e = (and_parts (ends_blank (skip_blank text)) (is_settled (skip_blank text)) e).0
@@ -369,8 +367,8 @@ quoted_closed quote text more y e =
 -- ---- strings
 
 no_start : (kind : StringKind) → false ≡ begins_piece kind (first_start [])
-no_start bytes_kind = refl
-no_start text_kind = refl
+no_start Bytes = refl
+no_start Text = refl
 
 module _ (read : List ℕ → Read Item) (grows : Grows read) (begins : Begins read) where
   pub embedded_closed : Closed (read_embedded read)
@@ -481,8 +479,8 @@ module _ (read : List ℕ → Read Item) (grows : Grows read) (begins : Begins r
       still_not (c ∷ t) b rest is ends = ends
 
   none_begins : (kind : StringKind) (y : List ℕ × List ℕ) → read_content read kind [] ≡ Ok y → ⊥
-  none_begins bytes_kind y e = cc
-  none_begins text_kind y e = cc
+  none_begins Bytes y e = cc
+  none_begins Text y e = cc
 
   pub content_grows : (kind : StringKind) (text more : List ℕ) (y : List ℕ × List ℕ) → read_content read kind text ≡ Ok y
       → ends_blank (skip_blank y.1) ≡ true → read_content read kind (text ++ more) ≡ Ok (more_behind more y)
@@ -512,18 +510,18 @@ module _ (read : List ℕ → Read Item) (grows : Grows read) (begins : Begins r
   no_string : (kind : StringKind) (c : ℕ) (text : List ℕ) (x : List ℕ × List ℕ) → (c ≡ 47) ⊎ (c ≡ 44)
       → read_content read kind (c ∷ text) ≡ Ok x → ⊥
   unfolding start_of
-  no_string bytes_kind c text x (inl is) e =
-      let here : read_content read bytes_kind (47 ∷ text) ≡ Ok x =
-      subst (λ (d : ℕ). read_content read bytes_kind (d ∷ text) ≡ Ok x) is e in cc
-  no_string bytes_kind c text x (inr is) e =
-      let here : read_content read bytes_kind (44 ∷ text) ≡ Ok x =
-      subst (λ (d : ℕ). read_content read bytes_kind (d ∷ text) ≡ Ok x) is e in cc
-  no_string text_kind c text x (inl is) e =
-      let here : read_content read text_kind (47 ∷ text) ≡ Ok x =
-      subst (λ (d : ℕ). read_content read text_kind (d ∷ text) ≡ Ok x) is e in cc
-  no_string text_kind c text x (inr is) e =
-      let here : read_content read text_kind (44 ∷ text) ≡ Ok x =
-      subst (λ (d : ℕ). read_content read text_kind (d ∷ text) ≡ Ok x) is e in cc
+  no_string Bytes c text x (inl is) e =
+      let here : read_content read Bytes (47 ∷ text) ≡ Ok x =
+      subst (λ (d : ℕ). read_content read Bytes (d ∷ text) ≡ Ok x) is e in cc
+  no_string Bytes c text x (inr is) e =
+      let here : read_content read Bytes (44 ∷ text) ≡ Ok x =
+      subst (λ (d : ℕ). read_content read Bytes (d ∷ text) ≡ Ok x) is e in cc
+  no_string Text c text x (inl is) e =
+      let here : read_content read Text (47 ∷ text) ≡ Ok x =
+      subst (λ (d : ℕ). read_content read Text (d ∷ text) ≡ Ok x) is e in cc
+  no_string Text c text x (inr is) e =
+      let here : read_content read Text (44 ∷ text) ≡ Ok x =
+      subst (λ (d : ℕ). read_content read Text (d ∷ text) ≡ Ok x) is e in cc
 
   string_ends : (kind : StringKind) (text : List ℕ) (y : Chunk × List ℕ) → read_string read kind text ≡ Ok y
       → can_begin text ≡ true
@@ -622,40 +620,40 @@ module _ (read : List ℕ → Read Item) (grows : Grows read) (begins : Begins r
   short_string : (kind : StringKind) (text : List ℕ) (y : Chunk × List ℕ) → text ≡ take (length text) (no_chunks kind)
       → after_word (no_chunks kind) text ≡ None → read_string read kind text ≡ Ok y → is_firm y.1 ≡ true → ⊥
   unfolding read_string read_pieces read_piece start_of
-  short_string bytes_kind [] y is none e firm = cc
-  short_string bytes_kind (a ∷ []) y is none e firm =
-      let here : read_string read bytes_kind (39 ∷ []) ≡ Ok y =
-      subst (λ (t : List ℕ). read_string read bytes_kind t ≡ Ok y) is e in cc
-  short_string bytes_kind (a ∷ b ∷ []) y is none e firm =
-      let here : read_string read bytes_kind (39 ∷ 39 ∷ []) ≡ Ok y =
-      subst (λ (t : List ℕ). read_string read bytes_kind t ≡ Ok y) is e in
+  short_string Bytes [] y is none e firm = cc
+  short_string Bytes (a ∷ []) y is none e firm =
+      let here : read_string read Bytes (39 ∷ []) ≡ Ok y =
+      subst (λ (t : List ℕ). read_string read Bytes t ≡ Ok y) is e in cc
+  short_string Bytes (a ∷ b ∷ []) y is none e firm =
+      let here : read_string read Bytes (39 ∷ 39 ∷ []) ≡ Ok y =
+      subst (λ (t : List ℕ). read_string read Bytes t ≡ Ok y) is e in
       let same : ◌≡◌ {A = Chunk × List ℕ} (record { bytes = []; width = Unknown }, []) y = ok_is _ y here in
       false≢true (subst (λ (z : Chunk × List ℕ). is_firm z.1 ≡ true) (sym same) firm)
-  short_string bytes_kind (a ∷ b ∷ c ∷ text) y is none e firm =
+  short_string Bytes (a ∷ b ∷ c ∷ text) y is none e firm =
       let left : List ℕ = take (length text) [] in
-      let here : after_word (no_chunks bytes_kind) (39 ∷ 39 ∷ 95 ∷ left) ≡ None =
-      subst (λ (t : List ℕ). after_word (no_chunks bytes_kind) t ≡ None) is none in
+      let here : after_word (no_chunks Bytes) (39 ∷ 39 ∷ 95 ∷ left) ≡ None =
+      subst (λ (t : List ℕ). after_word (no_chunks Bytes) t ≡ None) is none in
       none_some left (sym here)
-  short_string text_kind [] y is none e firm = cc
-  short_string text_kind (a ∷ []) y is none e firm =
-      let here : read_string read text_kind (34 ∷ []) ≡ Ok y =
-      subst (λ (t : List ℕ). read_string read text_kind t ≡ Ok y) is e in cc
-  short_string text_kind (a ∷ b ∷ []) y is none e firm =
-      let here : read_string read text_kind (34 ∷ 34 ∷ []) ≡ Ok y =
-      subst (λ (t : List ℕ). read_string read text_kind t ≡ Ok y) is e in
-      let content = bind_ok (read_content read text_kind (34 ∷ 34 ∷ [])) (λ x. checked text_kind x.0
+  short_string Text [] y is none e firm = cc
+  short_string Text (a ∷ []) y is none e firm =
+      let here : read_string read Text (34 ∷ []) ≡ Ok y =
+      subst (λ (t : List ℕ). read_string read Text t ≡ Ok y) is e in cc
+  short_string Text (a ∷ b ∷ []) y is none e firm =
+      let here : read_string read Text (34 ∷ 34 ∷ []) ≡ Ok y =
+      subst (λ (t : List ℕ). read_string read Text t ≡ Ok y) is e in
+      let content = bind_ok (read_content read Text (34 ∷ 34 ∷ [])) (λ x. checked Text x.0
       >>= λ c. Ok (c, x.1)) y here in
       let x = content.0 in
       let nothing : ◌≡◌ {A = List ℕ × List ℕ} ([], []) x = ok_is ([], []) x content.1 in
-      let chunk = bind_ok (checked text_kind x.0) (λ c. Ok (c, x.1)) y content.2 in
+      let chunk = bind_ok (checked Text x.0) (λ c. Ok (c, x.1)) y content.2 in
       let same : ◌≡◌ {A = Chunk × List ℕ} (chunk.0, x.1) y = ok_is (chunk.0, x.1) y chunk.2 in
       let firm_rest : is_firm x.1 ≡ true =
       subst (λ (z : Chunk × List ℕ). is_firm z.1 ≡ true) (sym same) firm in
       false≢true (subst (λ (z : List ℕ × List ℕ). is_firm z.1 ≡ true) (sym nothing) firm_rest)
-  short_string text_kind (a ∷ b ∷ c ∷ text) y is none e firm =
+  short_string Text (a ∷ b ∷ c ∷ text) y is none e firm =
       let left : List ℕ = take (length text) [] in
-      let here : after_word (no_chunks text_kind) (34 ∷ 34 ∷ 95 ∷ left) ≡ None =
-      subst (λ (t : List ℕ). after_word (no_chunks text_kind) t ≡ None) is none in
+      let here : after_word (no_chunks Text) (34 ∷ 34 ∷ 95 ∷ left) ≡ None =
+      subst (λ (t : List ℕ). after_word (no_chunks Text) t ≡ None) is none in
       none_some left (sym here)
 
   still_none : (kind : StringKind) (text more : List ℕ) (y : Chunk × List ℕ) → after_word (no_chunks kind) text ≡ None
@@ -675,10 +673,8 @@ module _ (read : List ℕ → Read Item) (grows : Grows read) (begins : Begins r
 
   word_some : (kind : StringKind) (text more rest : List ℕ) → after_word (no_chunks kind) text ≡ Some rest
       → after_word (no_chunks kind) (text ++ more) ≡ Some (rest ++ more)
-  word_some bytes_kind text more rest e = ap (after_word (no_chunks bytes_kind))
-      (word_grown (no_chunks bytes_kind) text more rest e)
-  word_some text_kind text more rest e = ap (after_word (no_chunks text_kind))
-      (word_grown (no_chunks text_kind) text more rest e)
+  word_some Bytes text more rest e = ap (after_word (no_chunks Bytes)) (word_grown (no_chunks Bytes) text more rest e)
+  word_some Text text more rest e = ap (after_word (no_chunks Text)) (word_grown (no_chunks Text) text more rest e)
 
   pub string_item_grows : (kind : StringKind) → Grows (read_string_item read kind)
   string_item_grows kind text more y e firm = by (after_word (no_chunks kind) text) refl e
@@ -875,11 +871,11 @@ module _ (read : List ℕ → Read Item) (grows : Grows read) (begins : Begins r
   core_of_grown start.Brace text rest more y e firm = map_closed read grows begins rest more y e
   core_of_grown start.Parenthesis text rest more y e firm = chunks_closed read grows begins rest more y e
   core_of_grown start.Apostrophe text rest more y e firm =
-      string_item_grows read grows begins bytes_kind text more y e firm
-  core_of_grown start.Angle text rest more y e firm = string_item_grows read grows begins bytes_kind text more y e firm
-  core_of_grown start.LetterB text rest more y e firm = string_item_grows read grows begins bytes_kind text more y e firm
-  core_of_grown start.LetterH text rest more y e firm = string_item_grows read grows begins bytes_kind text more y e firm
-  core_of_grown start.Quote text rest more y e firm = string_item_grows read grows begins text_kind text more y e firm
+      string_item_grows read grows begins Bytes text more y e firm
+  core_of_grown start.Angle text rest more y e firm = string_item_grows read grows begins Bytes text more y e firm
+  core_of_grown start.LetterB text rest more y e firm = string_item_grows read grows begins Bytes text more y e firm
+  core_of_grown start.LetterH text rest more y e firm = string_item_grows read grows begins Bytes text more y e firm
+  core_of_grown start.Quote text rest more y e firm = string_item_grows read grows begins Text text more y e firm
   core_of_grown start.Other text rest more y e firm = word_closed text more y e
 
   pub core_grows : Grows (read_core read)

@@ -10,7 +10,7 @@ use Rattle.cbor_diag.specs.declared.syntax.DataItem.{IndefiniteByteString, Indef
 use Rattle.cbor_diag.specs.declared.syntax.DataItem.{Simple, the_lemmas}
 use Rattle.cbor_grammar.specs.Item as spec
 use Rattle.cbor_grammar.specs.Item.{item_count, pair_count}
-use Rattle.cbor_grammar.specs.StringKind.{bytes_kind, text_kind}
+use Rattle.cbor_grammar.specs.declared.strings.StringKind.TheVariants.{Bytes, Text}
 use Rattle.cbor_grammar.specs.WellFormed.{WellFormed, WellFormedItems}
 use Rattle.cbor_diag.specs.View.{view, items_view, pairs_view}
 use Rattle.cbor_grammar.specs.Strings.{byte_chunk, text_chunk}
@@ -37,20 +37,18 @@ view-Integer n w = search (rules, the_lemmas)
 pub view-Negative : (n : ℕ) (w : IntegerWidth) → view (Negative n w) ≡ spec.atom (spec.negative n w)
 view-Negative n w = search (rules, the_lemmas)
 
-pub view-ByteString : (s : byte_string.ByteString)
-    → view (ByteString s) ≡ spec.atom (spec.string bytes_kind (byte_chunk s))
+pub view-ByteString : (s : byte_string.ByteString) → view (ByteString s) ≡ spec.atom (spec.string Bytes (byte_chunk s))
 view-ByteString s = search (rules, the_lemmas)
 
-pub view-TextString : (s : text_string.TextString)
-    → view (TextString s) ≡ spec.atom (spec.string text_kind (text_chunk s))
+pub view-TextString : (s : text_string.TextString) → view (TextString s) ≡ spec.atom (spec.string Text (text_chunk s))
 view-TextString s = search (rules, the_lemmas)
 
 pub view-IndefiniteByteString : (v : Vec byte_string.ByteString Global)
-    → view (IndefiniteByteString v) ≡ spec.atom (spec.chunked_string bytes_kind (map byte_chunk v.items))
+    → view (IndefiniteByteString v) ≡ spec.atom (spec.chunked_string Bytes (map byte_chunk v.items))
 view-IndefiniteByteString v = search (rules, the_lemmas)
 
 pub view-IndefiniteTextString : (v : Vec text_string.TextString Global)
-    → view (IndefiniteTextString v) ≡ spec.atom (spec.chunked_string text_kind (map text_chunk v.items))
+    → view (IndefiniteTextString v) ≡ spec.atom (spec.chunked_string Text (map text_chunk v.items))
 view-IndefiniteTextString v = search (rules, the_lemmas)
 
 pub view-Float : (n : ℕ) (w : FloatWidth) → view (Float n w) ≡ spec.atom (spec.float n w)

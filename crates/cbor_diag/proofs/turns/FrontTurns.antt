@@ -1,6 +1,6 @@
--- From what counted reading gives to what an input is, and to its turns.
-use Rattle.std.proofs.Common.{◌≡◌, ◌≢◌, ℕ, ◌+◌, ◌*◌, ◌≤◌, List, take, drop, Option, Some, None, Result, Ok, Err, IfOk}
-use Rattle.std.proofs.Common.{IfSome, refl, sym, ap, ◌∙◌, arith}
+-- From what counted reading gives to the turns of the front of an input.
+use Rattle.std.proofs.Common.{◌≡◌, ◌≢◌, ℕ, ◌+◌, ◌≤◌, List, take, drop, Some, None, Ok, Err}
+use Rattle.std.proofs.Common.{refl, sym, ap, ◌∙◌, arith}
 use Rattle.std.proofs.lemmas.List.{length-take, take-append-drop}
 use Rattle.cbor_grammar.specs.declared.error.Error.{Error}
 use Rattle.cbor_grammar.specs.declared.error.Error.TheVariants as refusal
@@ -10,89 +10,93 @@ use Rattle.cbor_diag.specs.View.{view}
 use Rattle.cbor_grammar.specs.Bytes.{any, Spells}
 use Rattle.cbor_grammar.specs.Refused.{Cut, Fault}
 use Rattle.cbor_grammar.specs.Turns.{item_turns, cut_spent, fault_spent}
-use Rattle.cbor_diag.specs.ItemAnswer.{HasOutcome, HasTurns}
-use Rattle.cbor_grammar.specs.Answer.{RefusedSo}
+use Rattle.cbor_grammar.specs.Answer.{spelled, IsOutcome}
 use Rattle.cbor_grammar.specs.Reading.{Fails, Counted, later, counted_item, read_item}
-use Rattle.cbor_grammar.specs.mirror.Counting.{Stops}
-use Rattle.cbor_grammar.proofs.bytes.Heads.{IsBytes}
-use Rattle.cbor_grammar.proofs.bytes.Found.{item_takes}
+use Rattle.cbor_grammar.specs.mirror.Counting.{FailsIn}
+use Rattle.cbor_diag.specs.mirror.BytesAnswer.{FrontTurns}
 use Rattle.cbor_grammar.proofs.bytes.FoundAgain.{counted_again}
 use Rattle.cbor_grammar.proofs.bytes.RefusedAgain.{cut_turns, fault_turns}
 use Rattle.cbor_grammar.proofs.turns.ItemTurns.{turns_few}
 
 -- what reading gives
-pub first_ok : (left old new : ℕ) (b rest : List ℕ) (i : Item) → later old (counted_item left b) ≡ (new, Ok (i, rest))
-    → read_item left b ≡ Ok (i, rest)
-first_ok left old new b rest i h = ap (λ (c : Counted Item). c.1) h
+pub first_ok : (old new : ℕ) (b rest : List ℕ) (i : Item) → later old (counted_item 128 b) ≡ (new, Ok (i, rest))
+    → read_item 128 b ≡ Ok (i, rest)
+first_ok old new b rest i h = ap (λ (c : Counted Item). c.1) h
 
-pub first_fails : (left old new : ℕ) (b : List ℕ) (e : Error) → Stops e new (later old (counted_item left b))
-    → Fails e (read_item left b)
-first_fails left old new b refusal.Memory h = tt
-first_fails left old new b e h = ap (λ (c : Counted Item). c.1) h
+pub first_fails : (old new : ℕ) (b : List ℕ) (e : Error) → FailsIn e new (later old (counted_item 128 b))
+    → Fails e (read_item 128 b)
+first_fails old new b refusal.Memory h = tt
+first_fails old new b e h = ap (λ (c : Counted Item). c.1) h
 
--- its turns, and no more where memory ran out
-pub ok_turns : (level left old new : ℕ) (b rest : List ℕ) (i : Item) → level + left ≡ 129 → IsBytes b
-    → later old (counted_item left b) ≡ (new, Ok (i, rest)) → new ≡ old + item_turns i
-ok_turns level left old new b rest i levels fits h =
-    let s = item_takes level left b i rest levels fits (first_ok left old new b rest i h) in
-    let is = ap (counted_item left) s.parts ∙ counted_again level left s.front i rest levels s.spells in
-    sym (ap (λ (c : Counted Item). c.0) h) ∙ ap (λ (c : Counted Item). old + c.0) is
+module _ (old new : ℕ) (b : List ℕ) where
+  -- ---- no more turns than reading takes, also where memory ran out
 
-pub cut_risen : (level left old new : ℕ) (b : List ℕ) → level + left ≡ 129
-    → Stops refusal.CutShort new (later old (counted_item left b)) → (c : Cut level b) → new ≡ old + (cut_spent c + 1)
-cut_risen level left old new b levels h c = sym (ap (λ (x : Counted Item). x.0) h)
-    ∙ ap (λ (x : Counted Item). old + x.0) (cut_turns level left b levels c)
+  abbrev Within : Type 0
+  Within = new ≤ old + (counted_item 128 b).0
 
-pub fault_risen : (level left old new : ℕ) (b : List ℕ) (e : Error) → level + left ≡ 129 → e ≢ refusal.CutShort
-    → Stops e new (later old (counted_item left b)) → HasTurns level b old new (Err e)
-fault_risen level left old new b refusal.Memory levels other h = tt
-fault_risen level left old new b e levels other h = λ f. sym (ap (λ (x : Counted Item). x.0) h)
-    ∙ ap (λ (x : Counted Item). old + x.0) (fault_turns level left b e levels f)
+  within_item : Within → (i : Item) (n : ℕ) → Spells any 1 (take n b) i → new ≤ old + item_turns i
+  within_item h i n s =
+      let is = ap (counted_item 128) (sym (take-append-drop n b))
+      ∙ counted_again 1 128 (take n b) i (drop n b) (omega arith) s in
+      omega (arith, h, ap (λ (c : Counted Item). c.0) is)
 
--- ---- the clauses of the public reader
+  within_cut : Within → (c : Cut 1 b) → new ≤ old + (cut_spent c + 1)
+  within_cut h c = omega (arith, h, ap (λ (x : Counted Item). x.0) (cut_turns 1 128 b (omega arith) c))
 
-abbrev Within : ℕ → ℕ → List ℕ → Type 0
-Within old new b = new ≤ old + (counted_item 128 b).0
+  within_fault : Within → (e : Error) (f : Fault 1 b e) → new ≤ old + (fault_spent f + 1)
+  within_fault h e f = omega (arith, h, ap (λ (x : Counted Item). x.0) (fault_turns 1 128 b e (omega arith) f))
 
-pub within_item : (old new n : ℕ) (b : List ℕ) (i : Item)
-    → Within old new b → Spells any 1 (take n b) i → new ≤ old + item_turns i
-within_item old new n b i h s =
-    let is =
-    ap (counted_item 128) (sym (take-append-drop n b))
-    ∙ counted_again 1 128 (take n b) i (drop n b) (omega arith) s in
-    omega (arith, h, ap (λ (c : Counted Item). c.0) is)
+  -- ---- the turns of what the front is
 
-pub within_cut : (old new : ℕ) (b : List ℕ) → Within old new b → (c : Cut 1 b) → new ≤ old + (cut_spent c + 1)
-within_cut old new b h c = omega (arith, h, ap (λ (x : Counted Item). x.0) (cut_turns 1 128 b (omega arith) c))
+  pub item_takes : (x : DataItem) (rest : List ℕ) (n : ℕ) → IsOutcome 1 b (spelled (view x) n)
+      → later old (counted_item 128 b) ≡ (new, Ok (view x, rest)) → FrontTurns b old new (Ok (Some (x, n)))
+  item_takes x rest n begins h =
+      let counted = ap (counted_item 128) (sym (take-append-drop n b))
+      ∙ counted_again 1 128 (take n b) (view x) (drop n b) (omega arith) begins.1 in
+      let within : Within = omega (arith, ap (λ (c : Counted Item). c.0) h) in
+      record {
+        turns_of_item = sym (ap (λ (c : Counted Item). c.0) h) ∙ ap (λ (c : Counted Item). old + c.0) counted;
+        twice_its_bytes = omega (arith, turns_few 1 (take n b) (view x) begins.1, length-take n b);
+        turns_of_cut = λ is. absurd cc;
+        turns_of_fault = tt;
+        within_item = λ i n begins. within_item within i n begins.2;
+        within_cut = within_cut within;
+        within_fault = within_fault within;
+      }
 
-pub within_fault : (old new : ℕ) (b : List ℕ) (e : Error)
-    → Within old new b → (f : Fault 1 b e) → new ≤ old + (fault_spent f + 1)
-within_fault old new b e h f = omega (arith, h, ap (λ (x : Counted Item). x.0) (fault_turns 1 128 b e (omega arith) f))
+  pub cut_takes : FailsIn refusal.CutShort new (later old (counted_item 128 b)) → FrontTurns b old new (Ok None)
+  cut_takes h =
+      let within : Within = omega (arith, ap (λ (c : Counted Item). c.0) h) in
+      record {
+        turns_of_item = tt;
+        twice_its_bytes = tt;
+        turns_of_cut = λ is c. sym (ap (λ (x : Counted Item). x.0) h)
+            ∙ ap (λ (x : Counted Item). old + x.0) (cut_turns 1 128 b (omega arith) c);
+        turns_of_fault = tt;
+        within_item = λ i n begins. within_item within i n begins.2;
+        within_cut = within_cut within;
+        within_fault = within_fault within;
+      }
 
-pub of_item : (old new : ℕ) (b : List ℕ) (r : Result (Option (DataItem × ℕ)) Error) → HasTurns 1 b old new r
-    → IfOk r (λ o. IfSome o (λ x. new ≡ old + item_turns (view x.0)))
-of_item old new b (Ok (Some x)) h = h
-of_item old new b (Ok None) h = tt
-of_item old new b (Err e) h = tt
+  fails_within : (e : Error) → FailsIn e new (later old (counted_item 128 b)) → Within
+  fails_within refusal.Memory h = h
+  fails_within e h = omega (arith, ap (λ (c : Counted Item). c.0) h)
 
-pub twice : (b : List ℕ) (r : Result (Option (DataItem × ℕ)) Error) → HasOutcome 1 b r
-    → IfOk r (λ o. IfSome o (λ x. item_turns (view x.0) ≤ 2 * x.1))
-twice b (Ok (Some x)) h = omega (arith, turns_few 1 (take x.1 b) (view x.0) h.1, length-take x.1 b)
-twice b (Ok None) h = tt
-twice b (Err e) h = tt
+  fault_turned : (e : Error) → FailsIn e new (later old (counted_item 128 b)) → e ≢ refusal.Memory → (f : Fault 1 b e)
+      → new ≡ old + (fault_spent f + 1)
+  fault_turned refusal.Memory h no_memory f = absurd (no_memory refl)
+  fault_turned e h no_memory f = sym (ap (λ (x : Counted Item). x.0) h)
+      ∙ ap (λ (x : Counted Item). old + x.0) (fault_turns 1 128 b e (omega arith) f)
 
-pub of_cut : (old new : ℕ) (b : List ℕ) (r : Result (Option (DataItem × ℕ)) Error) → HasTurns 1 b old new r
-    → r ≡ Ok None → (c : Cut 1 b) → new ≡ old + (cut_spent c + 1)
-of_cut old new b (Ok (Some x)) h is c = absurd cc
-of_cut old new b (Ok None) h is c = h c
-of_cut old new b (Err e) h is c = absurd cc
-
-fault_of : (old new : ℕ) (b : List ℕ) (e : Error) → HasTurns 1 b old new (Err e) → e ≢ refusal.Memory
-    → (f : Fault 1 b e) → new ≡ old + (fault_spent f + 1)
-fault_of old new b refusal.Memory h no_memory f = absurd (no_memory refl)
-fault_of old new b _ h no_memory f = h f
-
-pub of_fault : (old new : ℕ) (b : List ℕ) (r : Result (Option (DataItem × ℕ)) Error) → HasTurns 1 b old new r
-    → RefusedSo r (λ e. (f : Fault 1 b e) → new ≡ old + (fault_spent f + 1))
-of_fault old new b (Ok x) h = tt
-of_fault old new b (Err e) h = fault_of old new b e h
+  pub fault_takes : (e : Error) → FailsIn e new (later old (counted_item 128 b)) → FrontTurns b old new (Err e)
+  fault_takes e h =
+      let within = fails_within e h in
+      record {
+        turns_of_item = tt;
+        twice_its_bytes = tt;
+        turns_of_cut = λ is. absurd cc;
+        turns_of_fault = fault_turned e h;
+        within_item = λ i n begins. within_item within i n begins.2;
+        within_cut = within_cut within;
+        within_fault = within_fault within;
+      }

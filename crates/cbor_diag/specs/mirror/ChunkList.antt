@@ -3,12 +3,13 @@ use Rattle.std.specs.Prelude.{List, map}
 use Rattle.cbor_diag.specs.declared.parse.notation.strings.Chunks.{Chunks}
 use Rattle.cbor_diag.specs.declared.parse.notation.strings.Chunks.TheVariants as chunks
 use Rattle.cbor_grammar.specs.Item.{Chunk}
-use Rattle.cbor_grammar.specs.StringKind.{StringKind, bytes_kind, text_kind}
+use Rattle.cbor_grammar.specs.declared.strings.StringKind.{StringKind}
+use Rattle.cbor_grammar.specs.declared.strings.StringKind.TheVariants.{Bytes, Text}
 use Rattle.cbor_grammar.specs.Strings.{byte_chunk, text_chunk}
 
 abbrev pub list_kind : Chunks → StringKind
-list_kind (chunks.Bytes v) = bytes_kind
-list_kind (chunks.Text v) = text_kind
+list_kind (chunks.Bytes v) = Bytes
+list_kind (chunks.Text v) = Text
 
 abbrev pub chunk_list : Chunks → List Chunk
 chunk_list (chunks.Bytes v) = map byte_chunk v.items

@@ -8,14 +8,13 @@ use Rattle.cbor_grammar.specs.declared.error.Error.TheVariants as refusal
 use Rattle.cbor_diag.specs.declared.parse.notation.fault.Member.{Member}
 use Rattle.cbor_diag.specs.declared.parse.notation.fault.Member.TheVariants as member
 use Rattle.cbor_grammar.specs.Item.{Chunk, Item}
-use Rattle.cbor_grammar.specs.StringKind.{StringKind}
+use Rattle.cbor_grammar.specs.declared.strings.StringKind.{StringKind}
 use Rattle.cbor_grammar.specs.Reading.{Read}
 use Rattle.cbor_grammar.specs.Notation.{Blanked, Members, Notation, PairOf, StringOf}
-use Rattle.cbor_grammar.specs.DeadEnd.{IsCut, closes_text}
+use Rattle.cbor_grammar.specs.DeadEnd.{CutOf, closes_text}
 use Rattle.cbor_notation.specs.mirror.NotationReading.{skip_blank, read_number, read_pair, read_chunk, members_from}
 use Rattle.cbor_notation.specs.mirror.NotationReading.{read_pieces, first_start}
 use Rattle.cbor_notation.specs.declared.start.Start.TheVariants as start
-use Rattle.cbor_grammar.specs.mirror.StringView.{kind_view}
 
 abbrev pub NotRead : {Y : Type 0} → Result Y Error → Type 0
 NotRead (Ok y) = ⊥
@@ -26,9 +25,9 @@ abbrev pub NeverReads : {Y : Type 0} → (List ℕ → Result Y Error) → List 
 NeverReads read text = (more : List ℕ) → NotRead (read (text ++ more))
 
 -- an error other than out of memory
-abbrev pub IsRefused : {Y : Type 0} → Result Y Error → Type 0
-IsRefused (Ok y) = ⊥
-IsRefused (Err e) = e ≢ refusal.Memory
+abbrev pub IsRealError : {Y : Type 0} → Result Y Error → Type 0
+IsRealError (Ok y) = ⊥
+IsRealError (Err e) = e ≢ refusal.Memory
 
 -- the same with more bytes behind the rest
 abbrev pub grown : {X : Type 0} → List ℕ → Read X → Read X
@@ -65,7 +64,7 @@ Value (member.Chunk kind) = Chunk
 abbrev pub read_member : (m : Member) → (List ℕ → Read Item) → List ℕ → Read (Value m)
 read_member member.Item read text = read text
 read_member member.Pair read text = read_pair read text
-read_member (member.Chunk kind) read text = read_chunk read (kind_view kind) text
+read_member (member.Chunk kind) read text = read_chunk read kind text
 
 -- however many members are looked for
 abbrev pub NeverMembers : {X : Type 0} → (List ℕ → Read X) → ℕ → List ℕ → Type 0
@@ -82,10 +81,10 @@ ChunkIs kind R text c = Blanked (λ core. StringOf kind R core c) text
 abbrev pub MemberIs : (m : Member) → (List ℕ → Item → Type 0) → List ℕ → Value m → Type 0
 MemberIs member.Item R text x = R text x
 MemberIs member.Pair R text x = PairOf R text x
-MemberIs (member.Chunk kind) R text c = ChunkIs (kind_view kind) R text c
+MemberIs (member.Chunk kind) R text c = ChunkIs kind R text c
 
 -- A piece of a string that is cut short: a text without a closing quote, or a notation of bytes.
 abbrev pub IsPieceCut : (List ℕ → Item → Type 0) → List ℕ → Type 0
 IsPieceCut R text = (first_start text ≡ start.Quote
     → (content : List ℕ) × (text ≡ quote ∷ content) × (closes_text quote false content ≡ false))
-    × (¬ (first_start text ≡ start.Quote) → IsCut (Notation R) text)
+    × (¬ (first_start text ≡ start.Quote) → CutOf (Notation R) text)

@@ -4,7 +4,7 @@ use Rattle.cbor_diag.specs.declared.parse.binary.frame.Frame as code
 use Rattle.cbor_diag.specs.declared.parse.binary.frame.Frame.TheVariants as code_frame
 use Rattle.cbor_diag.specs.View.{view, items_view, pairs_view}
 use Rattle.cbor_grammar.specs.Reading.{Frame, items_in, pairs_in, value_of, tag_of, tagged_with}
-use Rattle.cbor_bytes.specs.mirror.HeadView.{left_of}
+use Rattle.cbor_grammar.specs.mirror.Lengths.{left_of}
 
 abbrev pub frame : code.Frame → Frame
 frame (code_frame.Array content len) = items_in (items_view content.items) (left_of len (length content.items))

@@ -9,10 +9,11 @@ mod estimate;
 ghost use Rattle.std.specs.Prelude.{◌≡◌, ◌↔◌, ◌+◌, ◌*◌, ◌<◌, ◌≤◌, ◌++◌, ℕ, OnOk, OnErr, IfOk};
 ghost use Rattle.std.specs.Prelude.{IfErr};
 ghost use Rattle.std.specs.String.{string_bytes};
-ghost use Rattle.cbor_grammar.specs.mirror.Appends.{AppendsText};
+ghost use Rattle.cbor_notes.specs.Appends.{AppendsText};
 ghost use Rattle.cbor_diag.specs.View.{view, items_view, pairs_view};
 ghost use Rattle.cbor_grammar.specs.Notation.{IsNotation};
-ghost use Rattle.cbor_grammar.specs.Encoding.{Encoding, Base16};
+ghost use Rattle.cbor_grammar.specs.declared.encoding.Encoding.{Encoding};
+ghost use Rattle.cbor_grammar.specs.declared.encoding.Encoding.TheVariants.{Base16};
 ghost use Rattle.cbor_grammar.specs.declared.width.IntegerWidth.{IntegerWidth};
 ghost use Rattle.cbor_grammar.specs.Item as spec;
 ghost use Rattle.cbor_grammar.specs.Item.{Chunk, Item, tagged};
@@ -22,7 +23,7 @@ ghost use Rattle.cbor_grammar.specs.Pretty.{sequence_in_one_line, sequence_in_li
 ghost use Rattle.cbor_grammar.specs.Facts.{IsWellFormed, diag_of, pretty_of, normal_of};
 ghost use Rattle.cbor_grammar.specs.WellFormed.{deepest, WellFormed, WellFormedItems};
 ghost use Rattle.cbor_grammar.specs.WellFormed.{WellFormedPairs};
-ghost use Rattle.cbor_notation.specs.mirror.LayoutView.{layout_view, style_view, context_view};
+ghost use Rattle.cbor_notation.specs.mirror.LayoutView.{context_view};
 ghost use Rattle.cbor_notation.specs.mirror.LayoutView.{IsIndented, item_text, items_there};
 ghost use Rattle.cbor_notation.specs.mirror.LayoutView.{pairs_there, content_there};
 ghost use Rattle.cbor_grammar.specs.NotationText.{indent_of, style_indent, in_encoding};
@@ -30,8 +31,9 @@ ghost use Rattle.cbor_grammar.specs.NotationText.{text_at_level, sequence_size};
 ghost use Rattle.cbor_grammar.specs.Embedded.{sequence, EmbedsExactly};
 
 use crate::syntax::DataItem;
+use cbor_grammar::layout::{ContainerStyle, Layout};
 use cbor_grammar::{ByteString, Error, IntegerWidth, Tag, TextString};
-use cbor_notation::context::{ContainerStyle, Layout, NotationContext};
+use cbor_notation::context::NotationContext;
 use cbor_notation::from_bytes::push_content;
 use cbor_notation::members::{
     push_chunks, push_closing, push_colon, push_end, push_opening, push_start,
@@ -143,9 +145,9 @@ fn push_items(
 ) -> Result<(), AllocError>
     requires level { context.now.level ≤ deepest }
     requires well_formed { WellFormedItems (context.now.level + 1) (items_view items.now.items) }
-    requires indent { style_indent (style_view style) ≤ 4 * context.now.level }
+    requires indent { style_indent style ≤ 4 * context.now.level }
     ensures { AppendsText result out.old out.new
-        (items_there context.now (style_view style) (items_view items.now.items)) }
+        (items_there context.now style (items_view items.now.items)) }
 {
     let inner = context.inside(style.members_layout());
     let mut first = true;
@@ -168,9 +170,9 @@ fn push_pairs(
 ) -> Result<(), AllocError>
     requires level { context.now.level ≤ deepest }
     requires well_formed { WellFormedPairs (context.now.level + 1) (pairs_view pairs.now.items) }
-    requires indent { style_indent (style_view style) ≤ 4 * context.now.level }
+    requires indent { style_indent style ≤ 4 * context.now.level }
     ensures { AppendsText result out.old out.new
-        (pairs_there context.now (style_view style) (pairs_view pairs.now.items)) }
+        (pairs_there context.now style (pairs_view pairs.now.items)) }
 {
     let inner = context.inside(style.members_layout());
     let mut first = true;
@@ -188,9 +190,9 @@ fn push_pairs(
 /// Writes an item at the outermost level. After an error the text is what it was.
 fn push_outermost(out: &mut String, item: &DataItem, layout: Layout) -> Result<(), AllocError>
     requires well_formed { IsWellFormed (view item.now) }
-    requires indent { indent_of (layout_view layout) ≤ 4 }
+    requires indent { indent_of layout ≤ 4 }
     ensures text { OnOk result (string_bytes out.new ≡ string_bytes out.old
-        ++ text_at_level 1 (in_encoding (layout_view layout) Base16) (view item.now)) }
+        ++ text_at_level 1 (in_encoding layout Base16) (view item.now)) }
     ensures unchanged { OnErr result (string_bytes out.new ≡ string_bytes out.old) }
 {
     let start = out.len();

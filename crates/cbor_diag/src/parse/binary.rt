@@ -15,23 +15,23 @@ ghost use Rattle.cbor_diag.specs.View.{view};
 ghost use Rattle.cbor_grammar.specs.WellFormed.{deepest, levels_left};
 ghost use Rattle.cbor_grammar.specs.Written.{encoded};
 ghost use Rattle.cbor_grammar.specs.Answer.{Outcome, spelled};
-ghost use Rattle.cbor_diag.specs.ItemAnswer.{HasOutcome, HasAnswer, Gave, GaveItem};
+ghost use Rattle.cbor_diag.specs.ItemAnswer.{Gave, GaveItem};
 ghost use Rattle.cbor_grammar.specs.Answer.{GaveRefusal, RefusedSo, MayWantMemory, size};
-ghost use Rattle.cbor_diag.specs.ItemAnswer.{HasTurns};
+ghost use Rattle.cbor_diag.specs.mirror.BytesAnswer.{WholeAnswer, FrontAnswer, FrontTurns};
 ghost use Rattle.cbor_grammar.specs.Turns.{item_turns, cut_spent, fault_spent};
 ghost use Rattle.cbor_grammar.specs.Facts.{IsItem, IsStrictItem, BeginsWithItem, IsCut, HasFault};
 ghost use Rattle.cbor_grammar.specs.Facts.{IsNoItem, BeginsSo, BeginsInOneWay, IsWellFormed};
 ghost use Rattle.cbor_grammar.specs.Reading.{Gives, later, no_level_left, read_atom, counted_item};
-ghost use Rattle.cbor_grammar.specs.mirror.Counting.{HoldsContent, Runs, Stops, read_item_head};
-ghost use Rattle.cbor_grammar.specs.mirror.Counting.{resume, resume_with};
-ghost use Rattle.cbor_bytes.specs.mirror.HeadView.{head_view};
+ghost use Rattle.cbor_grammar.specs.mirror.Counting.{HoldsContent, GivesIn, FailsIn};
+ghost use Rattle.cbor_grammar.specs.mirror.Counting.{read_item_head, resume, resume_with};
 ghost use Rattle.cbor_diag.specs.mirror.Stack.{frames};
 
 use crate::syntax::DataItem;
 use cbor_bytes::Turns;
-use cbor_bytes::argument::Argument;
-use cbor_bytes::head::{ItemHead, no_level_left, read_head};
+use cbor_bytes::head::{no_level_left, read_head};
 use cbor_bytes::strings::{read_chunks, read_string};
+use cbor_grammar::argument::Argument;
+use cbor_grammar::head::ItemHead;
 use cbor_grammar::level::DEEPEST;
 use cbor_grammar::strings::StringKind;
 use cbor_grammar::{ByteString, Error, Result, Simple, TextString};
@@ -42,7 +42,7 @@ use std::alloc::Global;
 /// The head of an item at `level`, from 1 to 129. No item is allowed at level 129.
 fn read_item_head(bytes: &[u8], level: usize) -> Result<(ItemHead, &[u8])>
     requires { level ≤ deepest + 1 }
-    ensures gives { Gives (λ x. (head_view x.0, x.1.now)) result
+    ensures gives { Gives (λ x. (x.0, x.1.now)) result
         (read_item_head (levels_left level) bytes.now) }
     ensures shorter { IfOk result (λ x. length x.1.now < length bytes.now) }
     ensures memory { result ≢ Err Error.Memory }
@@ -62,13 +62,13 @@ fn read_atom<'a>(
     turns: &mut Turns,
 ) -> Result<(DataItem, &'a [u8])>
     requires { turns.old + 2 * length bytes.now < 2 ^ 126 }
-    ensures gives { Runs (λ x. (view x.0, x.1.now)) turns.old turns.new result
-        (read_atom (head_view head) bytes.now) }
+    ensures gives { GivesIn (λ x. (view x.0, x.1.now)) turns.old turns.new result
+        (read_atom head bytes.now) }
     ensures falls { IfOk result (λ x.
         turns.new + 2 * length x.1.now ≤ turns.old + 2 * length bytes.now) }
     ensures few { turns.new ≤ turns.old + 2 * length bytes.now + 1 }
     ensures rises { turns.old ≤ turns.new }
-    ensures memory { result ≡ Err Error.Memory → HoldsContent (head_view head) }
+    ensures memory { result ≡ Err Error.Memory → HoldsContent head }
 {
     match head {
         ItemHead::Integer(value, bitwidth) => Ok((DataItem::Integer { value, bitwidth }, bytes)),
@@ -110,7 +110,7 @@ fn turn<'a>(
     ensures gives { IfOk result (λ x.
         later turns.old (resume (levels_left level) (frames stack.old) bytes.now) ≡ later turns.new
         (resume_with (levels_left level) (frames stack.new) (option_map view x.0) x.1.now)) }
-    ensures stops { IfErr result (λ e. Stops e turns.new
+    ensures stops { IfErr result (λ e. FailsIn e turns.new
         (later turns.old (resume (levels_left level) (frames stack.old) bytes.now))) }
     ensures level { IfOk result (λ x. level + length stack.new ≤ deepest + 1) }
     ensures falls { IfOk result (λ x. turns.new + 2 * length x.1.now + length stack.new
@@ -148,7 +148,7 @@ fn read_item<'a>(
 ) -> Result<(DataItem, &'a [u8])>
     requires level { level ≤ deepest + 1 }
     requires bounded { turns.old + 2 * length bytes.now < 2 ^ 126 }
-    ensures gives { Runs (λ x. (view x.0, x.1.now)) turns.old turns.new result
+    ensures gives { GivesIn (λ x. (view x.0, x.1.now)) turns.old turns.new result
         (counted_item (levels_left level) bytes.now) }
     ensures few { turns.new ≤ turns.old + 2 * length bytes.now + 1 }
     ensures rises { turns.old < turns.new }
@@ -167,25 +167,17 @@ fn read_item<'a>(
     }
 }
 
-/// What the bytes begin with, read from `level`: an item and its length, or `None` if the bytes end
-/// before the item does.
-fn read_counted_front(
-    alloc: Global,
-    bytes: &[u8],
-    level: u8,
-    turns: &mut Turns,
-) -> Result<Option<(DataItem, usize)>>
-    requires from { 1 ≤ level }
-    requires to { level ≤ deepest + 1 }
-    requires bounded { turns.old ≤ 2 ^ 64 }
-    ensures outcome { HasOutcome level bytes.now result }
-    ensures counted { HasTurns level bytes.now turns.old turns.new result }
-    ensures within { turns.new ≤ turns.old + (counted_item (levels_left level) bytes.now).0 }
+/// What the bytes begin with: an item and its length, or `None` if the bytes end before the item
+/// does.
+fn read_front(alloc: Global, bytes: &[u8], turns: &mut Turns) -> Result<Option<(DataItem, usize)>>
+    requires { turns.old ≤ 2 ^ 64 }
+    ensures answer { FrontAnswer bytes.now result }
+    ensures turns { FrontTurns bytes.now turns.old turns.new result }
     ensures few { turns.new ≤ turns.old + 2 * length bytes.now + 1 }
     ensures rises { turns.old < turns.new }
     ensures memory { result ≡ Err Error.Memory → MayWantMemory bytes.now }
 {
-    match read_item(alloc, bytes, level, turns) {
+    match read_item(alloc, bytes, 1, turns) {
         Ok((item, rest)) => Ok(Some((item, bytes.len() - rest.len()))),
         Err(error) => match error {
             Error::CutShort => Ok(None),
@@ -194,28 +186,12 @@ fn read_counted_front(
     }
 }
 
-/// The same, without counting turns.
-pub(crate) fn read_front(
-    alloc: Global,
-    bytes: &[u8],
-    level: u8,
-) -> Result<Option<(DataItem, usize)>>
-    requires from { 1 ≤ level }
-    requires to { level ≤ deepest + 1 }
-    ensures outcome { HasOutcome level bytes.now result }
+/// The one item that the bytes are, all of them.
+fn read_whole(alloc: Global, bytes: &[u8]) -> Result<DataItem>
+    ensures answer { WholeAnswer bytes.now result }
     ensures memory { result ≡ Err Error.Memory → MayWantMemory bytes.now }
 {
-    read_counted_front(alloc, bytes, level, &mut Turns::new())
-}
-
-/// The one item that the bytes are, all of them, read from `level`.
-pub(crate) fn read_whole(alloc: Global, bytes: &[u8], level: u8) -> Result<DataItem>
-    requires from { 1 ≤ level }
-    requires to { level ≤ deepest + 1 }
-    ensures answer { HasAnswer level bytes.now result }
-    ensures memory { result ≡ Err Error.Memory → MayWantMemory bytes.now }
-{
-    let (item, rest) = read_item(alloc, bytes, level, &mut Turns::new())?;
+    let (item, rest) = read_item(alloc, bytes, 1, &mut Turns::new())?;
     if rest.is_empty() {
         Ok(item)
     } else {
@@ -258,7 +234,7 @@ pub fn parse_bytes(alloc: Global, bytes: &[u8]) -> Result<DataItem>
     ensures items_bounded { IfOk result (λ i. size (view i) ≤ length bytes.now) }
     ensures fronts_cut { OnOk result ((n : ℕ) → n < length bytes.now → IsCut (take n bytes.now)) }
 {
-    read_whole(alloc, bytes, 1)
+    read_whole(alloc, bytes)
 }
 
 /// Reads one item from the front of the bytes, and returns it with the number of bytes that it
@@ -298,7 +274,7 @@ pub fn parse_bytes_partial(alloc: Global, bytes: &[u8]) -> Result<Option<(DataIt
     ensures well_formed { IfOk result (λ o. IfSome o (λ x. IsWellFormed (view x.0))) }
     ensures memory { result ≡ Err Error.Memory → MayWantMemory bytes.now }
 {
-    parse_bytes_counted(alloc, bytes, &mut Turns::new())
+    read_front(alloc, bytes, &mut Turns::new())
 }
 
 /// Reads as [`parse_bytes_partial`] does, with the same results, and adds the number of its turns
@@ -356,5 +332,5 @@ pub fn parse_bytes_counted(
     ensures within_fault { (e : Error) → (f : HasFault bytes.now e) →
         turns.new ≤ turns.old + (fault_spent f + 1) }
 {
-    read_counted_front(alloc, bytes, 1, turns)
+    read_front(alloc, bytes, turns)
 }

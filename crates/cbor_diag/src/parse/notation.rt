@@ -1,13 +1,13 @@
 //! Reads an item from diagnostic notation (RFC 7049 section 6), by recursion over the levels of
 //! nesting.
 //!
-//! Each private function takes the remaining text, as bytes of UTF-8, and returns a value with the
-//! text after it, or the first error from the left. The first byte decides what comes next, except
-//! for `''_` and `""_`, and for a list's last comma, after which whitespace and the closing byte
-//! are looked for. The text is read once, and a string's first piece once more if the fast path of
-//! `strings` does not apply. What is between `read_core` and the list that keeps its item is
-//! inlined, and a map's loop reads key and value itself, so that an item is not moved from one to
-//! the other.
+//! Each private function reads at a cursor over the text, as bytes of UTF-8. It returns a value and
+//! leaves the cursor behind it, or returns the first error from the left; then the place of the
+//! cursor says nothing. The first byte decides what comes next, except for `''_` and `""_`, and for
+//! a list's last comma, after which whitespace and the closing byte are looked for. The text is
+//! read once, and a string's first piece once more if the fast path of `strings` does not apply.
+//! What is between `read_core` and the list that keeps its item is inlined, and a map's loop reads
+//! key and value itself, so that an item is not moved from one to the other.
 mod fault;
 mod strings;
 mod word;
@@ -30,8 +30,8 @@ ghost use Rattle.cbor_notation.specs.mirror.NotationReading.{read_members, notat
 use crate::syntax::DataItem;
 use cbor_grammar::level::DEEPEST;
 use cbor_grammar::{Error, Result, Tag};
+use cbor_notation::cursor::Cursor;
 use cbor_notation::number::{read_negative_number, read_unsigned_number};
-use cbor_notation::scan::{after_blank, after_byte, after_end, expect_byte, read_length};
 use cbor_notation::start::Start;
 pub use fault::diag_fault;
 use std::alloc::Global;
@@ -42,50 +42,57 @@ use word::read_word;
 /// allowed at level 129.
 #[cycle(diag)]
 #[inline(always)]
-fn read_item(alloc: Global, text: &[u8], level: u8) -> Result<(DataItem, &[u8])>
+fn read_item(alloc: Global, text: &mut Cursor<'_>, level: u8) -> Result<DataItem>
     requires { level ≤ 129 }
-    ensures gives { Gives (λ x. (view x.0, x.1.now)) result
-        (read_item (levels_left level) text.now) }
-    ensures well { IfOk result (λ x. WellFormed level (view x.0)) }
-    ensures shorter { IfOk result (λ x. length x.1.now ≤ length text.now) }
+    ensures gives { Gives (λ x. (view x, text.new)) result
+        (read_item (levels_left level) text.old) }
+    ensures shorter { IfOk result (λ _. length text.new ≤ length text.old) }
+    ensures well { IfOk result (λ x. WellFormed level (view x)) }
 {
     if level > DEEPEST {
         return Err(Error::TooDeep);
     }
-    let (item, rest) = read_core(alloc, after_blank(text), level + 1)?;
-    Ok((item, after_blank(rest)))
+    text.skip_blank();
+    let item = read_core(alloc, text, level + 1)?;
+    text.skip_blank();
+    Ok(item)
 }
 
 /// The item at the front, without the blanks around it; the items in it are at `inner`, from 2 to
 /// 129.
 #[cycle(diag)]
 #[inline(never)]
-fn read_core(alloc: Global, text: &[u8], inner: u8) -> Result<(DataItem, &[u8])>
+fn read_core(alloc: Global, text: &mut Cursor<'_>, inner: u8) -> Result<DataItem>
     requires low { 1 ≤ inner }
     requires high { inner ≤ 129 }
-    ensures gives { Gives (λ x. (view x.0, x.1.now)) result
-        (read_core (read_item (levels_left inner)) text.now) }
-    ensures well { IfOk result (λ x. WellFormed (inner - 1) (view x.0)) }
-    ensures shorter { IfOk result (λ x. length x.1.now ≤ length text.now) }
+    ensures gives { Gives (λ x. (view x, text.new)) result
+        (read_core (read_item (levels_left inner)) text.old) }
+    ensures shorter { IfOk result (λ _. length text.new ≤ length text.old) }
+    ensures well { IfOk result (λ x. WellFormed (inner - 1) (view x)) }
 {
-    let (start, rest) = Start::split(text);
-    match start {
+    match text.start() {
         Start::Digit => integer_or_tag(alloc, text, inner),
         Start::Minus => {
-            let ((value, bitwidth), rest) = read_negative_number(rest)?;
-            Ok((DataItem::Negative { value, bitwidth }, rest))
+            text.skip_byte();
+            let (value, bitwidth) = read_negative_number(text)?;
+            Ok(DataItem::Negative { value, bitwidth })
         }
         Start::Bracket => {
-            let (bitwidth, rest) = read_length(rest);
-            let (content, rest) = read_items(alloc, b']', rest, inner)?;
-            Ok((DataItem::Array { content, bitwidth }, rest))
+            text.skip_byte();
+            let bitwidth = text.take_length();
+            let content = read_items(alloc, b']', text, inner)?;
+            Ok(DataItem::Array { content, bitwidth })
         }
         Start::Brace => {
-            let (bitwidth, rest) = read_length(rest);
-            let (content, rest) = read_pairs(alloc, rest, inner)?;
-            Ok((DataItem::Map { content, bitwidth }, rest))
+            text.skip_byte();
+            let bitwidth = text.take_length();
+            let content = read_pairs(alloc, text, inner)?;
+            Ok(DataItem::Map { content, bitwidth })
         }
-        Start::Parenthesis => read_chunks(alloc, rest, inner),
+        Start::Parenthesis => {
+            text.skip_byte();
+            read_chunks(alloc, text, inner)
+        }
         Start::Apostrophe | Start::Angle | Start::LetterB | Start::LetterH => {
             read_byte_item(alloc, text, inner)
         }
@@ -96,81 +103,78 @@ fn read_core(alloc: Global, text: &[u8], inner: u8) -> Result<(DataItem, &[u8])>
 
 /// An integer, or a tag if a parenthesis follows its number.
 #[cycle(diag)]
-fn integer_or_tag(alloc: Global, text: &[u8], inner: u8) -> Result<(DataItem, &[u8])>
+fn integer_or_tag(alloc: Global, text: &mut Cursor<'_>, inner: u8) -> Result<DataItem>
     requires low { 1 ≤ inner }
     requires high { inner ≤ 129 }
-    ensures gives { Gives (λ x. (view x.0, x.1.now)) result
-        (read_integer (read_item (levels_left inner)) text.now) }
-    ensures well { IfOk result (λ x. WellFormed (inner - 1) (view x.0)) }
-    ensures shorter { IfOk result (λ x. length x.1.now ≤ length text.now) }
+    ensures gives { Gives (λ x. (view x, text.new)) result
+        (read_integer (read_item (levels_left inner)) text.old) }
+    ensures shorter { IfOk result (λ _. length text.new ≤ length text.old) }
+    ensures well { IfOk result (λ x. WellFormed (inner - 1) (view x)) }
 {
-    let ((number, bitwidth), after) = read_unsigned_number(text)?;
-    let Some(rest) = after_byte(after, b'(') else {
+    let (number, bitwidth) = read_unsigned_number(text)?;
+    if !text.take_byte(b'(') {
         let value = number;
-        return Ok((DataItem::Integer { value, bitwidth }, after));
-    };
-    let (value, rest) = read_item(alloc, rest, inner)?;
-    let rest = expect_byte(rest, b')')?;
+        return Ok(DataItem::Integer { value, bitwidth });
+    }
+    let value = read_item(alloc, text, inner)?;
+    text.expect_byte(b')')?;
     let (tag, value) = (Tag(number), Box::new(alloc, value)?);
-    Ok((
-        DataItem::Tag {
-            tag,
-            bitwidth,
-            value,
-        },
-        rest,
-    ))
+    Ok(DataItem::Tag {
+        tag,
+        bitwidth,
+        value,
+    })
 }
 
 /// The items of a list after its opening byte, up to its closing byte. Memory is reserved for two
 /// at first, since many lists are no longer.
 #[cycle(diag)]
-fn read_items(alloc: Global, close: u8, text: &[u8], level: u8) -> Result<(Vec<DataItem>, &[u8])>
+fn read_items(alloc: Global, close: u8, text: &mut Cursor<'_>, level: u8) -> Result<Vec<DataItem>>
     requires { level ≤ 129 }
-    ensures gives { Gives (λ x. (map view x.0.items, x.1.now)) result
-        (read_members (read_item (levels_left level)) close text.now) }
-    ensures well { IfOk result (λ x. WellFormedItems level (items_view x.0.items)) }
-    ensures shorter { IfOk result (λ x. length x.1.now ≤ length text.now) }
+    ensures gives { Gives (λ x. (map view x.items, text.new)) result
+        (read_members (read_item (levels_left level)) close text.old) }
+    ensures shorter { IfOk result (λ _. length text.new ≤ length text.old) }
+    ensures well { IfOk result (λ x. WellFormedItems level (items_view x.items)) }
 {
-    let mut rest = after_blank(text);
-    if let Some(after) = after_end(rest, close) {
-        return Ok((Vec::new(alloc), after));
+    text.skip_blank();
+    if text.take_end(close) {
+        return Ok(Vec::new(alloc));
     }
     let mut items = Vec::with_capacity(alloc, 2)?;
     'items: loop {
-        let (item, after) = read_item(alloc, rest, level)?;
+        let item = read_item(alloc, text, level)?;
         items.push(item)?;
-        if let Some(end) = after_end(after, close) {
-            return Ok((items, end));
+        let more = text.take_comma(close)?;
+        if !more {
+            return Ok(items);
         }
-        rest = expect_byte(after, b',')?;
     }
 }
 
 /// The pairs of a map after its opening byte, up to its closing byte. Memory is reserved for one at
 /// first.
 #[cycle(diag)]
-fn read_pairs(alloc: Global, text: &[u8], level: u8) -> Result<(Vec<(DataItem, DataItem)>, &[u8])>
+fn read_pairs(alloc: Global, text: &mut Cursor<'_>, level: u8) -> Result<Vec<(DataItem, DataItem)>>
     requires { level ≤ 129 }
-    ensures gives { Gives (λ x. (map (λ p. (view p.0, view p.1)) x.0.items, x.1.now)) result
-        (read_members (read_pair (read_item (levels_left level))) 125 text.now) }
-    ensures well { IfOk result (λ x. WellFormedPairs level (pairs_view x.0.items)) }
-    ensures shorter { IfOk result (λ x. length x.1.now ≤ length text.now) }
+    ensures gives { Gives (λ x. (map (λ p. (view p.0, view p.1)) x.items, text.new)) result
+        (read_members (read_pair (read_item (levels_left level))) 125 text.old) }
+    ensures shorter { IfOk result (λ _. length text.new ≤ length text.old) }
+    ensures well { IfOk result (λ x. WellFormedPairs level (pairs_view x.items)) }
 {
-    let mut rest = after_blank(text);
-    if let Some(after) = after_end(rest, b'}') {
-        return Ok((Vec::new(alloc), after));
+    text.skip_blank();
+    if text.take_end(b'}') {
+        return Ok(Vec::new(alloc));
     }
     let mut pairs = Vec::with_capacity(alloc, 1)?;
     'pairs: loop {
-        let (key, after_key) = read_item(alloc, rest, level)?;
-        let next = expect_byte(after_key, b':')?;
-        let (value, after) = read_item(alloc, next, level)?;
+        let key = read_item(alloc, text, level)?;
+        text.expect_byte(b':')?;
+        let value = read_item(alloc, text, level)?;
         pairs.push((key, value))?;
-        if let Some(end) = after_end(after, b'}') {
-            return Ok((pairs, end));
+        let more = text.take_comma(b'}')?;
+        if !more {
+            return Ok(pairs);
         }
-        rest = expect_byte(after, b',')?;
     }
 }
 
@@ -179,7 +183,8 @@ fn whole_text(alloc: Global, text: &str) -> Result<DataItem>
     ensures gives { Gives view result (notation_of deepest text.now) }
     ensures well_formed { IfOk result (λ i. IsWellFormed (view i)) }
 {
-    let (item, rest) = read_item(alloc, text.as_bytes(), 1)?;
+    let mut rest = Cursor::new(text.as_bytes());
+    let item = read_item(alloc, &mut rest, 1)?;
     if !rest.is_empty() {
         return Err(Error::Notation);
     }

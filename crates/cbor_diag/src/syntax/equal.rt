@@ -1,10 +1,10 @@
 //! Whether items are equal, written out since a derived `==` says nothing of a type that holds
 //! itself.
 ghost use Rattle.std.specs.Prelude.{◌≡◌, ◌↔◌, IsTrue, map};
+ghost use Rattle.cbor_grammar.specs.declared.strings.StringKind.TheVariants.{Bytes, Text};
 ghost use Rattle.cbor_grammar.specs.Item as spec;
 ghost use Rattle.cbor_grammar.specs.Item.{atom, integer, negative, float};
 ghost use Rattle.cbor_grammar.specs.Item.{chunked_string, array, tagged};
-ghost use Rattle.cbor_grammar.specs.StringKind.{bytes_kind, text_kind};
 ghost use Rattle.std.specs.Cmp.{on_equiv, partial_equiv_from_equiv};
 ghost use Rattle.cbor_diag.specs.View.{view, items_view, pairs_view};
 ghost use Rattle.cbor_grammar.specs.Strings.{byte_chunk, text_chunk};
@@ -84,7 +84,7 @@ impl DataItem {
     /// Whether the item is this byte string.
     fn is_byte_string(&self, string: &ByteString) -> bool
         ensures { IsTrue result
-            ↔ (view self.now ≡ atom (spec.string bytes_kind (byte_chunk string.now))) }
+            ↔ (view self.now ≡ atom (spec.string Bytes (byte_chunk string.now))) }
     {
         match self {
             DataItem::ByteString(own) => own == string,
@@ -95,7 +95,7 @@ impl DataItem {
     /// Whether the item is this text string.
     fn is_text_string(&self, string: &TextString) -> bool
         ensures { IsTrue result
-            ↔ (view self.now ≡ atom (spec.string text_kind (text_chunk string.now))) }
+            ↔ (view self.now ≡ atom (spec.string Text (text_chunk string.now))) }
     {
         match self {
             DataItem::TextString(own) => own == string,
@@ -106,7 +106,7 @@ impl DataItem {
     /// Whether the item is the byte string of these chunks.
     fn is_byte_chunks(&self, chunks: &[ByteString]) -> bool
         ensures { IsTrue result
-            ↔ (view self.now ≡ atom (chunked_string bytes_kind (map byte_chunk chunks.now))) }
+            ↔ (view self.now ≡ atom (chunked_string Bytes (map byte_chunk chunks.now))) }
     {
         match self {
             DataItem::IndefiniteByteString(own) => chunks_equal(own, chunks),
@@ -117,7 +117,7 @@ impl DataItem {
     /// Whether the item is the text string of these chunks.
     fn is_text_chunks(&self, chunks: &[TextString]) -> bool
         ensures { IsTrue result
-            ↔ (view self.now ≡ atom (chunked_string text_kind (map text_chunk chunks.now))) }
+            ↔ (view self.now ≡ atom (chunked_string Text (map text_chunk chunks.now))) }
     {
         match self {
             DataItem::IndefiniteTextString(own) => chunks_equal(own, chunks),

@@ -7,28 +7,24 @@ use Rattle.cbor_grammar.specs.declared.width.IntegerWidth.{IntegerWidth}
 use Rattle.cbor_grammar.specs.declared.width.IntegerWidth.TheVariants as width
 use Rattle.cbor_grammar.specs.declared.width.FloatWidth.TheVariants as float_width
 use Rattle.cbor_grammar.specs.declared.strings.StringContent.{StringContent}
-use Rattle.cbor_grammar.specs.declared.strings.StringKind as code_kind
+use Rattle.cbor_grammar.specs.declared.strings.StringKind.{StringKind}
+use Rattle.cbor_grammar.specs.StringKind.{major_of}
 use Rattle.cbor_dump.specs.declared.width.Place.{Place}
-use Rattle.cbor_bytes.specs.declared.head.ItemHead as code_head
-use Rattle.cbor_bytes.specs.declared.head.ItemHead.TheVariants as code
-use Rattle.cbor_bytes.specs.declared.argument.Argument as code_argument
-use Rattle.cbor_bytes.specs.declared.argument.Argument.TheVariants.{Number, Indefinite}
-use Rattle.cbor_grammar.specs.Argument.{Argument, number, indefinite}
+use Rattle.cbor_grammar.specs.declared.head.ItemHead.{ItemHead}
+use Rattle.cbor_grammar.specs.declared.argument.Argument.{Argument}
+use Rattle.cbor_grammar.specs.declared.argument.Argument.TheVariants.{Number, Indefinite}
 use Rattle.cbor_grammar.specs.Item as spec
 use Rattle.cbor_grammar.specs.Item.{Chunk, integer, negative, string, chunked_string, float, simple, Item, atom, array}
 use Rattle.cbor_grammar.specs.Item.{tagged, Items, no_items, item, Pairs, no_pairs, pair, item_count, pair_count}
-use Rattle.cbor_grammar.specs.ItemHead as item_head
-use Rattle.cbor_grammar.specs.ItemHead.{ItemHead}
+use Rattle.cbor_grammar.specs.declared.head.ItemHead.TheVariants as item_head
 use Rattle.cbor_grammar.specs.Head.{head, stated, FitsStated, HeadThen}
 use Rattle.cbor_grammar.specs.Bytes.{any, SpellsSimple}
 use Rattle.cbor_grammar.specs.Reading.{Fails, ◌>>=◌, count_width, joined, joined_pairs, read_head, read_content}
 use Rattle.cbor_grammar.specs.Reading.{read_chunk, read_item, tag_of}
-use Rattle.cbor_grammar.specs.StringKind.{StringKind, major_of}
 use Rattle.cbor_grammar.specs.WellFormed.{levels_left}
 use Rattle.cbor_grammar.specs.Written.{encoded_head, encoded_open, encoded_simple}
-use Rattle.cbor_bytes.specs.mirror.HeadView.{argument_view, head_view}
 use Rattle.cbor_dump.specs.mirror.Dumped.{tag_number}
-use Rattle.cbor_bytes.specs.mirror.HeadView.{left_of}
+use Rattle.cbor_grammar.specs.mirror.Lengths.{left_of}
 use Rattle.cbor_grammar.specs.mirror.StringView.{borrowed_chunk, bytes_of, kind_of}
 use Rattle.cbor_dump.specs.mirror.Widths.{head_reach, longest_piece, content_width, string_width, chunks_width}
 use Rattle.cbor_dump.specs.mirror.Widths.{piece_reach, head_length, close_width, items_width, pairs_width, width_at}
@@ -63,11 +59,11 @@ head_taken major n k w b rest h =
 
 open_taken : (major k : ℕ) (a : Argument) (b rest : List ℕ) → ArgumentThen major a b rest
     → length (encoded_open major k (count_width a)) ≡ length b - length rest
-open_taken major k (number n w) b rest h = head_taken major n k w b rest h
-open_taken major k indefinite b rest h = let all = ap length h in omega arith
+open_taken major k (Number n w) b rest h = head_taken major n k w b rest h
+open_taken major k Indefinite b rest h = let all = ap length h in omega arith
 
 simple_taken : (n : ℕ) (x b rest : List ℕ) → b ≡ x ++ rest → SpellsSimple any x n
-    → length (encoded_simple n) ≡ shown_length (item_head.simple n) (length b - length rest)
+    → length (encoded_simple n) ≡ shown_length (item_head.Simple n) (length b - length rest)
 simple_taken n x b rest is (inl h) = grind (arith, nat_tests, h.0)
 simple_taken n x b rest is (inr h) =
     let all = ap length is in
@@ -78,33 +74,33 @@ simple_taken n x b rest is (inr h) =
 -- as many bytes as the head of an item took stand in its dump
 length_taken : (h : ItemHead) (b rest : List ℕ) (i : Item) → HeadIs h b rest → HasHead h i
     → head_length i ≡ shown_length h (length b - length rest)
-length_taken (item_head.integer n w) b rest i is has = ap head_length has ∙ head_taken 0 n n w b rest is
-length_taken (item_head.negative n w) b rest i is has = ap head_length has ∙ head_taken 1 n n w b rest is
-length_taken (item_head.string kind (number n w)) b rest i is has =
+length_taken (item_head.Integer n w) b rest i is has = ap head_length has ∙ head_taken 0 n n w b rest is
+length_taken (item_head.Negative n w) b rest i is has = ap head_length has ∙ head_taken 1 n n w b rest is
+length_taken (item_head.String kind (Number n w)) b rest i is has =
     let k : ℕ = length has.0.bytes in
     ap head_length has.1 ∙ ap (λ v. length (encoded_head (major_of kind) k v)) has.2
     ∙ head_taken (major_of kind) n k w b rest is
-length_taken (item_head.string kind indefinite) b rest i is has =
+length_taken (item_head.String kind Indefinite) b rest i is has =
     let all = ap length is in
     let one : 1 ≡ length b - length rest = omega arith in
     ap head_length has.1 ∙ one
-length_taken (item_head.array a) b rest i is has = ap head_length has.1 ∙ open_taken 4 (item_count has.0) a b rest is
-length_taken (item_head.map a) b rest i is has = ap head_length has.1 ∙ open_taken 5 (pair_count has.0) a b rest is
-length_taken (item_head.tag t w) b rest i is has = ap head_length has.1 ∙ head_taken 6 t t w b rest is
-length_taken (item_head.float bits float_width.Unknown) b rest i is has = absurd is
-length_taken (item_head.float bits float_width.Sixteen) b rest i is has =
+length_taken (item_head.Array a) b rest i is has = ap head_length has.1 ∙ open_taken 4 (item_count has.0) a b rest is
+length_taken (item_head.Map a) b rest i is has = ap head_length has.1 ∙ open_taken 5 (pair_count has.0) a b rest is
+length_taken (item_head.Tag t w) b rest i is has = ap head_length has.1 ∙ head_taken 6 t t w b rest is
+length_taken (item_head.Float bits float_width.Unknown) b rest i is has = absurd is
+length_taken (item_head.Float bits float_width.Sixteen) b rest i is has =
     let all = ap length is.1 in
     let three : 3 ≡ length b - length rest = omega arith in
     ap head_length has ∙ three
-length_taken (item_head.float bits float_width.ThirtyTwo) b rest i is has =
+length_taken (item_head.Float bits float_width.ThirtyTwo) b rest i is has =
     let all = ap length is.1 in
     let five : 5 ≡ length b - length rest = omega arith in
     ap head_length has ∙ five
-length_taken (item_head.float bits float_width.SixtyFour) b rest i is has =
+length_taken (item_head.Float bits float_width.SixtyFour) b rest i is has =
     let all = ap length is.1 in
     let nine : 9 ≡ length b - length rest = omega arith in
     ap head_length has ∙ nine
-length_taken (item_head.simple n) b rest i is has = ap head_length has ∙ simple_taken n is.0 b rest is.1 is.2
+length_taken (item_head.Simple n) b rest i is has = ap head_length has ∙ simple_taken n is.0 b rest is.1 is.2
 
 taken_short : (major n : ℕ) (w : IntegerWidth) (b rest : List ℕ) → HeadThen major n w b (λ r. r ≡ rest)
     → length b - length rest ≤ 9
@@ -121,22 +117,22 @@ taken_short major n w b rest h =
 
 argument_short : (major : ℕ) (a : Argument) (b rest : List ℕ) → ArgumentThen major a b rest
     → length b - length rest ≤ 9
-argument_short major (number n w) b rest h = taken_short major n w b rest h
-argument_short major indefinite b rest h = let all = ap length h in omega arith
+argument_short major (Number n w) b rest h = taken_short major n w b rest h
+argument_short major Indefinite b rest h = let all = ap length h in omega arith
 
 -- a head takes at most 9 bytes
 short_of : (h : ItemHead) (b rest : List ℕ) → HeadIs h b rest → length b - length rest ≤ 9
-short_of (item_head.integer n w) b rest is = taken_short 0 n w b rest is
-short_of (item_head.negative n w) b rest is = taken_short 1 n w b rest is
-short_of (item_head.string kind a) b rest is = argument_short (major_of kind) a b rest is
-short_of (item_head.array a) b rest is = argument_short 4 a b rest is
-short_of (item_head.map a) b rest is = argument_short 5 a b rest is
-short_of (item_head.tag t w) b rest is = taken_short 6 t w b rest is
-short_of (item_head.float bits float_width.Unknown) b rest is = absurd is
-short_of (item_head.float bits float_width.Sixteen) b rest is = let all = ap length is.1 in omega arith
-short_of (item_head.float bits float_width.ThirtyTwo) b rest is = let all = ap length is.1 in omega arith
-short_of (item_head.float bits float_width.SixtyFour) b rest is = let all = ap length is.1 in omega arith
-short_of (item_head.simple n) b rest is = simple_short is.0 b rest is.1 is.2
+short_of (item_head.Integer n w) b rest is = taken_short 0 n w b rest is
+short_of (item_head.Negative n w) b rest is = taken_short 1 n w b rest is
+short_of (item_head.String kind a) b rest is = argument_short (major_of kind) a b rest is
+short_of (item_head.Array a) b rest is = argument_short 4 a b rest is
+short_of (item_head.Map a) b rest is = argument_short 5 a b rest is
+short_of (item_head.Tag t w) b rest is = taken_short 6 t w b rest is
+short_of (item_head.Float bits float_width.Unknown) b rest is = absurd is
+short_of (item_head.Float bits float_width.Sixteen) b rest is = let all = ap length is.1 in omega arith
+short_of (item_head.Float bits float_width.ThirtyTwo) b rest is = let all = ap length is.1 in omega arith
+short_of (item_head.Float bits float_width.SixtyFour) b rest is = let all = ap length is.1 in omega arith
+short_of (item_head.Simple n) b rest is = simple_short is.0 b rest is.1 is.2
   where
     simple_short : (x b rest : List ℕ) → b ≡ x ++ rest → SpellsSimple any x n → length b - length rest ≤ 9
     simple_short x b rest e (inl h) =
@@ -151,7 +147,7 @@ short_of (item_head.simple n) b rest is = simple_short is.0 b rest is.1 is.2
         omega arith
 
 shown_low : (h : ItemHead) (taken : ℕ) → taken ≤ 9 → shown_length h taken ≤ 9
-shown_low (item_head.simple n) taken le = grind (arith, nat_tests)
+shown_low (item_head.Simple n) taken le = grind (arith, nat_tests)
 shown_low _ taken le = le
 
 pub head_low : (b rest : List ℕ) (h : ItemHead) → IsBytes b → read_head b ≡ Ok (h, rest)
@@ -186,27 +182,27 @@ no_more : (a : ℕ) → a ≡ max a 0
 no_more a = omega arith
 
 -- an item that is its head
-pub alone_measured : (p : Place) (h : code_head.ItemHead) (b : List ℕ) (n : ℕ)
-    → ((k : code_kind.StringKind) (a : code_argument.Argument) → h ≡ code.String k a → ⊥)
-    → ((a : code_argument.Argument) → h ≡ code.Array a → ⊥) → ((a : code_argument.Argument) → h ≡ code.Map a → ⊥)
-    → ((t : ℕ) (w : IntegerWidth) → h ≡ code.Tag t w → ⊥) → MeasuredBehind p (head_view h) b b n n
-alone_measured p (code.Integer m w) b n no_string no_array no_map no_tag =
+pub alone_measured : (p : Place) (h : ItemHead) (b : List ℕ) (n : ℕ)
+    → ((k : StringKind) (a : Argument) → h ≡ item_head.String k a → ⊥)
+    → ((a : Argument) → h ≡ item_head.Array a → ⊥) → ((a : Argument) → h ≡ item_head.Map a → ⊥)
+    → ((t : ℕ) (w : IntegerWidth) → h ≡ item_head.Tag t w → ⊥) → MeasuredBehind p h b b n n
+alone_measured p (item_head.Integer m w) b n no_string no_array no_map no_tag =
     (atom (integer m w), refl, refl, no_more n)
-alone_measured p (code.Negative m w) b n no_string no_array no_map no_tag =
+alone_measured p (item_head.Negative m w) b n no_string no_array no_map no_tag =
     (atom (negative m w), refl, refl, no_more n)
-alone_measured p (code.String k a) b n no_string no_array no_map no_tag = absurd (no_string k a refl)
-alone_measured p (code.Array a) b n no_string no_array no_map no_tag = absurd (no_array a refl)
-alone_measured p (code.Map a) b n no_string no_array no_map no_tag = absurd (no_map a refl)
-alone_measured p (code.Tag t w) b n no_string no_array no_map no_tag = absurd (no_tag t w refl)
-alone_measured p (code.Float bits w) b n no_string no_array no_map no_tag =
+alone_measured p (item_head.String k a) b n no_string no_array no_map no_tag = absurd (no_string k a refl)
+alone_measured p (item_head.Array a) b n no_string no_array no_map no_tag = absurd (no_array a refl)
+alone_measured p (item_head.Map a) b n no_string no_array no_map no_tag = absurd (no_map a refl)
+alone_measured p (item_head.Tag t w) b n no_string no_array no_map no_tag = absurd (no_tag t w refl)
+alone_measured p (item_head.Float bits w) b n no_string no_array no_map no_tag =
     (atom (float bits w), refl, refl, no_more n)
-alone_measured p (code.Simple m) b n no_string no_array no_map no_tag = (atom (simple m), refl, refl, no_more n)
+alone_measured p (item_head.Simple m) b n no_string no_array no_map no_tag = (atom (simple m), refl, refl, no_more n)
 
 -- a tag, and the value right below it
 pub tag_measured : (p below : Place) (t : ℕ) (w : IntegerWidth) (b after : List ℕ) (old new : ℕ)
     → below.level ≡ p.level + 1 → below.depth ≡ p.depth + 1 → tag_number below.tag ≡ Some t
     → Measured (width_there below) (read_at below.level b) after old new
-    → MeasuredBehind p (item_head.tag t w) b after old new
+    → MeasuredBehind p (item_head.Tag t w) b after old new
 tag_measured p below t w b after old new level depth tag m =
     let left : ℕ = levels_left (p.level + 1) in
     let j : Item = m.0 in
@@ -218,7 +214,7 @@ tag_measured p below t w b after old new level depth tag m =
 
 -- what is not the item below a tag
 pub tag_behind_fails : (level inner t : ℕ) (w : IntegerWidth) (b : List ℕ) (e : Error) → inner ≡ level + 1
-    → Fails e (read_at inner b) → Fails e (read_behind level (item_head.tag t w) b)
+    → Fails e (read_at inner b) → Fails e (read_behind level (item_head.Tag t w) b)
 tag_behind_fails level inner t w b e same fails =
     part_fails e (levels_left (level + 1)) (tag_of t w) b refl (subst (λ n. Fails e (read_at n b)) same fails)
 
@@ -228,8 +224,7 @@ pub none_yet : (a : ℕ) → a ≡ max a 0
 none_yet a = no_more a
 
 -- however many members are held, the width of their count is the same
-pub held_width : (len : code_argument.Argument) (held : ℕ) → count_width (left_of len held) ≡ count_width
-    (argument_view len)
+pub held_width : (len : Argument) (held : ℕ) → count_width (left_of len held) ≡ count_width len
 held_width (Number n w) held = refl
 held_width Indefinite held = refl
 
@@ -270,10 +265,9 @@ module _ (p inner : Place) (level : inner.level ≡ p.level + 1) (depth : inner.
       ∙ ap (λ x. width_at (levels_left (p.level + 1)) (p.depth + 1) x) tag
 
   pub array_measured : (a : Argument) (b after : List ℕ) (is : Items) (old now new : ℕ)
-      → read_behind p.level (item_head.array a) b ≡ Ok (array is (count_width a), after)
+      → read_behind p.level (item_head.Array a) b ≡ Ok (array is (count_width a), after)
       → now ≡ max old (items_width (width_there inner) is)
-      → new ≡ max now (close_width inner.depth (count_width a))
-      → MeasuredBehind p (item_head.array a) b after old new
+      → new ≡ max now (close_width inner.depth (count_width a)) → MeasuredBehind p (item_head.Array a) b after old new
   array_measured a b after is old now new read members end = (
     array is (count_width a),
     read,
@@ -285,10 +279,9 @@ module _ (p inner : Place) (level : inner.level ≡ p.level + 1) (depth : inner.
   )
 
   pub map_measured : (a : Argument) (b after : List ℕ) (ps : Pairs) (old now new : ℕ)
-      → read_behind p.level (item_head.map a) b ≡ Ok (spec.map ps (count_width a), after)
+      → read_behind p.level (item_head.Map a) b ≡ Ok (spec.map ps (count_width a), after)
       → now ≡ max old (pairs_width (width_there inner) ps)
-      → new ≡ max now (close_width inner.depth (count_width a))
-      → MeasuredBehind p (item_head.map a) b after old new
+      → new ≡ max now (close_width inner.depth (count_width a)) → MeasuredBehind p (item_head.Map a) b after old new
   map_measured a b after ps old now new read members end = (
     spec.map ps (count_width a),
     read,
@@ -305,7 +298,7 @@ pub string_measured : (p : Place) (kind : StringKind) (n : ℕ) (w : IntegerWidt
     (old new found : ℕ) → kind_of s ≡ kind → read_content kind n w b ≡ Ok (borrowed_chunk w s, after)
     → found ≡ longest_piece (kind_of s) (tag_number p.tag) (bytes_of s)
     → new ≡ max old (piece_reach (p.depth + 1) found)
-    → MeasuredBehind p (item_head.string kind (number n w)) b after old new
+    → MeasuredBehind p (item_head.String kind (Number n w)) b after old new
 string_measured p kind n w s b after old new found same read long counted = (
   atom (string kind (borrowed_chunk w s)),
   ap (λ r. r >>= λ c. Ok (atom (string kind c.0), c.1)) read,
@@ -363,9 +356,9 @@ chunk_counted kind depth cs w s b after old now new fits same read before counte
     ∙ ap (max old) (sym (chunks_more kind depth cs c))
 
 pub chunks_measured : (p : Place) (kind : StringKind) (b after : List ℕ) (cs : List Chunk) (old now new : ℕ)
-    → read_behind p.level (item_head.string kind indefinite) b ≡ Ok (atom (chunked_string kind cs), after)
+    → read_behind p.level (item_head.String kind Indefinite) b ≡ Ok (atom (chunked_string kind cs), after)
     → now ≡ max old (chunks_width kind (p.depth + 1) cs) → new ≡ max now (head_reach (p.depth + 1) 1)
-    → MeasuredBehind p (item_head.string kind indefinite) b after old new
+    → MeasuredBehind p (item_head.String kind Indefinite) b after old new
 chunks_measured p kind b after cs old now new read chunks end = (
   atom (chunked_string kind cs),
   read,

@@ -17,13 +17,11 @@ use Rattle.cbor_grammar.specs.declared.strings.StringContent.{StringContent}
 use Rattle.cbor_dump.specs.declared.context.DumpContext.{DumpContext}
 use Rattle.cbor_dump.specs.declared.walk.Walk.{Walk}
 use Rattle.cbor_dump.specs.declared.writer.Writer.{Writer}
-use Rattle.cbor_bytes.specs.declared.argument.Argument as code_argument
-use Rattle.cbor_bytes.specs.declared.argument.Argument.TheVariants as code_length
-use Rattle.cbor_bytes.specs.declared.head.ItemHead as code_head
-use Rattle.cbor_bytes.specs.declared.head.ItemHead.TheVariants as code
-use Rattle.cbor_grammar.specs.declared.strings.StringKind as code_kind
-use Rattle.cbor_grammar.specs.declared.strings.StringKind.TheVariants as code_kinds
-use Rattle.cbor_grammar.specs.Argument.{number, indefinite}
+use Rattle.cbor_grammar.specs.declared.argument.Argument.{Argument}
+use Rattle.cbor_grammar.specs.declared.argument.Argument.TheVariants.{Number, Indefinite}
+use Rattle.cbor_grammar.specs.declared.head.ItemHead.{ItemHead}
+use Rattle.cbor_grammar.specs.declared.strings.StringKind.{StringKind}
+use Rattle.cbor_grammar.specs.declared.strings.StringKind.TheVariants.{Bytes, Text}
 use Rattle.cbor_grammar.specs.Dump.{below, inside, break_line, close_lines, items_lines, pairs_lines, lines_at_level}
 use Rattle.cbor_grammar.specs.Dump.{shared_from, shared_in, shared_in_items, shared_in_pairs, string_content_lines}
 use Rattle.cbor_grammar.specs.Dump.{string_lines}
@@ -34,21 +32,18 @@ use Rattle.cbor_grammar.specs.Item as spec
 use Rattle.cbor_grammar.specs.Item.{Chunk, Item, atom, integer, negative, float, simple, string, chunked_string, array}
 use Rattle.cbor_grammar.specs.Item.{tagged, Items, no_items, Pairs, no_pairs}
 use Rattle.cbor_grammar.specs.Item.{item_count, pair_count}
-use Rattle.cbor_grammar.specs.ItemHead as item_head
-use Rattle.cbor_grammar.specs.ItemHead.{ItemHead}
+use Rattle.cbor_grammar.specs.declared.head.ItemHead.TheVariants as item_head
 use Rattle.cbor_grammar.specs.Reading.{head_of, read_head, read_content, read_chunks, after_members, items_in, pairs_in}
 use Rattle.cbor_grammar.specs.Reading.{count_width, Read, Fails}
 use Rattle.cbor_grammar.specs.Notes.{Note, value_note}
-use Rattle.cbor_grammar.specs.StringKind.{StringKind, bytes_kind}
 use Rattle.cbor_grammar.specs.WellFormed.{levels_left}
 use Rattle.cbor_grammar.specs.mirror.AtLevel.{read_at, read_behind}
 use Rattle.cbor_dump.specs.mirror.Dumped.{context_view, item_lines, items_there, pairs_there, notes_there, line_of_head}
 use Rattle.cbor_dump.specs.mirror.Dumped.{value_note_there, whole_note_there, sequence_notes_there, embedded_lines}
 use Rattle.cbor_dump.specs.mirror.Dumped.{dump_at}
 use Rattle.cbor_dump.specs.mirror.Dumped.{Wrote, Dumped, DumpedBehind, line_after, own_line}
-use Rattle.cbor_bytes.specs.mirror.HeadView.{argument_view, head_view}
-use Rattle.cbor_bytes.specs.mirror.HeadView.{left_of}
-use Rattle.cbor_grammar.specs.mirror.StringView.{kind_view, kind_of, bytes_of, borrowed_chunk}
+use Rattle.cbor_grammar.specs.mirror.Lengths.{left_of}
+use Rattle.cbor_grammar.specs.mirror.StringView.{kind_of, bytes_of, borrowed_chunk}
 use Rattle.cbor_grammar.proofs.bytes.Chunks.{content_takes}
 use Rattle.cbor_grammar.proofs.bytes.Found.{item_takes}
 use Rattle.cbor_grammar.proofs.bytes.Heads.{IsBytes, head_again, ok_is}
@@ -95,44 +90,43 @@ alone c h b walk i reads parts none = record {
 }
 
 -- an item without parts ends with its head
-pub alone_dumped : (c : DumpContext) (h : code_head.ItemHead) (b : List ℕ) (walk : Walk)
-    → ((k : code_kind.StringKind) (a : code_argument.Argument) → h ≡ code.String k a → ⊥)
-    → ((a : code_argument.Argument) → h ≡ code.Array a → ⊥) → ((a : code_argument.Argument) → h ≡ code.Map a → ⊥)
-    → ((t : ℕ) (w : IntegerWidth) → h ≡ code.Tag t w → ⊥) → DumpedBehind c (head_view h) b b walk walk
-alone_dumped c (code.Integer n w) b walk no_string no_array no_map no_tag =
-    alone c (item_head.integer n w) b walk (atom (integer n w)) refl refl refl
-alone_dumped c (code.Negative n w) b walk no_string no_array no_map no_tag =
-    alone c (item_head.negative n w) b walk (atom (negative n w)) refl refl refl
-alone_dumped c (code.String k a) b walk no_string no_array no_map no_tag = absurd (no_string k a refl)
-alone_dumped c (code.Array a) b walk no_string no_array no_map no_tag = absurd (no_array a refl)
-alone_dumped c (code.Map a) b walk no_string no_array no_map no_tag = absurd (no_map a refl)
-alone_dumped c (code.Tag t w) b walk no_string no_array no_map no_tag = absurd (no_tag t w refl)
-alone_dumped c (code.Float bits w) b walk no_string no_array no_map no_tag =
-    alone c (item_head.float bits w) b walk (atom (float bits w)) refl refl refl
-alone_dumped c (code.Simple n) b walk no_string no_array no_map no_tag =
-    alone c (item_head.simple n) b walk (atom (simple n)) refl refl refl
+pub alone_dumped : (c : DumpContext) (h : ItemHead) (b : List ℕ) (walk : Walk)
+    → ((k : StringKind) (a : Argument) → h ≡ item_head.String k a → ⊥)
+    → ((a : Argument) → h ≡ item_head.Array a → ⊥) → ((a : Argument) → h ≡ item_head.Map a → ⊥)
+    → ((t : ℕ) (w : IntegerWidth) → h ≡ item_head.Tag t w → ⊥) → DumpedBehind c h b b walk walk
+alone_dumped c (item_head.Integer n w) b walk no_string no_array no_map no_tag =
+    alone c (item_head.Integer n w) b walk (atom (integer n w)) refl refl refl
+alone_dumped c (item_head.Negative n w) b walk no_string no_array no_map no_tag =
+    alone c (item_head.Negative n w) b walk (atom (negative n w)) refl refl refl
+alone_dumped c (item_head.String k a) b walk no_string no_array no_map no_tag = absurd (no_string k a refl)
+alone_dumped c (item_head.Array a) b walk no_string no_array no_map no_tag = absurd (no_array a refl)
+alone_dumped c (item_head.Map a) b walk no_string no_array no_map no_tag = absurd (no_map a refl)
+alone_dumped c (item_head.Tag t w) b walk no_string no_array no_map no_tag = absurd (no_tag t w refl)
+alone_dumped c (item_head.Float bits w) b walk no_string no_array no_map no_tag =
+    alone c (item_head.Float bits w) b walk (atom (float bits w)) refl refl refl
+alone_dumped c (item_head.Simple n) b walk no_string no_array no_map no_tag =
+    alone c (item_head.Simple n) b walk (atom (simple n)) refl refl refl
 
 -- ---- containers
 
 module _ (c inner : DumpContext) (deeper : inner.level ≡ c.level + 1) (down : inner.depth ≡ c.depth + 1)
-    (here : context_view inner ≡ inside (context_view c)) (count : code_argument.Argument) (held : ℕ)
+    (here : context_view inner ≡ inside (context_view c)) (count : Argument) (held : ℕ)
     (b rest after : List ℕ) (old now new : Walk) (announced : Announced count held)
     (ends : after_members (left_of count held) rest ≡ Some after)
-    (closes : Wrote now.writer new.writer (close_lines inner.depth (count_width (argument_view count)))) where
+    (closes : Wrote now.writer new.writer (close_lines inner.depth (count_width count))) where
   abbrev close : List DumpLine
-  close = close_lines (c.depth + 1) (count_width (argument_view count))
+  close = close_lines (c.depth + 1) (count_width count)
 
   closed : Wrote now.writer new.writer close
-  closed = subst (λ n. Wrote now.writer new.writer (close_lines n (count_width (argument_view count)))) down closes
+  closed = subst (λ n. Wrote now.writer new.writer (close_lines n (count_width count))) down closes
 
   pub items_dumped : (is : Items)
       → parts_read (levels_left (c.level + 1)) (items_in is (left_of count held)) rest
-      ≡ parts_read (levels_left (c.level + 1)) (items_in no_items (argument_view count)) b
+      ≡ parts_read (levels_left (c.level + 1)) (items_in no_items count) b
       → item_count is ≡ held → Wrote old.writer now.writer (items_there inner old.shared is)
-      → new.shared ≡ old.shared + shared_in_items is → DumpedBehind c (item_head.array
-      (argument_view count)) b after old new
+      → new.shared ≡ old.shared + shared_in_items is → DumpedBehind c (item_head.Array count) b after old new
   items_dumped is so_far counted wrote shares =
-      let w = count_width (argument_view count) in
+      let w = count_width count in
       let write = lines_at_level (c.level + 1) (inside (context_view c)) in
       let members = items_lines write old.shared is in
       let same = ap (λ f. items_lines f old.shared is) (written_in inner (c.level + 1) (inside
@@ -152,12 +146,11 @@ module _ (c inner : DumpContext) (deeper : inner.level ≡ c.level + 1) (down : 
 
   pub pairs_dumped : (ps : Pairs)
       → parts_read (levels_left (c.level + 1)) (pairs_in ps (left_of count held)) rest
-      ≡ parts_read (levels_left (c.level + 1)) (pairs_in no_pairs (argument_view count)) b
+      ≡ parts_read (levels_left (c.level + 1)) (pairs_in no_pairs count) b
       → pair_count ps ≡ held → Wrote old.writer now.writer (pairs_there inner old.shared ps)
-      → new.shared ≡ old.shared + shared_in_pairs ps → DumpedBehind c (item_head.map
-      (argument_view count)) b after old new
+      → new.shared ≡ old.shared + shared_in_pairs ps → DumpedBehind c (item_head.Map count) b after old new
   pairs_dumped ps so_far counted wrote shares =
-      let w = count_width (argument_view count) in
+      let w = count_width count in
       let write = lines_at_level (c.level + 1) (inside (context_view c)) in
       let members = pairs_lines write old.shared ps in
       let same = ap (λ f. pairs_lines f old.shared ps) (written_in inner (c.level + 1) (inside
@@ -182,7 +175,7 @@ pub tag_dumped : (c inner : DumpContext) (t : ℕ) (w : IntegerWidth) (b rest : 
     → context_view inner ≡ below t old.shared (context_view c) → inner.level ≤ 128
     → read_at inner.level b ≡ Ok (i, rest) → Wrote old.writer now.writer (item_lines inner begun i)
     → Wrote now.writer new.writer (notes_there inner t i) → new.shared ≡ begun + shared_in i
-    → DumpedBehind c (item_head.tag t w) b rest old new
+    → DumpedBehind c (item_head.Tag t w) b rest old new
 tag_dumped c inner t w b rest i old now new begun counted deeper here le e value notes shares = record {
   item = tagged t w i;
   reads = tag_read (levels_left (c.level + 1)) t w b rest i (ap (λ n. read_at n b) (sym deeper) ∙ e);
@@ -199,7 +192,7 @@ pub string_dumped : (c : DumpContext) (kind : StringKind) (n : ℕ) (w : Integer
     (b rest : List ℕ) (old new : Walk) → IsBytes b → kind_of content ≡ kind
     → read_content kind n w b ≡ Ok (borrowed_chunk w content, rest)
     → Wrote old.writer new.writer (string_content_lines (kind_of content) (context_view c) (bytes_of content))
-    → new.shared ≡ old.shared → DumpedBehind c (item_head.string kind (number n w)) b rest old new
+    → new.shared ≡ old.shared → DumpedBehind c (item_head.String kind (Number n w)) b rest old new
 string_dumped c kind n w content b rest old new fits same e wrote unshared =
     let chunk = borrowed_chunk w content in
     let long = (content_takes kind n w b rest chunk fits e).1 in
@@ -208,8 +201,8 @@ string_dumped c kind n w content b rest old new fits same e wrote unshared =
       item = atom (string (kind_of content) chunk);
       reads = content_read n w content b rest kind same e;
       lines = own;
-      parts = ap (λ m. line_of_head c.depth (item_head.string (kind_of content) (number m w)) ∷ own) long
-          ∙ ap (λ k. line_of_head c.depth (item_head.string k (number n w)) ∷ own) same;
+      parts = ap (λ m. line_of_head c.depth (item_head.String (kind_of content) (Number m w)) ∷ own) long
+          ∙ ap (λ k. line_of_head c.depth (item_head.String k (Number n w)) ∷ own) same;
       wrote = wrote;
       shared = omega (arith, unshared);
     }
@@ -232,7 +225,7 @@ pub chunks_dumped : (c inner : DumpContext) (kind : StringKind) (cs : List Chunk
     → (read_chunks (length b) kind b).1 ≡ Ok (cs, after)
     → Wrote old.writer now.writer (flat_map (string_lines kind (inside (context_view c))) cs)
     → Wrote now.writer new.writer (break_line inner.depth ∷ []) → new.shared ≡ old.shared
-    → DumpedBehind c (item_head.string kind indefinite) b after old new
+    → DumpedBehind c (item_head.String kind Indefinite) b after old new
 chunks_dumped c inner kind cs b after old now new down e wrote end unshared =
     let lines = flat_map (string_lines kind (inside (context_view c))) cs in
     record {
@@ -249,59 +242,58 @@ chunks_dumped c inner kind cs b after old now new down e wrote end unshared =
 
 -- an item of that kind has such a head
 bytes_head : (level : ℕ) (b rest : List ℕ) (c : Chunk) → level ≤ 129 → IsBytes b
-    → read_at level b ≡ Ok (atom (string bytes_kind c), rest)
-    → read_head b ≡ Ok (item_head.string bytes_kind (number (length c.bytes) c.width), c.bytes ++ rest)
+    → read_at level b ≡ Ok (atom (string Bytes c), rest)
+    → read_head b ≡ Ok (item_head.String Bytes (Number (length c.bytes) c.width), c.bytes ++ rest)
 unfolding head_of
 bytes_head level b rest c le fits e =
     let n = length c.bytes in
-    let s = item_takes level (levels_left level) b (atom (string bytes_kind c)) rest (omega arith) fits e in
+    let s = item_takes level (levels_left level) b (atom (string Bytes c)) rest (omega arith) fits e in
     let h = s.spells.1.1 in
     let behind : h.1 ≡ c.bytes = h.3.1 ∙ ap (λ (x : List ℕ). c.bytes ++ x) h.3.2 ∙ append-nil c.bytes in
     let parts = s.parts ∙ ap (λ (x : List ℕ). x ++ rest) (h.2 ∙ ap (λ (x : List ℕ). head 2 n c.width ++ x) behind)
     ∙ append_assoc (head 2 n c.width) c.bytes rest in
-    head_again 2 (number n c.width) (item_head.string bytes_kind (number n c.width)) b (c.bytes ++ rest) (omega arith)
+    head_again 2 (Number n c.width) (item_head.String Bytes (Number n c.width)) b (c.bytes ++ rest) (omega arith)
     (h.0, c.bytes ++ rest, parts, refl) refl
 
 -- another head than that of a byte string of definite length
 abbrev pub IsOther : ItemHead → Type 0
-IsOther (item_head.string bytes_kind (number n w)) = ⊥
+IsOther (item_head.String Bytes (Number n w)) = ⊥
 IsOther h = Unit {0}
 
-pub not_string : (h : code_head.ItemHead)
-    → ((k : code_kind.StringKind) (a : code_argument.Argument) → h ≡ code.String k a → ⊥) → IsOther (head_view h)
-not_string (code.String k a) other = absurd (other k a refl)
-not_string (code.Integer n w) other = tt
-not_string (code.Negative n w) other = tt
-not_string (code.Array a) other = tt
-not_string (code.Map a) other = tt
-not_string (code.Tag t w) other = tt
-not_string (code.Float bits w) other = tt
-not_string (code.Simple n) other = tt
+pub not_string : (h : ItemHead)
+    → ((k : StringKind) (a : Argument) → h ≡ item_head.String k a → ⊥) → IsOther h
+not_string (item_head.String k a) other = absurd (other k a refl)
+not_string (item_head.Integer n w) other = tt
+not_string (item_head.Negative n w) other = tt
+not_string (item_head.Array a) other = tt
+not_string (item_head.Map a) other = tt
+not_string (item_head.Tag t w) other = tt
+not_string (item_head.Float bits w) other = tt
+not_string (item_head.Simple n) other = tt
 
-pub not_number : (k : code_kind.StringKind) (a : code_argument.Argument)
-    → ((n : ℕ) (w : IntegerWidth) → a ≡ code_length.Number n w → ⊥)
-    → IsOther (item_head.string (kind_view k) (argument_view a))
-not_number k (code_length.Number n w) other = absurd (other n w refl)
-not_number code_kinds.Bytes code_length.Indefinite other = tt
-not_number code_kinds.Text code_length.Indefinite other = tt
+pub not_number : (k : StringKind) (a : Argument)
+    → ((n : ℕ) (w : IntegerWidth) → a ≡ Number n w → ⊥) → IsOther (item_head.String k a)
+not_number k (Number n w) other = absurd (other n w refl)
+not_number Bytes Indefinite other = tt
+not_number Text Indefinite other = tt
 
 pub other_bytes : (level : ℕ) (b rest behind : List ℕ) (i : Item) (h : ItemHead) → level ≤ 129 → IsBytes b
     → read_at level b ≡ Ok (i, rest) → read_head b ≡ Ok (h, behind) → IsOther h → bytes_in i ≡ None
-other_bytes level b rest behind (atom (string bytes_kind c)) h le fits e begins other =
-    let both = ok_is (h, behind) (item_head.string bytes_kind (number (length c.bytes) c.width), c.bytes ++ rest)
+other_bytes level b rest behind (atom (string Bytes c)) h le fits e begins other =
+    let both = ok_is (h, behind) (item_head.String Bytes (Number (length c.bytes) c.width), c.bytes ++ rest)
     (sym begins ∙ bytes_head level b rest c le fits e) in
     absurd (subst IsOther (ap (λ (x : ItemHead × List ℕ). x.0) both) other)
 other_bytes level b rest behind i h le fits e begins other = refl
 
 pub own_content : (level n : ℕ) (w : IntegerWidth) (content : StringContent) (b rest behind after : List ℕ) (i : Item)
-    → read_at level b ≡ Ok (i, rest) → read_head b ≡ Ok (item_head.string bytes_kind (number n w), behind)
-    → kind_of content ≡ bytes_kind → read_content bytes_kind n w behind ≡ Ok (borrowed_chunk w content, after)
+    → read_at level b ≡ Ok (i, rest) → read_head b ≡ Ok (item_head.String Bytes (Number n w), behind)
+    → kind_of content ≡ Bytes → read_content Bytes n w behind ≡ Ok (borrowed_chunk w content, after)
     → bytes_in i ≡ Some (bytes_of content)
 own_content level n w content b rest behind after i e begins same read =
-    let here = sym (head_reads level b (item_head.string bytes_kind (number n w)) behind
+    let here = sym (head_reads level b (item_head.String Bytes (Number n w)) behind
     (level_read level b rest i e) begins)
     ∙ e in
-    let own = content_read n w content behind after bytes_kind same read in
+    let own = content_read n w content behind after Bytes same read in
     let both = ok_is (i, rest) (atom (string (kind_of content) (borrowed_chunk w content)), after) (sym here ∙ own) in
     let is : i ≡ atom (string (kind_of content) (borrowed_chunk w content)) =
     ap (λ (x : Item × List ℕ). x.0) both in

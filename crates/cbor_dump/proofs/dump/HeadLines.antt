@@ -6,18 +6,17 @@ use Rattle.std.proofs.lemmas.List.{take_at, length-append}
 use Rattle.cbor_grammar.specs.declared.width.IntegerWidth.{IntegerWidth}
 use Rattle.cbor_grammar.specs.declared.width.IntegerWidth.TheVariants as width
 use Rattle.cbor_grammar.specs.declared.width.FloatWidth.TheVariants as float_width
-use Rattle.cbor_bytes.specs.declared.head.ItemHead as code_head
-use Rattle.cbor_bytes.specs.declared.head.ItemHead.TheVariants as code
-use Rattle.cbor_grammar.specs.Argument.{Argument, number, indefinite}
+use Rattle.cbor_grammar.specs.declared.head.ItemHead.{ItemHead}
+use Rattle.cbor_grammar.specs.declared.argument.Argument.{Argument}
+use Rattle.cbor_grammar.specs.declared.argument.Argument.TheVariants.{Number, Indefinite}
 use Rattle.cbor_grammar.specs.Head.{FitsStated, head, stated, opening, HeadThen}
 use Rattle.cbor_grammar.specs.Item.{Chunk}
-use Rattle.cbor_grammar.specs.ItemHead as item_head
-use Rattle.cbor_grammar.specs.ItemHead.{ItemHead}
+use Rattle.cbor_grammar.specs.declared.head.ItemHead.TheVariants as item_head
 use Rattle.cbor_grammar.specs.Reading.{read_head, read_chunk}
-use Rattle.cbor_grammar.specs.StringKind.{StringKind, major_of}
+use Rattle.cbor_grammar.specs.declared.strings.StringKind.{StringKind}
+use Rattle.cbor_grammar.specs.StringKind.{major_of}
 use Rattle.cbor_grammar.specs.Written.{encoded_head}
 use Rattle.cbor_dump.specs.mirror.Dumped.{argument_bytes, head_bytes, IsHead}
-use Rattle.cbor_bytes.specs.mirror.HeadView.{argument_view, head_view}
 use Rattle.cbor_grammar.proofs.bytes.Chunks.{chunk_takes}
 use Rattle.cbor_grammar.proofs.bytes.Heads.{IsBytes, ArgumentThen, HeadIs, head_takes}
 use Rattle.cbor_grammar.proofs.dump.Fits.{head_length, float_length}
@@ -45,25 +44,25 @@ by_head major n w b rest own h is =
 
 by_argument : (major : ℕ) (a : Argument) (b rest own : List ℕ) → ArgumentThen major a b rest
     → own ≡ take (length b - length rest) b → own ≡ argument_bytes major a
-by_argument major (number n w) b rest own h is = by_head major n w b rest own h is
-by_argument major indefinite b rest own h is = front_is b (opening major ∷ []) rest own h is
+by_argument major (Number n w) b rest own h is = by_head major n w b rest own h is
+by_argument major Indefinite b rest own h is = front_is b (opening major ∷ []) rest own h is
 
 own_bytes : (h : ItemHead) (b rest own : List ℕ) → HeadIs h b rest → own ≡ take (length b - length rest) b
     → IsHead h own
-own_bytes (item_head.integer n w) b rest own h is = by_head 0 n w b rest own h is
-own_bytes (item_head.negative n w) b rest own h is = by_head 1 n w b rest own h is
-own_bytes (item_head.string kind a) b rest own h is = by_argument (major_of kind) a b rest own h is
-own_bytes (item_head.array a) b rest own h is = by_argument 4 a b rest own h is
-own_bytes (item_head.map a) b rest own h is = by_argument 5 a b rest own h is
-own_bytes (item_head.tag n w) b rest own h is = by_head 6 n w b rest own h is
-own_bytes (item_head.float bits float_width.Unknown) b rest own h is = absurd h
-own_bytes (item_head.float bits float_width.Sixteen) b rest own h is =
+own_bytes (item_head.Integer n w) b rest own h is = by_head 0 n w b rest own h is
+own_bytes (item_head.Negative n w) b rest own h is = by_head 1 n w b rest own h is
+own_bytes (item_head.String kind a) b rest own h is = by_argument (major_of kind) a b rest own h is
+own_bytes (item_head.Array a) b rest own h is = by_argument 4 a b rest own h is
+own_bytes (item_head.Map a) b rest own h is = by_argument 5 a b rest own h is
+own_bytes (item_head.Tag n w) b rest own h is = by_head 6 n w b rest own h is
+own_bytes (item_head.Float bits float_width.Unknown) b rest own h is = absurd h
+own_bytes (item_head.Float bits float_width.Sixteen) b rest own h is =
     front_is b (249 ∷ to_be_bytes w16 bits) rest own h.1 is
-own_bytes (item_head.float bits float_width.ThirtyTwo) b rest own h is =
+own_bytes (item_head.Float bits float_width.ThirtyTwo) b rest own h is =
     front_is b (250 ∷ to_be_bytes w32 bits) rest own h.1 is
-own_bytes (item_head.float bits float_width.SixtyFour) b rest own h is =
+own_bytes (item_head.Float bits float_width.SixtyFour) b rest own h is =
     front_is b (251 ∷ to_be_bytes w64 bits) rest own h.1 is
-own_bytes (item_head.simple n) b rest own h is = tt
+own_bytes (item_head.Simple n) b rest own h is = tt
 
 pub head_shown : (h : ItemHead) (b rest own : List ℕ) → IsBytes b → read_head b ≡ Ok (h, rest)
     → own ≡ take (length b - length rest) b → IsHead h own
@@ -71,34 +70,34 @@ head_shown h b rest own fits e is = own_bytes h b rest own (head_takes b rest h 
 
 -- a head has at most nine bytes
 argument_length : (major : ℕ) (a : Argument) → length (argument_bytes major a) ≤ 9
-argument_length major (number n w) = head_length major n (stated w n)
-argument_length major indefinite = omega arith
+argument_length major (Number n w) = head_length major n (stated w n)
+argument_length major Indefinite = omega arith
 
 few_of : (b x : List ℕ) → b ≡ x → length x ≤ 9 → length b ≤ 24
 few_of b x is few = omega (arith, ap length is)
 
-abbrev pub NoSimple : code_head.ItemHead → Type 0
-NoSimple h = (n : ℕ) → h ≢ code.Simple n
+abbrev pub NoSimple : ItemHead → Type 0
+NoSimple h = (n : ℕ) → h ≢ item_head.Simple n
 
-pub head_few : (h : code_head.ItemHead) (b : List ℕ) → NoSimple h → IsHead (head_view h) b → length b ≤ 24
-head_few (code.Integer n w) b other is = few_of b _ is (head_length 0 n (stated w n))
-head_few (code.Negative n w) b other is = few_of b _ is (head_length 1 n (stated w n))
-head_few (code.String kind a) b other is = few_of b _ is (argument_length _ (argument_view a))
-head_few (code.Array a) b other is = few_of b _ is (argument_length 4 (argument_view a))
-head_few (code.Map a) b other is = few_of b _ is (argument_length 5 (argument_view a))
-head_few (code.Tag n w) b other is = few_of b _ is (head_length 6 n (stated w n))
-head_few (code.Float bits w) b other is = few_of b _ is (float_length bits w)
-head_few (code.Simple n) b other is = absurd (other n refl)
+pub head_few : (h : ItemHead) (b : List ℕ) → NoSimple h → IsHead h b → length b ≤ 24
+head_few (item_head.Integer n w) b other is = few_of b _ is (head_length 0 n (stated w n))
+head_few (item_head.Negative n w) b other is = few_of b _ is (head_length 1 n (stated w n))
+head_few (item_head.String kind a) b other is = few_of b _ is (argument_length _ a)
+head_few (item_head.Array a) b other is = few_of b _ is (argument_length 4 a)
+head_few (item_head.Map a) b other is = few_of b _ is (argument_length 5 a)
+head_few (item_head.Tag n w) b other is = few_of b _ is (head_length 6 n (stated w n))
+head_few (item_head.Float bits w) b other is = few_of b _ is (float_length bits w)
+head_few (item_head.Simple n) b other is = absurd (other n refl)
 
-pub head_is : (h : code_head.ItemHead) (b : List ℕ) → NoSimple h → IsHead (head_view h) b → b ≡ head_bytes (head_view h)
-head_is (code.Simple n) b other is = absurd (other n refl)
-head_is (code.Integer n w) b other is = is
-head_is (code.Negative n w) b other is = is
-head_is (code.String kind a) b other is = is
-head_is (code.Array a) b other is = is
-head_is (code.Map a) b other is = is
-head_is (code.Tag n w) b other is = is
-head_is (code.Float bits w) b other is = is
+pub head_is : (h : ItemHead) (b : List ℕ) → NoSimple h → IsHead h b → b ≡ head_bytes h
+head_is (item_head.Simple n) b other is = absurd (other n refl)
+head_is (item_head.Integer n w) b other is = is
+head_is (item_head.Negative n w) b other is = is
+head_is (item_head.String kind a) b other is = is
+head_is (item_head.Array a) b other is = is
+head_is (item_head.Map a) b other is = is
+head_is (item_head.Tag n w) b other is = is
+head_is (item_head.Float bits w) b other is = is
 
 -- ---- chunks
 

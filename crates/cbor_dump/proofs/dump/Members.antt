@@ -6,9 +6,9 @@ use Rattle.cbor_notes.specs.Layout.{DumpLine}
 use Rattle.cbor_grammar.specs.declared.width.IntegerWidth.{IntegerWidth}
 use Rattle.cbor_dump.specs.declared.context.DumpContext.{DumpContext}
 use Rattle.cbor_dump.specs.declared.walk.Walk.{Walk}
-use Rattle.cbor_bytes.specs.declared.argument.Argument as code_argument
-use Rattle.cbor_bytes.specs.declared.argument.Argument.TheVariants.{Number, Indefinite}
-use Rattle.cbor_grammar.specs.Argument.{number}
+use Rattle.cbor_grammar.specs.declared.argument.Argument.{Argument}
+use Rattle.cbor_grammar.specs.declared.argument.Argument.TheVariants.{Number, Indefinite}
+use Rattle.cbor_grammar.specs.declared.argument.Argument.TheVariants.{Number}
 use Rattle.cbor_grammar.specs.Comments.{counted_comment}
 use Rattle.cbor_grammar.specs.Item.{Item, Items, no_items, item, Pairs, no_pairs, pair}
 use Rattle.cbor_grammar.specs.Reading.{joined, joined_pairs, after_members, count_width}
@@ -20,8 +20,8 @@ use Rattle.cbor_grammar.specs.Dump.{shared_in_pairs, top}
 use Rattle.cbor_dump.specs.mirror.Dumped.{context_view, tag_number, item_lines, items_there, pairs_there}
 use Rattle.cbor_dump.specs.mirror.Dumped.{embedded_lines}
 use Rattle.cbor_dump.specs.mirror.Dumped.{notes_there, argument_bytes, Wrote}
-use Rattle.cbor_bytes.specs.mirror.HeadView.{argument_view, argument_count}
-use Rattle.cbor_bytes.specs.mirror.HeadView.{left_of}
+use Rattle.cbor_grammar.specs.mirror.Lengths.{argument_count}
+use Rattle.cbor_grammar.specs.mirror.Lengths.{left_of}
 use Rattle.cbor_dump.proofs.dump.Walks.{wrote_then}
 
 -- An item is its parts and its notes.
@@ -166,48 +166,46 @@ module _ (here : DumpContext) (none : tag_number here.tag ≡ None) (le : here.l
 -- ---- counts
 
 -- no more members are held than were announced
-abbrev pub Announced : code_argument.Argument → ℕ → Type 0
+abbrev pub Announced : Argument → ℕ → Type 0
 Announced (Number n w) held = held ≤ n
 Announced Indefinite held = Unit {0}
 
-pub none_announced : (count : code_argument.Argument) → Announced count 0
+pub none_announced : (count : Argument) → Announced count 0
 none_announced (Number n w) = omega arith
 none_announced Indefinite = tt
 
-pub more_announced : (count : code_argument.Argument) (held : ℕ) (b : List ℕ)
+pub more_announced : (count : Argument) (held : ℕ) (b : List ℕ)
     → after_members (left_of count held) b ≡ None → Announced count held → Announced count (held + 1)
 more_announced (Number n w) held b more h =
     elim (cases_lt held n) [
       | inl lt ↦ omega arith
       | inr le ↦
           let none : n - held ≡ 0 = omega arith in
-          absurd (let wrong = sym (ap (λ k. after_members (number k w) b) none) ∙ more in cc)
+          absurd (let wrong = sym (ap (λ k. after_members (Number k w) b) none) ∙ more in cc)
     ]
 more_announced Indefinite held b more h = tt
 
 all_held : (n : ℕ) (w : IntegerWidth) (held : ℕ) (b after : List ℕ) → held ≤ n
-    → after_members (number (n - held) w) b ≡ Some after → held ≡ n
+    → after_members (Number (n - held) w) b ≡ Some after → held ≡ n
 all_held n w held b after h ends =
     elim (cases_lt held n) [
       | inl lt ↦
           let some : n - held ≡ suc (n - held - 1) = omega arith in
-          absurd (let wrong = sym (ap (λ k. after_members (number k w) b) some) ∙ ends in cc)
+          absurd (let wrong = sym (ap (λ k. after_members (Number k w) b) some) ∙ ends in cc)
       | inr le ↦ omega arith
     ]
 
 -- the head of a container has the count of its members
-pub count_line : (depth major : ℕ) (name : List ℕ) (count : code_argument.Argument) (held members : ℕ)
+pub count_line : (depth major : ℕ) (name : List ℕ) (count : Argument) (held members : ℕ)
     (b after : List ℕ)
     → members ≡ held → Announced count held → after_members (left_of count held) b ≡ Some after
-    → container_line depth major name members (count_width (argument_view count))
-    ≡ head_line depth (argument_bytes major (argument_view count))
-    (counted_comment name (argument_count (argument_view count)))
+    → container_line depth major name members (count_width count) ≡ head_line depth (argument_bytes major count)
+    (counted_comment name (argument_count count))
 count_line depth major name (Number n w) held members b after same h ends =
     ap (λ k. head_line depth (encoded_head major k w) (counted_comment name (Some k)))
     (same ∙ all_held n w held b after h ends)
 count_line depth major name Indefinite held members b after same h ends = refl
 
-pub width_held : (count : code_argument.Argument) (held : ℕ)
-    → count_width (left_of count held) ≡ count_width (argument_view count)
+pub width_held : (count : Argument) (held : ℕ) → count_width (left_of count held) ≡ count_width count
 width_held (Number n w) held = refl
 width_held Indefinite held = refl

@@ -6,20 +6,20 @@ use Rattle.cbor_notes.specs.Element.{element_size}
 use Rattle.cbor_dump.specs.declared.notes.value.Atom as declared_atom
 use Rattle.cbor_dump.specs.declared.notes.value.Atom.TheVariants as code_atom
 use Rattle.cbor_grammar.specs.declared.error.Error.{Error}
-use Rattle.cbor_bytes.specs.declared.argument.Argument as code_argument
-use Rattle.cbor_bytes.specs.declared.argument.Argument.TheVariants as code_length
-use Rattle.cbor_bytes.specs.declared.head.ItemHead as code_head
-use Rattle.cbor_bytes.specs.declared.head.ItemHead.TheVariants as code
+use Rattle.cbor_grammar.specs.declared.argument.Argument.{Argument}
+use Rattle.cbor_grammar.specs.declared.argument.Argument.TheVariants.{Number, Indefinite}
+use Rattle.cbor_grammar.specs.declared.head.ItemHead.{ItemHead}
 use Rattle.cbor_grammar.specs.declared.width.FloatWidth.{FloatWidth}
 use Rattle.cbor_grammar.specs.declared.width.IntegerWidth.{IntegerWidth}
 use Rattle.cbor_grammar.specs.declared.width.IntegerWidth.TheVariants.{Unknown}
-use Rattle.cbor_grammar.specs.declared.strings.StringKind as code_kind
-use Rattle.cbor_grammar.specs.Argument.{Argument, number, indefinite}
+use Rattle.cbor_grammar.specs.declared.strings.StringKind.{StringKind}
+use Rattle.cbor_grammar.specs.declared.strings.StringKind.TheVariants.{Bytes, Text}
 use Rattle.cbor_grammar.specs.Item as spec
 use Rattle.cbor_grammar.specs.Item.{Chunk, Atom, Item, atom, array, tagged, Items, no_items, item}
-use Rattle.cbor_grammar.specs.ItemHead as item_head
-use Rattle.cbor_grammar.specs.ItemHead.{ItemHead}
-use Rattle.cbor_grammar.specs.Notes.{Family, ipv4, ipv6, zone_at, interface_note, members_note, typed_array_note}
+use Rattle.cbor_grammar.specs.declared.head.ItemHead.TheVariants as item_head
+use Rattle.cbor_grammar.specs.Notes.{zone_at, interface_note, members_note, typed_array_note}
+use Rattle.cbor_grammar.specs.declared.addresses.Family.{Family}
+use Rattle.cbor_grammar.specs.declared.addresses.Family.TheVariants.{IPv4, IPv6}
 use Rattle.cbor_grammar.specs.Notes.{value_note}
 use Rattle.cbor_grammar.specs.Reading.{Counted, Frame, items_in, pairs_in, value_of, tag_of, tagged_with, opened}
 use Rattle.cbor_grammar.specs.Reading.{joined}
@@ -27,14 +27,12 @@ use Rattle.cbor_grammar.specs.Reading.{put}
 use Rattle.cbor_grammar.specs.Reading.{after_members, after_end, closed, close_or, count_width, one_less, ◌>>=◌, ◌>>-◌}
 use Rattle.cbor_grammar.specs.Reading.{parts_from, read_atom, read_chunks, read_content, read_head, split_at}
 use Rattle.cbor_grammar.specs.Reading.{checked_chunk, counted_item}
-use Rattle.cbor_grammar.specs.StringKind.{StringKind, bytes_kind, text_kind}
 use Rattle.cbor_grammar.specs.WellFormed.{levels_left}
 use Rattle.cbor_notation.specs.mirror.Ahead.{body_read}
 use Rattle.cbor_grammar.specs.mirror.AtLevel.{read_at}
-use Rattle.cbor_bytes.specs.mirror.HeadView.{argument_view, head_view}
 use Rattle.cbor_dump.specs.mirror.NotesView.{AreMembers, IsLookedInto, IsNextMember, Sees, atom_view, first_seen, other}
 use Rattle.cbor_dump.specs.mirror.NotesView.{seen, seen_atom, then_seen, then_view}
-use Rattle.cbor_bytes.specs.mirror.HeadView.{left_of}
+use Rattle.cbor_grammar.specs.mirror.Lengths.{left_of}
 use Rattle.cbor_grammar.proofs.bytes.FoundAgain.{joined-none, joined_one}
 use Rattle.cbor_grammar.proofs.bytes.Heads.{bind_ok, done, ok_is, then_ok}
 use Rattle.cbor_notation.proofs.straight.Ahead.{item_after, no_item}
@@ -128,7 +126,7 @@ members_from (suc n) levels is left b rest i e =
 
 -- an array that is read is its members
 pub array_is : (levels : ℕ) (left : Argument) (b rest : List ℕ) (i : Item)
-    → body_read (item_head.array left) b levels ≡ Ok (i, rest)
+    → body_read (item_head.Array left) b levels ≡ Ok (i, rest)
     → (is : Items) × (w : Option IntegerWidth) × (i ≡ array is w) × AreMembers levels left b is
 array_is levels left b rest i e = members_from _ levels no_items left b rest i e
 
@@ -142,20 +140,20 @@ is_atom : (a : Atom) (b rest : List ℕ) (i : Item) → done {A = Item × List �
 is_atom a b rest i e = subst (λ (x : Item × List ℕ). IsAtom x.0) (ok_is (atom a, b) (i, rest) e) tt
 
 atom_is : (h : ItemHead) (b rest : List ℕ) (i : Item) → (read_atom h b).1 ≡ Ok (i, rest) → IsAtom i
-atom_is (item_head.integer n w) b rest i e = is_atom (spec.integer n w) b rest i e
-atom_is (item_head.negative n w) b rest i e = is_atom (spec.negative n w) b rest i e
-atom_is (item_head.string kind (number n w)) b rest i e =
+atom_is (item_head.Integer n w) b rest i e = is_atom (spec.integer n w) b rest i e
+atom_is (item_head.Negative n w) b rest i e = is_atom (spec.negative n w) b rest i e
+atom_is (item_head.String kind (Number n w)) b rest i e =
     let step = bind_ok (read_content kind n w b) (λ c. Ok (atom (spec.string kind c.0), c.1)) (i, rest) e in
     is_atom (spec.string kind step.0.0) step.0.1 rest i step.2
-atom_is (item_head.string kind indefinite) b rest i e =
+atom_is (item_head.String kind Indefinite) b rest i e =
     let step = then_ok (read_chunks _ kind b) (λ cs. (0, Ok (atom (spec.chunked_string kind cs.0), cs.1)))
     (i, rest) e in
     is_atom (spec.chunked_string kind step.0.0) step.0.1 rest i step.2
-atom_is (item_head.float bits w) b rest i e = is_atom (spec.float bits w) b rest i e
-atom_is (item_head.simple n) b rest i e = is_atom (spec.simple n) b rest i e
-atom_is (item_head.array a) b rest i e = absurd cc
-atom_is (item_head.map a) b rest i e = absurd cc
-atom_is (item_head.tag n w) b rest i e = absurd cc
+atom_is (item_head.Float bits w) b rest i e = is_atom (spec.float bits w) b rest i e
+atom_is (item_head.Simple n) b rest i e = is_atom (spec.simple n) b rest i e
+atom_is (item_head.Array a) b rest i e = absurd cc
+atom_is (item_head.Map a) b rest i e = absurd cc
+atom_is (item_head.Tag n w) b rest i e = absurd cc
 
 -- ---- what is read behind a head
 
@@ -169,7 +167,7 @@ sees_done a x b rest i e same =
 pub string_seen : (a : declared_atom.Atom) (kind : StringKind) (n : ℕ) (w : IntegerWidth)
     (b content after rest : List ℕ) (levels : ℕ) (i : Item) → split_at n b ≡ Ok (content, after)
     → ((c : Chunk) → checked_chunk kind w content ≡ Ok c → atom_view a ≡ seen (atom (spec.string kind c)))
-    → body_read (item_head.string kind (number n w)) b levels ≡ Ok (i, rest) → Sees a after i rest
+    → body_read (item_head.String kind (Number n w)) b levels ≡ Ok (i, rest) → Sees a after i rest
 unfolding read_content
 string_seen a kind n w b content after rest levels i splits same e =
     let whole = bind_ok (read_content kind n w b) (λ c. Ok (atom (spec.string kind c.0), c.1)) (i, rest) e in
@@ -188,7 +186,7 @@ string_seen a kind n w b content after rest levels i splits same e =
 -- no string is longer than what is left
 pub string_cut : (a : declared_atom.Atom) (kind : StringKind) (n : ℕ) (w : IntegerWidth) (b after rest : List ℕ)
     (levels : ℕ) (i : Item) (e : Error) → split_at n b ≡ Err e
-    → body_read (item_head.string kind (number n w)) b levels ≡ Ok (i, rest) → Sees a after i rest
+    → body_read (item_head.String kind (Number n w)) b levels ≡ Ok (i, rest) → Sees a after i rest
 unfolding read_content
 string_cut a kind n w b after rest levels i err splits e =
     let whole = bind_ok (read_content kind n w b) (λ c. Ok (atom (spec.string kind c.0), c.1)) (i, rest) e in
@@ -202,13 +200,12 @@ sees_container (spec.map ps w) after rest here = (refl, λ looked. absurd looked
 sees_container (tagged t w i) after rest here = (refl, λ looked. absurd looked)
 
 -- a length that is no number is indefinite
-pub not_number : (a : code_argument.Argument) → ((n : ℕ) (w : IntegerWidth) → a ≡ code_length.Number n w → ⊥)
-    → argument_view a ≡ indefinite
-not_number (code_length.Number n w) never = absurd (never n w refl)
-not_number code_length.Indefinite never = refl
+pub not_number : (a : Argument) → ((n : ℕ) (w : IntegerWidth) → a ≡ Number n w → ⊥) → a ≡ Indefinite
+not_number (Number n w) never = absurd (never n w refl)
+not_number Indefinite never = refl
 
 pub sees_chunks : (kind : StringKind) (b after rest : List ℕ) (levels : ℕ) (i : Item)
-    → body_read (item_head.string kind indefinite) b levels ≡ Ok (i, rest) → Sees code_atom.Other after i rest
+    → body_read (item_head.String kind Indefinite) b levels ≡ Ok (i, rest) → Sees code_atom.Other after i rest
 sees_chunks kind b after rest levels i e =
     let step = then_ok (read_chunks _ kind b) (λ cs. (0, Ok (atom (spec.chunked_string kind cs.0), cs.1)))
     (i, rest) e in
@@ -218,55 +215,48 @@ sees_chunks kind b after rest levels i e =
 -- a container
 pub sees_opened : (h : ItemHead) (b after rest : List ℕ) (levels : ℕ) (i : Item) → IsSome (opened h)
     → body_read h b levels ≡ Ok (i, rest) → Sees code_atom.Other after i rest
-sees_opened (item_head.array left) b after rest levels i opens e =
+sees_opened (item_head.Array left) b after rest levels i opens e =
     let is = array_is levels left b rest i e in
     subst (λ j. Sees code_atom.Other after j rest) (sym is.2) (refl, λ looked. absurd looked)
-sees_opened (item_head.map left) b after rest levels i opens e =
+sees_opened (item_head.Map left) b after rest levels i opens e =
     sees_container i after rest (parts_are _ (counted_item levels) _ b rest i tt e)
-sees_opened (item_head.tag t w) b after rest levels i opens e =
+sees_opened (item_head.Tag t w) b after rest levels i opens e =
     sees_container i after rest (parts_are _ (counted_item levels) _ b rest i tt e)
-sees_opened (item_head.integer n w) b after rest levels i opens e = absurd (let wrong = opens in cc)
-sees_opened (item_head.negative n w) b after rest levels i opens e = absurd (let wrong = opens in cc)
-sees_opened (item_head.string kind a) b after rest levels i opens e = absurd (let wrong = opens in cc)
-sees_opened (item_head.float bits w) b after rest levels i opens e = absurd (let wrong = opens in cc)
-sees_opened (item_head.simple n) b after rest levels i opens e = absurd (let wrong = opens in cc)
+sees_opened (item_head.Integer n w) b after rest levels i opens e = absurd (let wrong = opens in cc)
+sees_opened (item_head.Negative n w) b after rest levels i opens e = absurd (let wrong = opens in cc)
+sees_opened (item_head.String kind a) b after rest levels i opens e = absurd (let wrong = opens in cc)
+sees_opened (item_head.Float bits w) b after rest levels i opens e = absurd (let wrong = opens in cc)
+sees_opened (item_head.Simple n) b after rest levels i opens e = absurd (let wrong = opens in cc)
 
 -- a head that is none of an item that holds none
-pub opens_one : (h : code_head.ItemHead) → ((n : ℕ) (w : IntegerWidth) → h ≡ code.Integer n w → ⊥)
-    → ((n : ℕ) (w : IntegerWidth) → h ≡ code.Negative n w → ⊥)
-    → ((bits : ℕ) (w : FloatWidth) → h ≡ code.Float bits w → ⊥) → ((n : ℕ) → h ≡ code.Simple n → ⊥)
-    → ((k : code_kind.StringKind) (a : code_argument.Argument) → h ≡ code.String k a → ⊥)
-    → IsSome (opened (head_view h))
-opens_one (code.Integer n w) no_integer no_negative no_float no_simple no_string = absurd (no_integer n w refl)
-opens_one (code.Negative n w) no_integer no_negative no_float no_simple no_string = absurd (no_negative n w refl)
-opens_one (code.Float bits w) no_integer no_negative no_float no_simple no_string = absurd (no_float bits w refl)
-opens_one (code.Simple n) no_integer no_negative no_float no_simple no_string = absurd (no_simple n refl)
-opens_one (code.String k a) no_integer no_negative no_float no_simple no_string = absurd (no_string k a refl)
-opens_one (code.Array a) no_integer no_negative no_float no_simple no_string = refl
-opens_one (code.Map a) no_integer no_negative no_float no_simple no_string = refl
-opens_one (code.Tag t w) no_integer no_negative no_float no_simple no_string = refl
+pub opens_one : (h : ItemHead) → ((n : ℕ) (w : IntegerWidth) → h ≡ item_head.Integer n w → ⊥)
+    → ((n : ℕ) (w : IntegerWidth) → h ≡ item_head.Negative n w → ⊥)
+    → ((bits : ℕ) (w : FloatWidth) → h ≡ item_head.Float bits w → ⊥) → ((n : ℕ) → h ≡ item_head.Simple n → ⊥)
+    → ((k : StringKind) (a : Argument) → h ≡ item_head.String k a → ⊥) → IsSome (opened h)
+opens_one (item_head.Integer n w) no_integer no_negative no_float no_simple no_string = absurd (no_integer n w refl)
+opens_one (item_head.Negative n w) no_integer no_negative no_float no_simple no_string = absurd (no_negative n w refl)
+opens_one (item_head.Float bits w) no_integer no_negative no_float no_simple no_string = absurd (no_float bits w refl)
+opens_one (item_head.Simple n) no_integer no_negative no_float no_simple no_string = absurd (no_simple n refl)
+opens_one (item_head.String k a) no_integer no_negative no_float no_simple no_string = absurd (no_string k a refl)
+opens_one (item_head.Array a) no_integer no_negative no_float no_simple no_string = refl
+opens_one (item_head.Map a) no_integer no_negative no_float no_simple no_string = refl
+opens_one (item_head.Tag t w) no_integer no_negative no_float no_simple no_string = refl
 
 abbrev pub IsNoArrayHead : ItemHead → Type 0
-IsNoArrayHead (item_head.array left) = ⊥
+IsNoArrayHead (item_head.Array left) = ⊥
 IsNoArrayHead h = Unit {0}
 
-pub not_array : (h : code_head.ItemHead) → ((a : code_argument.Argument) → h ≡ code.Array a → ⊥)
-    → IsNoArrayHead (head_view h)
-not_array (code.Integer n w) never = tt
-not_array (code.Negative n w) never = tt
-not_array (code.Float bits w) never = tt
-not_array (code.Simple n) never = tt
-not_array (code.String k a) never = tt
-not_array (code.Array a) never = absurd (never a refl)
-not_array (code.Map a) never = tt
-not_array (code.Tag t w) never = tt
+pub not_array : (h : ItemHead) → ((a : Argument) → h ≡ item_head.Array a → ⊥) → IsNoArrayHead h
+not_array (item_head.Integer n w) never = tt
+not_array (item_head.Negative n w) never = tt
+not_array (item_head.Float bits w) never = tt
+not_array (item_head.Simple n) never = tt
+not_array (item_head.String k a) never = tt
+not_array (item_head.Array a) never = absurd (never a refl)
+not_array (item_head.Map a) never = tt
+not_array (item_head.Tag t w) never = tt
 
 -- ---- the members that notes see
-
-pub no_member : (levels : ℕ) (left more : Argument) (b after : List ℕ) (is : Items) → IsSome (after_members left b)
-    → AreMembers levels left b is → IsNextMember levels more is None after
-no_member levels left more b after no_items ends are = refl
-no_member levels left more b after (item i is) ends are = absurd (let none = are.0 in let some = rw none at ends in cc)
 
 pub headless : (levels : ℕ) (left more : Argument) (b after : List ℕ) (is : Items) (e : Error)
     → read_head b ≡ Err e → AreMembers levels left b is → IsNextMember levels more is None after
@@ -279,7 +269,7 @@ pub not_ended : {X : Type 0} (show : X → List ℕ) (found : Option X) (end : O
 not_ended show (Some x) end ends e = absurd cc
 not_ended show None end ends e = e
 
-pub next_seen : (a : declared_atom.Atom) (levels : ℕ) (count : code_argument.Argument) (held : ℕ)
+pub next_seen : (a : declared_atom.Atom) (levels : ℕ) (count : Argument) (held : ℕ)
     (b behind after : List ℕ) (h : ItemHead) (is : Items) → None ≡ after_members (left_of count held) b → read_head b ≡ Ok (h, behind)
     → ((n : ℕ) (i : Item) (rest : List ℕ) → body_read h behind n ≡ Ok (i, rest) → Sees a after i rest)
     → AreMembers levels (left_of count held) b is → IsNextMember levels (left_of count (held + 1)) is (Some a) after
@@ -345,8 +335,8 @@ zone_seen : (is : Items) → zone_at (first_seen 1 is) ≡ zone_at is
 zone_seen no_items = refl
 zone_seen (item (atom (spec.integer n w)) is) = refl
 zone_seen (item (atom (spec.negative n w)) is) = refl
-zone_seen (item (atom (spec.string bytes_kind c)) is) = refl
-zone_seen (item (atom (spec.string text_kind c)) is) = refl
+zone_seen (item (atom (spec.string Bytes c)) is) = refl
+zone_seen (item (atom (spec.string Text c)) is) = refl
 zone_seen (item (atom (spec.chunked_string kind cs)) is) = refl
 zone_seen (item (atom (spec.float bits w)) is) = refl
 zone_seen (item (atom (spec.simple n)) is) = refl
@@ -359,8 +349,8 @@ interface_seen : (f : Family) (bytes : List ℕ) (is : Items)
 interface_seen f bytes no_items = refl
 interface_seen f bytes (item (atom (spec.integer n w)) is) = rw (zone_seen is) refl
 interface_seen f bytes (item (atom (spec.negative n w)) is) = refl
-interface_seen f bytes (item (atom (spec.string bytes_kind c)) is) = refl
-interface_seen f bytes (item (atom (spec.string text_kind c)) is) = refl
+interface_seen f bytes (item (atom (spec.string Bytes c)) is) = refl
+interface_seen f bytes (item (atom (spec.string Text c)) is) = refl
 interface_seen f bytes (item (atom (spec.chunked_string kind cs)) is) = refl
 interface_seen f bytes (item (atom (spec.float bits w)) is) = refl
 interface_seen f bytes (item (atom (spec.simple n)) is) = rw (zone_seen is) refl
@@ -374,8 +364,8 @@ prefix_seen : (f : Family) (n : ℕ) (v w : IntegerWidth) (is : Items)
 prefix_seen f n v w no_items = refl
 prefix_seen f n v w (item (atom (spec.integer m u)) is) = refl
 prefix_seen f n v w (item (atom (spec.negative m u)) is) = refl
-prefix_seen f n v w (item (atom (spec.string bytes_kind c)) is) = refl
-prefix_seen f n v w (item (atom (spec.string text_kind c)) is) = refl
+prefix_seen f n v w (item (atom (spec.string Bytes c)) is) = refl
+prefix_seen f n v w (item (atom (spec.string Text c)) is) = refl
 prefix_seen f n v w (item (atom (spec.chunked_string kind cs)) is) = refl
 prefix_seen f n v w (item (atom (spec.float bits u)) is) = refl
 prefix_seen f n v w (item (atom (spec.simple m)) is) = refl
@@ -387,8 +377,8 @@ members_seen : (f : Family) (is : Items) → members_note f (first_seen 3 is) �
 members_seen f no_items = refl
 members_seen f (item (atom (spec.integer n w)) is) = prefix_seen f n Unknown w is
 members_seen f (item (atom (spec.negative n w)) is) = refl
-members_seen f (item (atom (spec.string bytes_kind c)) is) = rw (interface_seen f c.bytes is) refl
-members_seen f (item (atom (spec.string text_kind c)) is) = refl
+members_seen f (item (atom (spec.string Bytes c)) is) = rw (interface_seen f c.bytes is) refl
+members_seen f (item (atom (spec.string Text c)) is) = refl
 members_seen f (item (atom (spec.chunked_string kind cs)) is) = refl
 members_seen f (item (atom (spec.float bits w)) is) = refl
 members_seen f (item (atom (spec.simple n)) is) = refl
@@ -405,14 +395,14 @@ pub array_note : (known t : ℕ) (is : Items) (w : Option IntegerWidth)
     → value_note known t (array (first_seen 3 is) None) ≡ value_note known t (array is w)
 unfolding value_note
 array_note known t is w =
-    rw (members_seen ipv4 is, members_seen ipv6 is, not_elements (element_size t) (first_seen 3 is) is None w) refl
+    rw (members_seen IPv4 is, members_seen IPv6 is, not_elements (element_size t) (first_seen 3 is) is None w) refl
 
 elements_seen : (size : Option ℕ) (i : Item) → typed_array_note size (seen i) ≡ typed_array_note size i
 elements_seen None i = refl
 elements_seen (Some size) (atom (spec.integer n w)) = refl
 elements_seen (Some size) (atom (spec.negative n w)) = refl
-elements_seen (Some size) (atom (spec.string bytes_kind c)) = refl
-elements_seen (Some size) (atom (spec.string text_kind c)) = refl
+elements_seen (Some size) (atom (spec.string Bytes c)) = refl
+elements_seen (Some size) (atom (spec.string Text c)) = refl
 elements_seen (Some size) (atom (spec.chunked_string kind cs)) = refl
 elements_seen (Some size) (atom (spec.float bits w)) = refl
 elements_seen (Some size) (atom (spec.simple n)) = refl
@@ -430,10 +420,10 @@ item_note : (known t : ℕ) (i : Item) → IsNoArray i → value_note known t (s
 unfolding value_note
 item_note known t (atom (spec.integer n w)) is = rw (elements_seen (element_size t) (atom (spec.integer n w))) refl
 item_note known t (atom (spec.negative n w)) is = rw (elements_seen (element_size t) (atom (spec.negative n w))) refl
-item_note known t (atom (spec.string bytes_kind c)) is =
-    rw (elements_seen (element_size t) (atom (spec.string bytes_kind c))) refl
-item_note known t (atom (spec.string text_kind c)) is =
-    rw (elements_seen (element_size t) (atom (spec.string text_kind c))) refl
+item_note known t (atom (spec.string Bytes c)) is =
+    rw (elements_seen (element_size t) (atom (spec.string Bytes c))) refl
+item_note known t (atom (spec.string Text c)) is =
+    rw (elements_seen (element_size t) (atom (spec.string Text c))) refl
 item_note known t (atom (spec.chunked_string kind cs)) is =
     rw (elements_seen (element_size t) (atom (spec.chunked_string kind cs))) refl
 item_note known t (atom (spec.float bits w)) is = rw (elements_seen (element_size t) (atom (spec.float bits w))) refl
@@ -456,16 +446,16 @@ container_no_array (tagged t w i) is = tt
 
 no_array : (h : ItemHead) (b rest : List ℕ) (levels : ℕ) (i : Item) → IsNoArrayHead h
     → body_read h b levels ≡ Ok (i, rest) → IsNoArray i
-no_array (item_head.array left) b rest levels i never e = absurd never
-no_array (item_head.map left) b rest levels i is e =
+no_array (item_head.Array left) b rest levels i never e = absurd never
+no_array (item_head.Map left) b rest levels i is e =
     container_no_array i (parts_are _ (counted_item levels) _ b rest i tt e)
-no_array (item_head.tag t w) b rest levels i is e =
+no_array (item_head.Tag t w) b rest levels i is e =
     container_no_array i (parts_are _ (counted_item levels) _ b rest i tt e)
-no_array (item_head.integer n w) b rest levels i is e = atom_no_array i (atom_is (item_head.integer n w) b rest i e)
-no_array (item_head.negative n w) b rest levels i is e = atom_no_array i (atom_is (item_head.negative n w) b rest i e)
-no_array (item_head.string kind a) b rest levels i is e = atom_no_array i (atom_is (item_head.string kind a) b rest i e)
-no_array (item_head.float bits w) b rest levels i is e = atom_no_array i (atom_is (item_head.float bits w) b rest i e)
-no_array (item_head.simple n) b rest levels i is e = atom_no_array i (atom_is (item_head.simple n) b rest i e)
+no_array (item_head.Integer n w) b rest levels i is e = atom_no_array i (atom_is (item_head.Integer n w) b rest i e)
+no_array (item_head.Negative n w) b rest levels i is e = atom_no_array i (atom_is (item_head.Negative n w) b rest i e)
+no_array (item_head.String kind a) b rest levels i is e = atom_no_array i (atom_is (item_head.String kind a) b rest i e)
+no_array (item_head.Float bits w) b rest levels i is e = atom_no_array i (atom_is (item_head.Float bits w) b rest i e)
+no_array (item_head.Simple n) b rest levels i is e = atom_no_array i (atom_is (item_head.Simple n) b rest i e)
 
 -- the note on what was found behind a head
 pub behind_note : (a : declared_atom.Atom) (known t level : ℕ) (b behind after rest : List ℕ) (h : ItemHead) (i : Item)
@@ -479,11 +469,11 @@ behind_note a known t level b behind after rest h i never head sees e =
 
 -- the note on the members of an array
 pub members_note_is : (seen_members : Items) (known t level : ℕ) (b behind rest : List ℕ) (left : Argument) (i : Item)
-    → read_head b ≡ Ok (item_head.array left, behind)
+    → read_head b ≡ Ok (item_head.Array left, behind)
     → ((n : ℕ) (is : Items) → AreMembers n left behind is → seen_members ≡ first_seen 3 is)
     → read_at level b ≡ Ok (i, rest) → value_note known t (array seen_members None) ≡ value_note known t i
 members_note_is seen_members known t level b behind rest left i head sees e =
-    let body = item_after (levels_left level) b (item_head.array left) behind (i, rest) head e in
+    let body = item_after (levels_left level) b (item_head.Array left) behind (i, rest) head e in
     let is = array_is body.0 left behind rest i body.1 in
     ap (λ is. value_note known t (array is None)) (sees body.0 is.0 is.3) ∙ array_note known t is.0 is.1
     ∙ ap (value_note known t) (sym is.2)

@@ -11,7 +11,7 @@ use Rattle.cbor_notes.proofs.columns.Trees.{all_both}
 use Rattle.cbor_grammar.specs.declared.error.Error.{Error}
 use Rattle.cbor_grammar.specs.declared.error.Error.TheVariants as refusal
 use Rattle.cbor_grammar.specs.Item.{string, Item, atom, Items, no_items, item}
-use Rattle.cbor_grammar.specs.StringKind.{bytes_kind}
+use Rattle.cbor_grammar.specs.declared.strings.StringKind.TheVariants.{Bytes}
 use Rattle.cbor_grammar.specs.WellFormed.{WellFormed, WellFormedItems}
 use Rattle.cbor_grammar.specs.Dump.{note_line, note_lines, notes, notes_lines, embedded_note, failed_note, whole_note}
 use Rattle.cbor_grammar.specs.Dump.{items_notes, rest_note, sequence_notes, bytes_in, encoded_item_note}
@@ -118,7 +118,7 @@ rest_line (b ∷ rest) (Err e) =
 
 -- a byte string that is well formed has bytes
 bytes_well : (level : ℕ) (i : Item) → WellFormed level i → IfSome (bytes_in i) AllBytes
-bytes_well level (atom (string bytes_kind c)) well = well.1.bytes
+bytes_well level (atom (string Bytes c)) well = well.1.bytes
 bytes_well level i well = tt
 
 -- what is embedded is at a level, and its dump is good

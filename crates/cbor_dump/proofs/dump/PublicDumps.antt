@@ -1,5 +1,5 @@
 -- From what reading gives to the clauses of the calls that dump bytes, and the laws of a whole dump.
-use Rattle.std.proofs.Common.{◌≡◌, ◌≢◌, ℕ, ◌+◌, ◌-◌, List, ◌++◌, length, Some, Result, Ok, Err, refl, ap, sym}
+use Rattle.std.proofs.Common.{◌≡◌, ℕ, ◌+◌, List, Result, ap, sym}
 use Rattle.std.proofs.Common.{subst, ◌∙◌, arith}
 use Rattle.std.specs.List.{AllByRecursion}
 use Rattle.std.specs.Prelude.{IfOk}
@@ -10,25 +10,18 @@ use Rattle.cbor_notes.specs.Columns.{IsColumn, IsPlain, Lacks, uncommented}
 use Rattle.cbor_notes.specs.Layout.{width_of}
 use Rattle.cbor_notes.proofs.columns.OneColumn.{digits_left, one_column}
 use Rattle.cbor_grammar.specs.declared.error.Error.{Error}
-use Rattle.cbor_grammar.specs.declared.error.Error.TheVariants as refusal
-use Rattle.cbor_grammar.specs.Answer.{Outcome, spelled, fault, IsOutcome, OneOutcome}
-use Rattle.cbor_grammar.specs.Appended.{GaveText}
 use Rattle.cbor_grammar.specs.Dump.{dump, lines, top}
 use Rattle.cbor_grammar.specs.Facts.{IsItem, IsWellFormed}
 use Rattle.cbor_grammar.specs.HexText.{IsHexOf}
 use Rattle.cbor_grammar.specs.Item.{Item}
-use Rattle.cbor_grammar.specs.Reading.{Fails, read_item}
 use Rattle.cbor_grammar.specs.Written.{encoded, resolve}
 use Rattle.cbor_grammar.proofs.bytes.Heads.{IsBytes}
 use Rattle.cbor_grammar.proofs.bytes.Laws.{bytes_at, item_bytes}
-use Rattle.cbor_grammar.proofs.bytes.Outcomes.{found_outcome}
-use Rattle.cbor_grammar.proofs.bytes.Outcomes.{same}
 use Rattle.cbor_grammar.proofs.bytes.Resolved.{resolved, spells_well}
 use Rattle.cbor_grammar.proofs.bytes.Strict.{strict_any, strict_encoded}
 use Rattle.cbor_grammar.proofs.dump.AllDigits.{item_are}
 use Rattle.cbor_grammar.proofs.dump.Fits.{one_line_of}
 use Rattle.cbor_dump.proofs.dump.WholeDumps.{plain}
-use Rattle.cbor_grammar.proofs.straight.PublicCalls.{front_fault}
 
 -- ---- the laws of a dump
 
@@ -86,20 +79,3 @@ module _ {T : Type 0} (text_of : T → List ℕ) (b : List ℕ) (fits : IsBytes 
 pub lines_shown : (b : List ℕ) → IsBytes b → (i : Item) → IsItem b i
     → AllByRecursion (λ line. Lacks 10 line.comment) (lines i)
 lines_shown b fits i is = dump_one_line i (spells_well 1 b i fits is)
-
--- ---- the front
-
-pub gave_dump : (b rest : List ℕ) (i : Item) (text old new : List ℕ) (o : Outcome) → IsBytes b → OneOutcome 1 b
-    → read_item 128 b ≡ Ok (i, rest) → text ≡ dump i → new ≡ old ++ text → IsOutcome 1 b o
-    → GaveText dump (Ok (Some (length b - length rest))) old new o
-gave_dump b rest i text old new o fits one e written appended h = (
-  i,
-  same b (spelled i (length b - length rest)) o one (found_outcome 1 128 b i rest refl fits e) h,
-  appended ∙ ap (λ x. old ++ x) written,
-)
-
-pub gave_error : (b : List ℕ) (e : Error) (old new : List ℕ) (o : Outcome) → IsBytes b → OneOutcome 1 b
-    → e ≢ refusal.CutShort → Fails e (read_item 128 b) → IsOutcome 1 b o → GaveText dump (Err e) old new o
-gave_error b refusal.Memory old new o fits one no_cut h is = tt
-gave_error b e old new o fits one no_cut h is =
-    same b (fault e) o one (front_fault b e fits no_cut h (λ x. absurd cc)) is

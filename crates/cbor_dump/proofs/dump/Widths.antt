@@ -10,7 +10,7 @@ use Rattle.cbor_notes.specs.Element.{element_size, element_text}
 use Rattle.cbor_notes.specs.Layout.{DumpLine, reach, width_of}
 use Rattle.cbor_notes.proofs.columns.Trees.{width_of-append}
 use Rattle.cbor_grammar.specs.declared.width.IntegerWidth.{IntegerWidth}
-use Rattle.cbor_grammar.specs.Encoding.{Encoding}
+use Rattle.cbor_grammar.specs.declared.encoding.Encoding.{Encoding}
 use Rattle.cbor_grammar.specs.Item as spec
 use Rattle.cbor_grammar.specs.Item.{Chunk, Atom, integer, negative, string, chunked_string, float, simple, Item, atom}
 use Rattle.cbor_grammar.specs.Item.{array, tagged, Items, no_items, item, Pairs, no_pairs, pair, item_count, pair_count}
@@ -18,7 +18,9 @@ use Rattle.cbor_grammar.specs.Comments.{bytes_comment, text_comment}
 use Rattle.cbor_grammar.specs.Head.{opening, break_byte}
 use Rattle.cbor_grammar.specs.Notes.{Note}
 use Rattle.cbor_grammar.specs.Pieces.{pieces_of, byte_pieces, text_cut, text_pieces, piece_size}
-use Rattle.cbor_grammar.specs.StringKind.{StringKind, bytes_kind, text_kind, major_of}
+use Rattle.cbor_grammar.specs.declared.strings.StringKind.{StringKind}
+use Rattle.cbor_grammar.specs.declared.strings.StringKind.TheVariants.{Bytes, Text}
+use Rattle.cbor_grammar.specs.StringKind.{major_of}
 use Rattle.cbor_grammar.specs.Written.{encoded_head, encoded_open, encoded_float, encoded_simple}
 use Rattle.cbor_grammar.specs.Dump.{Context, head_hex, head_line, piece_line, content_lines, string_lines}
 use Rattle.cbor_grammar.specs.Dump.{string_content_lines, bytes_lines, element_lines, sized_lines, tagged_lines}
@@ -153,8 +155,8 @@ tagged_reach depth encoding (Some t) bytes = sized_reach depth encoding t (eleme
 
 string_content_reach : (kind : StringKind) (p : Context) (bytes : List ℕ)
     → width_of (string_content_lines kind p bytes) ≡ content_width kind p.depth p.tag bytes
-string_content_reach bytes_kind p bytes = tagged_reach (p.depth + 1) p.encoding p.tag bytes
-string_content_reach text_kind p bytes = content_reach (p.depth + 1) text_comment (text_pieces bytes)
+string_content_reach Bytes p bytes = tagged_reach (p.depth + 1) p.encoding p.tag bytes
+string_content_reach Text p bytes = content_reach (p.depth + 1) text_comment (text_pieces bytes)
 
 string_reach : (kind : StringKind) (p : Context) (c : Chunk)
     → width_of (string_lines kind p c) ≡ string_width kind p.depth p.tag c

@@ -8,7 +8,8 @@ use Rattle.cbor_grammar.specs.declared.tags.Tag.{Tag}
 use Rattle.cbor_dump.specs.declared.context.DumpContext.{DumpContext}
 use Rattle.cbor_dump.specs.declared.walk.Walk.{Walk}
 use Rattle.cbor_dump.specs.declared.writer.Writer.{Writer}
-use Rattle.cbor_grammar.specs.Argument.{Argument, number, indefinite}
+use Rattle.cbor_grammar.specs.declared.argument.Argument.{Argument}
+use Rattle.cbor_grammar.specs.declared.argument.Argument.TheVariants.{Number, Indefinite}
 use Rattle.cbor_grammar.specs.Comments.{unsigned_comment, negative_comment, float_comment, simple_comment}
 use Rattle.cbor_grammar.specs.Comments.{counted_comment, tag_comment}
 use Rattle.cbor_grammar.specs.Dump.{Context, head_line, string_word, lines_at_level, parts_lines, items_lines}
@@ -17,15 +18,14 @@ use Rattle.cbor_grammar.specs.Dump.{notes, note_lines, top, whole_note, sequence
 use Rattle.cbor_grammar.specs.Embedded.{sequence}
 use Rattle.cbor_grammar.specs.Head.{opening}
 use Rattle.cbor_grammar.specs.Item.{Item, Items, Pairs}
-use Rattle.cbor_grammar.specs.ItemHead as item_head
-use Rattle.cbor_grammar.specs.ItemHead.{ItemHead}
+use Rattle.cbor_grammar.specs.declared.head.ItemHead.TheVariants as item_head
+use Rattle.cbor_grammar.specs.declared.head.ItemHead.{ItemHead}
 use Rattle.cbor_grammar.specs.Reading.{Read, read_item}
 use Rattle.cbor_grammar.specs.Notes.{value_note}
 use Rattle.cbor_grammar.specs.StringKind.{major_of}
 use Rattle.cbor_grammar.specs.WellFormed.{deepest, levels_left}
 use Rattle.cbor_grammar.specs.Written.{encoded_head, encoded_float, encoded_simple}
-use Rattle.cbor_notation.specs.mirror.EncodingView.{in_force}
-use Rattle.cbor_bytes.specs.mirror.HeadView.{argument_count}
+use Rattle.cbor_grammar.specs.mirror.Lengths.{argument_count}
 use Rattle.cbor_grammar.specs.mirror.AtLevel.{read_behind}
 
 -- ---- where an item is
@@ -35,7 +35,7 @@ tag_number (Some t) = Some t.0
 tag_number None = None
 
 abbrev pub context_view : DumpContext → Context
-context_view c = record { depth = c.depth; encoding = in_force c.encoding; tag = tag_number c.tag; shared = c.shared }
+context_view c = record { depth = c.depth; encoding = c.encoding; tag = tag_number c.tag; shared = c.shared }
 
 -- an item is less deep than its level, which is at most one past the deepest
 abbrev pub IsContext : DumpContext → Type 0
@@ -78,36 +78,36 @@ sequence_notes_there c b =
 -- ---- heads
 
 abbrev pub argument_bytes : ℕ → Argument → List ℕ
-argument_bytes major (number n w) = encoded_head major n w
-argument_bytes major indefinite = opening major ∷ []
+argument_bytes major (Number n w) = encoded_head major n w
+argument_bytes major Indefinite = opening major ∷ []
 
 -- the bytes that a dump shows of a head, and what it says of them
 abbrev pub head_bytes : ItemHead → List ℕ
-head_bytes (item_head.integer n w) = encoded_head 0 n w
-head_bytes (item_head.negative n w) = encoded_head 1 n w
-head_bytes (item_head.string kind a) = argument_bytes (major_of kind) a
-head_bytes (item_head.array a) = argument_bytes 4 a
-head_bytes (item_head.map a) = argument_bytes 5 a
-head_bytes (item_head.tag n w) = encoded_head 6 n w
-head_bytes (item_head.float bits w) = encoded_float bits w
-head_bytes (item_head.simple n) = encoded_simple n
+head_bytes (item_head.Integer n w) = encoded_head 0 n w
+head_bytes (item_head.Negative n w) = encoded_head 1 n w
+head_bytes (item_head.String kind a) = argument_bytes (major_of kind) a
+head_bytes (item_head.Array a) = argument_bytes 4 a
+head_bytes (item_head.Map a) = argument_bytes 5 a
+head_bytes (item_head.Tag n w) = encoded_head 6 n w
+head_bytes (item_head.Float bits w) = encoded_float bits w
+head_bytes (item_head.Simple n) = encoded_simple n
 
 abbrev pub head_said : ItemHead → List ℕ
-head_said (item_head.integer n w) = unsigned_comment n
-head_said (item_head.negative n w) = negative_comment n
-head_said (item_head.string kind a) = counted_comment (string_word kind) (argument_count a)
-head_said (item_head.array a) = counted_comment (codes "array") (argument_count a)
-head_said (item_head.map a) = counted_comment (codes "map") (argument_count a)
-head_said (item_head.tag n w) = tag_comment n
-head_said (item_head.float bits w) = float_comment (encoded_float bits w)
-head_said (item_head.simple n) = simple_comment n
+head_said (item_head.Integer n w) = unsigned_comment n
+head_said (item_head.Negative n w) = negative_comment n
+head_said (item_head.String kind a) = counted_comment (string_word kind) (argument_count a)
+head_said (item_head.Array a) = counted_comment (codes "array") (argument_count a)
+head_said (item_head.Map a) = counted_comment (codes "map") (argument_count a)
+head_said (item_head.Tag n w) = tag_comment n
+head_said (item_head.Float bits w) = float_comment (encoded_float bits w)
+head_said (item_head.Simple n) = simple_comment n
 
 abbrev pub line_of_head : ℕ → ItemHead → DumpLine
 line_of_head depth h = head_line depth (head_bytes h) (head_said h)
 
 -- The bytes are those of the head. Those of a simple value may be two where a dump shows one.
 abbrev pub IsHead : ItemHead → List ℕ → Type 0
-IsHead (item_head.simple n) b = Unit {0}
+IsHead (item_head.Simple n) b = Unit {0}
 IsHead h b = b ≡ head_bytes h
 
 -- ---- what is written

@@ -2,8 +2,6 @@
 use Rattle.std.specs.Prelude.{◌≡◌, ℕ, zero, suc, List, map, Option, Some, None, Ok, IsSome}
 use Rattle.std.specs.String.{string_bytes}
 use Rattle.cbor_dump.specs.declared.notes.Note as declared_note
-use Rattle.cbor_dump.specs.declared.notes.addresses.Family as declared_family
-use Rattle.cbor_dump.specs.declared.notes.addresses.Family.TheVariants as code_family
 use Rattle.cbor_dump.specs.declared.notes.addresses.Zone as declared_zone
 use Rattle.cbor_dump.specs.declared.notes.addresses.Zone.TheVariants as code_zone
 use Rattle.cbor_dump.specs.declared.notes.value.Atom as declared_atom
@@ -13,19 +11,15 @@ use Rattle.cbor_dump.specs.declared.notes.value.Value as declared_value
 use Rattle.cbor_dump.specs.declared.notes.value.Value.TheVariants as code_value
 use Rattle.cbor_grammar.specs.declared.width.FloatWidth.TheVariants as float_width
 use Rattle.cbor_grammar.specs.declared.width.IntegerWidth.TheVariants.{Unknown}
-use Rattle.cbor_grammar.specs.Argument.{Argument}
+use Rattle.cbor_grammar.specs.declared.argument.Argument.{Argument}
 use Rattle.cbor_grammar.specs.Item as spec
 use Rattle.cbor_grammar.specs.Item.{Chunk, Atom, Item, atom, array, Items, no_items, item, no_pairs}
-use Rattle.cbor_grammar.specs.Notes.{Note, Family, ipv4, ipv6, Zone, no_zone, zone_text, not_zone}
+use Rattle.cbor_grammar.specs.Notes.{Note, Zone, no_zone, zone_text, not_zone}
 use Rattle.cbor_grammar.specs.Reading.{after_members, one_less, read_item}
-use Rattle.cbor_grammar.specs.StringKind.{bytes_kind, text_kind}
+use Rattle.cbor_grammar.specs.declared.strings.StringKind.TheVariants.{Bytes, Text}
 
 abbrev pub note_view : declared_note.Note → Note
 note_view n = record { text = string_bytes n.text; below = map string_bytes n.below.items }
-
-abbrev pub family_view : declared_family.Family → Family
-family_view code_family.IPv4 = ipv4
-family_view code_family.IPv6 = ipv6
 
 abbrev pub zone_view : declared_zone.Zone → Zone
 zone_view code_zone.Absent = no_zone
@@ -45,8 +39,8 @@ unstated bytes = record { bytes = bytes; width = Unknown }
 abbrev pub atom_view : declared_atom.Atom → Item
 atom_view (code_atom.Integer n) = atom (spec.integer n Unknown)
 atom_view (code_atom.Negative n) = atom (spec.negative n Unknown)
-atom_view (code_atom.Bytes bytes) = atom (spec.string bytes_kind (unstated bytes.now))
-atom_view (code_atom.Text text) = atom (spec.string text_kind (unstated text.now))
+atom_view (code_atom.Bytes bytes) = atom (spec.string Bytes (unstated bytes.now))
+atom_view (code_atom.Text text) = atom (spec.string Text (unstated text.now))
 atom_view code_atom.Float = atom (spec.float 0 float_width.Unknown)
 atom_view (code_atom.Simple s) = atom (spec.simple s.0)
 atom_view code_atom.Other = other

@@ -13,7 +13,6 @@ use Rattle.cbor_grammar.specs.Comments.{unsigned_comment, negative_comment, floa
 use Rattle.cbor_grammar.specs.Comments.{counted_comment}
 use Rattle.cbor_grammar.specs.Comments.{tag_comment, bytes_comment, text_comment, empty_comment, break_comment}
 use Rattle.cbor_grammar.specs.Dump.{head_hex}
-use Rattle.cbor_notation.specs.mirror.EncodingView.{in_force}
 
 -- the word of a string or a container
 abbrev pub major_word : Major → List ℕ
@@ -38,7 +37,7 @@ comment_text (comment.Float bytes) = float_comment bytes.now
 comment_text (comment.Simple n) = simple_comment n
 comment_text comment.Break = break_comment
 comment_text comment.Empty = empty_comment
-comment_text (comment.Bytes encoding whole piece) = bytes_comment (in_force encoding) whole.now piece.now
+comment_text (comment.Bytes encoding whole piece) = bytes_comment encoding whole.now piece.now
 comment_text (comment.Text piece) = text_comment piece.now
 comment_text (comment.Element tag piece) = unwrap_or (element_text tag.0 piece.now) []
 comment_text (comment.Note text) = text.now

@@ -4,15 +4,17 @@ use Rattle.std.specs.Prelude.{nat_lt, Option, Some, None, Ok, if◌then◌else�
 use Rattle.cbor_notes.specs.Element.{element_size}
 use Rattle.cbor_grammar.specs.declared.width.IntegerWidth.{IntegerWidth}
 use Rattle.cbor_dump.specs.declared.width.Place.{Place}
-use Rattle.cbor_grammar.specs.Argument.{number, indefinite}
+use Rattle.cbor_grammar.specs.declared.argument.Argument.TheVariants.{Number, Indefinite}
 use Rattle.cbor_grammar.specs.Item as spec
 use Rattle.cbor_grammar.specs.Item.{Chunk, Atom, integer, negative, string, chunked_string, float, simple, Item, atom}
 use Rattle.cbor_grammar.specs.Item.{array, tagged, Items, no_items, item, Pairs, no_pairs, pair, item_count, pair_count}
-use Rattle.cbor_grammar.specs.ItemHead as item_head
-use Rattle.cbor_grammar.specs.ItemHead.{ItemHead}
+use Rattle.cbor_grammar.specs.declared.head.ItemHead.TheVariants as item_head
+use Rattle.cbor_grammar.specs.declared.head.ItemHead.{ItemHead}
 use Rattle.cbor_grammar.specs.Pieces.{piece_size, text_pieces}
 use Rattle.cbor_grammar.specs.Reading.{Read, count_width}
-use Rattle.cbor_grammar.specs.StringKind.{StringKind, bytes_kind, text_kind, major_of}
+use Rattle.cbor_grammar.specs.declared.strings.StringKind.{StringKind}
+use Rattle.cbor_grammar.specs.declared.strings.StringKind.TheVariants.{Bytes, Text}
+use Rattle.cbor_grammar.specs.StringKind.{major_of}
 use Rattle.cbor_grammar.specs.WellFormed.{deepest, levels_left}
 use Rattle.cbor_grammar.specs.Written.{encoded_head, encoded_open, encoded_float, encoded_simple}
 use Rattle.cbor_grammar.specs.mirror.AtLevel.{read_behind}
@@ -51,8 +53,8 @@ tagged_piece None n = min n piece_size
 tagged_piece (Some t) n = sized_piece (element_size t) n
 
 abbrev pub longest_piece : StringKind → Option ℕ → List ℕ → ℕ
-longest_piece bytes_kind tag bytes = tagged_piece tag (length bytes)
-longest_piece text_kind tag bytes = longest (text_pieces bytes)
+longest_piece Bytes tag bytes = tagged_piece tag (length bytes)
+longest_piece Text tag bytes = longest (text_pieces bytes)
 
 -- the content of a string, one deeper than the string
 abbrev pub content_width : StringKind → ℕ → Option ℕ → List ℕ → ℕ
@@ -134,15 +136,15 @@ Measured width read rest old new = (i : Item) × (read ≡ Ok (i, rest)) × (new
 
 -- the item has this head
 abbrev pub HasHead : ItemHead → Item → Type 0
-HasHead (item_head.integer n w) i = i ≡ atom (integer n w)
-HasHead (item_head.negative n w) i = i ≡ atom (negative n w)
-HasHead (item_head.string kind (number n w)) i = (c : Chunk) × (i ≡ atom (string kind c)) × (c.width ≡ w)
-HasHead (item_head.string kind indefinite) i = (cs : List Chunk) × (i ≡ atom (chunked_string kind cs))
-HasHead (item_head.array a) i = (is : Items) × (i ≡ array is (count_width a))
-HasHead (item_head.map a) i = (ps : Pairs) × (i ≡ spec.map ps (count_width a))
-HasHead (item_head.tag t w) i = (j : Item) × (i ≡ tagged t w j)
-HasHead (item_head.float bits w) i = i ≡ atom (float bits w)
-HasHead (item_head.simple n) i = i ≡ atom (simple n)
+HasHead (item_head.Integer n w) i = i ≡ atom (integer n w)
+HasHead (item_head.Negative n w) i = i ≡ atom (negative n w)
+HasHead (item_head.String kind (Number n w)) i = (c : Chunk) × (i ≡ atom (string kind c)) × (c.width ≡ w)
+HasHead (item_head.String kind Indefinite) i = (cs : List Chunk) × (i ≡ atom (chunked_string kind cs))
+HasHead (item_head.Array a) i = (is : Items) × (i ≡ array is (count_width a))
+HasHead (item_head.Map a) i = (ps : Pairs) × (i ≡ spec.map ps (count_width a))
+HasHead (item_head.Tag t w) i = (j : Item) × (i ≡ tagged t w j)
+HasHead (item_head.Float bits w) i = i ≡ atom (float bits w)
+HasHead (item_head.Simple n) i = i ≡ atom (simple n)
 
 -- the same after a head, which was counted
 abbrev pub MeasuredBehind : Place → ItemHead → List ℕ → List ℕ → ℕ → ℕ → Type 0
@@ -151,5 +153,5 @@ MeasuredBehind p h b rest old new =
 
 -- How many bytes a head of this many bytes takes in a dump: a simple value below 24 takes one.
 abbrev pub shown_length : ItemHead → ℕ → ℕ
-shown_length (item_head.simple n) taken = if nat_lt n 24 then 1 else taken
+shown_length (item_head.Simple n) taken = if nat_lt n 24 then 1 else taken
 shown_length _ taken = taken

@@ -4,22 +4,23 @@ ghost use Rattle.std.specs.Prelude.{IfSome, IfNone};
 ghost use Rattle.std.specs.String.{string_bytes};
 ghost use Rattle.cbor_grammar.specs.Item.{no_items};
 ghost use Rattle.cbor_grammar.specs.Notes as spec;
-ghost use Rattle.cbor_dump.specs.mirror.NotesView.{family_view, zone_view};
+ghost use Rattle.cbor_dump.specs.mirror.NotesView.{zone_view};
 ghost use Rattle.cbor_dump.specs.mirror.NotesView.{members_view, then_view, value_view};
 
 use super::in_brackets;
 use super::value::{Atom, Members, Value};
 use cbor_grammar::Simple;
+use cbor_grammar::addresses::Family;
 use cbor_notes::{escaped_text, ipv4_text, ipv6_text, mac_text};
 use std::alloc::{AllocError, Global};
 
-/// A family of network addresses.
+/// The notes on the addresses of a family.
 #[derive(Clone, Copy)]
-pub(crate) enum Family {
-    /// Of four bytes.
-    IPv4,
-    /// Of sixteen bytes.
-    IPv6,
+struct AddressNotes {
+    /// What the notes are allocated by.
+    alloc: Global,
+    /// The family.
+    family: Family,
 }
 
 /// What is in the place of a zone.
@@ -33,24 +34,29 @@ pub(crate) enum Zone {
     Invalid,
 }
 
-impl Family {
-    /// What is said of the value of the family's tag.
-    pub(super) fn note(self, alloc: Global, value: Value<'_>) -> Result<String, AllocError>
-        ensures { IfOk result (λ note. string_bytes note ≡ spec.address_note (family_view self)
-            (value_view value.entry)) }
-    {
-        match value {
-            Value::Atom(Atom::Bytes(bytes)) => self.plain_address(alloc, bytes),
-            Value::Array(members) => self.members_note(alloc, members),
-            _ => invalid_address(alloc),
-        }
+/// What is said of the value of the tag of a family.
+pub(super) fn address_note(
+    alloc: Global,
+    family: Family,
+    value: Value<'_>,
+) -> Result<String, AllocError>
+    ensures { IfOk result (λ note. string_bytes note ≡ spec.address_note family
+        (value_view value.entry)) }
+{
+    let notes = AddressNotes { alloc, family };
+    match value {
+        Value::Atom(Atom::Bytes(bytes)) => notes.plain_address(bytes),
+        Value::Array(members) => notes.members_note(members),
+        _ => invalid_address(alloc),
     }
+}
 
-    /// What it is called.
+impl AddressNotes {
+    /// What the family is called.
     fn name(self) -> &'static str
-        ensures { result.now ≡ spec.family_name (family_view self) }
+        ensures { result.now ≡ spec.family_name self.family }
     {
-        match self {
+        match self.family {
             Family::IPv4 => "IPv4",
             Family::IPv6 => "IPv6",
         }
@@ -58,174 +64,163 @@ impl Family {
 
     /// How many bytes an address has.
     fn size(self) -> usize
-        ensures { result ≡ spec.family_size (family_view self) }
+        ensures { result ≡ spec.family_size self.family }
     {
-        match self {
+        match self.family {
             Family::IPv4 => 4,
             Family::IPv6 => 16,
         }
     }
 
     /// The text of an address, if the bytes are one.
-    fn address_text(self, alloc: Global, bytes: &[u8]) -> Result<Option<String>, AllocError>
+    fn address_text(self, bytes: &[u8]) -> Result<Option<String>, AllocError>
         ensures some { IfOk result (λ found. IfSome found (λ text.
-            (length bytes.now ≡ spec.family_size (family_view self))
-            × (string_bytes text ≡ spec.address_text (family_view self) bytes.now))) }
+            (length bytes.now ≡ spec.family_size self.family)
+            × (string_bytes text ≡ spec.address_text self.family bytes.now))) }
         ensures none { IfOk result (λ found. IfNone found
-            (length bytes.now ≢ spec.family_size (family_view self))) }
+            (length bytes.now ≢ spec.family_size self.family)) }
     {
-        match self {
+        match self.family {
             Family::IPv4 => match bytes.as_array() {
-                Some(octets) => Ok(Some(ipv4_text(alloc, octets)?)),
+                Some(octets) => Ok(Some(ipv4_text(self.alloc, octets)?)),
                 None => Ok(None),
             },
             Family::IPv6 => match bytes.as_array() {
-                Some(octets) => Ok(Some(ipv6_text(alloc, octets)?)),
+                Some(octets) => Ok(Some(ipv6_text(self.alloc, octets)?)),
                 None => Ok(None),
             },
         }
     }
 
     /// The family's name, what is shown of it, and that between brackets.
-    fn shown(self, alloc: Global, what: &str, text: &str) -> Result<String, AllocError>
+    fn shown(self, what: &str, text: &str) -> Result<String, AllocError>
         ensures { IfOk result (λ note. string_bytes note
-            ≡ spec.shown (family_view self) what.now text.now) }
+            ≡ spec.shown self.family what.now text.now) }
     {
-        let mut name = String::from_str(alloc, self.name())?;
+        let mut name = String::from_str(self.alloc, self.name())?;
         name.push(' ')?;
         name.push_str(what)?;
-        in_brackets(alloc, &name, text)
+        in_brackets(self.alloc, &name, text)
     }
 
     /// What is said of bytes that are too few or too many.
-    fn invalid_length(self, alloc: Global) -> Result<String, AllocError>
-        ensures { IfOk result (λ note. string_bytes note ≡ spec.invalid_length (family_view self)) }
+    fn invalid_length(self) -> Result<String, AllocError>
+        ensures { IfOk result (λ note. string_bytes note ≡ spec.invalid_length self.family) }
     {
-        let mut note = String::from_str(alloc, "invalid data length for ")?;
+        let mut note = String::from_str(self.alloc, "invalid data length for ")?;
         note.push_str(self.name())?;
         note.push_str(" address")?;
         Ok(note)
     }
 
     /// What is said of an address alone.
-    fn plain_address(self, alloc: Global, bytes: &[u8]) -> Result<String, AllocError>
+    fn plain_address(self, bytes: &[u8]) -> Result<String, AllocError>
         ensures { IfOk result (λ note. string_bytes note
-            ≡ spec.plain_address (family_view self) bytes.now) }
+            ≡ spec.plain_address self.family bytes.now) }
     {
-        match self.address_text(alloc, bytes)? {
-            Some(address) => self.shown(alloc, "address", &address),
-            None => self.invalid_length(alloc),
+        match self.address_text(bytes)? {
+            Some(address) => self.shown("address", &address),
+            None => self.invalid_length(),
         }
     }
 
     /// What is said of members: a prefix by its length and its bytes, or an address by its bytes
     /// and what follows them.
-    fn members_note(self, alloc: Global, members: Members<'_>) -> Result<String, AllocError>
-        ensures { IfOk result (λ note. string_bytes note ≡ spec.members_note (family_view self)
+    fn members_note(self, members: Members<'_>) -> Result<String, AllocError>
+        ensures { IfOk result (λ note. string_bytes note ≡ spec.members_note self.family
             (members_view members.entry)) }
     {
         match (members.first, members.second) {
             (Some(Atom::Integer(len)), Some(Atom::Bytes(prefix))) => {
-                self.prefix_note(alloc, len, prefix)
+                self.prefix_note(len, prefix)
             }
-            (Some(Atom::Bytes(bytes)), _) => match self.address_text(alloc, bytes)? {
-                Some(address) => self.interface_note(alloc, address, members),
-                None => self.invalid_length(alloc),
+            (Some(Atom::Bytes(bytes)), _) => match self.address_text(bytes)? {
+                Some(address) => self.interface_note(address, members),
+                None => self.invalid_length(),
             },
-            _ => invalid_address(alloc),
+            _ => invalid_address(self.alloc),
         }
     }
 
     /// What is said of a prefix: the first bytes of an address, without the zeros at its end.
-    fn prefix_note(self, alloc: Global, len: u64, bytes: &[u8]) -> Result<String, AllocError>
+    fn prefix_note(self, len: u64, bytes: &[u8]) -> Result<String, AllocError>
         ensures { IfOk result (λ note. string_bytes note
-            ≡ spec.prefix_note (family_view self) len bytes.now) }
+            ≡ spec.prefix_note self.family len bytes.now) }
     {
         if bytes.ends_with(&[0]) {
-            return String::from_str(alloc, "invalid prefix, ends with zero byte");
+            return String::from_str(self.alloc, "invalid prefix, ends with zero byte");
         }
         let size = self.size();
         if bytes.len() > size {
-            return self.invalid_length(alloc);
+            return self.invalid_length();
         }
         let mut octets = [0; 16];
         octets[..bytes.len()].copy_from_slice(bytes);
-        match self.address_text(alloc, &octets[..size])? {
+        match self.address_text(&octets[..size])? {
             Some(mut text) => {
                 push_length(&mut text, len)?;
-                self.shown(alloc, "prefix", &text)
+                self.shown("prefix", &text)
             }
-            None => self.invalid_length(alloc),
+            None => self.invalid_length(),
         }
     }
 
     /// What is said of the address that is the first member, given as text, and of what follows it:
     /// the length of its prefix or null, and perhaps a zone.
-    fn interface_note(
-        self,
-        alloc: Global,
-        address: String,
-        members: Members<'_>,
-    ) -> Result<String, AllocError>
+    fn interface_note(self, address: String, members: Members<'_>) -> Result<String, AllocError>
         ensures { (bytes : List ℕ)
-            → string_bytes address ≡ spec.address_text (family_view self) bytes
-            → IfOk result (λ note. string_bytes note ≡ spec.interface_note (family_view self) bytes
+            → string_bytes address ≡ spec.address_text self.family bytes
+            → IfOk result (λ note. string_bytes note ≡ spec.interface_note self.family bytes
             (then_view members.entry.second (then_view members.entry.third no_items))) }
     {
         match members.second {
-            Some(Atom::Integer(len)) => self.with_length(alloc, address, len, members.third),
-            Some(Atom::Simple(Simple::NULL)) => self.with_zone(alloc, address, members.third),
-            _ => invalid_address(alloc),
+            Some(Atom::Integer(len)) => self.with_length(address, len, members.third),
+            Some(Atom::Simple(Simple::NULL)) => self.with_zone(address, members.third),
+            _ => invalid_address(self.alloc),
         }
     }
 
     /// What is said of an address and a zone.
-    fn with_zone(
-        self,
-        alloc: Global,
-        address: String,
-        zone: Option<Atom<'_>>,
-    ) -> Result<String, AllocError>
+    fn with_zone(self, address: String, zone: Option<Atom<'_>>) -> Result<String, AllocError>
         ensures { (bytes : List ℕ)
-            → string_bytes address ≡ spec.address_text (family_view self) bytes
+            → string_bytes address ≡ spec.address_text self.family bytes
             → IfOk result (λ note. string_bytes note
-            ≡ spec.with_zone (family_view self) bytes
+            ≡ spec.with_zone self.family bytes
             (spec.zone_at (then_view zone.entry no_items))) }
     {
-        let Zone::Text(zone) = zone_at(alloc, zone)? else {
-            return invalid_address(alloc);
+        let Zone::Text(zone) = zone_at(self.alloc, zone)? else {
+            return invalid_address(self.alloc);
         };
         let mut text = address;
         push_zone(&mut text, &zone)?;
-        self.shown(alloc, "address-and-zone", &text)
+        self.shown("address-and-zone", &text)
     }
 
     /// What is said of an address, the length of its prefix, and perhaps a zone.
     fn with_length(
         self,
-        alloc: Global,
         address: String,
         len: u64,
         zone: Option<Atom<'_>>,
     ) -> Result<String, AllocError>
         ensures { (bytes : List ℕ)
-            → string_bytes address ≡ spec.address_text (family_view self) bytes
+            → string_bytes address ≡ spec.address_text self.family bytes
             → IfOk result (λ note. string_bytes note
-            ≡ spec.with_length (family_view self) bytes len
+            ≡ spec.with_length self.family bytes len
             (spec.zone_at (then_view zone.entry no_items))) }
     {
         let mut text = address;
-        match zone_at(alloc, zone)? {
+        match zone_at(self.alloc, zone)? {
             Zone::Absent => {
                 push_length(&mut text, len)?;
-                self.shown(alloc, "address-and-prefix", &text)
+                self.shown("address-and-prefix", &text)
             }
             Zone::Text(zone) => {
                 push_zone(&mut text, &zone)?;
                 push_length(&mut text, len)?;
-                self.shown(alloc, "address-and-zone-and-prefix", &text)
+                self.shown("address-and-zone-and-prefix", &text)
             }
-            Zone::Invalid => invalid_address(alloc),
+            Zone::Invalid => invalid_address(self.alloc),
         }
     }
 }

@@ -2,22 +2,20 @@
 ghost use Rattle.std.specs.Prelude.{◌≡◌, ◌+◌, ℕ, List, Ok};
 ghost use Rattle.cbor_grammar.specs.declared.width.IntegerWidth.{IntegerWidth};
 ghost use Rattle.cbor_grammar.specs.Item.{Chunk, string, Item, atom, Items};
-ghost use Rattle.cbor_grammar.specs.ItemHead as item_head;
 ghost use Rattle.cbor_grammar.specs.Notes.{value_note};
 ghost use Rattle.cbor_grammar.specs.Reading.{checked_chunk};
 ghost use Rattle.cbor_notation.specs.mirror.Ahead.{body_read};
 ghost use Rattle.cbor_grammar.specs.mirror.AtLevel.{read_at};
-ghost use Rattle.cbor_bytes.specs.mirror.HeadView.{argument_view, head_view};
 ghost use Rattle.cbor_dump.specs.mirror.NotesView.{AreMembers, IsNextMember, Sees};
 ghost use Rattle.cbor_dump.specs.mirror.NotesView.{atom_view, first_seen, members_view, seen};
 ghost use Rattle.cbor_dump.specs.mirror.NotesView.{value_view};
-ghost use Rattle.cbor_bytes.specs.mirror.HeadView.{left_of};
-ghost use Rattle.cbor_grammar.specs.mirror.StringView.{kind_view};
+ghost use Rattle.cbor_grammar.specs.mirror.Lengths.{left_of};
 
-use cbor_bytes::argument::Argument;
-use cbor_bytes::head::{ItemHead, read_head};
+use cbor_bytes::head::read_head;
 use cbor_bytes::strings::split_at;
 use cbor_grammar::Simple;
+use cbor_grammar::argument::Argument;
+use cbor_grammar::head::ItemHead;
 use cbor_grammar::strings::StringKind;
 use simdutf8::basic::from_utf8;
 
@@ -56,9 +54,8 @@ impl<'a> Atom<'a> {
     /// The string of that kind with this content.
     #[tactic(auto, using(cbor_grammar::proofs::shared::Utf8::utf8_fails, cbor_grammar::proofs::shared::Utf8::utf8_passes))]
     fn with_content(kind: StringKind, content: &'a [u8]) -> Atom<'a>
-        ensures { (w : IntegerWidth) (c : Chunk)
-            → checked_chunk (kind_view kind) w content.now ≡ Ok c
-            → atom_view result ≡ seen (atom (string (kind_view kind) c)) }
+        ensures { (w : IntegerWidth) (c : Chunk) → checked_chunk kind w content.now ≡ Ok c
+            → atom_view result ≡ seen (atom (string kind c)) }
     {
         match kind {
             StringKind::Bytes => Atom::Bytes(content),
@@ -74,8 +71,7 @@ impl<'a> Atom<'a> {
     /// chunks.
     fn string(kind: StringKind, length: Argument, bytes: &'a [u8]) -> (Atom<'a>, &'a [u8])
         ensures { (levels : ℕ) (i : Item) (rest : List ℕ)
-            → body_read (item_head.string (kind_view kind) (argument_view length)) bytes.now levels
-            ≡ Ok (i, rest)
+            → body_read (ItemHead.String kind length) bytes.now levels ≡ Ok (i, rest)
             → Sees result.0 result.1.now i rest }
     {
         let Argument::Number(count, _) = length else {
@@ -90,8 +86,7 @@ impl<'a> Atom<'a> {
     /// The value after its head, and the bytes after it; none after `Atom::Other`.
     fn behind(head: ItemHead, bytes: &'a [u8]) -> (Atom<'a>, &'a [u8])
         ensures { (levels : ℕ) (i : Item) (rest : List ℕ)
-            → body_read (head_view head) bytes.now levels ≡ Ok (i, rest)
-            → Sees result.0 result.1.now i rest }
+            → body_read head bytes.now levels ≡ Ok (i, rest) → Sees result.0 result.1.now i rest }
     {
         match head {
             ItemHead::Integer(value, _) => (Atom::Integer(value), bytes),
@@ -122,7 +117,7 @@ fn next_member(count: Argument, held: usize, bytes: &[u8]) -> (Option<Atom<'_>>,
 impl<'a> Members<'a> {
     /// The first members of an array of that length, which was read before.
     fn read(count: Argument, bytes: &'a [u8]) -> Members<'a>
-        ensures { (levels : ℕ) (is : Items) → AreMembers levels (argument_view count) bytes.now is
+        ensures { (levels : ℕ) (is : Items) → AreMembers levels count bytes.now is
             → members_view result ≡ first_seen 3 is }
     {
         let (first, rest) = next_member(count, 0, bytes);

@@ -8,11 +8,14 @@ use Rattle.std.proofs.lemmas.List.{take_at, drop_at, take-append-drop, length-ap
 use Rattle.std.proofs.lemmas.Str.{IsUtf8-from_is_utf8, is_utf8-from_IsUtf8}
 use Rattle.cbor_grammar.specs.declared.width.IntegerWidth.{IntegerWidth}
 use Rattle.cbor_grammar.specs.declared.error.Error.TheVariants as refusal
-use Rattle.cbor_grammar.specs.Argument.{Argument, number, indefinite}
+use Rattle.cbor_grammar.specs.declared.argument.Argument.{Argument}
+use Rattle.cbor_grammar.specs.declared.argument.Argument.TheVariants.{Number, Indefinite}
 use Rattle.cbor_grammar.specs.Item.{Chunk}
 use Rattle.cbor_grammar.specs.Head.{break_byte}
 use Rattle.cbor_grammar.specs.Bytes.{ChunkThen, SpellsChunks}
-use Rattle.cbor_grammar.specs.StringKind.{StringKind, bytes_kind, text_kind, major_of, IsContent}
+use Rattle.cbor_grammar.specs.declared.strings.StringKind.{StringKind}
+use Rattle.cbor_grammar.specs.declared.strings.StringKind.TheVariants.{Bytes, Text}
+use Rattle.cbor_grammar.specs.StringKind.{major_of, IsContent}
 use Rattle.cbor_grammar.specs.Reading.{checked_chunk, Read, ◌>>=◌, read_argument, split_at, read_content, chunk_of}
 use Rattle.cbor_grammar.specs.Reading.{read_chunk, Counted, more_chunks, read_chunks}
 use Rattle.cbor_grammar.proofs.bytes.Heads.{IsBytes, IsBytes-drop, IsBytes-rest, bind_ok, then_ok, guard_ok, guard_held}
@@ -40,8 +43,8 @@ ContentIs kind n w b c rest = (c.width ≡ w) × (length c.bytes ≡ n) × IsCon
 
 chunk_held : (kind : StringKind) (w : IntegerWidth) (s : List ℕ) (c : Chunk) → checked_chunk kind w s ≡ Ok c
     → (record { bytes = s; width = w } ≡ c) × IsContent kind s
-chunk_held bytes_kind w s c e = (ok_is (record { bytes = s; width = w }) c e, tt)
-chunk_held text_kind w s c e =
+chunk_held Bytes w s c e = (ok_is (record { bytes = s; width = w }) c e, tt)
+chunk_held Text w s c e =
     let g = guard_held (is_utf8 s) refusal.Utf8 (record { bytes = s; width = w }) c e in
     (g.1, IsUtf8-from_is_utf8 s g.0)
 
@@ -59,8 +62,8 @@ content_takes kind n w b rest c fits e =
 pub content_again : (kind : StringKind) (c : Chunk) (rest : List ℕ) → IsContent kind c.bytes
     → read_content kind (length c.bytes) c.width (c.bytes ++ rest) ≡ Ok (c, rest)
 unfolding read_content
-content_again bytes_kind c rest is = rw (split_again c.bytes rest) refl
-content_again text_kind c rest is = rw (split_again c.bytes rest, is_utf8-from_IsUtf8 c.bytes is) refl
+content_again Bytes c rest is = rw (split_again c.bytes rest) refl
+content_again Text c rest is = rw (split_again c.bytes rest, is_utf8-from_IsUtf8 c.bytes is) refl
 
 -- ---- one chunk
 
@@ -95,7 +98,7 @@ chunk_ways kind first b =
 chunk_of_takes : (kind : StringKind) (bits : ℕ) (i : Argument) (tail b rest : List ℕ) (o : Option Chunk)
     → ArgumentIs bits i tail b → chunk_of kind i b ≡ Ok (o, rest)
     → (c : Chunk) × (o ≡ Some c) × ChunkThen kind c ((32 * major_of kind + bits) ∷ tail) (λ r. r ≡ rest) × IsBytes rest
-chunk_of_takes kind bits (number n w) tail b rest o is e =
+chunk_of_takes kind bits (Number n w) tail b rest o is e =
     let a = bind_ok (read_content kind n w b) (λ c. Ok (Some c.0, c.1)) (o, rest) e in
     let c : Chunk = a.0.0 in
     let t = content_takes kind n w b a.0.1 c is.3 a.1 in
@@ -116,7 +119,7 @@ chunk_of_takes kind bits (number n w) tail b rest o is e =
       ),
       subst IsBytes rest-is t.4,
     )
-chunk_of_takes kind bits indefinite tail b rest o is e = absurd cc
+chunk_of_takes kind bits Indefinite tail b rest o is e = absurd cc
 
 -- a break and none, or a chunk
 abbrev pub ChunkIs : (kind : StringKind) (b rest : List ℕ) → Option Chunk → Type 0

@@ -3,7 +3,8 @@ use Rattle.std.proofs.Common.{◌≡◌, ℕ, ◌+◌, ◌≢◌, List, [], ◌�
 use Rattle.cbor_grammar.specs.declared.error.Error.{Error}
 use Rattle.cbor_grammar.specs.declared.error.Error.TheVariants as refusal
 use Rattle.cbor_grammar.specs.Head.{opening, break_byte}
-use Rattle.cbor_grammar.specs.StringKind.{StringKind, text_kind}
+use Rattle.cbor_grammar.specs.declared.strings.StringKind.{StringKind}
+use Rattle.cbor_grammar.specs.declared.strings.StringKind.TheVariants.{Text}
 use Rattle.cbor_grammar.specs.Refused.{BadHead, no_info, no_length, BadText, Next, part, part_or_break, Inside, in_tag}
 use Rattle.cbor_grammar.specs.Refused.{in_array, in_map, in_open_array, at_open_key, at_open_value, InsideString}
 use Rattle.cbor_grammar.specs.Refused.{NoChunk}
@@ -114,7 +115,7 @@ fault_append level b c e (bad_text le h) = bad_text le (bad_text_append b c h)
 fault_append level b c e (bad_chunk_head kind rest le inside h) =
     bad_chunk_head kind (rest ++ c) le (string_append kind b rest c inside) (no_chunk_append c h)
 fault_append level b c e (bad_chunk_text rest le inside h) =
-    bad_chunk_text (rest ++ c) le (string_append text_kind b rest c inside) (bad_text_append rest c h)
+    bad_chunk_text (rest ++ c) le (string_append Text b rest c inside) (bad_text_append rest c h)
 fault_append level b c e (bad_part next rest le inside no_break f) =
     bad_part next (rest ++ c) le (inside_append c inside) (no_break_append next (level + 1) rest c e no_break f)
     (fault_append (level + 1) rest c e f)

@@ -6,15 +6,17 @@ use Rattle.std.proofs.lemmas.Bool.{cases_eq, eq-eqb, ne_eqb}
 use Rattle.std.proofs.lemmas.List.{append-nil}
 use Rattle.cbor_grammar.specs.declared.width.IntegerWidth.{IntegerWidth}
 use Rattle.cbor_grammar.specs.declared.width.FloatWidth.TheVariants as float_width
-use Rattle.cbor_grammar.specs.Argument.{Argument, number, indefinite}
+use Rattle.cbor_grammar.specs.declared.argument.Argument.{Argument}
+use Rattle.cbor_grammar.specs.declared.argument.Argument.TheVariants.{Number, Indefinite}
 use Rattle.cbor_grammar.specs.Item as spec
 use Rattle.cbor_grammar.specs.Item.{Chunk, integer, negative, string, chunked_string, float, simple, Item, atom, array}
 use Rattle.cbor_grammar.specs.Item.{tagged, Items, no_items, item, Pairs, no_pairs, pair, item_count, pair_count}
-use Rattle.cbor_grammar.specs.ItemHead as item_head
-use Rattle.cbor_grammar.specs.ItemHead.{ItemHead}
+use Rattle.cbor_grammar.specs.declared.head.ItemHead.TheVariants as item_head
+use Rattle.cbor_grammar.specs.declared.head.ItemHead.{ItemHead}
 use Rattle.cbor_grammar.specs.Head.{opening, break_byte, HeadThen}
 use Rattle.cbor_grammar.specs.WellFormed.{deepest}
-use Rattle.cbor_grammar.specs.StringKind.{StringKind, major_of}
+use Rattle.cbor_grammar.specs.declared.strings.StringKind.{StringKind}
+use Rattle.cbor_grammar.specs.StringKind.{major_of}
 use Rattle.cbor_grammar.specs.Bytes.{any, OpenThen, ChunkThen, SpellsChunks, Spells, SpellsItems, SpellsPairs}
 use Rattle.cbor_grammar.specs.Bytes.{MembersThen}
 use Rattle.cbor_grammar.specs.Reading.{Counted, read_head, read_content, read_chunks, read_atom, Frame, items_in}
@@ -115,26 +117,26 @@ OpenedBy (tag_of t w) b rest = HeadThen 6 t w b (λ r. r ≡ rest)
 OpenedBy _ b rest = ⊥
 
 pub opened_by : (h : ItemHead) (f : Frame) (b rest : List ℕ) → opened h ≡ Some f → HeadIs h b rest → OpenedBy f b rest
-opened_by (item_head.array a) f b rest is head =
+opened_by (item_head.Array a) f b rest is head =
     let same : items_in no_items a ≡ f = cc in
     subst (λ (g : Frame). OpenedBy g b rest) same head
-opened_by (item_head.map a) f b rest is head =
+opened_by (item_head.Map a) f b rest is head =
     let same : pairs_in no_pairs a ≡ f = cc in
     subst (λ (g : Frame). OpenedBy g b rest) same head
-opened_by (item_head.tag n w) f b rest is head =
+opened_by (item_head.Tag n w) f b rest is head =
     let same : tag_of n w ≡ f = cc in
     subst (λ (g : Frame). OpenedBy g b rest) same head
 opened_by h f b rest is head = absurd cc
 
 -- nothing was read yet
 pub opened_held : (level : ℕ) (h : ItemHead) (f : Frame) → opened h ≡ Some f → Held level f f []
-opened_held level (item_head.array a) f is =
+opened_held level (item_head.Array a) f is =
     let same : items_in no_items a ≡ f = cc in
     subst (λ (g : Frame). Held level g g []) same (and_none a, refl)
-opened_held level (item_head.map a) f is =
+opened_held level (item_head.Map a) f is =
     let same : pairs_in no_pairs a ≡ f = cc in
     subst (λ (g : Frame). Held level g g []) same (and_none a, refl)
-opened_held level (item_head.tag n w) f is =
+opened_held level (item_head.Tag n w) f is =
     let same : tag_of n w ≡ f = cc in
     subst (λ (g : Frame). Held level g g []) same (refl, refl, refl)
 opened_held level h f is = absurd cc
@@ -144,7 +146,7 @@ members_close : (major n : ℕ) (a left : Argument) (b r whole end rest : List �
     → ArgumentThen major a b r → a ≡ and_more n left → r ≡ whole ++ end → after_members left end ≡ Some rest
     → IsBytes end → ((more : List ℕ) → Members (whole ++ more) more)
     → (front : List ℕ) × (b ≡ front ++ rest) × MembersThen major n (count_width left) front Members × IsBytes rest
-members_close major n a (number zero w) b r whole end rest Members head is parts over fits members =
+members_close major n a (Number zero w) b r whole end rest Members head is parts over fits members =
     let same : end ≡ rest = cc in
     let count : n + 0 ≡ n = omega arith in
     let its_head : HeadThen major n w b (λ x. x ≡ r) =
@@ -157,8 +159,8 @@ members_close major n a (number zero w) b r whole end rest Members head is parts
       subst (λ (y : List ℕ). Members y []) (append-nil whole) (members []),
     )) in
     (t.0, t.1, t.2, subst IsBytes same fits)
-members_close major n a (number (suc m) w) b r whole end rest Members head is parts over fits members = absurd cc
-members_close major n a indefinite b r whole end rest Members head is parts over fits members =
+members_close major n a (Number (suc m) w) b r whole end rest Members head is parts over fits members = absurd cc
+members_close major n a Indefinite b r whole end rest Members head is parts over fits members =
     let its_head : b ≡ opening major ∷ r = subst (λ (x : Argument). ArgumentThen major x b r) is head in
     let break : end ≡ break_byte ∷ rest = after_break_is end rest over in
     let inner : List ℕ = whole ++ break_byte ∷ [] in
@@ -203,34 +205,34 @@ closes level f g b r whole end rest i le head parts held fits closed ends = absu
 -- an item that holds no item, after its head
 atom_takes : (level : ℕ) (h : ItemHead) (b r rest : List ℕ) (i : Item) → level ≤ deepest → HeadIs h b r → IsBytes r
     → (read_atom h r).1 ≡ Ok (i, rest) → Spelled level b i rest
-atom_takes level (item_head.integer n w) b r rest i le h fits e =
+atom_takes level (item_head.Integer n w) b r rest i le h fits e =
     given level b r rest (atom (integer n w)) i e
     (headed level b r 0 n w (atom (integer n w)) fits h (λ front f. (le, f)))
-atom_takes level (item_head.negative n w) b r rest i le h fits e =
+atom_takes level (item_head.Negative n w) b r rest i le h fits e =
     given level b r rest (atom (negative n w)) i e
     (headed level b r 1 n w (atom (negative n w)) fits h (λ front f. (le, f)))
-atom_takes level (item_head.string kind (number n w)) b r rest i le h fits e =
+atom_takes level (item_head.String kind (Number n w)) b r rest i le h fits e =
     let a = bind_ok (read_content kind n w r) (λ c. Ok (atom (string kind c.0), c.1)) (i, rest) e in
     let t = string_takes kind n w b r a.0.1 a.0.0 fits h a.1 in
     given level b a.0.1 rest (atom (string kind a.0.0)) i a.2
     (record { front = t.0; parts = t.1; spells = (le, t.2); rest_bytes = t.3 })
-atom_takes level (item_head.string kind indefinite) b r rest i le h fits e =
+atom_takes level (item_head.String kind Indefinite) b r rest i le h fits e =
     let a = then_ok (read_chunks (length r) kind r) (λ cs. (0, Ok (atom (chunked_string kind cs.0), cs.1)))
     (i, rest) e in
     let t = open_string_takes kind b r a.0.1 a.0.0 fits h a.1 in
     given level b a.0.1 rest (atom (chunked_string kind a.0.0)) i a.2
     (record { front = t.0; parts = t.1; spells = (le, t.2); rest_bytes = t.3 })
-atom_takes level (item_head.float bits float_width.Unknown) b r rest i le h fits e = absurd h
-atom_takes level (item_head.float bits float_width.Sixteen) b r rest i le h fits e =
+atom_takes level (item_head.Float bits float_width.Unknown) b r rest i le h fits e = absurd h
+atom_takes level (item_head.Float bits float_width.Sixteen) b r rest i le h fits e =
     given level b r rest (atom (float bits float_width.Sixteen)) i e
     (record { front = 249 ∷ to_be_bytes w16 bits; parts = h.1; spells = (le, (h.0, refl)); rest_bytes = fits })
-atom_takes level (item_head.float bits float_width.ThirtyTwo) b r rest i le h fits e =
+atom_takes level (item_head.Float bits float_width.ThirtyTwo) b r rest i le h fits e =
     given level b r rest (atom (float bits float_width.ThirtyTwo)) i e
     (record { front = 250 ∷ to_be_bytes w32 bits; parts = h.1; spells = (le, (h.0, refl)); rest_bytes = fits })
-atom_takes level (item_head.float bits float_width.SixtyFour) b r rest i le h fits e =
+atom_takes level (item_head.Float bits float_width.SixtyFour) b r rest i le h fits e =
     given level b r rest (atom (float bits float_width.SixtyFour)) i e
     (record { front = 251 ∷ to_be_bytes w64 bits; parts = h.1; spells = (le, (h.0, refl)); rest_bytes = fits })
-atom_takes level (item_head.simple n) b r rest i le h fits e =
+atom_takes level (item_head.Simple n) b r rest i le h fits e =
     given level b r rest (atom (simple n)) i e
     (record { front = h.0; parts = h.1; spells = (le, h.2); rest_bytes = fits })
 atom_takes level h b r rest i le is fits e = absurd cc

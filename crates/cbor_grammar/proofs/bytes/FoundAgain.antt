@@ -6,15 +6,18 @@ use Rattle.std.proofs.lemmas.Bool.{ne_eqb}
 use Rattle.cbor_grammar.specs.declared.width.IntegerWidth.{IntegerWidth}
 use Rattle.cbor_grammar.specs.declared.width.IntegerWidth.TheVariants.{Zero, Eight, Sixteen, ThirtyTwo, SixtyFour}
 use Rattle.cbor_grammar.specs.declared.width.FloatWidth.TheVariants as float_width
-use Rattle.cbor_grammar.specs.Argument.{Argument, number, indefinite}
+use Rattle.cbor_grammar.specs.declared.argument.Argument.{Argument}
+use Rattle.cbor_grammar.specs.declared.argument.Argument.TheVariants.{Number, Indefinite}
 use Rattle.cbor_grammar.specs.Item as spec
 use Rattle.cbor_grammar.specs.Item.{Chunk, Atom, integer, negative, string, chunked_string, float, simple, Item, atom}
 use Rattle.cbor_grammar.specs.Item.{array, tagged, Items, no_items, item, Pairs, no_pairs, pair, item_count, pair_count}
-use Rattle.cbor_grammar.specs.ItemHead as item_head
-use Rattle.cbor_grammar.specs.ItemHead.{ItemHead}
+use Rattle.cbor_grammar.specs.declared.head.ItemHead.TheVariants as item_head
+use Rattle.cbor_grammar.specs.declared.head.ItemHead.{ItemHead}
 use Rattle.cbor_grammar.specs.Head.{head, opening, break_byte, HeadThen}
 use Rattle.cbor_grammar.specs.WellFormed.{deepest}
-use Rattle.cbor_grammar.specs.StringKind.{StringKind, bytes_kind, text_kind, major_of}
+use Rattle.cbor_grammar.specs.declared.strings.StringKind.{StringKind}
+use Rattle.cbor_grammar.specs.declared.strings.StringKind.TheVariants.{Bytes, Text}
+use Rattle.cbor_grammar.specs.StringKind.{major_of}
 use Rattle.cbor_grammar.specs.Bytes.{any, SpellsAtom, ChunkThen, MembersThen, Spells, SpellsItems, SpellsPairs}
 use Rattle.cbor_grammar.specs.Turns.{item_turns, items_turns, pairs_turns}
 use Rattle.cbor_grammar.specs.Reading.{◌>>=◌, Counted, later, go_on, ◌>>-◌, head_of, read_head, joined, joined_pairs}
@@ -29,13 +32,13 @@ use Rattle.cbor_grammar.proofs.bytes.Frames.{and_more, and_none}
 use Rattle.cbor_grammar.proofs.bytes.Found.{items_append, pairs_append}
 
 pub kind_major : (kind : StringKind) → major_of kind ≤ 3
-kind_major bytes_kind = omega arith
-kind_major text_kind = omega arith
+kind_major Bytes = omega arith
+kind_major Text = omega arith
 
-pub string_head : (kind : StringKind) (a : Argument) → head_of (major_of kind) a ≡ Ok (item_head.string kind a)
+pub string_head : (kind : StringKind) (a : Argument) → head_of (major_of kind) a ≡ Ok (item_head.String kind a)
 unfolding head_of
-string_head bytes_kind a = refl
-string_head text_kind a = refl
+string_head Bytes a = refl
+string_head Text a = refl
 
 -- an item's first byte is no break
 pub record Begins (x : List ℕ) : Type 0 where
@@ -98,21 +101,21 @@ FindsAgain level read = (x : List ℕ) (i : Item) (rest : List ℕ) → Spells a
     → read (x ++ rest) ≡ (item_turns i, Ok (i, rest))
 
 abbrev one_more : Argument → Argument
-one_more (number n w) = number (suc n) w
-one_more indefinite = indefinite
+one_more (Number n w) = Number (suc n) w
+one_more Indefinite = Indefinite
 
 and_one_more : (k : ℕ) (a : Argument) → and_more (suc k) a ≡ one_more (and_more k a)
-and_one_more k (number n w) = let e : suc k + n ≡ suc (k + n) = omega arith in ap (λ m. number m w) e
-and_one_more k indefinite = refl
+and_one_more k (Number n w) = let e : suc k + n ≡ suc (k + n) = omega arith in ap (λ m. Number m w) e
+and_one_more k Indefinite = refl
 
 less_more : (a : Argument) → one_less (one_more a) ≡ a
-less_more (number n w) = refl
-less_more indefinite = refl
+less_more (Number n w) = refl
+less_more Indefinite = refl
 
 -- where one more is to come, a container does not end before it
 more_open : (a : Argument) (x rest : List ℕ) → Begins x → after_members (one_more a) (x ++ rest) ≡ None
-more_open (number n w) x rest s = refl
-more_open indefinite x rest s = no_break_at x rest s
+more_open (Number n w) x rest s = refl
+more_open Indefinite x rest s = no_break_at x rest s
 
 pub joined-none : (is : Items) → joined is no_items ≡ is
 joined-none no_items = refl
@@ -133,8 +136,8 @@ joined_pair (pair j u ps) k v qs = ap (pair j u) (joined_pair ps k v qs)
 
 -- the argument of a container's head
 abbrev pub argument_of : Option IntegerWidth → ℕ → Argument
-argument_of (Some w) n = number n w
-argument_of None n = indefinite
+argument_of (Some w) n = Number n w
+argument_of None n = Indefinite
 
 module _ (level : ℕ) (read : List ℕ → Counted Item) (again : FindsAgain level read) (short : Shortens read) where
   -- one part
@@ -197,19 +200,19 @@ module _ (level : ℕ) (read : List ℕ → Counted Item) (again : FindsAgain le
       × (read_parts read (before (argument_of w n)) r ≡ (turns + 1, Ok (made w, rest)))
   members_again major n turns (Some w) x rest Members before after made h append many ends =
       let g = head_append major n w x rest _ (λ r. Members r rest) h (λ r s. append r [] rest s) in
-      let all : number n w ≡ and_more n (number 0 w) =
-      (let e : n ≡ n + 0 = omega arith in ap (λ m. number m w) e) in (
+      let all : Number n w ≡ and_more n (Number 0 w) =
+      (let e : n ≡ n + 0 = omega arith in ap (λ m. Number m w) e) in (
         g.1,
         (g.0, g.1, g.2, refl),
-        ap (λ a. read_parts read (before a) g.1) all ∙ many (number 0 w) g.1 rest g.3
-            ∙ ap (later turns) (ends (number 0 w) rest rest refl),
+        ap (λ a. read_parts read (before a) g.1) all ∙ many (Number 0 w) g.1 rest g.3
+            ∙ ap (later turns) (ends (Number 0 w) rest rest refl),
       )
   members_again major n turns None x rest Members before after made h append many ends =
       let r : List ℕ = h.0 ++ rest in (
         r,
         ap (λ (y : List ℕ). y ++ rest) h.1,
-        many indefinite r (break_byte ∷ rest) (append h.0 (break_byte ∷ []) rest h.2)
-            ∙ ap (later turns) (ends indefinite (break_byte ∷ rest) rest refl),
+        many Indefinite r (break_byte ∷ rest) (append h.0 (break_byte ∷ []) rest h.2)
+            ∙ ap (later turns) (ends Indefinite (break_byte ∷ rest) rest refl),
       )
 
 -- ---- items
@@ -243,25 +246,25 @@ module _ (level : ℕ) (read : List ℕ → Counted Item) (again : FindsAgain (l
 
   -- a number alone
   number_again : (major n : ℕ) (w : IntegerWidth) (x rest : List ℕ) (h : ItemHead) (i : Item) → major ≤ 7
-      → head_of major (number n w) ≡ Ok h → read_body read (opened h) h rest ≡ (0, Ok (i, rest)) → item_turns i ≡ 1
+      → head_of major (Number n w) ≡ Ok h → read_body read (opened h) h rest ≡ (0, Ok (i, rest)) → item_turns i ≡ 1
       → HeadThen major n w (x ++ rest) (λ r. r ≡ rest) → read_whole read (x ++ rest) ≡ (item_turns i, Ok (i, rest))
   number_again major n w x rest h i le is body turns spelled =
-      after_head (x ++ rest) rest rest h 0 i (head_again major (number n w) h (x ++ rest) rest le spelled is) body
+      after_head (x ++ rest) rest rest h 0 i (head_again major (Number n w) h (x ++ rest) rest le spelled is) body
       (sym turns)
 
   pub body_again : (x : List ℕ) (i : Item) (rest : List ℕ) → Spells any level x i
       → read_whole read (x ++ rest) ≡ (item_turns i, Ok (i, rest))
   unfolding head_of
   body_again x (atom (integer n w)) rest h =
-      number_again 0 n w x rest (item_head.integer n w) (atom (integer n w)) (omega arith) refl refl refl
+      number_again 0 n w x rest (item_head.Integer n w) (atom (integer n w)) (omega arith) refl refl refl
       (head_behind 0 n w x rest h.1)
   body_again x (atom (negative n w)) rest h =
-      number_again 1 n w x rest (item_head.negative n w) (atom (negative n w)) (omega arith) refl refl refl
+      number_again 1 n w x rest (item_head.Negative n w) (atom (negative n w)) (omega arith) refl refl refl
       (head_behind 1 n w x rest h.1)
   body_again x (atom (string kind c)) rest h =
-      let a : Argument = number (length c.bytes) c.width in
-      after_head (x ++ rest) (c.bytes ++ rest) rest (item_head.string kind a) 0 (atom (string kind c))
-      (head_again (major_of kind) a (item_head.string kind a) (x ++ rest) (c.bytes ++ rest)
+      let a : Argument = Number (length c.bytes) c.width in
+      after_head (x ++ rest) (c.bytes ++ rest) rest (item_head.String kind a) 0 (atom (string kind c))
+      (head_again (major_of kind) a (item_head.String kind a) (x ++ rest) (c.bytes ++ rest)
       (omega (arith, kind_major kind)) (string_behind kind x rest c h.1) (string_head kind a))
       (ap (λ r. (0, r >>= λ c. Ok (atom (string kind c.0), c.1))) (content_again kind c rest h.1.0)) refl
   body_again x (atom (chunked_string kind cs)) rest h =
@@ -269,33 +272,33 @@ module _ (level : ℕ) (read : List ℕ → Counted Item) (again : FindsAgain (l
       let sum : 1 + (length cs + 1) ≡ 2 + length cs = omega arith in
       let chunks = chunks_again (length r) kind r rest cs (omega arith)
       (chunks_append kind cs h.1.0 (break_byte ∷ []) rest h.1.2) in
-      after_head (x ++ rest) r rest (item_head.string kind indefinite) (length cs + 1) (atom (chunked_string kind cs))
-      (head_again (major_of kind) indefinite (item_head.string kind indefinite) (x ++ rest) r
-      (omega (arith, kind_major kind)) (ap (λ (y : List ℕ). y ++ rest) h.1.1) (string_head kind indefinite))
+      after_head (x ++ rest) r rest (item_head.String kind Indefinite) (length cs + 1) (atom (chunked_string kind cs))
+      (head_again (major_of kind) Indefinite (item_head.String kind Indefinite) (x ++ rest) r
+      (omega (arith, kind_major kind)) (ap (λ (y : List ℕ). y ++ rest) h.1.1) (string_head kind Indefinite))
       (ap (λ c. c >>- λ cs. (0, Ok (atom (chunked_string kind cs.0), cs.1))) chunks
       ∙ ap (λ n. (n, Ok (atom (chunked_string kind cs), rest)))
       (let e : length cs + 1 + 0 ≡ length cs + 1 = omega arith in e))
       sum
   body_again x (atom (float bits float_width.Unknown)) rest h = absurd h.1
   body_again x (atom (float bits float_width.Sixteen)) rest h =
-      number_again 7 bits Sixteen x rest (item_head.float bits float_width.Sixteen)
+      number_again 7 bits Sixteen x rest (item_head.Float bits float_width.Sixteen)
       (atom (float bits float_width.Sixteen)) (omega arith) refl refl refl
       (h.1.0, rest, ap (λ (y : List ℕ). y ++ rest) h.1.1, refl)
   body_again x (atom (float bits float_width.ThirtyTwo)) rest h =
-      number_again 7 bits ThirtyTwo x rest (item_head.float bits float_width.ThirtyTwo)
+      number_again 7 bits ThirtyTwo x rest (item_head.Float bits float_width.ThirtyTwo)
       (atom (float bits float_width.ThirtyTwo)) (omega arith) refl refl refl
       (h.1.0, rest, ap (λ (y : List ℕ). y ++ rest) h.1.1, refl)
   body_again x (atom (float bits float_width.SixtyFour)) rest h =
-      number_again 7 bits SixtyFour x rest (item_head.float bits float_width.SixtyFour)
+      number_again 7 bits SixtyFour x rest (item_head.Float bits float_width.SixtyFour)
       (atom (float bits float_width.SixtyFour)) (omega arith) refl refl refl
       (h.1.0, rest, ap (λ (y : List ℕ). y ++ rest) h.1.1, refl)
   body_again x (atom (simple n)) rest (le, inl h) =
-      number_again 7 n Zero x rest (item_head.simple n) (atom (simple n)) (omega arith) refl refl refl
+      number_again 7 n Zero x rest (item_head.Simple n) (atom (simple n)) (omega arith) refl refl refl
       (h.0, rest, ap (λ (y : List ℕ). y ++ rest) h.1, refl)
   body_again x (atom (simple n)) rest (le, inr h) =
       let is : x ++ rest ≡ head 7 n Eight ++ rest =
       ap (λ (y : List ℕ). y ++ rest) (h.1 ∙ ap (λ (y : List ℕ). 248 ∷ y) (sym (byte_of n h.0))) in
-      number_again 7 n Eight x rest (item_head.simple n) (atom (simple n)) (omega arith) refl refl refl
+      number_again 7 n Eight x rest (item_head.Simple n) (atom (simple n)) (omega arith) refl refl refl
       (h.0, rest, is, refl)
   body_again x (array is w) rest h =
       let n : ℕ = item_count is in
@@ -305,8 +308,8 @@ module _ (level : ℕ) (read : List ℕ → Counted Item) (again : FindsAgain (l
       (λ a b end s. items_again (level + 1) read again short no_items is a b end s)
       (λ a end over e. parts_end read short (items_in is a) end over (array is (count_width a)) refl e) in
       let sum : 1 + (items_turns is + 1) ≡ 2 + items_turns is = omega arith in
-      after_head (x ++ rest) g.0 rest (item_head.array (argument_of w n)) (items_turns is + 1) (array is w)
-      (head_again 4 (argument_of w n) (item_head.array (argument_of w n)) (x ++ rest) g.0 (omega arith) g.1 refl)
+      after_head (x ++ rest) g.0 rest (item_head.Array (argument_of w n)) (items_turns is + 1) (array is w)
+      (head_again 4 (argument_of w n) (item_head.Array (argument_of w n)) (x ++ rest) g.0 (omega arith) g.1 refl)
       g.2 sum
   body_again x (spec.map ps w) rest h =
       let n : ℕ = pair_count ps in
@@ -316,14 +319,14 @@ module _ (level : ℕ) (read : List ℕ → Counted Item) (again : FindsAgain (l
       (λ a b end s. pairs_again (level + 1) read again short no_pairs ps a b end s)
       (λ a end over e. parts_end read short (pairs_in ps a) end over (spec.map ps (count_width a)) refl e) in
       let sum : 1 + (pairs_turns ps + 1) ≡ 2 + pairs_turns ps = omega arith in
-      after_head (x ++ rest) g.0 rest (item_head.map (argument_of w n)) (pairs_turns ps + 1) (spec.map ps w)
-      (head_again 5 (argument_of w n) (item_head.map (argument_of w n)) (x ++ rest) g.0 (omega arith) g.1 refl) g.2 sum
+      after_head (x ++ rest) g.0 rest (item_head.Map (argument_of w n)) (pairs_turns ps + 1) (spec.map ps w)
+      (head_again 5 (argument_of w n) (item_head.Map (argument_of w n)) (x ++ rest) g.0 (omega arith) g.1 refl) g.2 sum
   body_again x (tagged t w i) rest h =
       let g = head_append 6 t w x rest (λ r. r ≡ h.1.1) (λ r. r ≡ h.1.1 ++ rest) (h.1.0, h.1.1, h.1.2, refl)
       (λ r e. ap (λ (y : List ℕ). y ++ rest) e) in
       let sum : 1 + (item_turns i + 1) ≡ 2 + item_turns i = omega arith in
-      after_head (x ++ rest) (h.1.1 ++ rest) rest (item_head.tag t w) (item_turns i + 1) (tagged t w i)
-      (head_again 6 (number t w) (item_head.tag t w) (x ++ rest) (h.1.1 ++ rest) (omega arith) g refl)
+      after_head (x ++ rest) (h.1.1 ++ rest) rest (item_head.Tag t w) (item_turns i + 1) (tagged t w i)
+      (head_again 6 (Number t w) (item_head.Tag t w) (x ++ rest) (h.1.1 ++ rest) (omega arith) g refl)
       (part_again (level + 1) read again short (tag_of t w) h.1.1 rest i h.1.3 refl
       ∙ ap (later (item_turns i)) (parts_end read short (tagged_with t w i) rest rest (tagged t w i) refl refl)) sum
 

@@ -1,7 +1,8 @@
 -- What was read of an open container is what the bytes before its next part spell, and is read again from them.
 use Rattle.std.proofs.Common.{◌≡◌, ℕ, zero, suc, ◌+◌, ◌<◌, List, [], ◌++◌, length, Option, Some, None, Ok, Err, ◌⊎◌}
 use Rattle.std.proofs.Common.{inl, inr, refl, sym, ap, subst, ◌∙◌, append_assoc, append-nil, arith}
-use Rattle.cbor_grammar.specs.Argument.{Argument, number, indefinite}
+use Rattle.cbor_grammar.specs.declared.argument.Argument.{Argument}
+use Rattle.cbor_grammar.specs.declared.argument.Argument.TheVariants.{Number, Indefinite}
 use Rattle.cbor_grammar.specs.Item.{Item, Items, no_items, item, Pairs, no_pairs, pair, item_count, pair_count}
 use Rattle.cbor_grammar.specs.Bytes.{any, Spells, SpellsItems, SpellsPairs}
 use Rattle.cbor_grammar.specs.Reading.{Read, Counted, go_on, ◌>>-◌, joined, joined_pairs, Frame, items_in, pairs_in}
@@ -57,18 +58,18 @@ pair_count_more (pair j u ps) k v = ap suc (pair_count_more ps k v)
 
 -- `k` more than are to come
 abbrev pub and_more : ℕ → Argument → Argument
-and_more k (number n w) = number (k + n) w
-and_more k indefinite = indefinite
+and_more k (Number n w) = Number (k + n) w
+and_more k Indefinite = Indefinite
 
 pub and_none : (a : Argument) → a ≡ and_more 0 a
-and_none (number n w) = let e : n ≡ 0 + n = omega arith in ap (λ m. number m w) e
-and_none indefinite = refl
+and_none (Number n w) = let e : n ≡ 0 + n = omega arith in ap (λ m. Number m w) e
+and_none Indefinite = refl
 
 more_less : (k : ℕ) (a : Argument) (b : List ℕ) → after_members a b ≡ None
     → and_more k a ≡ and_more (suc k) (one_less a)
-more_less k (number zero w) b none = absurd cc
-more_less k (number (suc n) w) b none = let e : k + suc n ≡ suc k + n = omega arith in ap (λ m. number m w) e
-more_less k indefinite b none = refl
+more_less k (Number zero w) b none = absurd cc
+more_less k (Number (suc n) w) b none = let e : k + suc n ≡ suc k + n = omega arith in ap (λ m. Number m w) e
+more_less k Indefinite b none = refl
 
 -- these bytes spell what was read of the second container since it was the first, which its head opened; its parts are
 -- at this level

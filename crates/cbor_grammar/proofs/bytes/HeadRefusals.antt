@@ -7,7 +7,8 @@ use Rattle.std.proofs.lemmas.Bool.{ltb-true, lt-ltb, eqb-false, ne_eqb}
 use Rattle.cbor_grammar.specs.declared.width.IntegerWidth.{IntegerWidth}
 use Rattle.cbor_grammar.specs.declared.error.Error.{Error}
 use Rattle.cbor_grammar.specs.declared.error.Error.TheVariants as refusal
-use Rattle.cbor_grammar.specs.Argument.{Argument, number, indefinite}
+use Rattle.cbor_grammar.specs.declared.argument.Argument.{Argument}
+use Rattle.cbor_grammar.specs.declared.argument.Argument.TheVariants.{Number, Indefinite}
 use Rattle.cbor_grammar.specs.Refused.{CutHead, cut_head, BadHead, no_info, no_length}
 use Rattle.cbor_grammar.specs.Reading.{◌>>=◌, read_number, read_wide, read_argument, numbered, head_of, read_head}
 use Rattle.cbor_grammar.proofs.bytes.Heads.{IsBytes, IsBytes-rest, bind_err, branch, info_way, in_byte, in_bytes}
@@ -29,7 +30,7 @@ wide_refused : (w : Width) (width : IntegerWidth) (b : List ℕ) (e : Error) →
     → (length b < byte_len w) × (refusal.CutShort ≡ e)
 unfolding read_wide
 wide_refused w width b e h =
-    elim (bind_err (read_number w b) (λ n. Ok (number n.0 width, n.1)) e h) [
+    elim (bind_err (read_number w b) (λ n. Ok (Number n.0 width, n.1)) e h) [
       | inl short ↦ elim (branch (ltb (length b) (byte_len w)) (Err refusal.CutShort)
           (Ok (from_be_bytes w (take (byte_len w) b), drop (byte_len w) b)) (Err e) short) [
             | inl t ↦ (ltb-true _ _ t.0, cc)
@@ -81,7 +82,7 @@ info_refuses bits b e (bad_info least most) =
     ]
 
 -- info 31 asks for no bytes
-pub info_opens : (bits : ℕ) (b : List ℕ) → bits ≡ 31 → read_argument bits b ≡ Ok (indefinite, b)
+pub info_opens : (bits : ℕ) (b : List ℕ) → bits ≡ 31 → read_argument bits b ≡ Ok (Indefinite, b)
 unfolding read_argument
 info_opens bits b is = rw is refl
 
@@ -95,8 +96,8 @@ pub data HeadRefusal : List ℕ → Error → Type 0 where
 
 -- where a major type has no head with this argument
 numbered_refused : (major : ℕ) (a : Argument) (e : Error) → numbered major a ≡ Err e
-    → (a ≡ indefinite) × (refusal.Head ≡ e)
-numbered_refused major (number n w) e h =
+    → (a ≡ Indefinite) × (refusal.Head ≡ e)
+numbered_refused major (Number n w) e h =
     elim (branch (eqb major 0) _ _ (Err e) h) [
       | inl t ↦ absurd cc
       | inr t0 ↦ elim (branch (eqb major 1) _ _ (Err e) t0.1) [
@@ -107,10 +108,10 @@ numbered_refused major (number n w) e h =
         ]
       ]
     ]
-numbered_refused major indefinite e h = (refl, cc)
+numbered_refused major Indefinite e h = (refl, cc)
 
 head_of_refused : (major : ℕ) (a : Argument) (e : Error) → head_of major a ≡ Err e
-    → (a ≡ indefinite) × ((major ≤ 1) ⊎ (6 ≤ major)) × (refusal.Head ≡ e)
+    → (a ≡ Indefinite) × ((major ≤ 1) ⊎ (6 ≤ major)) × (refusal.Head ≡ e)
 unfolding head_of
 head_of_refused major a e h =
     elim (branch (eqb major 2) _ _ (Err e) h) [
@@ -133,7 +134,7 @@ head_of_refused major a e h =
       ]
     ]
 
-head_of_refuses : (major : ℕ) → (major ≤ 1) ⊎ (6 ≤ major) → head_of major indefinite ≡ Err refusal.Head
+head_of_refuses : (major : ℕ) → (major ≤ 1) ⊎ (6 ≤ major) → head_of major Indefinite ≡ Err refusal.Head
 unfolding head_of
 head_of_refuses major outside =
     let not2 : major ≡ 2 → ⊥ = λ is. grind arith in
@@ -150,9 +151,9 @@ unread : (first : ℕ) (b rest : List ℕ) (a : Argument) (e : Error) → IsByte
     → read_argument (first % 32) b ≡ Ok (a, rest) → head_of (first / 32) a ≡ Err e → HeadRefusal (first ∷ b) e
 unread first b rest a e fits read h =
     let u = head_of_refused (first / 32) a e h in
-    let none : read_argument (first % 32) b ≡ Ok (indefinite, rest) =
+    let none : read_argument (first % 32) b ≡ Ok (Indefinite, rest) =
     read ∙ ap (λ (x : Argument). Ok (x, rest)) u.0 in
-    let t = info_takes (first % 32) b rest indefinite fits none in
+    let t = info_takes (first % 32) b rest Indefinite fits none in
     subst (λ (d : Error). HeadRefusal (first ∷ b) d) u.2 (bad_head (no_length t.0 u.1))
 
 pub head_refused : (b : List ℕ) (e : Error) → IsBytes b → read_head b ≡ Err e → HeadRefusal b e

@@ -14,10 +14,12 @@ use Rattle.cbor_grammar.specs.declared.width.IntegerWidth.TheVariants.{SixtyFour
 use Rattle.cbor_grammar.specs.declared.width.FloatWidth.TheVariants as float_width
 use Rattle.cbor_grammar.specs.declared.error.Error.{Error}
 use Rattle.cbor_grammar.specs.declared.error.Error.TheVariants as refusal
-use Rattle.cbor_grammar.specs.Argument.{Argument, number, indefinite}
-use Rattle.cbor_grammar.specs.ItemHead as item_head
-use Rattle.cbor_grammar.specs.ItemHead.{ItemHead}
-use Rattle.cbor_grammar.specs.StringKind.{bytes_kind, text_kind, major_of}
+use Rattle.cbor_grammar.specs.declared.argument.Argument.{Argument}
+use Rattle.cbor_grammar.specs.declared.argument.Argument.TheVariants.{Number, Indefinite}
+use Rattle.cbor_grammar.specs.declared.head.ItemHead.TheVariants as item_head
+use Rattle.cbor_grammar.specs.declared.head.ItemHead.{ItemHead}
+use Rattle.cbor_grammar.specs.declared.strings.StringKind.TheVariants.{Bytes, Text}
+use Rattle.cbor_grammar.specs.StringKind.{major_of}
 use Rattle.cbor_grammar.specs.Head.{FitsStated, head, opening, HeadThen}
 use Rattle.cbor_grammar.specs.Bytes.{any, SpellsSimple}
 use Rattle.cbor_grammar.specs.Reading.{Read, ◌>>=◌, Counted, go_on, ◌>>-◌, read_number, read_wide, read_argument}
@@ -207,18 +209,18 @@ head_parts major n SixtyFour fits = (refl, omega arith)
 
 -- what follows five bits of info
 abbrev pub ArgumentIs : ℕ → Argument → List ℕ → List ℕ → Type 0
-ArgumentIs bits (number n w) b rest = FitsStated w n × (bits ≡ bits_of w n) × (b ≡ number_bytes w n ++ rest)
+ArgumentIs bits (Number n w) b rest = FitsStated w n × (bits ≡ bits_of w n) × (b ≡ number_bytes w n ++ rest)
     × IsBytes rest
-ArgumentIs bits indefinite b rest = (bits ≡ 31) × (b ≡ rest) × IsBytes rest
+ArgumentIs bits Indefinite b rest = (bits ≡ 31) × (b ≡ rest) × IsBytes rest
 
 wide_takes : (wide_w : Width) (limit : ℕ) (wide : IsWide wide_w limit) (w : IntegerWidth) (b rest : List ℕ)
-    (i : Argument) → IsBytes b → read_wide wide_w w b ≡ Ok (i, rest) → (n : ℕ) × (number n w ≡ i) × (n < limit)
+    (i : Argument) → IsBytes b → read_wide wide_w w b ≡ Ok (i, rest) → (n : ℕ) × (Number n w ≡ i) × (n < limit)
     × (b ≡ to_be_bytes wide_w n ++ rest) × IsBytes rest
 unfolding read_wide
 wide_takes wide_w limit wide w b rest i fits e =
-    let a = bind_ok (read_number wide_w b) (λ n. Ok (number n.0 w, n.1)) (i, rest) e in
+    let a = bind_ok (read_number wide_w b) (λ n. Ok (Number n.0 w, n.1)) (i, rest) e in
     let n : ℕ = a.0.0 in
-    let made : (number n w, a.0.1) ≡ (i, rest) = ok_is (number n w, a.0.1) (i, rest) a.2 in
+    let made : (Number n w, a.0.1) ≡ (i, rest) = ok_is (Number n w, a.0.1) (i, rest) a.2 in
     let rest-is : a.0.1 ≡ rest = ap (λ (p : Argument × List ℕ). p.1) made in
     let t = number_takes wide_w limit wide b n a.0.1 fits a.1 in (
       n,
@@ -229,13 +231,13 @@ wide_takes wide_w limit wide w b rest i fits e =
     )
 
 wide_again : (wide_w : Width) (limit : ℕ) (wide : IsWide wide_w limit) (w : IntegerWidth) (n : ℕ) (rest : List ℕ)
-    → n < limit → read_wide wide_w w (to_be_bytes wide_w n ++ rest) ≡ Ok (number n w, rest)
+    → n < limit → read_wide wide_w w (to_be_bytes wide_w n ++ rest) ≡ Ok (Number n w, rest)
 unfolding read_wide
 wide_again wide_w limit wide w n rest lt = rw (number_again wide_w limit wide n rest lt) refl
 
 wide_is : (bits : ℕ) (wide_w : Width) (limit : ℕ) (wide : IsWide wide_w limit) (w : IntegerWidth) (b rest : List ℕ)
     (i : Argument) → IsBytes b → read_wide wide_w w b ≡ Ok (i, rest)
-    → ((n : ℕ) → n < limit → b ≡ to_be_bytes wide_w n ++ rest → IsBytes rest → ArgumentIs bits (number n w) b rest)
+    → ((n : ℕ) → n < limit → b ≡ to_be_bytes wide_w n ++ rest → IsBytes rest → ArgumentIs bits (Number n w) b rest)
     → ArgumentIs bits i b rest
 wide_is bits wide_w limit wide w b rest i fits e found =
     let t = wide_takes wide_w limit wide w b rest i fits e in
@@ -254,10 +256,10 @@ pub record WideInfo (info k : ℕ) (w : Width) (width : IntegerWidth) : Type 0 w
 -- what info asks for: nothing, since it is the number; the bytes of a number; nothing, since there is none; or it means
 -- nothing
 pub data InfoWay (info : ℕ) (b : List ℕ) : Type 0 where
-  in_byte : info < 24 → read_argument info b ≡ Ok (number info Zero, b) → InfoWay info b
+  in_byte : info < 24 → read_argument info b ≡ Ok (Number info Zero, b) → InfoWay info b
   in_bytes : (k : ℕ) (w : Width) (width : IntegerWidth) → WideInfo info k w width
       → read_argument info b ≡ read_wide w width b → InfoWay info b
-  no_number : info ≡ 31 → read_argument info b ≡ Ok (indefinite, b) → InfoWay info b
+  no_number : info ≡ 31 → read_argument info b ≡ Ok (Indefinite, b) → InfoWay info b
   no_meaning : 28 ≤ info → info ≢ 31 → read_argument info b ≡ Err refusal.Head → InfoWay info b
 
 in_width : (k : ℕ) (w : Width) (width : IntegerWidth) (limit : ℕ) → IsWide w limit → k ≤ 3 → byte_len w ≡ 2 ^ k
@@ -307,22 +309,22 @@ pub info_takes : (bits : ℕ) (b rest : List ℕ) (i : Argument) → IsBytes b �
 info_takes bits b rest i fits e =
     elim (info_way bits b) [
       | in_byte lt reads ↦
-          let read : done (number bits Zero, b) ≡ Ok (i, rest) = sym reads ∙ e in
-          subst (λ (p : Argument × List ℕ). ArgumentIs bits p.0 b p.1) (ok_is (number bits Zero, b) (i, rest) read)
+          let read : done (Number bits Zero, b) ≡ Ok (i, rest) = sym reads ∙ e in
+          subst (λ (p : Argument × List ℕ). ArgumentIs bits p.0 b p.1) (ok_is (Number bits Zero, b) (i, rest) read)
           (lt, refl, refl, fits)
       | in_bytes k w width info reads ↦ wide_is bits w info.limit info.wide width b rest i fits (sym reads ∙ e)
           (λ n lt parts others.
           let p = info.bytes n lt in
           (p.0, sym p.1, parts ∙ ap (λ (x : List ℕ). x ++ rest) (sym p.2), others))
       | no_number is reads ↦
-          let read : done (indefinite, b) ≡ Ok (i, rest) = sym reads ∙ e in
-          subst (λ (p : Argument × List ℕ). ArgumentIs bits p.0 b p.1) (ok_is (indefinite, b) (i, rest) read)
+          let read : done (Indefinite, b) ≡ Ok (i, rest) = sym reads ∙ e in
+          subst (λ (p : Argument × List ℕ). ArgumentIs bits p.0 b p.1) (ok_is (Indefinite, b) (i, rest) read)
           (is, refl, fits)
       | no_meaning least other reads ↦ absurd (let wrong = sym reads ∙ e in cc)
     ]
 
 pub info_again : (w : IntegerWidth) (n : ℕ) (rest : List ℕ) → FitsStated w n
-    → read_argument (bits_of w n) (number_bytes w n ++ rest) ≡ Ok (number n w, rest)
+    → read_argument (bits_of w n) (number_bytes w n ++ rest) ≡ Ok (Number n w, rest)
 unfolding read_argument
 info_again Unknown n rest fits = absurd fits
 info_again Zero n rest fits = rw (lt-ltb n 24 fits) refl
@@ -335,24 +337,24 @@ info_again SixtyFour n rest fits = wide_again w64 (2 ^ 64) wide64 SixtyFour n re
 
 -- a head with that argument, and then the rest
 abbrev pub ArgumentThen : ℕ → Argument → List ℕ → List ℕ → Type 0
-ArgumentThen major (number n w) b rest = HeadThen major n w b (λ r. r ≡ rest)
-ArgumentThen major indefinite b rest = b ≡ opening major ∷ rest
+ArgumentThen major (Number n w) b rest = HeadThen major n w b (λ r. r ≡ rest)
+ArgumentThen major Indefinite b rest = b ≡ opening major ∷ rest
 
 -- what a head is in bytes, with the bytes after it
 abbrev pub HeadIs : ItemHead → List ℕ → List ℕ → Type 0
-HeadIs (item_head.integer n w) b rest = HeadThen 0 n w b (λ r. r ≡ rest)
-HeadIs (item_head.negative n w) b rest = HeadThen 1 n w b (λ r. r ≡ rest)
-HeadIs (item_head.string kind a) b rest = ArgumentThen (major_of kind) a b rest
-HeadIs (item_head.array a) b rest = ArgumentThen 4 a b rest
-HeadIs (item_head.map a) b rest = ArgumentThen 5 a b rest
-HeadIs (item_head.tag n w) b rest = HeadThen 6 n w b (λ r. r ≡ rest)
-HeadIs (item_head.float bits float_width.Unknown) b rest = ⊥
-HeadIs (item_head.float bits float_width.Sixteen) b rest = (bits < 2 ^ 16) × (b ≡ (249 ∷ to_be_bytes w16 bits) ++ rest)
-HeadIs (item_head.float bits float_width.ThirtyTwo) b rest = (bits < 2 ^ 32)
+HeadIs (item_head.Integer n w) b rest = HeadThen 0 n w b (λ r. r ≡ rest)
+HeadIs (item_head.Negative n w) b rest = HeadThen 1 n w b (λ r. r ≡ rest)
+HeadIs (item_head.String kind a) b rest = ArgumentThen (major_of kind) a b rest
+HeadIs (item_head.Array a) b rest = ArgumentThen 4 a b rest
+HeadIs (item_head.Map a) b rest = ArgumentThen 5 a b rest
+HeadIs (item_head.Tag n w) b rest = HeadThen 6 n w b (λ r. r ≡ rest)
+HeadIs (item_head.Float bits float_width.Unknown) b rest = ⊥
+HeadIs (item_head.Float bits float_width.Sixteen) b rest = (bits < 2 ^ 16) × (b ≡ (249 ∷ to_be_bytes w16 bits) ++ rest)
+HeadIs (item_head.Float bits float_width.ThirtyTwo) b rest = (bits < 2 ^ 32)
     × (b ≡ (250 ∷ to_be_bytes w32 bits) ++ rest)
-HeadIs (item_head.float bits float_width.SixtyFour) b rest = (bits < 2 ^ 64)
+HeadIs (item_head.Float bits float_width.SixtyFour) b rest = (bits < 2 ^ 64)
     × (b ≡ (251 ∷ to_be_bytes w64 bits) ++ rest)
-HeadIs (item_head.simple n) b rest = (x : List ℕ) × (b ≡ x ++ rest) × SpellsSimple any x n
+HeadIs (item_head.Simple n) b rest = (x : List ℕ) × (b ≡ x ++ rest) × SpellsSimple any x n
 
 -- a head with more bytes after it
 pub head_append : (major n : ℕ) (w : IntegerWidth) (b more : List ℕ) (Rest More : List ℕ → Type 0)
@@ -386,7 +388,7 @@ pub record Opened (major n : ℕ) (w : IntegerWidth) (b rest : List ℕ) : Type 
   pub parts : b ≡ first ∷ tail
   pub major_is : first / 32 ≡ major
   pub bits_are : first % 32 < 28
-  pub info_is : read_argument (first % 32) tail ≡ Ok (number n w, rest)
+  pub info_is : read_argument (first % 32) tail ≡ Ok (Number n w, rest)
 
 pub opened : (major n : ℕ) (w : IntegerWidth) (b rest : List ℕ) → HeadThen major n w b (λ r. r ≡ rest)
     → Opened major n w b rest
@@ -407,16 +409,16 @@ opened major n w b rest h =
 pub head_again : (major : ℕ) (a : Argument) (h : ItemHead) (b rest : List ℕ) → major ≤ 7 → ArgumentThen major a b rest
     → head_of major a ≡ Ok h → read_head b ≡ Ok (h, rest)
 unfolding read_head read_argument
-head_again major (number n w) h b rest le is e =
+head_again major (Number n w) h b rest le is e =
     let o = opened major n w b rest is in
     ap read_head o.parts ∙ rw (o.info_is, o.major_is, e) refl
-head_again major indefinite h b rest le is e =
+head_again major Indefinite h b rest le is e =
     let bits-are : (32 * major + 31) % 32 ≡ 31 = omega arith in
     let major-is : (32 * major + 31) / 32 ≡ major = omega arith in
     ap read_head is ∙ rw (bits-are, major-is, e) refl
 
 -- a number after the first byte is a head
-pub head_then : (major bits n : ℕ) (w : IntegerWidth) (b rest : List ℕ) → ArgumentIs bits (number n w) b rest
+pub head_then : (major bits n : ℕ) (w : IntegerWidth) (b rest : List ℕ) → ArgumentIs bits (Number n w) b rest
     → HeadThen major n w ((32 * major + bits) ∷ b) (λ r. r ≡ rest)
 head_then major bits n w b rest i =
     let p = head_parts major n w i.0 in
@@ -424,7 +426,7 @@ head_then major bits n w b rest i =
     (i.0, rest, is, refl)
 
 -- simple values and floats
-simple_takes : (bits n : ℕ) (w : IntegerWidth) (b rest : List ℕ) → ArgumentIs bits (number n w) b rest
+simple_takes : (bits n : ℕ) (w : IntegerWidth) (b rest : List ℕ) → ArgumentIs bits (Number n w) b rest
     → HeadIs (simple_or_float n w) ((224 + bits) ∷ b) rest
 simple_takes bits n Unknown b rest i = absurd i.0
 simple_takes bits n Zero b rest i = ((224 + n) ∷ [], rw (i.1, i.2) refl, inl (i.0, refl))
@@ -453,30 +455,30 @@ at_majors P a b c d e f g h (suc (suc (suc (suc (suc (suc (suc (suc m)))))))) le
 head_of_takes : (bits : ℕ) (a : Argument) (b rest : List ℕ) (h : ItemHead) → ArgumentIs bits a b rest → (major : ℕ)
     → major ≤ 7 → head_of major a ≡ Ok h → HeadIs h ((32 * major + bits) ∷ b) rest
 unfolding head_of
-head_of_takes bits (number n w) b rest h is =
+head_of_takes bits (Number n w) b rest h is =
     let found = λ (o : ItemHead) (first : ℕ) (this : HeadIs o (first ∷ b) rest) (e : done o ≡ Ok h).
     subst (λ (x : ItemHead). HeadIs x (first ∷ b) rest) (ok_is o h e) this in
     let then = λ (major : ℕ). head_then major bits n w b rest is in
-    at_majors (λ m. head_of m (number n w) ≡ Ok h → HeadIs h ((32 * m + bits) ∷ b) rest)
-    (found (item_head.integer n w) (32 * 0 + bits) (then 0)) (found (item_head.negative n w) (32 * 1 + bits) (then 1))
-    (found (item_head.string bytes_kind (number n w)) (32 * 2 + bits) (then 2))
-    (found (item_head.string text_kind (number n w)) (32 * 3 + bits) (then 3))
-    (found (item_head.array (number n w)) (32 * 4 + bits) (then 4))
-    (found (item_head.map (number n w)) (32 * 5 + bits) (then 5)) (found (item_head.tag n w) (32 * 6 + bits) (then 6))
+    at_majors (λ m. head_of m (Number n w) ≡ Ok h → HeadIs h ((32 * m + bits) ∷ b) rest)
+    (found (item_head.Integer n w) (32 * 0 + bits) (then 0)) (found (item_head.Negative n w) (32 * 1 + bits) (then 1))
+    (found (item_head.String Bytes (Number n w)) (32 * 2 + bits) (then 2))
+    (found (item_head.String Text (Number n w)) (32 * 3 + bits) (then 3))
+    (found (item_head.Array (Number n w)) (32 * 4 + bits) (then 4))
+    (found (item_head.Map (Number n w)) (32 * 5 + bits) (then 5)) (found (item_head.Tag n w) (32 * 6 + bits) (then 6))
     (found (simple_or_float n w) (32 * 7 + bits) (simple_takes bits n w b rest is))
-head_of_takes bits indefinite b rest h is =
+head_of_takes bits Indefinite b rest h is =
     let found = λ (o : ItemHead) (first : ℕ) (this : HeadIs o (first ∷ b) rest) (e : done o ≡ Ok h).
     subst (λ (x : ItemHead). HeadIs x (first ∷ b) rest) (ok_is o h e) this in
     let behind : (first : ℕ) → (first ∷ b) ≡ first ∷ rest = λ first. ap (λ (r : List ℕ). first ∷ r) is.1 in
-    rw is.0 (at_majors (λ m. head_of m indefinite ≡ Ok h → HeadIs h ((32 * m + 31) ∷ b) rest) (λ e. absurd cc)
-    (λ e. absurd cc) (found (item_head.string bytes_kind indefinite) 95 (behind 95))
-    (found (item_head.string text_kind indefinite) 127 (behind 127))
-    (found (item_head.array indefinite) 159 (behind 159)) (found (item_head.map indefinite) 191 (behind 191))
+    rw is.0 (at_majors (λ m. head_of m Indefinite ≡ Ok h → HeadIs h ((32 * m + 31) ∷ b) rest) (λ e. absurd cc)
+    (λ e. absurd cc) (found (item_head.String Bytes Indefinite) 95 (behind 95))
+    (found (item_head.String Text Indefinite) 127 (behind 127))
+    (found (item_head.Array Indefinite) 159 (behind 159)) (found (item_head.Map Indefinite) 191 (behind 191))
     (λ e. absurd cc) (λ e. absurd cc))
 
 pub argument_rest : (bits : ℕ) (a : Argument) (b rest : List ℕ) → ArgumentIs bits a b rest → IsBytes rest
-argument_rest bits (number n w) b rest is = is.3
-argument_rest bits indefinite b rest is = is.2
+argument_rest bits (Number n w) b rest is = is.3
+argument_rest bits Indefinite b rest is = is.2
 
 pub head_takes : (b rest : List ℕ) (h : ItemHead) → IsBytes b → read_head b ≡ Ok (h, rest)
     → HeadIs h b rest × IsBytes rest

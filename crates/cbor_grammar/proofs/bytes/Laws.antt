@@ -14,7 +14,9 @@ use Rattle.cbor_grammar.specs.Item as spec
 use Rattle.cbor_grammar.specs.Item.{Chunk, Atom, integer, negative, string, chunked_string, float, simple, Item, atom}
 use Rattle.cbor_grammar.specs.Item.{array, tagged, Items, no_items, item, Pairs, no_pairs, pair, item_count, pair_count}
 use Rattle.cbor_grammar.specs.Head.{head, stated, break_byte, FitsWidth, FitsStated}
-use Rattle.cbor_grammar.specs.StringKind.{StringKind, bytes_kind, text_kind, major_of}
+use Rattle.cbor_grammar.specs.declared.strings.StringKind.{StringKind}
+use Rattle.cbor_grammar.specs.declared.strings.StringKind.TheVariants.{Bytes, Text}
+use Rattle.cbor_grammar.specs.StringKind.{major_of}
 use Rattle.cbor_grammar.specs.WellFormed.{WellFormed, WellFormedItems, WellFormedPairs, WellFormedAtom, FitsCount}
 use Rattle.cbor_grammar.specs.WellFormed.{IsChunk}
 use Rattle.cbor_grammar.specs.Written.{encoded_head, encoded_chunk, encoded_float, encoded_simple, encoded_atom}
@@ -78,8 +80,8 @@ chunk_bytes major c low fits bytes = all_bytes-append (encoded_head major (lengt
     (written_bytes major (length c.bytes) c.width low fits) bytes
 
 low_major : (kind : StringKind) → major_of kind ≤ 6
-low_major bytes_kind = omega arith
-low_major text_kind = omega arith
+low_major Bytes = omega arith
+low_major Text = omega arith
 
 chunks_bytes : (kind : StringKind) (cs : List Chunk) → AllByRecursion (IsChunk kind) cs
     → AllBytes (flat_map (encoded_chunk (major_of kind)) cs)

@@ -9,15 +9,16 @@ use Rattle.cbor_grammar.specs.declared.error.Error.TheVariants as refusal
 use Rattle.cbor_grammar.specs.declared.width.IntegerWidth.{IntegerWidth}
 use Rattle.cbor_grammar.specs.declared.width.IntegerWidth.TheVariants.{Unknown, Zero, Eight, Sixteen, ThirtyTwo}
 use Rattle.cbor_grammar.specs.declared.width.IntegerWidth.TheVariants.{SixtyFour}
-use Rattle.cbor_grammar.specs.Argument.{Argument, number, indefinite}
-use Rattle.cbor_grammar.specs.ItemHead as item_head
-use Rattle.cbor_grammar.specs.ItemHead.{ItemHead}
-use Rattle.cbor_grammar.specs.StringKind.{bytes_kind, text_kind}
+use Rattle.cbor_grammar.specs.declared.argument.Argument.{Argument}
+use Rattle.cbor_grammar.specs.declared.argument.Argument.TheVariants.{Number, Indefinite}
+use Rattle.cbor_grammar.specs.declared.head.ItemHead.TheVariants as item_head
+use Rattle.cbor_grammar.specs.declared.head.ItemHead.{ItemHead}
+use Rattle.cbor_grammar.specs.declared.strings.StringKind.TheVariants.{Bytes, Text}
 use Rattle.cbor_grammar.specs.Item.{Item}
 use Rattle.cbor_grammar.specs.Head.{HeadThen}
 use Rattle.cbor_grammar.specs.Bytes.{any, Spells}
 use Rattle.cbor_grammar.specs.Refused.{Fault, too_deep, bad_head, bad_text, bad_chunk_head, bad_chunk_text, bad_part}
-use Rattle.cbor_grammar.specs.Answer.{spelled, IsOutcome, IsRefused}
+use Rattle.cbor_grammar.specs.Answer.{spelled, IsOutcome, IsRefused, UnlessMemory}
 use Rattle.cbor_grammar.specs.Answer.{MayWantMemory}
 use Rattle.cbor_grammar.specs.Reading.{Fails, read_head, read_item}
 use Rattle.cbor_grammar.specs.mirror.Counting.{HoldsContent}
@@ -25,7 +26,6 @@ use Rattle.cbor_grammar.proofs.bytes.Heads.{IsBytes, ArgumentThen, HeadIs, head_
 use Rattle.cbor_grammar.proofs.bytes.CutShort.{cut_takes}
 use Rattle.cbor_grammar.proofs.bytes.Found.{item_takes}
 use Rattle.cbor_grammar.proofs.bytes.Faults.{fault_takes}
-use Rattle.cbor_grammar.specs.Answer.{IsFrontError, IsWholeError}
 use Rattle.std.proofs.Common.{sym, ◌⊎◌}
 use Rattle.std.proofs.lemmas.List.{take_all}
 use Rattle.cbor_grammar.specs.Answer.{Outcome, cut, fault, OneOutcome}
@@ -45,18 +45,18 @@ number_opens major n SixtyFour b rest low high h = rw h.2 (omega arith, omega ar
 
 argument_opens : (major : ℕ) (a : Argument) (b rest : List ℕ) → 2 ≤ major → major ≤ 5 → ArgumentThen major a b rest
     → MayWantMemory b
-argument_opens major (number n w) b rest low high h = number_opens major n w b rest low (omega arith) h
-argument_opens major indefinite b rest low high h =
+argument_opens major (Number n w) b rest low high h = number_opens major n w b rest low (omega arith) h
+argument_opens major Indefinite b rest low high h =
     let info : (32 * major + 31) % 32 ≡ 31 = omega arith in
     let high_bits : (32 * major + 31) / 32 ≡ major = omega arith in
     rw h (omega (arith, high_bits), omega (arith, high_bits), inr (info, omega (arith, high_bits)))
 
 head_opens : (b rest : List ℕ) (h : ItemHead) → HeadIs h b rest → HoldsContent h → MayWantMemory b
-head_opens b rest (item_head.string bytes_kind a) is holds = argument_opens 2 a b rest (omega arith) (omega arith) is
-head_opens b rest (item_head.string text_kind a) is holds = argument_opens 3 a b rest (omega arith) (omega arith) is
-head_opens b rest (item_head.array a) is holds = argument_opens 4 a b rest (omega arith) (omega arith) is
-head_opens b rest (item_head.map a) is holds = argument_opens 5 a b rest (omega arith) (omega arith) is
-head_opens b rest (item_head.tag n w) is holds = number_opens 6 n w b rest (omega arith) (omega arith) is
+head_opens b rest (item_head.String Bytes a) is holds = argument_opens 2 a b rest (omega arith) (omega arith) is
+head_opens b rest (item_head.String Text a) is holds = argument_opens 3 a b rest (omega arith) (omega arith) is
+head_opens b rest (item_head.Array a) is holds = argument_opens 4 a b rest (omega arith) (omega arith) is
+head_opens b rest (item_head.Map a) is holds = argument_opens 5 a b rest (omega arith) (omega arith) is
+head_opens b rest (item_head.Tag n w) is holds = number_opens 6 n w b rest (omega arith) (omega arith) is
 head_opens b rest h is holds = absurd holds
 
 -- memory is needed only after a head that holds content
@@ -77,7 +77,7 @@ found_outcome level left b i rest levels fits e =
     (omega arith, rw front t.spells)
 
 pub refusal_outcome : (level left : ℕ) (b : List ℕ) (e : Error) → level + left ≡ 129 → IsBytes b → e ≢ refusal.CutShort
-    → Fails e (read_item left b) → IsFrontError level b e
+    → Fails e (read_item left b) → UnlessMemory (Fault level b) e
 refusal_outcome level left b refusal.Memory levels fits other h = tt
 refusal_outcome level left b e levels fits other h = fault_takes level left b e levels fits other h
 
@@ -106,7 +106,8 @@ fault_refusal level b refusal.TooDeep h = h
 fault_refusal level b e h = absurd (fault_kind h)
 
 -- a refusal of the front is one of the whole
-pub front_refusal : (level : ℕ) (b : List ℕ) (e : Error) → IsFrontError level b e → IsWholeError level b e
+pub front_refusal : (level : ℕ) (b : List ℕ) (e : Error) → UnlessMemory (Fault level b) e
+    → UnlessMemory (IsRefused level b) e
 front_refusal level b refusal.Memory h = tt
 front_refusal level b e h = fault_refusal level b e h
 
@@ -133,14 +134,14 @@ more_found level left b i rest levels fits e some =
 
 -- what reading refuses is why the input is not one whole item
 pub whole_refusal : (level left : ℕ) (b : List ℕ) (e : Error) → level + left ≡ 129 → IsBytes b
-    → Fails e (read_item left b) → IsWholeError level b e
+    → Fails e (read_item left b) → UnlessMemory (IsRefused level b) e
 whole_refusal level left b refusal.CutShort levels fits h = cut_takes level left b levels fits h
 whole_refusal level left b e levels fits h =
     front_refusal level b e (refusal_outcome level left b e levels fits (λ is. cc) h)
 
-pub fault_of : (b : List ℕ) (e : Error) → IsFrontError 1 b e → e ≢ refusal.Memory → Fault 1 b e
-fault_of b refusal.Memory h no_memory = absurd (no_memory refl)
-fault_of b _ h no_memory = h
+pub unless_memory : (Means : Error → Type 0) (e : Error) → UnlessMemory Means e → e ≢ refusal.Memory → Means e
+unless_memory Means refusal.Memory h no_memory = absurd (no_memory refl)
+unless_memory Means _ h no_memory = h
 
 pub same : (b : List ℕ) (o p : Outcome) → OneOutcome 1 b → IsOutcome 1 b o → IsOutcome 1 b p → p ≡ o
 same b o p one h k = one.only p k ∙ sym (one.only o h)
@@ -188,11 +189,6 @@ one_refusal level b e f one h k =
     let x = front_of level b e h in
     let y = front_of level b f k in
     sym x.2 ∙ ap refusal_for (one.only x.0 x.1 ∙ sym (one.only y.0 y.1)) ∙ y.2
-
-pub refused_of : (level : ℕ) (b : List ℕ) (e : Error) → IsWholeError level b e → e ≢ refusal.Memory
-    → IsRefused level b e
-refused_of level b refusal.Memory h no_memory = absurd (no_memory refl)
-refused_of level b _ h no_memory = h
 
 -- out of memory, or another refusal
 pub memory_or : (e : Error) → (e ≡ refusal.Memory) ⊎ (e ≢ refusal.Memory)

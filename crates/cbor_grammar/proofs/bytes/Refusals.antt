@@ -4,15 +4,18 @@ use Rattle.std.proofs.Common.{length, inl, inr, refl, sym, ap, subst, ◌∙◌,
 use Rattle.cbor_grammar.specs.declared.width.IntegerWidth.{IntegerWidth}
 use Rattle.cbor_grammar.specs.declared.error.Error.{Error}
 use Rattle.cbor_grammar.specs.declared.error.Error.TheVariants as refusal
-use Rattle.cbor_grammar.specs.Argument.{Argument, number, indefinite}
+use Rattle.cbor_grammar.specs.declared.argument.Argument.{Argument}
+use Rattle.cbor_grammar.specs.declared.argument.Argument.TheVariants.{Number, Indefinite}
 use Rattle.cbor_grammar.specs.Item.{Item, Items, no_items, item, Pairs, no_pairs, pair, atom, string, chunked_string}
 use Rattle.cbor_grammar.specs.Item.{item_count, pair_count}
-use Rattle.cbor_grammar.specs.ItemHead as item_head
-use Rattle.cbor_grammar.specs.ItemHead.{ItemHead}
+use Rattle.cbor_grammar.specs.declared.head.ItemHead.TheVariants as item_head
+use Rattle.cbor_grammar.specs.declared.head.ItemHead.{ItemHead}
 use Rattle.cbor_grammar.specs.Head.{opening, break_byte, HeadThen}
 use Rattle.cbor_grammar.specs.Bytes.{any, Spells, SpellsItems, SpellsPairs}
 use Rattle.cbor_grammar.specs.WellFormed.{deepest}
-use Rattle.cbor_grammar.specs.StringKind.{StringKind, text_kind, major_of}
+use Rattle.cbor_grammar.specs.declared.strings.StringKind.{StringKind}
+use Rattle.cbor_grammar.specs.declared.strings.StringKind.TheVariants.{Text}
+use Rattle.cbor_grammar.specs.StringKind.{major_of}
 use Rattle.cbor_grammar.specs.Refused as spelled
 use Rattle.cbor_grammar.specs.Refused.{SpelledParts, Next, part, part_or_break, Inside, in_tag, in_array, in_map}
 use Rattle.cbor_grammar.specs.Refused.{in_open_array, at_open_key, at_open_value, InsideString, Cut, nothing, in_head}
@@ -51,14 +54,14 @@ content_refusal : (kind : StringKind) (level n : ℕ) (w : IntegerWidth) (b rest
     → HeadThen (major_of kind) n w b (λ r. r ≡ rest) → ContentRefusal kind n rest e → Refusal level b e
 content_refusal kind level n w b rest e le h (short_content short) =
     is_cut (in_content kind le (n, w, (h.0, h.1, h.2, rw h.3 short)))
-content_refusal text_kind level n w b rest e le h (bad_content text after parts len no_text) =
+content_refusal Text level n w b rest e le h (bad_content text after parts len no_text) =
     is_fault (spelled.bad_text le (n, w, (h.0, h.1, h.2, (text, after, h.3 ∙ parts, len, no_text))))
 
 chunk_refusal : (kind : StringKind) (level : ℕ) (b rest : List ℕ) (e : Error) → level ≤ deepest
     → InsideString kind b rest → ChunkRefusal kind rest e → Refusal level b e
 chunk_refusal kind level b rest e le inside (cut_chunk h) = is_cut (in_chunk kind rest le inside h)
 chunk_refusal kind level b rest e le inside (bad_chunk h) = is_fault (bad_chunk_head kind rest le inside h)
-chunk_refusal text_kind level b rest e le inside (bad_text h) = is_fault (bad_chunk_text rest le inside h)
+chunk_refusal Text level b rest e le inside (bad_text h) = is_fault (bad_chunk_text rest le inside h)
 
 chunks_refusal : (kind : StringKind) (level : ℕ) (b rest : List ℕ) (e : Error) → level ≤ deepest
     → b ≡ opening (major_of kind) ∷ rest → ChunksStop kind rest e → Refusal level b e
@@ -116,37 +119,37 @@ parts_snoc level (suc n) b y i h s =
 stops : (level : ℕ) (f g : Frame) (b r whole rest : List ℕ) → OpenedBy f b r → r ≡ whole ++ rest
     → Held (level + 1) f g whole → after_end g rest ≡ None
     → (next : Next) × Inside level b rest next × NoBreakAt next rest
-stops level (items_in js a) (items_in is (number zero w)) b r whole rest head parts held none = absurd cc
-stops level (items_in js a) (items_in is (number (suc m) w)) b r whole rest head parts held none =
+stops level (items_in js a) (items_in is (Number zero w)) b r whole rest head parts held none = absurd cc
+stops level (items_in js a) (items_in is (Number (suc m) w)) b r whole rest head parts held none =
     let h = subst (λ (x : Argument). ArgumentThen 4 x b r) held.0 head in (
       part,
       in_array (item_count is + suc m) (item_count is) w whole (h.0, h.1, h.2, h.3 ∙ parts)
           (parts_of_items (level + 1) is whole held.1) (omega arith),
       tt,
     )
-stops level (items_in js a) (items_in is indefinite) b r whole rest head parts held none =
+stops level (items_in js a) (items_in is Indefinite) b r whole rest head parts held none =
     let h : b ≡ opening 4 ∷ r = subst (λ (x : Argument). ArgumentThen 4 x b r) held.0 head in (
       part_or_break,
       in_open_array (item_count is) whole (h ∙ ap (λ (x : List ℕ). opening 4 ∷ x) parts)
           (parts_of_items (level + 1) is whole held.1),
       no_break_from rest none,
     )
-stops level (pairs_in qs a) (pairs_in ps (number zero w)) b r whole rest head parts held none = absurd cc
-stops level (pairs_in qs a) (pairs_in ps (number (suc m) w)) b r whole rest head parts held none =
+stops level (pairs_in qs a) (pairs_in ps (Number zero w)) b r whole rest head parts held none = absurd cc
+stops level (pairs_in qs a) (pairs_in ps (Number (suc m) w)) b r whole rest head parts held none =
     let h = subst (λ (x : Argument). ArgumentThen 5 x b r) held.0 head in (
       part,
       in_map (pair_count ps + suc m) (2 * pair_count ps) w whole (h.0, h.1, h.2, h.3 ∙ parts)
           (parts_of_pairs (level + 1) ps whole held.1) (omega arith),
       tt,
     )
-stops level (pairs_in qs a) (pairs_in ps indefinite) b r whole rest head parts held none =
+stops level (pairs_in qs a) (pairs_in ps Indefinite) b r whole rest head parts held none =
     let h : b ≡ opening 5 ∷ r = subst (λ (x : Argument). ArgumentThen 5 x b r) held.0 head in (
       part_or_break,
       at_open_key (pair_count ps) whole (h ∙ ap (λ (x : List ℕ). opening 5 ∷ x) parts)
           (parts_of_pairs (level + 1) ps whole held.1),
       no_break_from rest none,
     )
-stops level (pairs_in qs a) (value_of ps k (number m w)) b r whole rest head parts held none =
+stops level (pairs_in qs a) (value_of ps k (Number m w)) b r whole rest head parts held none =
     let h = subst (λ (x : Argument). ArgumentThen 5 x b r) held.0 head in
     let keyed = parts_snoc (level + 1) (2 * pair_count ps) held.1 held.2 k
     (parts_of_pairs (level + 1) ps held.1 held.4) held.5 in (
@@ -155,7 +158,7 @@ stops level (pairs_in qs a) (value_of ps k (number m w)) b r whole rest head par
           (rw held.3 keyed) (omega arith),
       tt,
     )
-stops level (pairs_in qs a) (value_of ps k indefinite) b r whole rest head parts held none =
+stops level (pairs_in qs a) (value_of ps k Indefinite) b r whole rest head parts held none =
     let h : b ≡ opening 5 ∷ r = subst (λ (x : Argument). ArgumentThen 5 x b r) held.0 head in
     let keyed = parts_snoc (level + 1) (2 * pair_count ps) held.1 held.2 k
     (parts_of_pairs (level + 1) ps held.1 held.4) held.5 in (
@@ -173,20 +176,20 @@ stops level f g b r whole rest head parts held none = absurd held
 
 atom_refused : (level : ℕ) (h : ItemHead) (b rest : List ℕ) (e : Error) → opened h ≡ None → level ≤ deepest
     → HeadIs h b rest → IsBytes rest → (read_atom h rest).1 ≡ Err e → Refusal level b e
-atom_refused level (item_head.string kind (number n w)) b rest e none le is fits h =
+atom_refused level (item_head.String kind (Number n w)) b rest e none le is fits h =
     elim (bind_err (read_content kind n w rest) (λ c. Ok (atom (string kind c.0), c.1)) e h) [
       | inl refused ↦ content_refusal kind level n w b rest e le is (content_refused kind n w rest e refused)
       | inr made ↦ absurd cc
     ]
-atom_refused level (item_head.string kind indefinite) b rest e none le is fits h =
+atom_refused level (item_head.String kind Indefinite) b rest e none le is fits h =
     elim (then_err (read_chunks (length rest) kind rest) (λ cs. (0, Ok (atom (chunked_string kind cs.0), cs.1))) e h) [
       | inl refused ↦ chunks_refusal kind level b rest e le is
           (chunks_stop (length rest) kind rest e fits (omega arith) refused)
       | inr made ↦ absurd cc
     ]
-atom_refused level (item_head.array a) b rest e none le is fits h = absurd cc
-atom_refused level (item_head.map a) b rest e none le is fits h = absurd cc
-atom_refused level (item_head.tag n w) b rest e none le is fits h = absurd cc
+atom_refused level (item_head.Array a) b rest e none le is fits h = absurd cc
+atom_refused level (item_head.Map a) b rest e none le is fits h = absurd cc
+atom_refused level (item_head.Tag n w) b rest e none le is fits h = absurd cc
 atom_refused level h b rest e none le is fits refused = absurd cc
 
 body_refused : (level : ℕ) (read : List ℕ → Counted Item) (finds : Finds (level + 1) read) (short : Shortens read)

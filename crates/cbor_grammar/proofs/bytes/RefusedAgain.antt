@@ -4,12 +4,15 @@ use Rattle.std.proofs.Common.{refl, sym, ap, ◌∙◌, append_assoc, arith}
 use Rattle.cbor_grammar.specs.declared.width.IntegerWidth.{IntegerWidth}
 use Rattle.cbor_grammar.specs.declared.error.Error.{Error}
 use Rattle.cbor_grammar.specs.declared.error.Error.TheVariants as refusal
-use Rattle.cbor_grammar.specs.Argument.{Argument, number, indefinite}
+use Rattle.cbor_grammar.specs.declared.argument.Argument.{Argument}
+use Rattle.cbor_grammar.specs.declared.argument.Argument.TheVariants.{Number, Indefinite}
 use Rattle.cbor_grammar.specs.Item.{Item, atom, string, chunked_string, no_items, no_pairs}
-use Rattle.cbor_grammar.specs.ItemHead as item_head
-use Rattle.cbor_grammar.specs.ItemHead.{ItemHead}
+use Rattle.cbor_grammar.specs.declared.head.ItemHead.TheVariants as item_head
+use Rattle.cbor_grammar.specs.declared.head.ItemHead.{ItemHead}
 use Rattle.cbor_grammar.specs.Head.{break_byte, HeadThen}
-use Rattle.cbor_grammar.specs.StringKind.{StringKind, text_kind, major_of}
+use Rattle.cbor_grammar.specs.declared.strings.StringKind.{StringKind}
+use Rattle.cbor_grammar.specs.declared.strings.StringKind.TheVariants.{Text}
+use Rattle.cbor_grammar.specs.StringKind.{major_of}
 use Rattle.cbor_grammar.specs.Refused as spelled
 use Rattle.cbor_grammar.specs.Refused.{SpelledParts, Next, part, part_or_break, Inside, in_tag, in_array, in_map}
 use Rattle.cbor_grammar.specs.Refused.{in_open_array, at_open_key, at_open_value, InsideString, BeginsWithBreak}
@@ -33,53 +36,50 @@ use Rattle.cbor_grammar.proofs.bytes.Refusals.{break_none}
 
 -- parts that are still to come before the rest, in whose place one more is
 abbrev Wants : ℕ → List ℕ → Frame → Type 0
-Wants k rest (items_in is (number n w)) = k < n
-Wants k rest (items_in is indefinite) = ¬ (BeginsWithBreak rest)
-Wants k rest (pairs_in ps (number n w)) = k < 2 * n
-Wants k rest (pairs_in ps indefinite) = (j : ℕ) → k ≡ 2 * j → ¬ (BeginsWithBreak rest)
-Wants k rest (value_of ps key (number n w)) = k < 2 * n + 1
-Wants k rest (value_of ps key indefinite) = (j : ℕ) → k ≡ 2 * j + 1 → ¬ (BeginsWithBreak rest)
+Wants k rest (items_in is (Number n w)) = k < n
+Wants k rest (items_in is Indefinite) = ¬ (BeginsWithBreak rest)
+Wants k rest (pairs_in ps (Number n w)) = k < 2 * n
+Wants k rest (pairs_in ps Indefinite) = (j : ℕ) → k ≡ 2 * j → ¬ (BeginsWithBreak rest)
+Wants k rest (value_of ps key (Number n w)) = k < 2 * n + 1
+Wants k rest (value_of ps key Indefinite) = (j : ℕ) → k ≡ 2 * j + 1 → ¬ (BeginsWithBreak rest)
 Wants k rest (tag_of t w) = k ≡ 0
 Wants k rest (tagged_with t w i) = ⊥
 
 wants_rest : (rest : List ℕ) (f : Frame) → Wants 0 rest f → after_end f rest ≡ None
-wants_rest rest (items_in is (number zero w)) h = absurd (omega arith)
-wants_rest rest (items_in is (number (suc n) w)) h = refl
-wants_rest rest (items_in is indefinite) h = break_none rest h
-wants_rest rest (pairs_in ps (number zero w)) h = absurd (omega arith)
-wants_rest rest (pairs_in ps (number (suc n) w)) h = refl
-wants_rest rest (pairs_in ps indefinite) h = break_none rest (h 0 refl)
+wants_rest rest (items_in is (Number zero w)) h = absurd (omega arith)
+wants_rest rest (items_in is (Number (suc n) w)) h = refl
+wants_rest rest (items_in is Indefinite) h = break_none rest h
+wants_rest rest (pairs_in ps (Number zero w)) h = absurd (omega arith)
+wants_rest rest (pairs_in ps (Number (suc n) w)) h = refl
+wants_rest rest (pairs_in ps Indefinite) h = break_none rest (h 0 refl)
 wants_rest rest (value_of ps key wanted) h = refl
 wants_rest rest (tag_of t w) h = refl
 wants_rest rest (tagged_with t w i) h = absurd h
 
 wants_part : (k : ℕ) (b rest : List ℕ) (f : Frame) → Wants (suc k) rest f → after_break b ≡ None → after_end f b ≡ None
-wants_part k b rest (items_in is (number zero w)) h none = absurd (omega arith)
-wants_part k b rest (items_in is (number (suc n) w)) h none = refl
-wants_part k b rest (items_in is indefinite) h none = none
-wants_part k b rest (pairs_in ps (number zero w)) h none = absurd (omega arith)
-wants_part k b rest (pairs_in ps (number (suc n) w)) h none = refl
-wants_part k b rest (pairs_in ps indefinite) h none = none
+wants_part k b rest (items_in is (Number zero w)) h none = absurd (omega arith)
+wants_part k b rest (items_in is (Number (suc n) w)) h none = refl
+wants_part k b rest (items_in is Indefinite) h none = none
+wants_part k b rest (pairs_in ps (Number zero w)) h none = absurd (omega arith)
+wants_part k b rest (pairs_in ps (Number (suc n) w)) h none = refl
+wants_part k b rest (pairs_in ps Indefinite) h none = none
 wants_part k b rest (value_of ps key wanted) h none = refl
 wants_part k b rest (tag_of t w) h none = refl
 wants_part k b rest (tagged_with t w i) h none = absurd h
 
 wants_put : (k : ℕ) (rest : List ℕ) (f : Frame) (i : Item) → Wants (suc k) rest f → Wants k rest (put f i)
-wants_put k rest (items_in is (number zero w)) i h = absurd (omega arith)
-wants_put k rest (items_in is (number (suc n) w)) i h = omega arith
-wants_put k rest (items_in is indefinite) i h = h
-wants_put k rest (pairs_in ps (number zero w)) i h = absurd (omega arith)
-wants_put k rest (pairs_in ps (number (suc n) w)) i h = omega arith
-wants_put k rest (pairs_in ps indefinite) i h = λ j is. h (suc j) (omega arith)
-wants_put k rest (value_of ps key (number n w)) i h = omega arith
-wants_put k rest (value_of ps key indefinite) i h = λ j is. h j (omega arith)
+wants_put k rest (items_in is (Number zero w)) i h = absurd (omega arith)
+wants_put k rest (items_in is (Number (suc n) w)) i h = omega arith
+wants_put k rest (items_in is Indefinite) i h = h
+wants_put k rest (pairs_in ps (Number zero w)) i h = absurd (omega arith)
+wants_put k rest (pairs_in ps (Number (suc n) w)) i h = omega arith
+wants_put k rest (pairs_in ps Indefinite) i h = λ j is. h (suc j) (omega arith)
+wants_put k rest (value_of ps key (Number n w)) i h = omega arith
+wants_put k rest (value_of ps key Indefinite) i h = λ j is. h j (omega arith)
 wants_put k rest (tag_of t w) i h = absurd (omega arith)
 wants_put k rest (tagged_with t w j) i h = absurd h
 
 module _ (level left : ℕ) (levels : level + left ≡ 129) where
-  abbrev read : List ℕ → Counted Item
-  read = counted_item left
-
   -- whole parts, and one that fails
   parts_spent : (k : ℕ) (whole rest : List ℕ) (f : Frame) (t : ℕ) (e : Error) → (spelled : SpelledParts level k whole)
       → Wants k rest f → counted_item left rest ≡ (t, Err e)
@@ -129,25 +129,25 @@ inside_spent : (level left t : ℕ) (next : Next) (b rest : List ℕ) (e : Error
     → counted_item (suc left) b ≡ (front_turns inside + t, Err e)
 unfolding head_of
 inside_spent level left t next b rest e levels (in_tag n w h) no_break fails =
-    within level left 0 t b [] rest (item_head.tag n w) (tag_of n w) e levels refl
-    (head_again 6 (number n w) (item_head.tag n w) b rest (omega arith) h refl) refl refl fails
+    within level left 0 t b [] rest (item_head.Tag n w) (tag_of n w) e levels refl
+    (head_again 6 (Number n w) (item_head.Tag n w) b rest (omega arith) h refl) refl refl fails
 inside_spent level left t next b rest e levels (in_array n k w whole h parts few) no_break fails =
-    within level left k t b whole rest (item_head.array (number n w)) (items_in no_items (number n w)) e levels refl
-    (head_again 4 (number n w) (item_head.array (number n w)) b (whole ++ rest) (omega arith) h refl) parts few fails
+    within level left k t b whole rest (item_head.Array (Number n w)) (items_in no_items (Number n w)) e levels refl
+    (head_again 4 (Number n w) (item_head.Array (Number n w)) b (whole ++ rest) (omega arith) h refl) parts few fails
 inside_spent level left t next b rest e levels (in_map n k w whole h parts few) no_break fails =
-    within level left k t b whole rest (item_head.map (number n w)) (pairs_in no_pairs (number n w)) e levels refl
-    (head_again 5 (number n w) (item_head.map (number n w)) b (whole ++ rest) (omega arith) h refl) parts few fails
+    within level left k t b whole rest (item_head.Map (Number n w)) (pairs_in no_pairs (Number n w)) e levels refl
+    (head_again 5 (Number n w) (item_head.Map (Number n w)) b (whole ++ rest) (omega arith) h refl) parts few fails
 inside_spent level left t next b rest e levels (in_open_array k whole opens parts) no_break fails =
-    within level left k t b whole rest (item_head.array indefinite) (items_in no_items indefinite) e levels refl
-    (head_again 4 indefinite (item_head.array indefinite) b (whole ++ rest) (omega arith) opens refl) parts
+    within level left k t b whole rest (item_head.Array Indefinite) (items_in no_items Indefinite) e levels refl
+    (head_again 4 Indefinite (item_head.Array Indefinite) b (whole ++ rest) (omega arith) opens refl) parts
     no_break fails
 inside_spent level left t next b rest e levels (at_open_key k whole opens parts) no_break fails =
-    within level left (2 * k) t b whole rest (item_head.map indefinite) (pairs_in no_pairs indefinite) e levels refl
-    (head_again 5 indefinite (item_head.map indefinite) b (whole ++ rest) (omega arith) opens refl) parts
+    within level left (2 * k) t b whole rest (item_head.Map Indefinite) (pairs_in no_pairs Indefinite) e levels refl
+    (head_again 5 Indefinite (item_head.Map Indefinite) b (whole ++ rest) (omega arith) opens refl) parts
     (λ j is. no_break) fails
 inside_spent level left t next b rest e levels (at_open_value k whole opens parts) no_break fails =
-    within level left (2 * k + 1) t b whole rest (item_head.map indefinite) (pairs_in no_pairs indefinite) e levels refl
-    (head_again 5 indefinite (item_head.map indefinite) b (whole ++ rest) (omega arith) opens refl) parts
+    within level left (2 * k + 1) t b whole rest (item_head.Map Indefinite) (pairs_in no_pairs Indefinite) e levels refl
+    (head_again 5 Indefinite (item_head.Map Indefinite) b (whole ++ rest) (omega arith) opens refl) parts
     (λ j is. absurd (omega arith)) fails
 
 -- ---- strings
@@ -156,9 +156,9 @@ content_spent : (kind : StringKind) (left n : ℕ) (w : IntegerWidth) (b rest : 
     → HeadThen (major_of kind) n w b (λ r. r ≡ rest) → ContentRefusal kind n rest e
     → counted_item (suc left) b ≡ (1, Err e)
 content_spent kind left n w b rest e h refused =
-    let a : Argument = number n w in
-    after_head left 0 1 b rest (item_head.string kind a) e
-    (head_again (major_of kind) a (item_head.string kind a) b rest (omega (arith, kind_major kind)) h
+    let a : Argument = Number n w in
+    after_head left 0 1 b rest (item_head.String kind a) e
+    (head_again (major_of kind) a (item_head.String kind a) b rest (omega (arith, kind_major kind)) h
     (string_head kind a))
     (ap (λ r. (0, r >>= λ c. Ok (atom (string kind c.0), c.1))) (content_refuses kind n w rest e refused)) refl
 
@@ -166,9 +166,9 @@ string_spent : (kind : StringKind) (left : ℕ) (b rest : List ℕ) (e : Error) 
     → ChunkRefusal kind rest e → counted_item (suc left) b ≡ (1 + length inside.0 + 1, Err e)
 string_spent kind left b rest e inside refused =
     let sum : 1 + (length inside.0 + 1) ≡ 1 + length inside.0 + 1 = omega arith in
-    after_head left (length inside.0 + 1) (1 + length inside.0 + 1) b inside.1 (item_head.string kind indefinite) e
-    (head_again (major_of kind) indefinite (item_head.string kind indefinite) b inside.1
-    (omega (arith, kind_major kind)) inside.2 (string_head kind indefinite))
+    after_head left (length inside.0 + 1) (1 + length inside.0 + 1) b inside.1 (item_head.String kind Indefinite) e
+    (head_again (major_of kind) Indefinite (item_head.String kind Indefinite) b inside.1
+    (omega (arith, kind_major kind)) inside.2 (string_head kind Indefinite))
     (ap (λ c. c >>- λ cs. (0, Ok (atom (chunked_string kind cs.0), cs.1)))
     (chunks_refuse (length inside.1) kind inside.0 inside.1 rest e inside.3 (omega arith) refused)) sum
 
@@ -228,14 +228,14 @@ fault_turns level zero b e levels (bad_head le h) = absurd (omega arith)
 fault_turns level (suc left) b e levels (bad_head le h) = rw (head_bad b h) refl
 fault_turns level zero b e levels (bad_text le h) = absurd (omega arith)
 fault_turns level (suc left) b e levels (bad_text le h) =
-    content_spent text_kind left h.0 h.1 b h.2.1 refusal.Utf8 (h.2.0, h.2.1, h.2.2, refl)
+    content_spent Text left h.0 h.1 b h.2.1 refusal.Utf8 (h.2.0, h.2.1, h.2.2, refl)
     (strings.bad_content h.2.3.0 h.2.3.1 h.2.3.2 h.2.3.3 h.2.3.4)
 fault_turns level zero b e levels (bad_chunk_head kind rest le inside h) = absurd (omega arith)
 fault_turns level (suc left) b e levels (bad_chunk_head kind rest le inside h) =
     string_spent kind left b rest refusal.Head inside (strings.bad_chunk h)
 fault_turns level zero b e levels (bad_chunk_text rest le inside h) = absurd (omega arith)
 fault_turns level (suc left) b e levels (bad_chunk_text rest le inside h) =
-    string_spent text_kind left b rest refusal.Utf8 inside (strings.bad_text h)
+    string_spent Text left b rest refusal.Utf8 inside (strings.bad_text h)
 fault_turns level zero b e levels (bad_part next rest le inside no_break f) = absurd (omega arith)
 fault_turns level (suc left) b e levels (bad_part next rest le inside no_break f) =
     one_more (front_turns inside) (fault_spent f) e _

@@ -15,7 +15,8 @@ use Rattle.cbor_grammar.specs.WellFormed.{IsChunk, FitsFloat, WellFormedAtom, Fi
 use Rattle.cbor_grammar.specs.WellFormed.{WellFormedPairs}
 use Rattle.cbor_grammar.specs.Bytes.{any, strict, SpellsFloat, ChunkThen, SpellsChunks, SpellsAtom, MembersThen, Spells}
 use Rattle.cbor_grammar.specs.Bytes.{SpellsItems, SpellsPairs}
-use Rattle.cbor_grammar.specs.StringKind.{StringKind, major_of}
+use Rattle.cbor_grammar.specs.declared.strings.StringKind.{StringKind}
+use Rattle.cbor_grammar.specs.StringKind.{major_of}
 use Rattle.cbor_grammar.specs.Written.{encoded, resolve_chunk, resolve_float, resolve_atom, resolve_count, resolve}
 use Rattle.cbor_grammar.specs.Written.{resolve_items, resolve_pairs}
 use Rattle.cbor_grammar.specs.Reading.{read_item}

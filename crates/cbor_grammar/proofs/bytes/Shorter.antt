@@ -7,12 +7,14 @@ use Rattle.std.proofs.lemmas.List.{length-drop}
 use Rattle.cbor_grammar.specs.declared.width.IntegerWidth.{IntegerWidth}
 use Rattle.cbor_grammar.specs.declared.error.Error.{Error}
 use Rattle.cbor_grammar.specs.declared.error.Error.TheVariants as refusal
-use Rattle.cbor_grammar.specs.Argument.{Argument, number, indefinite}
+use Rattle.cbor_grammar.specs.declared.argument.Argument.{Argument}
+use Rattle.cbor_grammar.specs.declared.argument.Argument.TheVariants.{Number, Indefinite}
 use Rattle.cbor_grammar.specs.Item.{Chunk, string, Item, atom}
-use Rattle.cbor_grammar.specs.ItemHead as item_head
-use Rattle.cbor_grammar.specs.ItemHead.{ItemHead}
+use Rattle.cbor_grammar.specs.declared.head.ItemHead.TheVariants as item_head
+use Rattle.cbor_grammar.specs.declared.head.ItemHead.{ItemHead}
 use Rattle.cbor_grammar.specs.Head.{break_byte}
-use Rattle.cbor_grammar.specs.StringKind.{StringKind, major_of}
+use Rattle.cbor_grammar.specs.declared.strings.StringKind.{StringKind}
+use Rattle.cbor_grammar.specs.StringKind.{major_of}
 use Rattle.cbor_grammar.specs.Reading.{checked_chunk, Read, ◌>>=◌, read_number, read_wide, read_argument, head_of}
 use Rattle.cbor_grammar.specs.Reading.{read_head, split_at, read_content, chunk_of, read_chunk, Counted, go_on, ◌>>-◌}
 use Rattle.cbor_grammar.specs.Reading.{more_chunks, read_chunks, read_atom, Frame, items_in, pairs_in, value_of, tag_of}
@@ -47,7 +49,7 @@ leaves_cut {X} n k b x = cond_both (ltb (length b) n) (Err refusal.CutShort) (Ok
 
 wide_leaves : (w : Width) (width : IntegerWidth) (b : List ℕ) → Leaves (suc (length b)) (read_wide w width b)
 unfolding read_wide
-wide_leaves w width b = leaves_made (suc (length b)) (suc (length b)) (read_number w b) (λ n. number n width)
+wide_leaves w width b = leaves_made (suc (length b)) (suc (length b)) (read_number w b) (λ n. Number n width)
     (omega arith) (leaves_cut (byte_len w) (byte_len w) b (from_be_bytes w (take (byte_len w) b)))
 
 info_leaves : (bits : ℕ) (b : List ℕ) → Leaves (suc (length b)) (read_argument bits b)
@@ -78,10 +80,10 @@ content_leaves kind n w b =
     (λ s lt. made_leaves (suc (length b)) (checked_chunk kind w s.0) s.1 lt)
 
 chunk_of_leaves : (kind : StringKind) (i : Argument) (b : List ℕ) → Leaves (suc (length b)) (chunk_of kind i b)
-chunk_of_leaves kind (number n w) b =
+chunk_of_leaves kind (Number n w) b =
     leaves_made (suc (length b)) (suc (length b)) (read_content kind n w b) (λ c. Some c) (omega arith)
     (content_leaves kind n w b)
-chunk_of_leaves kind indefinite b = tt
+chunk_of_leaves kind Indefinite b = tt
 
 leaves_less : {X : Type 0} (n m : ℕ) (r : Read X) → n ≤ m → Leaves n r → Leaves m r
 leaves_less n m (Ok x) le h = omega arith
@@ -130,9 +132,9 @@ break_leaves (first ∷ b) after e =
     → length after ≤ suc (length b)) (λ t is. omega (arith, ap length (some_is b after is))) (λ t is. absurd cc) e
 
 members_leave : (a : Argument) (b after : List ℕ) → after_members a b ≡ Some after → length after ≤ length b
-members_leave (number zero w) b after e = omega (arith, ap length (some_is b after e))
-members_leave (number (suc n) w) b after e = absurd cc
-members_leave indefinite b after e = break_leaves b after e
+members_leave (Number zero w) b after e = omega (arith, ap length (some_is b after e))
+members_leave (Number (suc n) w) b after e = absurd cc
+members_leave Indefinite b after e = break_leaves b after e
 
 pub end_leaves : (f : Frame) (b after : List ℕ) → after_end f b ≡ Some after → length after ≤ length b
 end_leaves (items_in is a) b after e = members_leave a b after e
@@ -160,16 +162,16 @@ module _ (read : List ℕ → Counted Item) (leaves : (b : List ℕ) → Leaves 
       (parts_leave n (put f i.0) i.1)))
 
   atom_leaves : (h : ItemHead) (b : List ℕ) → Leaves (suc (length b)) (read_atom h b).1
-  atom_leaves (item_head.integer n w) b = omega arith
-  atom_leaves (item_head.negative n w) b = omega arith
-  atom_leaves (item_head.string kind (number n w)) b =
+  atom_leaves (item_head.Integer n w) b = omega arith
+  atom_leaves (item_head.Negative n w) b = omega arith
+  atom_leaves (item_head.String kind (Number n w)) b =
       leaves_made (suc (length b)) (suc (length b)) (read_content kind n w b) (λ c. atom (string kind c)) (omega arith)
       (content_leaves kind n w b)
-  atom_leaves (item_head.string kind indefinite) b =
+  atom_leaves (item_head.String kind Indefinite) b =
       counted_leaves (length b) (suc (length b)) (read_chunks (length b) kind b) _ (chunks_leaves (length b) kind b)
       (λ cs lt. omega arith)
-  atom_leaves (item_head.float bits w) b = omega arith
-  atom_leaves (item_head.simple n) b = omega arith
+  atom_leaves (item_head.Float bits w) b = omega arith
+  atom_leaves (item_head.Simple n) b = omega arith
   atom_leaves _ b = tt
 
   body_leaves : (o : Option Frame) (h : ItemHead) (b : List ℕ) → Leaves (suc (length b)) (read_body read o h b).1

@@ -7,7 +7,8 @@ use Rattle.cbor_grammar.specs.Item.{Chunk, Atom, integer, negative, string, chun
 use Rattle.cbor_grammar.specs.Item.{array, tagged, Items, no_items, item, Pairs, no_pairs, pair, item_count, pair_count}
 use Rattle.cbor_grammar.specs.Head.{break_byte}
 use Rattle.cbor_grammar.specs.Bytes.{any, OpenThen, SpellsChunks, MembersThen, Spells, SpellsItems, SpellsPairs}
-use Rattle.cbor_grammar.specs.StringKind.{StringKind, major_of}
+use Rattle.cbor_grammar.specs.declared.strings.StringKind.{StringKind}
+use Rattle.cbor_grammar.specs.StringKind.{major_of}
 use Rattle.cbor_grammar.specs.Answer.{atom_size, size, items_size, pairs_size}
 use Rattle.cbor_grammar.proofs.bytes.Heads.{head_shorter}
 use Rattle.cbor_grammar.proofs.bytes.Chunks.{chunk_parts}

@@ -18,7 +18,8 @@ use Rattle.cbor_grammar.specs.WellFormed.{IsChunk, FitsFloat, WellFormedAtom, Fi
 use Rattle.cbor_grammar.specs.WellFormed.{WellFormedItems, WellFormedPairs}
 use Rattle.cbor_grammar.specs.Bytes.{any, strict, SpellsSimple, SpellsFloat, ChunkThen, SpellsChunks, SpellsAtom}
 use Rattle.cbor_grammar.specs.Bytes.{MembersThen, Spells, SpellsItems, SpellsPairs}
-use Rattle.cbor_grammar.specs.StringKind.{StringKind, major_of}
+use Rattle.cbor_grammar.specs.declared.strings.StringKind.{StringKind}
+use Rattle.cbor_grammar.specs.StringKind.{major_of}
 use Rattle.cbor_grammar.specs.Written.{encoded_head, encoded_chunk, encoded_float, encoded_simple, encoded_atom}
 use Rattle.cbor_grammar.specs.Written.{encoded_open, encoded_close, encoded, encoded_items, encoded_pairs}
 use Rattle.cbor_grammar.specs.Written.{resolve_chunk}

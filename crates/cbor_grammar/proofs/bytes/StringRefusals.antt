@@ -10,11 +10,14 @@ use Rattle.std.proofs.lemmas.Str.{IsUtf8-from_is_utf8, is_utf8-from_IsUtf8}
 use Rattle.cbor_grammar.specs.declared.width.IntegerWidth.{IntegerWidth}
 use Rattle.cbor_grammar.specs.declared.error.Error.{Error}
 use Rattle.cbor_grammar.specs.declared.error.Error.TheVariants as refusal
-use Rattle.cbor_grammar.specs.Argument.{Argument, number, indefinite}
+use Rattle.cbor_grammar.specs.declared.argument.Argument.{Argument}
+use Rattle.cbor_grammar.specs.declared.argument.Argument.TheVariants.{Number, Indefinite}
 use Rattle.cbor_grammar.specs.Item.{Chunk}
 use Rattle.cbor_grammar.specs.Head.{break_byte, HeadThen}
 use Rattle.cbor_grammar.specs.Bytes.{SpellsChunks}
-use Rattle.cbor_grammar.specs.StringKind.{StringKind, bytes_kind, text_kind, major_of}
+use Rattle.cbor_grammar.specs.declared.strings.StringKind.{StringKind}
+use Rattle.cbor_grammar.specs.declared.strings.StringKind.TheVariants.{Bytes, Text}
+use Rattle.cbor_grammar.specs.StringKind.{major_of}
 use Rattle.cbor_grammar.specs.Refused.{CutHead, cut_head, BadText, CutChunk, NoChunk, no_chunk}
 use Rattle.cbor_grammar.specs.Reading.{◌>>=◌, checked_chunk, read_argument, split_at, read_content, chunk_of}
 use Rattle.cbor_grammar.specs.Reading.{read_chunk}
@@ -31,7 +34,7 @@ use Rattle.cbor_grammar.proofs.bytes.HeadRefusals.{info_opens}
 pub data ContentRefusal : StringKind → ℕ → List ℕ → Error → Type 0 where
   short_content : {kind : StringKind} {n : ℕ} {b : List ℕ} → length b < n → ContentRefusal kind n b refusal.CutShort
   bad_content : {n : ℕ} {b : List ℕ} (text after : List ℕ) → b ≡ text ++ after → length text ≡ n → ¬ (IsUtf8 text)
-      → ContentRefusal text_kind n b refusal.Utf8
+      → ContentRefusal Text n b refusal.Utf8
 
 split_ways : (n : ℕ) (b : List ℕ) → ((length b < n) × (split_at n b ≡ Err refusal.CutShort))
     ⊎ ((n ≤ length b) × (split_at n b ≡ Ok (take n b, drop n b)))
@@ -53,24 +56,23 @@ made_err (Err d) rest e h = cc
 pub content_refused : (kind : StringKind) (n : ℕ) (w : IntegerWidth) (b : List ℕ) (e : Error)
     → read_content kind n w b ≡ Err e → ContentRefusal kind n b e
 unfolding read_content
-content_refused bytes_kind n w b e h =
+content_refused Bytes n w b e h =
     elim (split_ways n b) [
-      | inl s ↦ short_is bytes_kind n b e s.0 (let f = rw s.1 at h in cc)
+      | inl s ↦ short_is Bytes n b e s.0 (let f = rw s.1 at h in cc)
       | inr s ↦ absurd (let f = rw s.1 at h in cc)
     ]
-content_refused text_kind n w b e h =
+content_refused Text n w b e h =
     elim (split_ways n b) [
-      | inl s ↦ short_is text_kind n b e s.0 (let f = rw s.1 at h in cc)
+      | inl s ↦ short_is Text n b e s.0 (let f = rw s.1 at h in cc)
       | inr s ↦
           let f = rw s.1 at h in
-          elim (branch (is_utf8 (take n b)) _ _ (Err e)
-          (made_err (checked_chunk text_kind w (take n b)) (drop n b) e f)) [
+          elim (branch (is_utf8 (take n b)) _ _ (Err e) (made_err (checked_chunk Text w (take n b)) (drop n b) e f)) [
             | inl t ↦ absurd cc
             | inr t ↦
                 let is : refusal.Utf8 ≡ e = cc in
                 let no_text : ¬ (IsUtf8 (take n b)) =
                 λ text. false≢true (sym t.0 ∙ is_utf8-from_IsUtf8 (take n b) text) in
-                subst (λ (d : Error). ContentRefusal text_kind n b d) is
+                subst (λ (d : Error). ContentRefusal Text n b d) is
                 (bad_content (take n b) (drop n b) (sym (take-append-drop n b)) (omega (arith, length-take n b))
                 no_text)
           ]
@@ -79,9 +81,9 @@ content_refused text_kind n w b e h =
 pub content_refuses : (kind : StringKind) (n : ℕ) (w : IntegerWidth) (b : List ℕ) (e : Error)
     → ContentRefusal kind n b e → read_content kind n w b ≡ Err e
 unfolding read_content
-content_refuses bytes_kind n w b e (short_content short) = rw (lt-ltb (length b) n short) refl
-content_refuses text_kind n w b e (short_content short) = rw (lt-ltb (length b) n short) refl
-content_refuses text_kind n w b e (bad_content text after parts len no_text) =
+content_refuses Bytes n w b e (short_content short) = rw (lt-ltb (length b) n short) refl
+content_refuses Text n w b e (short_content short) = rw (lt-ltb (length b) n short) refl
+content_refuses Text n w b e (bad_content text after parts len no_text) =
     let long : ltb (length (text ++ after)) n ≡ false = le-ltb _ _ (omega (arith, length-append text after)) in
     let no : is_utf8 text ≡ false = false_from_ne_true (is_utf8 text) (λ t. no_text (IsUtf8-from_is_utf8 text t)) in
     rw (parts, long, take_at text after n len, no) refl
@@ -92,7 +94,7 @@ content_refuses text_kind n w b e (bad_content text after parts len no_text) =
 pub data ChunkRefusal : StringKind → List ℕ → Error → Type 0 where
   cut_chunk : {kind : StringKind} {b : List ℕ} → CutChunk kind b → ChunkRefusal kind b refusal.CutShort
   bad_chunk : {kind : StringKind} {b : List ℕ} → NoChunk kind b → ChunkRefusal kind b refusal.Head
-  bad_text : {b : List ℕ} → BadText b → ChunkRefusal text_kind b refusal.Utf8
+  bad_text : {b : List ℕ} → BadText b → ChunkRefusal Text b refusal.Utf8
 
 info_chunk : (kind : StringKind) (first : ℕ) (b : List ℕ) (e : Error) → first ≢ break_byte → first / 32 ≡ major_of kind
     → InfoRefusal (first % 32) b e → ChunkRefusal kind (first ∷ b) e
@@ -104,23 +106,23 @@ content_chunk : (kind : StringKind) (n : ℕ) (w : IntegerWidth) (first : ℕ) (
     → HeadThen (major_of kind) n w (first ∷ b) (λ r. r ≡ rest) → ContentRefusal kind n rest e
     → ChunkRefusal kind (first ∷ b) e
 content_chunk kind n w first b rest e h (short_content short) = cut_chunk (inr (n, w, (h.0, h.1, h.2, rw h.3 short)))
-content_chunk text_kind n w first b rest e h (bad_content text after parts len no_text) =
+content_chunk Text n w first b rest e h (bad_content text after parts len no_text) =
     bad_text (n, w, (h.0, h.1, h.2, (text, after, h.3 ∙ parts, len, no_text)))
 
 behind_chunk : (kind : StringKind) (first : ℕ) (b rest : List ℕ) (i : Argument) (e : Error) → IsBytes b
     → first ≢ break_byte → first / 32 ≡ major_of kind → read_argument (first % 32) b ≡ Ok (i, rest)
     → chunk_of kind i rest ≡ Err e → ChunkRefusal kind (first ∷ b) e
-behind_chunk kind first b rest (number n w) e fits no_break major read h =
+behind_chunk kind first b rest (Number n w) e fits no_break major read h =
     elim (bind_err (read_content kind n w rest) (λ c. Ok (Some c.0, c.1)) e h) [
       | inl refused ↦
           let whole : 32 * major_of kind + first % 32 ≡ first = rw (← major) (omega arith) in
           let begins = head_then (major_of kind) (first % 32) n w b rest
-          (info_takes (first % 32) b rest (number n w) fits read) in
+          (info_takes (first % 32) b rest (Number n w) fits read) in
           content_chunk kind n w first b rest e (rw whole at begins) (content_refused kind n w rest e refused)
       | inr made ↦ absurd cc
     ]
-behind_chunk kind first b rest indefinite e fits no_break major read h =
-    let t = info_takes (first % 32) b rest indefinite fits read in
+behind_chunk kind first b rest Indefinite e fits no_break major read h =
+    let t = info_takes (first % 32) b rest Indefinite fits read in
     let is : refusal.Head ≡ e = cc in
     subst (λ (d : Error). ChunkRefusal kind (first ∷ b) d) is
     (bad_chunk (no_chunk no_break (λ h. omega (arith, h.1, t.0))))
@@ -199,8 +201,8 @@ chunk_refuses kind (first ∷ b) e (cut_chunk (inr h)) =
     content_refuses_chunk kind h.0 h.1 (first ∷ b) h.2.1 refusal.CutShort (h.2.0, h.2.1, h.2.2, refl)
     (short_content h.2.3)
 chunk_refuses kind b e (bad_chunk h) = no_chunk_refuses kind b h
-chunk_refuses text_kind b e (bad_text h) =
-    content_refuses_chunk text_kind h.0 h.1 b h.2.1 refusal.Utf8 (h.2.0, h.2.1, h.2.2, refl)
+chunk_refuses Text b e (bad_text h) =
+    content_refuses_chunk Text h.0 h.1 b h.2.1 refusal.Utf8 (h.2.0, h.2.1, h.2.2, refl)
     (bad_content h.2.3.0 h.2.3.1 h.2.3.2 h.2.3.3 h.2.3.4)
 
 -- ---- chunks

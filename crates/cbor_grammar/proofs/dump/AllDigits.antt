@@ -14,12 +14,14 @@ use Rattle.cbor_notes.specs.Columns.{digits_of}
 use Rattle.cbor_notes.proofs.bases.DecodedLineLemmas.{encode_with-append}
 use Rattle.cbor_notes.proofs.columns.OneLine.{Free, free_hex, from_test}
 use Rattle.cbor_grammar.specs.declared.width.IntegerWidth.{IntegerWidth}
-use Rattle.cbor_grammar.specs.Encoding.{Encoding}
+use Rattle.cbor_grammar.specs.declared.encoding.Encoding.{Encoding}
 use Rattle.cbor_grammar.specs.Item as spec
 use Rattle.cbor_grammar.specs.Item.{Chunk, Atom, integer, negative, string, chunked_string, float, simple, Item, atom}
 use Rattle.cbor_grammar.specs.Item.{array, tagged, Items, no_items, item, Pairs, no_pairs, pair, item_count, pair_count}
 use Rattle.cbor_grammar.specs.Head.{opening, break_byte}
-use Rattle.cbor_grammar.specs.StringKind.{StringKind, bytes_kind, text_kind, major_of}
+use Rattle.cbor_grammar.specs.declared.strings.StringKind.{StringKind}
+use Rattle.cbor_grammar.specs.declared.strings.StringKind.TheVariants.{Bytes, Text}
+use Rattle.cbor_grammar.specs.StringKind.{major_of}
 use Rattle.cbor_grammar.specs.Written.{encoded_head, encoded_chunk, encoded_chunks, encoded_float, encoded_simple}
 use Rattle.cbor_grammar.specs.Written.{encoded_atom, encoded_open, encoded_close, encoded, encoded_items, encoded_pairs}
 use Rattle.cbor_grammar.specs.Comments.{unsigned_comment, negative_comment, float_comment, simple_comment, tag_comment}
@@ -154,8 +156,8 @@ tagged_are depth encoding None bytes = plain_are depth encoding bytes
 tagged_are depth encoding (Some t) bytes = sized_are depth encoding t (element_size t) bytes (element_small t)
 
 string_content_are : (kind : StringKind) (p : Context) (bytes : List ℕ) → Are (string_content_lines kind p bytes) bytes
-string_content_are bytes_kind p bytes = tagged_are (p.depth + 1) p.encoding p.tag bytes
-string_content_are text_kind p bytes =
+string_content_are Bytes p bytes = tagged_are (p.depth + 1) p.encoding p.tag bytes
+string_content_are Text p bytes =
     subst (Are (content_lines (p.depth + 1) text_comment (text_pieces bytes))) (text_joined bytes)
     (content_are (p.depth + 1) text_comment (text_pieces bytes))
 

@@ -7,7 +7,8 @@ use Rattle.cbor_notes.specs.Text.{grouped, escaped_text}
 use Rattle.cbor_notes.proofs.columns.OneLine.{Free, FreeName, named, unnamed, from_test, free_both, free_cond, free_hex}
 use Rattle.cbor_notes.proofs.columns.OneLine.{hex_line, standard_line, url_safe_line, decimal_line, grouped_line}
 use Rattle.cbor_notes.proofs.columns.OneLine.{quoted_line, escaped_line, tag_name_free}
-use Rattle.cbor_grammar.specs.Encoding.{Encoding, Base16, Base64, Base64Url}
+use Rattle.cbor_grammar.specs.declared.encoding.Encoding.{Encoding}
+use Rattle.cbor_grammar.specs.declared.encoding.Encoding.TheVariants.{Base16, Base64, Base64Url}
 use Rattle.cbor_grammar.specs.Comments.{in_brackets, unsigned_comment, negative_comment, float_comment, simple_kind}
 use Rattle.cbor_grammar.specs.Comments.{simple_comment, count_text, counted_comment}
 use Rattle.cbor_grammar.specs.Comments.{name_before, tag_comment, bytes_comment, text_comment}

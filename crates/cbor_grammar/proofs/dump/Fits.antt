@@ -23,10 +23,12 @@ use Rattle.cbor_grammar.specs.declared.width.IntegerWidth.{IntegerWidth}
 use Rattle.cbor_grammar.specs.declared.width.IntegerWidth.TheVariants as width
 use Rattle.cbor_grammar.specs.declared.width.FloatWidth.{FloatWidth}
 use Rattle.cbor_grammar.specs.declared.width.FloatWidth.TheVariants as float_width
-use Rattle.cbor_grammar.specs.Encoding.{Encoding}
+use Rattle.cbor_grammar.specs.declared.encoding.Encoding.{Encoding}
 use Rattle.cbor_grammar.specs.Item.{Chunk, Atom, integer, negative, string, chunked_string, float, simple}
 use Rattle.cbor_grammar.specs.Head.{head, stated, opening, break_byte}
-use Rattle.cbor_grammar.specs.StringKind.{StringKind, bytes_kind, text_kind, major_of}
+use Rattle.cbor_grammar.specs.declared.strings.StringKind.{StringKind}
+use Rattle.cbor_grammar.specs.declared.strings.StringKind.TheVariants.{Bytes, Text}
+use Rattle.cbor_grammar.specs.StringKind.{major_of}
 use Rattle.cbor_grammar.specs.WellFormed.{deepest}
 use Rattle.cbor_grammar.specs.Written.{encoded_head, encoded_float, encoded_simple, encoded_open}
 use Rattle.cbor_grammar.specs.Comments.{bytes_comment, text_comment}
@@ -179,13 +181,13 @@ tagged_fit depth encoding None bytes low = plain_fits depth encoding bytes low
 tagged_fit depth encoding (Some t) bytes low = sized_fit depth encoding t (element_size t) bytes low (element_small t)
 
 word_line : (kind : StringKind) → Free 10 (string_word kind)
-word_line bytes_kind = from_test 10 (codes "bytes") refl
-word_line text_kind = from_test 10 (codes "text") refl
+word_line Bytes = from_test 10 (codes "bytes") refl
+word_line Text = from_test 10 (codes "text") refl
 
 string_content_fits : (kind : StringKind) (p : Context) (bytes : List ℕ) → p.depth + 1 < 140
     → AllByRecursion IsGood (string_content_lines kind p bytes)
-string_content_fits bytes_kind p bytes low = tagged_fit (p.depth + 1) p.encoding p.tag bytes low
-string_content_fits text_kind p bytes low =
+string_content_fits Bytes p bytes low = tagged_fit (p.depth + 1) p.encoding p.tag bytes low
+string_content_fits Text p bytes low =
     content_fits (p.depth + 1) text_comment text_line (text_pieces bytes) low (text_few bytes)
 
 string_fits : (kind : StringKind) (p : Context) (c : Chunk) → p.depth + 1 < 140
@@ -258,11 +260,7 @@ low_end depth level below few = omega arith
 pub low_first : (depth level : ℕ) → depth < level → level ≤ deepest → depth < 140
 low_first depth level below few = omega arith
 
--- the two parts of what is known of each line
-pub fits_of : (lines : List DumpLine) → AllByRecursion IsGood lines → AllByRecursion IsFit lines
-fits_of [] good = tt
-fits_of (line ∷ lines) good = (good.0.fit, fits_of lines good.1)
-
+-- what is known of each line, in part
 pub plain_of : (lines : List DumpLine) → AllByRecursion IsGood lines → AllByRecursion IsPlain lines
 plain_of [] good = tt
 plain_of (line ∷ lines) good = (good.0.plain, plain_of lines good.1)

@@ -28,8 +28,10 @@ use Rattle.cbor_grammar.proofs.dump.CommentLines.{brackets_line}
 use Rattle.cbor_grammar.specs.declared.width.IntegerWidth.{IntegerWidth}
 use Rattle.cbor_grammar.specs.Comments.{in_brackets}
 use Rattle.cbor_grammar.specs.Item.{Chunk, Item, Items, atom, integer, negative, string, float, simple, array, item}
-use Rattle.cbor_grammar.specs.StringKind.{bytes_kind, text_kind}
-use Rattle.cbor_grammar.specs.Notes.{Note, plain_note, Family, ipv4, ipv6, Zone, no_zone, zone_text, not_zone}
+use Rattle.cbor_grammar.specs.declared.strings.StringKind.TheVariants.{Bytes, Text}
+use Rattle.cbor_grammar.specs.Notes.{Note, plain_note, Zone, no_zone, zone_text, not_zone}
+use Rattle.cbor_grammar.specs.declared.addresses.Family.{Family}
+use Rattle.cbor_grammar.specs.declared.addresses.Family.TheVariants.{IPv4, IPv6}
 use Rattle.cbor_grammar.specs.Notes.{null_value}
 use Rattle.cbor_grammar.specs.Notes.{word_or, datetime_note, epoch_datetime_note, epoch_date_note, date_note}
 use Rattle.cbor_grammar.specs.Notes.{shareable_note, reference_note, url_words, url_note, base64_name, decoded_note}
@@ -42,7 +44,7 @@ use Rattle.cbor_grammar.specs.Notes.{typed_array_note, value_note}
 -- ---- what the functions of a note meet
 
 -- sixteen bytes are those of a UUID
-pub uuid_is : (i : Item) (c : Chunk) (bytes octets : List ℕ) → i ≡ atom (string bytes_kind c) → bytes ≡ c.bytes
+pub uuid_is : (i : Item) (c : Chunk) (bytes octets : List ℕ) → i ≡ atom (string Bytes c) → bytes ≡ c.bytes
     → IsWholeChunk bytes octets 16 → uuid_note i ≡ uuid_fields octets
 uuid_is i c bytes octets seen are whole =
     let long : (length c.bytes == 16) ≡ true = eq-eqb (length c.bytes) 16 (rw (sym are) whole.long) in
@@ -87,8 +89,8 @@ filled_up bytes octets size n are is short small =
     ∙ ap (λ zeros. bytes ++ zeros) (take-replicate (size - length bytes) (16 - length bytes) 0 (omega arith)))
 
 pub size_small : (f : Family) → family_size f ≤ 16
-size_small ipv4 = omega arith
-size_small ipv6 = omega arith
+size_small IPv4 = omega arith
+size_small IPv6 = omega arith
 
 pub prefix_is : (f : Family) (len : ℕ) (bytes : List ℕ) → ends_with nat_eq bytes (0 ∷ []) ≡ false
     → length bytes ≤ family_size f
@@ -130,7 +132,7 @@ word_line word otherwise None h k l = k
 
 -- dates and times
 datetime_line : (i : Item) → Free 10 (datetime_note i)
-datetime_line (atom (string text_kind c)) =
+datetime_line (atom (string Text c)) =
     word_line (codes "epoch") (codes "error parsing datetime") (epoch_of_datetime c.bytes)
     (from_test 10 (codes "epoch") refl)
     (from_test 10 (codes "error parsing datetime") refl) (epoch_of_datetime_line c.bytes)
@@ -160,7 +162,7 @@ epoch_date_line (atom (negative n w)) = day_line (negsuc n)
 epoch_date_line _ = from_test 10 (codes "invalid type for epoch date") refl
 
 date_line : (i : Item) → Free 10 (date_note i)
-date_line (atom (string text_kind c)) =
+date_line (atom (string Text c)) =
     word_line (codes "epoch") (codes "error parsing date") (epoch_of_date c.bytes) (from_test 10 (codes "epoch") refl)
     (from_test 10 (codes "error parsing date") refl) (epoch_of_date_line c.bytes)
 date_line _ = from_test 10 (codes "invalid type for date") refl
@@ -186,7 +188,7 @@ words_line true = from_test 10 (url_words true) refl
 words_line false = from_test 10 (url_words false) refl
 
 url_line : (i : Item) → Free 10 (url_note i)
-url_line (atom (string text_kind c)) = words_line (is_url c.bytes)
+url_line (atom (string Text c)) = words_line (is_url c.bytes)
 url_line _ = from_test 10 (codes "invalid type for uri") refl
 
 base64_name_line : (url : Bool) → Free 10 (base64_name url)
@@ -203,7 +205,7 @@ decoded_line name None h k = (
 )
 
 base64_line : (url : Bool) (i : Item) → FreeNote (base64_note url i)
-base64_line url (atom (string text_kind c)) = decoded_line (base64_name url) (base64_lines url c.bytes)
+base64_line url (atom (string Text c)) = decoded_line (base64_name url) (base64_lines url c.bytes)
     (base64_name_line url) (base64_lines_line url c.bytes)
 base64_line url _ = (
   free_both 10 (codes "invalid type for ") (base64_name url)
@@ -212,7 +214,7 @@ base64_line url _ = (
 )
 
 uuid_line : (i : Item) → FreeNote (uuid_note i)
-uuid_line (atom (string bytes_kind c)) =
+uuid_line (atom (string Bytes c)) =
     note_cond (length c.bytes == 16) (uuid_fields c.bytes) (plain_note (codes "invalid data length for uuid"))
     (uuid_lines_line c.bytes)
     (from_test 10 (codes "invalid data length for uuid") refl, tt)
@@ -220,12 +222,12 @@ uuid_line _ = (from_test 10 (codes "invalid type for uuid") refl, tt)
 
 -- network addresses
 name_line : (f : Family) → Free 10 (family_name f)
-name_line ipv4 = from_test 10 (codes "IPv4") refl
-name_line ipv6 = from_test 10 (codes "IPv6") refl
+name_line IPv4 = from_test 10 (codes "IPv4") refl
+name_line IPv6 = from_test 10 (codes "IPv6") refl
 
 text_line : (f : Family) (bytes : List ℕ) → Free 10 (address_text f bytes)
-text_line ipv4 bytes = ipv4_line bytes
-text_line ipv6 bytes = ipv6_line bytes
+text_line IPv4 bytes = ipv4_line bytes
+text_line IPv6 bytes = ipv6_line bytes
 
 shown_line : (f : Family) (what text : List ℕ) → Free 10 what → Free 10 text → Free 10 (shown f what text)
 shown_line f what text h k =
@@ -237,8 +239,8 @@ invalid_line : Free 10 invalid_address
 invalid_line = from_test 10 invalid_address refl
 
 length_line : (f : Family) → Free 10 (invalid_length f)
-length_line ipv4 = from_test 10 (invalid_length ipv4) refl
-length_line ipv6 = from_test 10 (invalid_length ipv6) refl
+length_line IPv4 = from_test 10 (invalid_length IPv4) refl
+length_line IPv6 = from_test 10 (invalid_length IPv6) refl
 
 plain_line : (f : Family) (bytes : List ℕ) → Free 10 (plain_address f bytes)
 plain_line f bytes =
@@ -272,7 +274,7 @@ FreeZone _ = Unit
 
 zone_line : (is : Items) → FreeZone (zone_at is)
 zone_line (item (atom (integer n w)) is) = decimal_line n
-zone_line (item (atom (string text_kind c)) is) = escaped_line c.bytes
+zone_line (item (atom (string Text c)) is) = escaped_line c.bytes
 zone_line _ = tt
 
 with_length_line : (f : Family) (bytes : List ℕ) (len : ℕ) (zone : Zone) → FreeZone zone
@@ -304,14 +306,14 @@ interface_line f bytes (item (atom (simple n)) is) =
 interface_line f bytes _ = invalid_line
 
 members_line : (f : Family) (is : Items) → Free 10 (members_note f is)
-members_line f (item (atom (integer len w)) (item (atom (string bytes_kind c)) is)) = prefix_line f len c.bytes
-members_line f (item (atom (string bytes_kind c)) is) =
+members_line f (item (atom (integer len w)) (item (atom (string Bytes c)) is)) = prefix_line f len c.bytes
+members_line f (item (atom (string Bytes c)) is) =
     free_cond 10 (length c.bytes == family_size f) (interface_note f c.bytes is) (invalid_length f)
     (interface_line f c.bytes is) (length_line f)
 members_line f _ = invalid_line
 
 address_line : (f : Family) (i : Item) → Free 10 (address_note f i)
-address_line f (atom (string bytes_kind c)) = plain_line f c.bytes
+address_line f (atom (string Bytes c)) = plain_line f c.bytes
 address_line f (array is w) = members_line f is
 address_line f _ = invalid_line
 
@@ -329,13 +331,13 @@ network_bytes_line bytes =
     (from_test 10 (codes "invalid data length for network address") refl)))
 
 network_line : (i : Item) → Free 10 (network_note i)
-network_line (atom (string bytes_kind c)) = network_bytes_line c.bytes
+network_line (atom (string Bytes c)) = network_bytes_line c.bytes
 network_line _ = invalid_line
 
 -- typed arrays
 typed_array_line : (size : Option ℕ) (i : Item) → IfSome (typed_array_note size i) FreeNote
 typed_array_line None _ = tt
-typed_array_line (Some size) (atom (string bytes_kind c)) =
+typed_array_line (Some size) (atom (string Bytes c)) =
     some_cond (length c.bytes % size == 0) None (Some (plain_note (codes "invalid data length for typed array"))) tt
     (from_test 10 (codes "invalid data length for typed array") refl, tt)
 typed_array_line (Some size) _ = (from_test 10 (codes "invalid type for typed array") refl, tt)
@@ -351,8 +353,8 @@ value_note_line known t i =
     (some_cond (t == 33) (Some (base64_note true i)) _ (base64_line true i)
     (some_cond (t == 34) (Some (base64_note false i)) _ (base64_line false i)
     (some_cond (t == 37) (Some (uuid_note i)) _ (uuid_line i)
-    (plain_cond (t == 52) (address_note ipv4 i) _ (address_line ipv4 i)
-    (plain_cond (t == 54) (address_note ipv6 i) _ (address_line ipv6 i)
+    (plain_cond (t == 52) (address_note IPv4 i) _ (address_line IPv4 i)
+    (plain_cond (t == 54) (address_note IPv6 i) _ (address_line IPv6 i)
     (plain_cond (t == 100) (epoch_date_note i) _ (epoch_date_line i)
     (plain_cond (t == 260) (network_note i) _ (network_line i)
     (plain_cond (t == 1004) (date_note i) (typed_array_note (element_size t) i) (date_line i)

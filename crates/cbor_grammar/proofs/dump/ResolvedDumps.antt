@@ -17,10 +17,14 @@ use Rattle.cbor_grammar.specs.Item as spec
 use Rattle.cbor_grammar.specs.Item.{Chunk, Atom, integer, negative, string, chunked_string, float, simple, Item, atom}
 use Rattle.cbor_grammar.specs.Item.{array}
 use Rattle.cbor_grammar.specs.Item.{tagged, Items, no_items, item, Pairs, no_pairs, pair, item_count, pair_count}
-use Rattle.cbor_grammar.specs.Notes.{Family, ipv4, ipv6, zone_at, interface_note, members_note, with_length}
+use Rattle.cbor_grammar.specs.Notes.{zone_at, interface_note, members_note, with_length}
+use Rattle.cbor_grammar.specs.declared.addresses.Family.{Family}
+use Rattle.cbor_grammar.specs.declared.addresses.Family.TheVariants.{IPv4, IPv6}
 use Rattle.cbor_grammar.specs.Notes.{value_note, typed_array_note}
 use Rattle.cbor_grammar.specs.Reading.{Fails, read_item}
-use Rattle.cbor_grammar.specs.StringKind.{StringKind, bytes_kind, text_kind, major_of}
+use Rattle.cbor_grammar.specs.declared.strings.StringKind.{StringKind}
+use Rattle.cbor_grammar.specs.declared.strings.StringKind.TheVariants.{Bytes, Text}
+use Rattle.cbor_grammar.specs.StringKind.{major_of}
 use Rattle.cbor_grammar.specs.WellFormed.{WellFormed}
 use Rattle.cbor_grammar.specs.Written.{encoded, encoded_head, resolve_chunk, resolve_atom, resolve_count, resolve}
 use Rattle.cbor_grammar.specs.Written.{resolve_items}
@@ -35,7 +39,7 @@ use Rattle.cbor_grammar.proofs.bytes.Strict.{pair_count-resolve}
 zone_same : (is : Items) → zone_at (resolve_items is) ≡ zone_at is
 zone_same no_items = refl
 zone_same (item (atom (integer n w)) is) = refl
-zone_same (item (atom (string text_kind c)) is) = refl
+zone_same (item (atom (string Text c)) is) = refl
 zone_same _ = refl
 
 interface_same : (f : Family) (bytes : List ℕ) (is : Items)
@@ -43,38 +47,38 @@ interface_same : (f : Family) (bytes : List ℕ) (is : Items)
 interface_same f bytes no_items = refl
 interface_same f bytes (item (atom (integer len w)) is) = ap (with_length f bytes len) (zone_same is)
 interface_same f bytes (item (atom (simple n)) is) = rw (zone_same is) refl
-interface_same f bytes (item (atom (string text_kind c)) is) = refl
+interface_same f bytes (item (atom (string Text c)) is) = refl
 interface_same f bytes _ = refl
 
 members_same : (f : Family) (is : Items) → members_note f (resolve_items is) ≡ members_note f is
 members_same f no_items = refl
-members_same f (item (atom (integer len w)) (item (atom (string bytes_kind c)) is)) = refl
-members_same f (item (atom (string bytes_kind c)) is) = rw (interface_same f c.bytes is) refl
+members_same f (item (atom (integer len w)) (item (atom (string Bytes c)) is)) = refl
+members_same f (item (atom (string Bytes c)) is) = rw (interface_same f c.bytes is) refl
 members_same f _ = refl
 
 typed_same : (size : Option ℕ) (i : Item) → typed_array_note size (resolve i) ≡ typed_array_note size i
 typed_same None i = refl
-typed_same (Some size) (atom (string bytes_kind c)) = refl
+typed_same (Some size) (atom (string Bytes c)) = refl
 typed_same (Some size) _ = refl
 
 value_same : (known t : ℕ) (i : Item) → value_note known t (resolve i) ≡ value_note known t i
 unfolding value_note
 value_same known t (atom (integer n w)) = rw (typed_same (element_size t) (atom (integer n w))) refl
 value_same known t (atom (negative n w)) = rw (typed_same (element_size t) (atom (negative n w))) refl
-value_same known t (atom (string bytes_kind c)) =
-    rw (typed_same (element_size t) (atom (string bytes_kind c))) refl
-value_same known t (atom (string text_kind c)) = rw (typed_same (element_size t) (atom (string text_kind c))) refl
+value_same known t (atom (string Bytes c)) =
+    rw (typed_same (element_size t) (atom (string Bytes c))) refl
+value_same known t (atom (string Text c)) = rw (typed_same (element_size t) (atom (string Text c))) refl
 value_same known t (atom (chunked_string kind cs)) =
     rw (typed_same (element_size t) (atom (chunked_string kind cs))) refl
 value_same known t (atom (float bits w)) = rw (typed_same (element_size t) (atom (float bits w))) refl
 value_same known t (atom (simple n)) = refl
 value_same known t (array is w) =
-    rw (members_same ipv4 is, members_same ipv6 is, typed_same (element_size t) (array is w)) refl
+    rw (members_same IPv4 is, members_same IPv6 is, typed_same (element_size t) (array is w)) refl
 value_same known t (spec.map ps w) = rw (typed_same (element_size t) (spec.map ps w)) refl
 value_same known t (tagged u w i) = rw (typed_same (element_size t) (tagged u w i)) refl
 
 bytes_same : (i : Item) → bytes_in (resolve i) ≡ bytes_in i
-bytes_same (atom (string bytes_kind c)) = refl
+bytes_same (atom (string Bytes c)) = refl
 bytes_same _ = refl
 
 notes_same : (depth left : ℕ) (write : Item → List DumpLine) (known : ℕ) (tag : Option ℕ) (i : Item)

@@ -6,9 +6,10 @@ use Rattle.cbor_grammar.specs.declared.width.IntegerWidth.{IntegerWidth}
 use Rattle.cbor_grammar.specs.declared.width.IntegerWidth.TheVariants.{Unknown}
 use Rattle.cbor_grammar.specs.declared.width.FloatWidth.{FloatWidth}
 use Rattle.cbor_grammar.specs.declared.width.FloatWidth.TheVariants as float_width
-use Rattle.cbor_grammar.specs.Encoding.{Encoding}
-use Rattle.cbor_grammar.specs.Layout.{Compact, Context}
-use Rattle.cbor_grammar.specs.ContainerStyle as style
+use Rattle.cbor_grammar.specs.declared.encoding.Encoding.{Encoding}
+use Rattle.cbor_grammar.specs.Context.{Context}
+use Rattle.cbor_grammar.specs.declared.layout.Layout.TheVariants.{Compact}
+use Rattle.cbor_grammar.specs.declared.layout.ContainerStyle.TheVariants as style
 use Rattle.cbor_grammar.specs.Item as spec
 use Rattle.cbor_grammar.specs.Item.{Chunk, Atom, integer, negative, string, chunked_string}
 use Rattle.cbor_grammar.specs.Item.{float, simple, Item, atom, array, tagged, Items, no_items, item, Pairs, no_pairs}
@@ -18,7 +19,8 @@ use Rattle.cbor_grammar.specs.WellFormed.{WellFormed, WellFormedItems, WellForme
 use Rattle.cbor_grammar.specs.Bytes.{any, SpellsAtom, SpellsFloat, Spells, SpellsItems, SpellsPairs}
 use Rattle.cbor_grammar.specs.Written.{resolve_chunk, resolve_float, resolve_atom, resolve, resolve_items}
 use Rattle.cbor_grammar.specs.Written.{resolve_pairs}
-use Rattle.cbor_grammar.specs.StringKind.{bytes_kind, text_kind, no_chunks}
+use Rattle.cbor_grammar.specs.declared.strings.StringKind.TheVariants.{Bytes, Text}
+use Rattle.cbor_grammar.specs.StringKind.{no_chunks}
 use Rattle.cbor_grammar.specs.NotationText.{number, bracketed, float_text, encoding_below, item_texts, pair_texts}
 use Rattle.cbor_grammar.specs.NotationText.{string_text, chunks_listed, atom_text, text_with, text_at}
 use Rattle.cbor_grammar.specs.Normal.{normal_width, normal_chunk, normal_items, normal_pairs}
@@ -106,7 +108,7 @@ module _ (left : ℕ) (into : Option ℕ → Item → Item)
   normal_atom_stated tag (integer n w) h = rw (width_kept n w h) h
   normal_atom_stated tag (negative n w) h = rw (width_kept n w h) h
   normal_atom_stated tag (float bits w) h = rw (float_kept w h) h
-  normal_atom_stated tag (string bytes_kind c) h = tt
+  normal_atom_stated tag (string Bytes c) h = tt
   normal_atom_stated tag a h = tt
 
   normal_with_stated : (tag : Option ℕ) (i : Item) → Stated i → Stated (normal_with left into tag i)
@@ -154,8 +156,8 @@ module _ (left : ℕ) (write : Writer)
         → atom_text left write (at e tag) (resolve_atom a) ≡ atom_text left write (at e tag) a
     atom_resolved e tag (integer n w) h = ap (number n) (stated_is w n h)
     atom_resolved e tag (negative n w) h = ap (λ v. codes "-" ++ number (n + 1) v) (stated_is w n h)
-    atom_resolved e tag (string bytes_kind c) h = refl
-    atom_resolved e tag (string text_kind c) h = refl
+    atom_resolved e tag (string Bytes c) h = refl
+    atom_resolved e tag (string Text c) h = refl
     atom_resolved e tag (chunked_string kind cs) h = ap (chunks_listed style.Compact (no_chunks kind))
         (map_kept (λ s. string_text kind e s.bytes) resolve_chunk (λ c. refl) cs)
     atom_resolved e tag (float bits w) h = ap (float_text bits) (float_kept w h)
@@ -199,8 +201,8 @@ normal_atom_resolved : (left : ℕ) (into : Option ℕ → Item → Item) (tag :
     → normal_atom left into tag (resolve_atom a) ≡ normal_atom left into tag a
 normal_atom_resolved left into tag (integer n w) h = ap (λ v. integer n (normal_width v n)) (stated_is w n h)
 normal_atom_resolved left into tag (negative n w) h = ap (λ v. negative n (normal_width v n)) (stated_is w n h)
-normal_atom_resolved left into tag (string bytes_kind c) h = refl
-normal_atom_resolved left into tag (string text_kind c) h = refl
+normal_atom_resolved left into tag (string Bytes c) h = refl
+normal_atom_resolved left into tag (string Text c) h = refl
 normal_atom_resolved left into tag (chunked_string kind cs) h =
     ap (chunked_string kind) (map_kept normal_chunk resolve_chunk (λ c. refl) cs)
 normal_atom_resolved left into tag (float bits w) h = ap (λ v. float bits (resolve_float v)) (float_kept w h)

@@ -1,32 +1,26 @@
 -- What is in memory after calls that append.
 use Rattle.std.specs.Prelude.{Result, Ok, Err, is_ok, if◌then◌else◌}
 use Rattle.std.specs.Io.{StartsWith}
-use Rattle.std.specs.Str.{IsUtf8}
 use Rattle.std.specs.String.{string_bytes, string_len}
 use Rattle.std.specs.String.Boundary.{IsSplitPoint}
 use Rattle.std.specs.declared.string.String.{String}
-use Rattle.std.proofs.Common.{◌≡◌, ℕ, ◌≤◌, List, ◌++◌, length, take, drop, refl, ap, sym, subst, ◌∙◌, append_assoc}
+use Rattle.std.proofs.Common.{◌≡◌, ℕ, List, ◌++◌, length, take, drop, refl, ap, sym, subst, ◌∙◌, append_assoc}
 use Rattle.std.proofs.Common.{arith}
-use Rattle.std.proofs.Math.Seq.{take-append_seam, take-length}
-use Rattle.std.proofs.lemmas.List.{length-take, take-append-drop}
-use Rattle.std.proofs.lemmas.Str.{IsCharBoundary-from_take, IsUtf8-string_bytes}
-use Rattle.cbor_grammar.specs.mirror.Appends.{Appends}
+use Rattle.std.proofs.Math.Seq.{take-length}
+use Rattle.std.proofs.Transfers.{starts_with_of_append, starts_with_trans}
+use Rattle.std.proofs.lemmas.List.{take-append-drop}
+use Rattle.cbor_notes.proofs.texts.Fronts.{split_after}
+use Rattle.cbor_notes.specs.Appends.{Appends}
 
 begins : (old text new : List ℕ) → new ≡ old ++ text → StartsWith new old
-begins old text new is = ap (take (length old)) is ∙ take-append_seam old text
+begins old text new is = starts_with_of_append new old text is
 
 -- what begins with a text and more begins with that text
 earlier : (old text new : List ℕ) → StartsWith new (old ++ text) → StartsWith new old
-earlier old text new h =
-    let rest = drop (length (old ++ text)) new in
-    begins old (text ++ rest) new (sym (take-append-drop (length (old ++ text)) new) ∙ ap (λ x. x ++ rest) h
-    ∙ append_assoc old text rest)
+earlier old text new h = starts_with_trans new (old ++ text) old h (begins old text (old ++ text) refl)
 
 pub begins_through : (old mid new : List ℕ) → StartsWith new mid → StartsWith mid old → StartsWith new old
-begins_through old mid new h g =
-    let parts : mid ≡ old ++ drop (length old) mid = sym (take-append-drop (length old) mid)
-    ∙ ap (λ x. x ++ drop (length old) mid) g in
-    earlier old (drop (length old) mid) new (subst (λ x. StartsWith new x) parts h)
+begins_through old mid new h g = starts_with_trans new mid old h g
 
 -- after one call more, and after two calls
 pub begins_still : (old mid text new : List ℕ) → StartsWith mid old → new ≡ mid ++ text → StartsWith new old
@@ -85,9 +79,5 @@ pub cut_back : {Z : Type 0} (old new : String Z) (n : ℕ) → n ≡ string_len 
     → StartsWith (string_bytes new) (string_bytes old)
     → IsSplitPoint (string_bytes new) n × (take n (string_bytes new) ≡ string_bytes old)
 cut_back old new n len h =
-    let is : n ≡ length (string_bytes old) = omega (arith, len, old.bytes.ok.0) in
-    let cut : take n (string_bytes new) ≡ string_bytes old = rw is h in
-    let within : n ≤ length (string_bytes new) = omega (arith, ap length cut, length-take n (string_bytes new), is) in
-    let boundary = IsCharBoundary-from_take (string_bytes new) n (IsUtf8-string_bytes new) within
-    (subst IsUtf8 (sym cut) (IsUtf8-string_bytes old)) in
-    ((boundary.0, λ _. boundary.1), cut)
+    let is : length (string_bytes old) ≡ n = omega (arith, len, old.bytes.ok.0) in
+    (subst (IsSplitPoint (string_bytes new)) is (split_after old new h), rw (sym is) h)

@@ -1,44 +1,21 @@
 -- Embedded items: what a reader answers is what `embedded` and `sequence` say.
-use Rattle.std.proofs.Common.{◌≡◌, ◌≢◌, ℕ, zero, suc, ◌+◌, ◌-◌, ◌≤◌, List, [], ◌∷◌, ◌++◌, length, Some}
+use Rattle.std.proofs.Common.{◌≡◌, ℕ, zero, suc, ◌+◌, ◌-◌, ◌≤◌, List, [], ◌∷◌, ◌++◌, length, Some}
 use Rattle.std.proofs.Common.{Ok, Err, refl, sym, ap, subst, ◌∙◌, arith}
 use Rattle.std.proofs.lemmas.List.{append-nil, length-append, nil_from_length}
 use Rattle.cbor_grammar.specs.declared.error.Error.{Error}
 use Rattle.cbor_grammar.specs.declared.error.Error.TheVariants as refusal
 use Rattle.cbor_grammar.specs.Item.{Item, Items, no_items, item}
 use Rattle.cbor_grammar.specs.Bytes.{any, Spells, SpellsItems}
-use Rattle.cbor_grammar.specs.Answer.{spelled, cut, fault, IsOutcome, IsRefused}
+use Rattle.cbor_grammar.specs.Answer.{spelled, cut, fault}
 use Rattle.cbor_grammar.specs.Reading.{Read, read_item}
 use Rattle.cbor_grammar.specs.Embedded.{if_whole, embedded_at, before, and_then, sequence_of, EmbedsExactly}
 use Rattle.cbor_grammar.specs.Embedded.{RejectsExactly}
-use Rattle.cbor_grammar.specs.Refused.{Cut}
 use Rattle.cbor_grammar.proofs.bytes.Heads.{IsBytes}
 use Rattle.cbor_grammar.proofs.bytes.Sizes.{one_byte}
 use Rattle.cbor_grammar.proofs.bytes.Found.{item_takes}
 use Rattle.cbor_grammar.proofs.bytes.FoundAgain.{item_again}
 use Rattle.cbor_grammar.proofs.bytes.Refusals.{item_nothing}
 use Rattle.cbor_grammar.proofs.bytes.ExactlyOne.{outcome_reads}
-use Rattle.cbor_grammar.specs.Answer.{IsFrontError, IsWholeError}
-
--- ---- what a reader refuses
-
--- the front of an input is at fault, where a reader refuses it for another reason than memory
-pub fault_is : (level : ℕ) (b : List ℕ) (e : Error) → e ≢ refusal.Memory → IsFrontError level b e
-    → IsOutcome level b (fault e)
-fault_is level b refusal.Memory other h = absurd (other refl)
-fault_is level b _ other h = h
-
--- a whole input is refused, where a reader refuses it for another reason than memory
-pub refused_is : (level : ℕ) (b : List ℕ) (e : Error) → e ≢ refusal.Memory → IsWholeError level b e
-    → IsRefused level b e
-refused_is level b refusal.Memory other h = absurd (other refl)
-refused_is level b _ other h = h
-
-pub cut_ends : (level : ℕ) (b : List ℕ) → level ≤ 129 → Cut level b → read_item (129 - level) b ≡ Err refusal.CutShort
-cut_ends level b le h = outcome_reads level (129 - level) b cut (omega arith) h
-
-pub fault_ends : (level : ℕ) (b : List ℕ) (e : Error) → level ≤ 129 → IsOutcome level b (fault e)
-    → read_item (129 - level) b ≡ Err e
-fault_ends level b e le h = outcome_reads level (129 - level) b (fault e) (omega arith) h
 
 -- ---- what embedded items are, by the grammar
 

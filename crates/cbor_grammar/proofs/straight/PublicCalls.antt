@@ -8,14 +8,14 @@ use Rattle.cbor_grammar.specs.Item.{Item}
 use Rattle.cbor_grammar.specs.Bytes.{any, Spells}
 use Rattle.cbor_grammar.specs.Refused.{Cut, Fault}
 use Rattle.cbor_grammar.specs.Answer.{Outcome, spelled, fault, IsOutcome, OneOutcome, IsRefused, RefusedSo}
-use Rattle.cbor_grammar.specs.Answer.{GavePart, GaveRefusal}
+use Rattle.cbor_grammar.specs.Answer.{GaveText, GaveRefusal}
 use Rattle.cbor_grammar.specs.Facts.{BeginsWithItem}
 use Rattle.cbor_grammar.specs.Reading.{Fails, read_item}
 use Rattle.cbor_grammar.proofs.bytes.Heads.{IsBytes}
 use Rattle.cbor_grammar.proofs.bytes.CutShort.{cut_takes}
 use Rattle.cbor_grammar.proofs.bytes.Outcomes.{found_outcome, refusal_outcome}
 use Rattle.cbor_grammar.proofs.bytes.Outcomes.{whole_outcome, no_refused_item, one_refusal, memory_or}
-use Rattle.cbor_grammar.proofs.bytes.Outcomes.{fault_of, same}
+use Rattle.cbor_grammar.proofs.bytes.Outcomes.{unless_memory, same}
 use Rattle.cbor_grammar.proofs.bytes.Shorter.{item_shorter}
 
 -- ---- what reading says of the bytes
@@ -29,7 +29,7 @@ begins_so b i rest fits e =
 
 pub front_fault : (b : List ℕ) (e : Error) → IsBytes b → e ≢ refusal.CutShort → Fails e (read_item 128 b)
     → e ≢ refusal.Memory → Fault 1 b e
-front_fault b e fits no_cut h no_memory = fault_of b e (refusal_outcome 1 128 b e refl fits no_cut h) no_memory
+front_fault b e fits no_cut h = unless_memory (Fault 1 b) e (refusal_outcome 1 128 b e refl fits no_cut h)
 
 pub front_cut_so : (b : List ℕ) → IsBytes b → Fails refusal.CutShort (read_item 128 b) → Cut 1 b
 front_cut_so b fits h = cut_takes 1 128 b refl fits h
@@ -66,13 +66,13 @@ every_refusal b (Err f) P one ok refused e h =
 
 pub gave_text : (text : Item → List ℕ) (b rest : List ℕ) (i : Item) (old new : List ℕ) (o : Outcome) → IsBytes b
     → OneOutcome 1 b → read_item 128 b ≡ Ok (i, rest) → new ≡ old ++ text i → IsOutcome 1 b o
-    → GavePart text (Ok (Some (length b - length rest))) old new o
+    → GaveText text (Ok (Some (length b - length rest))) old new o
 gave_text text b rest i old new o fits one e written h =
     (i, same b (spelled i (length b - length rest)) o one (found_outcome 1 128 b i rest refl fits e) h, written)
 
 pub gave_fault : (text : Item → List ℕ) (b : List ℕ) (e : Error) (old new : List ℕ) (o : Outcome) → IsBytes b
     → OneOutcome 1 b → e ≢ refusal.CutShort → Fails e (read_item 128 b) → IsOutcome 1 b o
-    → GavePart text (Err e) old new o
+    → GaveText text (Err e) old new o
 gave_fault text b refusal.Memory old new o fits one no_cut h is = tt
 gave_fault text b e old new o fits one no_cut h is =
     same b (fault e) o one (front_fault b e fits no_cut h (λ x. absurd cc)) is

@@ -2,13 +2,13 @@
 use Rattle.std.proofs.Common.{◌≡◌, ℕ, ◌+◌, ◌<◌, ◌≤◌, ◌++◌, codes, refl, ap, ◌∙◌, arith}
 use Rattle.std.proofs.lemmas.Bool.{lt-ltb, le-ltb}
 use Rattle.cbor_grammar.specs.declared.width.IntegerWidth.{IntegerWidth}
-use Rattle.cbor_grammar.specs.Encoding.{Encoding}
-use Rattle.cbor_grammar.specs.Layout.{Pretty}
-use Rattle.cbor_grammar.specs.ContainerStyle.{OneLine, MultiLine}
+use Rattle.cbor_grammar.specs.declared.encoding.Encoding.{Encoding}
+use Rattle.cbor_grammar.specs.declared.layout.Layout.TheVariants.{Pretty}
+use Rattle.cbor_grammar.specs.declared.layout.ContainerStyle.TheVariants.{OneLine, MultiLine}
 use Rattle.cbor_grammar.specs.Item as spec
 use Rattle.cbor_grammar.specs.Item.{Chunk, integer, negative, string, chunked_string, float}
 use Rattle.cbor_grammar.specs.Item.{simple, Item, atom, array, tagged}
-use Rattle.cbor_grammar.specs.StringKind.{bytes_kind}
+use Rattle.cbor_grammar.specs.declared.strings.StringKind.TheVariants.{Bytes}
 use Rattle.cbor_grammar.specs.Estimate.{estimated_length, one_line_limit}
 use Rattle.cbor_grammar.specs.Embedded.{sequence, sequence_at}
 use Rattle.cbor_grammar.specs.WellFormed.{levels_left}
@@ -30,7 +30,7 @@ pretty_is level indent e (array is w) le = text_opens level (in_encoding (Pretty
 pretty_is level indent e (spec.map ps w) le = text_opens level (in_encoding (Pretty indent) e) (spec.map ps w) le
 pretty_is level indent e (atom (chunked_string kind cs)) le =
     text_opens level (in_encoding (Pretty indent) e) (atom (chunked_string kind cs)) le
-pretty_is level indent e (atom (string bytes_kind c)) le = refl
+pretty_is level indent e (atom (string Bytes c)) le = refl
 pretty_is level indent e i le = refl
 
 pub short_is : (level indent : ℕ) (e : Encoding) (i : Item) → level ≤ 128 → estimated_length i < one_line_limit
@@ -44,27 +44,27 @@ long_is level indent e i le large =
     pretty_is level indent e i le ∙ ap (λ l. laid_out l e level indent i) (tall indent (estimated_length i) large)
 
 sequence_is : (level indent : ℕ) (e : Encoding) (w : IntegerWidth) (b : Chunk) → level < 128
-    → pretty e level indent (tagged 63 w (atom (string bytes_kind b)))
+    → pretty e level indent (tagged 63 w (atom (string Bytes b)))
     ≡ sequence_laid_out (container_style (Pretty indent) (sequence_size (sequence (level + 2) b.bytes))) e level indent
     w b.bytes
 sequence_is level indent e w b lt =
     let c = in_encoding (Pretty indent) e in
     let two : level + 1 + 1 ≡ level + 2 = omega arith in
-    let opened = text_opens (level + 1) (below 63 c) (atom (string bytes_kind b)) (omega (arith, lt)) in
-    text_opens level c (tagged 63 w (atom (string bytes_kind b))) (omega (arith, lt))
+    let opened = text_opens (level + 1) (below 63 c) (atom (string Bytes b)) (omega (arith, lt)) in
+    text_opens level c (tagged 63 w (atom (string Bytes b))) (omega (arith, lt))
     ∙ ap (λ x. number 63 w ++ (codes "(" ++ (x ++ codes ")")))
     (opened ∙ ap (λ n. sequence_text (text_at_level n) (below 63 c) (sequence_at (levels_left n) b.bytes)) two)
 
 pub short_sequence : (level indent : ℕ) (e : Encoding) (w : IntegerWidth) (b : Chunk) → level < 128
     → sequence_size (sequence (level + 2) b.bytes) < one_line_limit
-    → pretty e level indent (tagged 63 w (atom (string bytes_kind b))) ≡ sequence_in_one_line e level indent w b.bytes
+    → pretty e level indent (tagged 63 w (atom (string Bytes b))) ≡ sequence_in_one_line e level indent w b.bytes
 short_sequence level indent e w b lt few =
     sequence_is level indent e w b lt ∙ ap (λ l. sequence_laid_out l e level indent w b.bytes)
     (short indent (sequence_size (sequence (level + 2) b.bytes)) few)
 
 pub long_sequence : (level indent : ℕ) (e : Encoding) (w : IntegerWidth) (b : Chunk) → level < 128
     → one_line_limit ≤ sequence_size (sequence (level + 2) b.bytes)
-    → pretty e level indent (tagged 63 w (atom (string bytes_kind b))) ≡ sequence_in_lines e level indent w b.bytes
+    → pretty e level indent (tagged 63 w (atom (string Bytes b))) ≡ sequence_in_lines e level indent w b.bytes
 long_sequence level indent e w b lt many =
     sequence_is level indent e w b lt ∙ ap (λ l. sequence_laid_out l e level indent w b.bytes)
     (tall indent (sequence_size (sequence (level + 2) b.bytes)) many)

@@ -3,15 +3,17 @@ use Rattle.std.specs.Prelude.{Result}
 use Rattle.std.proofs.Common.{◌≡◌, ℕ, suc, ◌+◌, ◌≤◌, List, ◌++◌, codes, Option, Some}
 use Rattle.std.proofs.Common.{None, sym, ap, subst, ◌∙◌, append_assoc, arith}
 use Rattle.cbor_grammar.specs.declared.width.IntegerWidth.{IntegerWidth}
-use Rattle.cbor_grammar.specs.mirror.Appends.{Appends}
-use Rattle.cbor_grammar.specs.Layout.{Content, Bytes, Context}
-use Rattle.cbor_grammar.specs.ContainerStyle.{ContainerStyle}
+use Rattle.cbor_notes.specs.Appends.{Appends}
+use Rattle.cbor_grammar.specs.Context.{Context}
+use Rattle.cbor_grammar.specs.declared.layout.Content.{Content}
+use Rattle.cbor_grammar.specs.declared.layout.Content.TheVariants.{Bytes}
+use Rattle.cbor_grammar.specs.declared.layout.ContainerStyle.{ContainerStyle}
 use Rattle.cbor_grammar.specs.Item as spec
-use Rattle.cbor_grammar.specs.Item.{Item, Items, atom, array, tagged}
+use Rattle.cbor_grammar.specs.Item.{Item, atom, array, tagged}
 use Rattle.cbor_grammar.specs.WellFormed.{levels_left, WellFormed}
-use Rattle.cbor_grammar.specs.NotationText.{Writer, number, content_below, below, inside, members_layout, members}
-use Rattle.cbor_grammar.specs.NotationText.{last_line, bracketed, item_texts, text_with, text_at}
-use Rattle.cbor_grammar.specs.NotationText.{text_at_level, rest_text, sequence_listed}
+use Rattle.cbor_grammar.specs.NotationText.{Writer, number, content_below, below, members}
+use Rattle.cbor_grammar.specs.NotationText.{last_line, bracketed, text_with, text_at}
+use Rattle.cbor_grammar.specs.NotationText.{text_at_level}
 
 -- how many levels are left below an item, and what writes an item there
 abbrev pub left_below : ℕ → ℕ
@@ -66,16 +68,3 @@ pub tag_shown : (level : ℕ) (c : Context) (v : Item) (t : ℕ) (w : IntegerWid
 tag_shown level c v t w out a b e new le p q r s =
     let inner = r ∙ ap (λ x. x ++ write_below level (below t c) v) (q ∙ ap (λ x. x ++ codes "(") p) in
     opened_again level c (tagged t w v) out new le (s ∙ ap (λ x. x ++ codes ")") inner ∙ simp append_assoc)
-
--- what is written of a sequence and its rest
-pub sequence_shown : (write : Writer) (c : Context) (l : ContainerStyle) (s : Items × List ℕ) (out a b d e new : List ℕ)
-    → a ≡ out ++ codes "<<" → b ≡ a ++ members l (item_texts (write (inside (members_layout l) c)) s.0)
-    → d ≡ b ++ (last_line l ++ codes ">") → e ≡ d ++ codes ">" → new ≡ e ++ rest_text c s.1
-    → new ≡ out ++ sequence_listed write c l s
-sequence_shown write c l s out a b d e new p q r t u =
-    let ms = members l (item_texts (write (inside (members_layout l) c)) s.0) in
-    let opened = q ∙ ap (λ x. x ++ ms) p in
-    let closed = t ∙ ap (λ x. x ++ codes ">") (r ∙ ap (λ x. x ++ (last_line l ++ codes ">")) opened) in
-    u ∙ ap (λ x. x ++ rest_text c s.1) closed ∙ simp append_assoc
-
--- ---- members

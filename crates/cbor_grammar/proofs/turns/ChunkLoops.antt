@@ -5,29 +5,29 @@ use Rattle.std.proofs.lemmas.List.{append-nil}
 use Rattle.cbor_grammar.specs.declared.error.Error.{Error}
 use Rattle.cbor_grammar.specs.declared.error.Error.TheVariants as refusal
 use Rattle.cbor_grammar.specs.Item.{Chunk}
-use Rattle.cbor_grammar.specs.StringKind.{StringKind}
+use Rattle.cbor_grammar.specs.declared.strings.StringKind.{StringKind}
 use Rattle.cbor_grammar.specs.Reading.{Read, Fails, read_chunk, Counted, later, go_on, ◌>>-◌, more_chunks, read_chunks}
-use Rattle.cbor_grammar.specs.mirror.Counting.{Stops}
+use Rattle.cbor_grammar.specs.mirror.Counting.{FailsIn}
 use Rattle.cbor_grammar.proofs.bytes.Steps.{later_later, then_later, then_then, then_same, then_grows}
 
 -- ---- what stops a step stops all
 
 pub stops_go : {A B : Type 0} (e : Error) (n : ℕ) (r : Read A) (f : A × List ℕ → Counted B) → Fails e r
-    → Stops e n (go_on n r f)
+    → FailsIn e n (go_on n r f)
 stops_go refusal.Memory n r f h = then_grows (n, r) f
 stops_go _ n r f h = ap (λ x. go_on n x f) h
 
 pub stops_with : {A B : Type 0} (e : Error) (n : ℕ) (c : Counted A) (f : Counted A → Counted B)
-    → ((d : Error) → f (n, Err d) ≡ (n, Err d)) → ((d : Counted A) → d.0 ≤ (f d).0) → Stops e n c → Stops e n (f c)
+    → ((d : Error) → f (n, Err d) ≡ (n, Err d)) → ((d : Counted A) → d.0 ≤ (f d).0) → FailsIn e n c → FailsIn e n (f c)
 stops_with refusal.Memory n c f fails grows h = omega (arith, grows c)
 stops_with e n c f fails grows h = ap f h ∙ fails e
 
-pub stops_later : {X : Type 0} (e : Error) (t n : ℕ) (c : Counted X) → Stops e n c → Stops e (t + n) (later t c)
+pub stops_later : {X : Type 0} (e : Error) (t n : ℕ) (c : Counted X) → FailsIn e n c → FailsIn e (t + n) (later t c)
 stops_later refusal.Memory t n c h = omega arith
 stops_later _ t n c h = ap (later t) h
 
-pub stops_then : {A B : Type 0} (e : Error) (n : ℕ) (c : Counted A) (f : A × List ℕ → Counted B) → Stops e n c
-    → Stops e n (c >>- f)
+pub stops_then : {A B : Type 0} (e : Error) (n : ℕ) (c : Counted A) (f : A × List ℕ → Counted B) → FailsIn e n c
+    → FailsIn e n (c >>- f)
 stops_then refusal.Memory n c f h = omega (arith, then_grows c f)
 stops_then _ n c f h = ap (λ x. x >>- f) h
 
@@ -64,7 +64,7 @@ more_chunk kind front t n b c after total e lt le so_far =
 -- memory ran out for the chunk that was read
 pub chunk_wants : (kind : StringKind) (front : List Chunk) (t n : ℕ) (b : List ℕ) (c : Chunk) (after : List ℕ)
     (total : Counted (List Chunk)) → read_chunk kind b ≡ Ok (Some c, after) → length after < length b → length b ≤ n
-    → later t (onto front (read_chunks n kind b)) ≡ total → Stops refusal.Memory (t + 1) total
+    → later t (onto front (read_chunks n kind b)) ≡ total → FailsIn refusal.Memory (t + 1) total
 chunk_wants kind front t n b c after total e lt le so_far =
     let next = more_chunk kind front t n b c after total e lt le so_far in
     omega (arith, ap (λ (d : Counted (List Chunk)). d.0) next.2)
@@ -80,7 +80,7 @@ no_more_chunk kind front t n b after total e lt le so_far =
     sym so_far ∙ ap (λ x. later t (onto front x)) here ∙ ap (λ cs. (t + 1, Ok (cs, after))) (append-nil front)
 
 chunks_stop : (e : Error) (kind : StringKind) (n : ℕ) (b : List ℕ) → length b ≤ n → Fails e (read_chunk kind b)
-    → Stops e 1 (read_chunks n kind b)
+    → FailsIn e 1 (read_chunks n kind b)
 unfolding read_chunks read_chunk
 chunks_stop e kind zero [] le h = stops_go e 1 (read_chunk kind []) (λ _. (0, Err refusal.CutShort)) h
 chunks_stop e kind zero (x ∷ b) le h = absurd (omega arith)
@@ -89,7 +89,7 @@ chunks_stop e kind (suc n) b le h = stops_go e 1 (read_chunk kind b) (λ c. more
 
 pub chunk_fails : (e : Error) (kind : StringKind) (front : List Chunk) (t n : ℕ) (b : List ℕ)
     (total : Counted (List Chunk)) → length b ≤ n → Fails e (read_chunk kind b)
-    → later t (onto front (read_chunks n kind b)) ≡ total → Stops e (t + 1) total
+    → later t (onto front (read_chunks n kind b)) ≡ total → FailsIn e (t + 1) total
 chunk_fails e kind front t n b total le h so_far =
-    subst (λ c. Stops e (t + 1) c) so_far (stops_later e t 1 _
+    subst (λ c. FailsIn e (t + 1) c) so_far (stops_later e t 1 _
     (stops_then e 1 (read_chunks n kind b) _ (chunks_stop e kind n b le h)))

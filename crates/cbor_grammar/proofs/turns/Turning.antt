@@ -5,12 +5,12 @@ use Rattle.std.specs.Prelude.{IsSome, drop}
 use Rattle.cbor_grammar.specs.declared.error.Error.{Error}
 use Rattle.cbor_grammar.specs.declared.error.Error.TheVariants as refusal
 use Rattle.cbor_grammar.specs.Item.{Item}
-use Rattle.cbor_grammar.specs.ItemHead as item_head
-use Rattle.cbor_grammar.specs.ItemHead.{ItemHead}
+use Rattle.cbor_grammar.specs.declared.head.ItemHead.TheVariants as item_head
+use Rattle.cbor_grammar.specs.declared.head.ItemHead.{ItemHead}
 use Rattle.cbor_grammar.specs.Answer.{MayWantMemory}
 use Rattle.cbor_grammar.specs.Reading.{Fails, Counted, later, go_on, Frame, put, read_parts, opened, read_head}
 use Rattle.cbor_grammar.specs.Reading.{read_atom, read_body, no_level_left, counted_item}
-use Rattle.cbor_grammar.specs.mirror.Counting.{Stops, HoldsContent, read_item_head, after_innermost, closed_innermost}
+use Rattle.cbor_grammar.specs.mirror.Counting.{FailsIn, HoldsContent, read_item_head, after_innermost, closed_innermost}
 use Rattle.cbor_grammar.specs.mirror.Counting.{put_innermost, deliver, resume, resume_with}
 use Rattle.cbor_grammar.proofs.bytes.Heads.{IsBytes}
 use Rattle.cbor_grammar.proofs.bytes.Outcomes.{memory_opens}
@@ -29,7 +29,8 @@ closes left (f ∷ fs) gs b after i ends is outer =
     ∙ deliver_later left fs 1 (0, Ok (i, after)) ∙ ap (λ hs. later 1 (deliver left hs (0, Ok (i, after)))) (sym outer)
 
 -- a turn in which memory ran out
-pub turn_wants : (left t : ℕ) (fs : List Frame) (b : List ℕ) → Stops refusal.Memory (t + 1) (later t (resume left fs b))
+pub turn_wants : (left t : ℕ) (fs : List Frame) (b : List ℕ)
+    → FailsIn refusal.Memory (t + 1) (later t (resume left fs b))
 turn_wants left t fs b = omega (arith, resume_counts left fs b)
 
 -- ---- an item that is whole
@@ -68,18 +69,18 @@ wants left n (f ∷ fs) b levels none =
     ap (deliver left fs) (parts_more (counted_item at) (item_shortens at) f b (sym none))
     ∙ ap (λ k. deliver left (f ∷ fs) (counted_item k b)) (sym levels)
 
-too_deep : (e : Error) (b : List ℕ) → Fails e (read_item_head 0 b) → Stops e 1 (counted_item 0 b)
+too_deep : (e : Error) (b : List ℕ) → Fails e (read_item_head 0 b) → FailsIn e 1 (counted_item 0 b)
 unfolding counted_item
 too_deep refusal.Memory b h = omega arith
 too_deep e b h = let same : no_level_left b ≡ e = cc in ap (λ d. (1, Err d)) same
 
-head_stops : (e : Error) (left : ℕ) (b : List ℕ) → Fails e (read_item_head left b) → Stops e 1 (counted_item left b)
+head_stops : (e : Error) (left : ℕ) (b : List ℕ) → Fails e (read_item_head left b) → FailsIn e 1 (counted_item left b)
 unfolding counted_item
 head_stops e zero b h = too_deep e b h
 head_stops e (suc left) b h = stops_go e 1 (read_head b) (λ x. read_body (counted_item left) (opened x.0) x.0 x.1) h
 
 pub wanted_stops : (e : Error) (left t n : ℕ) (fs : List Frame) (b : List ℕ) → n ≡ left - length fs
-    → None ≡ after_innermost fs b → Fails e (read_item_head n b) → Stops e (t + 1) (later t (resume left fs b))
+    → None ≡ after_innermost fs b → Fails e (read_item_head n b) → FailsIn e (t + 1) (later t (resume left fs b))
 wanted_stops e left t n fs b levels none h =
     let err = λ (d : Error). deliver_err left fs 1 d in
     let all = stops_with e 1 (counted_item n b) (deliver left fs) err (deliver_grows left fs) (head_stops e n b h) in
@@ -103,15 +104,15 @@ pub wanted_opens : (left : ℕ) (b : List ℕ) (h : ItemHead) (rest : List ℕ) 
 wanted_opens left b h rest fits e holds = memory_opens b rest h fits (head_opens left b h rest e).2 holds
 
 pub opened_holds : (h : ItemHead) (f : Frame) → opened h ≡ Some f → HoldsContent h
-opened_holds (item_head.array a) f e = tt
-opened_holds (item_head.map a) f e = tt
-opened_holds (item_head.tag n w) f e = tt
+opened_holds (item_head.Array a) f e = tt
+opened_holds (item_head.Map a) f e = tt
+opened_holds (item_head.Tag n w) f e = tt
 opened_holds h f e = absurd cc
 
 pub some_holds : (h : ItemHead) → IsSome (opened h) → HoldsContent h
-some_holds (item_head.array a) e = tt
-some_holds (item_head.map a) e = tt
-some_holds (item_head.tag n w) e = tt
+some_holds (item_head.Array a) e = tt
+some_holds (item_head.Map a) e = tt
+some_holds (item_head.Tag n w) e = tt
 some_holds h e = absurd cc
 
 -- ---- a container that is opened
@@ -142,12 +143,12 @@ atom_read left t n fs b h rest levels none e is =
 
 pub atom_stops : (error : Error) (left t n m : ℕ) (fs : List Frame) (b : List ℕ) (h : ItemHead) (rest : List ℕ)
     → n ≡ left - length fs → None ≡ after_innermost fs b → read_item_head n b ≡ Ok (h, rest) → opened h ≡ None
-    → Stops error m (later (t + 1) (read_atom h rest)) → Stops error m (later t (resume left fs b))
+    → FailsIn error m (later (t + 1) (read_atom h rest)) → FailsIn error m (later t (resume left fs b))
 atom_stops error left t n m fs b h rest levels none e is stops =
     let read : Counted Item = later (t + 1) (read_atom h rest) in
     let err = λ (d : Error). deliver_err left fs m d in
     let all = stops_with error m read (deliver left fs) err (deliver_grows left fs) stops in
-    subst (Stops error m) (sym (atom_read left t n fs b h rest levels none e is)) all
+    subst (FailsIn error m) (sym (atom_read left t n fs b h rest levels none e is)) all
 
 pub atom_whole : (left t n m : ℕ) (fs : List Frame) (b : List ℕ) (h : ItemHead) (rest : List ℕ) (i : Item)
     (after : List ℕ) → n ≡ left - length fs → None ≡ after_innermost fs b → read_item_head n b ≡ Ok (h, rest)

@@ -1,7 +1,7 @@
 -- What reading gives at a level. No public clause names it.
 use Rattle.std.specs.Prelude.{ℕ, ◌+◌, List}
 use Rattle.cbor_grammar.specs.Item.{Item}
-use Rattle.cbor_grammar.specs.ItemHead.{ItemHead}
+use Rattle.cbor_grammar.specs.declared.head.ItemHead.{ItemHead}
 use Rattle.cbor_grammar.specs.Reading.{Read, opened, read_body, counted_item, read_item}
 use Rattle.cbor_grammar.specs.WellFormed.{levels_left}
 

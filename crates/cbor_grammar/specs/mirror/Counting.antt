@@ -4,30 +4,30 @@ use Rattle.std.specs.Prelude.{◌≡◌, ℕ, zero, suc, ◌-◌, ◌≤◌, Lis
 use Rattle.cbor_grammar.specs.declared.error.Error.{Error}
 use Rattle.cbor_grammar.specs.declared.error.Error.TheVariants as refusal
 use Rattle.cbor_grammar.specs.Item.{Item}
-use Rattle.cbor_grammar.specs.ItemHead as item_head
-use Rattle.cbor_grammar.specs.ItemHead.{ItemHead}
+use Rattle.cbor_grammar.specs.declared.head.ItemHead.TheVariants as item_head
+use Rattle.cbor_grammar.specs.declared.head.ItemHead.{ItemHead}
 use Rattle.cbor_grammar.specs.Reading.{Read, Counted, later, ◌>>-◌, Frame, put, after_end, closed, read_head}
 use Rattle.cbor_grammar.specs.Reading.{read_parts}
 use Rattle.cbor_grammar.specs.Reading.{no_level_left, counted_item}
 
--- Counted reading stops with this error after this number of turns. Where memory ran out, these are at most the
--- turns that it takes in all.
-abbrev pub Stops : {X : Type 0} → Error → ℕ → Counted X → Type 0
-Stops refusal.Memory n c = n ≤ c.0
-Stops e n c = c ≡ (n, Err e)
+-- Counted reading fails so in this number of turns. Where memory ran out, these are at most the turns that it takes
+-- in all.
+abbrev pub FailsIn : {X : Type 0} → Error → ℕ → Counted X → Type 0
+FailsIn refusal.Memory n c = n ≤ c.0
+FailsIn e n c = c ≡ (n, Err e)
 
 -- A count that rose from old to new and what a function returned, seen by view, are what counted reading
 -- gives; where memory ran out, the count rose no further.
-abbrev pub Runs : {X Y : Type 0} → (X → Y × List ℕ) → ℕ → ℕ → Result X Error → Counted Y → Type 0
-Runs view old new (Ok x) c = later old c ≡ (new, Ok (view x))
-Runs view old new (Err e) c = Stops e new (later old c)
+abbrev pub GivesIn : {X Y : Type 0} → (X → Y × List ℕ) → ℕ → ℕ → Result X Error → Counted Y → Type 0
+GivesIn view old new (Ok x) c = later old c ≡ (new, Ok (view x))
+GivesIn view old new (Err e) c = FailsIn e new (later old c)
 
 -- what needs memory: a string, a container or a tag
 abbrev pub HoldsContent : ItemHead → Type 0
-HoldsContent (item_head.string kind a) = Unit {0}
-HoldsContent (item_head.array a) = Unit {0}
-HoldsContent (item_head.map a) = Unit {0}
-HoldsContent (item_head.tag n w) = Unit {0}
+HoldsContent (item_head.String kind a) = Unit {0}
+HoldsContent (item_head.Array a) = Unit {0}
+HoldsContent (item_head.Map a) = Unit {0}
+HoldsContent (item_head.Tag n w) = Unit {0}
 HoldsContent _ = ⊥
 
 -- the head of an item, with `left` levels left for it

@@ -12,7 +12,7 @@ use Rattle.cbor_grammar.specs.declared.width.FloatWidth.TheVariants as float_wid
 use Rattle.cbor_grammar.specs.Item as spec
 use Rattle.cbor_grammar.specs.Item.{Chunk, Atom, integer, negative, string, chunked_string, float, simple, Item, atom}
 use Rattle.cbor_grammar.specs.Item.{array, tagged, Items, no_items, item, Pairs, no_pairs, pair}
-use Rattle.cbor_grammar.specs.StringKind.{bytes_kind, text_kind}
+use Rattle.cbor_grammar.specs.declared.strings.StringKind.TheVariants.{Bytes, Text}
 use Rattle.cbor_grammar.specs.Same.{same_width, same_float_width, same_count, same_chunk, same_atom, same_item}
 use Rattle.cbor_grammar.specs.Same.{same_items, same_pairs}
 
@@ -84,12 +84,12 @@ atom_is (integer n v) (integer m w) h =
 atom_is (negative n v) (negative m w) h =
     let p = and_parts (nat_eq n m) (same_width v w) h in
     λ k. negative (number_is n m p.0 k) (width_is v w p.1 k)
-atom_is (string bytes_kind c) (string bytes_kind d) h = ap (string bytes_kind) (chunk_is c d h)
-atom_is (string text_kind c) (string text_kind d) h = ap (string text_kind) (chunk_is c d h)
-atom_is (chunked_string bytes_kind cs) (chunked_string bytes_kind ds) h =
-    ap (chunked_string bytes_kind) ((pointwise_decides chunk_decides cs ds).0 h)
-atom_is (chunked_string text_kind cs) (chunked_string text_kind ds) h =
-    ap (chunked_string text_kind) ((pointwise_decides chunk_decides cs ds).0 h)
+atom_is (string Bytes c) (string Bytes d) h = ap (string Bytes) (chunk_is c d h)
+atom_is (string Text c) (string Text d) h = ap (string Text) (chunk_is c d h)
+atom_is (chunked_string Bytes cs) (chunked_string Bytes ds) h =
+    ap (chunked_string Bytes) ((pointwise_decides chunk_decides cs ds).0 h)
+atom_is (chunked_string Text cs) (chunked_string Text ds) h =
+    ap (chunked_string Text) ((pointwise_decides chunk_decides cs ds).0 h)
 atom_is (float n v) (float m w) h =
     let p = and_parts (nat_eq n m) (same_float_width v w) h in
     λ k. float (number_is n m p.0 k) (float_width_is v w p.1 k)
@@ -129,10 +129,10 @@ mutual
 atom_itself : Holds same_atom
 atom_itself (integer n w) = and_from _ _ (number_itself n) (width_itself w)
 atom_itself (negative n w) = and_from _ _ (number_itself n) (width_itself w)
-atom_itself (string bytes_kind c) = chunk_itself c
-atom_itself (string text_kind c) = chunk_itself c
-atom_itself (chunked_string bytes_kind cs) = (pointwise_decides chunk_decides cs cs).1 refl
-atom_itself (chunked_string text_kind cs) = (pointwise_decides chunk_decides cs cs).1 refl
+atom_itself (string Bytes c) = chunk_itself c
+atom_itself (string Text c) = chunk_itself c
+atom_itself (chunked_string Bytes cs) = (pointwise_decides chunk_decides cs cs).1 refl
+atom_itself (chunked_string Text cs) = (pointwise_decides chunk_decides cs cs).1 refl
 atom_itself (float n w) = and_from _ _ (number_itself n) (float_width_itself w)
 atom_itself (simple n) = number_itself n
 

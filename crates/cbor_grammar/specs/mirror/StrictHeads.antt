@@ -1,9 +1,9 @@
 -- Heads one after the other, none of them of a simple value that takes a byte too many.
 use Rattle.std.specs.Prelude.{◌≡◌, ◌≢◌, ℕ, ◌-◌, ◌/◌, ◌%◌, ◌^◌, ◌≤◌, ◌<◌, ◌⊎◌, List, [], ◌∷◌, drop, Ok}
-use Rattle.cbor_grammar.specs.Argument.{number}
+use Rattle.cbor_grammar.specs.declared.argument.Argument.TheVariants.{Number}
 use Rattle.cbor_grammar.specs.Head.{break_byte}
-use Rattle.cbor_grammar.specs.ItemHead as item_head
-use Rattle.cbor_grammar.specs.ItemHead.{ItemHead}
+use Rattle.cbor_grammar.specs.declared.head.ItemHead.TheVariants as item_head
+use Rattle.cbor_grammar.specs.declared.head.ItemHead.{ItemHead}
 use Rattle.cbor_grammar.specs.Reading.{read_head}
 
 -- the bytes begin with a simple value below 24 in two bytes
@@ -17,7 +17,7 @@ NoLongSimple b = (k : ℕ) → ¬ (LongSimple (drop k b))
 
 -- of bytes that begin with that head: they do not begin with such a value
 abbrev pub IsShort : ItemHead → List ℕ → Type 0
-IsShort (item_head.simple n) (first ∷ b) = first ≡ 0xf8 → 24 ≤ n
+IsShort (item_head.Simple n) (first ∷ b) = first ≡ 0xf8 → 24 ≤ n
 IsShort h b = Unit {0}
 
 -- how many bytes of a number follow such info
@@ -36,7 +36,7 @@ IsBodyLen first k =
 
 -- the bytes after a head, and after the content of a string of definite length
 abbrev pub after_content : ItemHead → List ℕ → List ℕ
-after_content (item_head.string kind (number n w)) b = drop n b
+after_content (item_head.String kind (Number n w)) b = drop n b
 after_content h b = b
 
 -- The bytes are heads with the content of strings, and breaks.

@@ -1,21 +1,15 @@
--- What the kind and the content of a string, and the chunks of one that is read, are as the readers and printers
--- hand them on.
+-- What the content of a string, and the chunks of one that is read, are as the readers and printers hand them on.
 use Rattle.std.specs.Prelude.{ℕ, List}
 use Rattle.cbor_grammar.specs.declared.width.IntegerWidth.{IntegerWidth}
-use Rattle.cbor_grammar.specs.declared.strings.StringKind as code
-use Rattle.cbor_grammar.specs.declared.strings.StringKind.TheVariants as code_kind
+use Rattle.cbor_grammar.specs.declared.strings.StringKind.{StringKind}
+use Rattle.cbor_grammar.specs.declared.strings.StringKind.TheVariants.{Bytes, Text}
 use Rattle.cbor_grammar.specs.declared.strings.StringContent.{StringContent}
 use Rattle.cbor_grammar.specs.declared.strings.StringContent.TheVariants as content
 use Rattle.cbor_grammar.specs.Item.{Chunk}
-use Rattle.cbor_grammar.specs.StringKind.{StringKind, bytes_kind, text_kind}
-
-abbrev pub kind_view : code.StringKind → StringKind
-kind_view code_kind.Bytes = bytes_kind
-kind_view code_kind.Text = text_kind
 
 abbrev pub kind_of : StringContent → StringKind
-kind_of (content.Bytes bytes) = bytes_kind
-kind_of (content.Text text) = text_kind
+kind_of (content.Bytes bytes) = Bytes
+kind_of (content.Text text) = Text
 
 -- the bytes, or the UTF-8 of the text
 abbrev pub bytes_of : StringContent → List ℕ

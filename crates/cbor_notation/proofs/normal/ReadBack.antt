@@ -5,16 +5,20 @@ use Rattle.std.specs.List.{AllByRecursion}
 use Rattle.std.proofs.lemmas.List.{append-nil}
 use Rattle.cbor_notes.specs.Token.{nothing}
 use Rattle.cbor_grammar.specs.declared.width.IntegerWidth.TheVariants.{Unknown}
-use Rattle.cbor_grammar.specs.Encoding.{Encoding}
-use Rattle.cbor_grammar.specs.Layout.{Content, Layout, Compact, Pretty, Context}
-use Rattle.cbor_grammar.specs.ContainerStyle.{ContainerStyle}
-use Rattle.cbor_grammar.specs.ContainerStyle as style
+use Rattle.cbor_grammar.specs.declared.encoding.Encoding.{Encoding}
+use Rattle.cbor_grammar.specs.Context.{Context}
+use Rattle.cbor_grammar.specs.declared.layout.Content.{Content}
+use Rattle.cbor_grammar.specs.declared.layout.Layout.{Layout}
+use Rattle.cbor_grammar.specs.declared.layout.Layout.TheVariants.{Compact, Pretty}
+use Rattle.cbor_grammar.specs.declared.layout.ContainerStyle.{ContainerStyle}
+use Rattle.cbor_grammar.specs.declared.layout.ContainerStyle.TheVariants as style
 use Rattle.cbor_grammar.specs.Item as spec
 use Rattle.cbor_grammar.specs.Item.{Chunk, Atom, integer, negative, string, chunked_string}
 use Rattle.cbor_grammar.specs.Item.{float, simple, Item, atom, array, tagged, Items, no_items, item, Pairs, no_pairs}
 use Rattle.cbor_grammar.specs.Item.{pair}
 use Rattle.cbor_grammar.specs.WellFormed.{IsChunk, WellFormedAtom, WellFormed, WellFormedItems, WellFormedPairs}
-use Rattle.cbor_grammar.specs.StringKind.{StringKind, bytes_kind, text_kind}
+use Rattle.cbor_grammar.specs.declared.strings.StringKind.{StringKind}
+use Rattle.cbor_grammar.specs.declared.strings.StringKind.TheVariants.{Bytes, Text}
 use Rattle.cbor_grammar.specs.Written.{encoded, encoded_items}
 use Rattle.cbor_grammar.specs.Reading.{read_item}
 use Rattle.cbor_grammar.specs.Embedded.{if_whole, embedded_at, sequence_at}
@@ -181,12 +185,12 @@ module _ (level left : ℕ) (levels : level + left ≡ 129) (reads : IsRead leve
       → AtomCore (Reads left) (atom_text left (text_at left) c a) (normal_atom left (normal_at left) tag a)
   atom_read c tag (integer n w) is h = number_read n w h
   atom_read c tag (negative n w) is h = negative_read n w h
-  atom_read c tag (string bytes_kind s) is h =
+  atom_read c tag (string Bytes s) is h =
       let bytes = normal_content left (normal_at left None) tag s.bytes in
       let Shows = λ (x : Content). Joined (Notation (Reads left)) (content_text left (text_at left) x c s.bytes)
       bytes in
       (refl, tt, subst Shows (sym is) (content_read tag c s.bytes h.bytes), tt)
-  atom_read c tag (string text_kind s) is h = string_read text_kind (Reads left) c.encoding s h
+  atom_read c tag (string Text s) is h = string_read Text (Reads left) c.encoding s h
   atom_read c tag (chunked_string kind []) is h = inl (refl, refl)
   atom_read c tag (chunked_string kind (s ∷ cs)) is h =
       inr (tt, chunks_read kind (Reads left) c.encoding (item_style c (atom (chunked_string kind (s ∷ cs)))) s cs h)

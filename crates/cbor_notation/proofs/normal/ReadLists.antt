@@ -5,8 +5,8 @@ use Rattle.std.specs.List.{flat_map}
 use Rattle.cbor_notes.specs.Token.{nothing}
 use Rattle.cbor_notes.proofs.tokens.Blanks.{Blank-append}
 use Rattle.cbor_grammar.specs.declared.width.IntegerWidth.{IntegerWidth}
-use Rattle.cbor_grammar.specs.ContainerStyle.{ContainerStyle}
-use Rattle.cbor_grammar.specs.ContainerStyle as style
+use Rattle.cbor_grammar.specs.declared.layout.ContainerStyle.{ContainerStyle}
+use Rattle.cbor_grammar.specs.declared.layout.ContainerStyle.TheVariants as style
 use Rattle.cbor_grammar.specs.Notation.{IsBlank, Further, Members, Listed, Opens}
 use Rattle.cbor_grammar.specs.NotationText.{line, members, last_line, bracketed, opened}
 use Rattle.cbor_grammar.specs.Normal.{normal_count}

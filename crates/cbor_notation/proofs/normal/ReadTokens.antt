@@ -22,11 +22,13 @@ use Rattle.cbor_grammar.specs.declared.width.IntegerWidth.TheVariants.{Unknown, 
 use Rattle.cbor_grammar.specs.declared.width.IntegerWidth.TheVariants.{SixtyFour}
 use Rattle.cbor_grammar.specs.declared.width.FloatWidth.{FloatWidth}
 use Rattle.cbor_grammar.specs.declared.width.FloatWidth.TheVariants as float_width
-use Rattle.cbor_grammar.specs.Encoding.{Encoding, Base16, Base64, Base64Url}
+use Rattle.cbor_grammar.specs.declared.encoding.Encoding.{Encoding}
+use Rattle.cbor_grammar.specs.declared.encoding.Encoding.TheVariants.{Base16, Base64, Base64Url}
 use Rattle.cbor_grammar.specs.Item.{Chunk, Item}
 use Rattle.cbor_grammar.specs.Head.{FitsWidth}
 use Rattle.cbor_grammar.specs.WellFormed.{FitsFloat, IsChunk}
-use Rattle.cbor_grammar.specs.StringKind.{StringKind, bytes_kind, text_kind}
+use Rattle.cbor_grammar.specs.declared.strings.StringKind.{StringKind}
+use Rattle.cbor_grammar.specs.declared.strings.StringKind.TheVariants.{Bytes, Text}
 use Rattle.cbor_grammar.specs.Written.{resolve_float}
 use Rattle.cbor_grammar.specs.Notation.{NumberOf, NegativeOf, number_width, Notation, in_base16, in_base64, StringOf}
 use Rattle.cbor_grammar.specs.Notation.{one}
@@ -189,8 +191,8 @@ quoted_read Read Base64Url b h = in_base64 (url_safe b)
 
 pub string_read : (kind : StringKind) (Read : List ℕ → Item → Type 0) (e : Encoding) (s : Chunk) → IsChunk kind s
     → StringOf kind Read (string_text kind e s.bytes) (normal_chunk s)
-string_read bytes_kind Read e s h = (refl, tt, one (quoted_read Read e s.bytes h.bytes), tt)
-string_read text_kind Read e s h = (refl, (in_quotes 34 s.bytes ++ 34 ∷ [], refl), one (inl refl), h.content)
+string_read Bytes Read e s h = (refl, tt, one (quoted_read Read e s.bytes h.bytes), tt)
+string_read Text Read e s h = (refl, (in_quotes 34 s.bytes ++ 34 ∷ [], refl), one (inl refl), h.content)
 
 -- ---- floats and simple values
 

@@ -7,10 +7,10 @@ use Rattle.cbor_grammar.specs.declared.width.IntegerWidth.{IntegerWidth}
 use Rattle.cbor_grammar.specs.declared.width.IntegerWidth.TheVariants.{Unknown, Zero}
 use Rattle.cbor_grammar.specs.declared.width.FloatWidth.{FloatWidth}
 use Rattle.cbor_grammar.specs.declared.width.FloatWidth.TheVariants as float_width
-use Rattle.cbor_grammar.specs.Encoding.{Encoding}
-use Rattle.cbor_grammar.specs.Layout as content
-use Rattle.cbor_grammar.specs.Layout.{Compact, Context}
-use Rattle.cbor_grammar.specs.ContainerStyle as style
+use Rattle.cbor_grammar.specs.declared.encoding.Encoding.{Encoding}
+use Rattle.cbor_grammar.specs.declared.layout.Content.TheVariants as content
+use Rattle.cbor_grammar.specs.Context.{Context}
+use Rattle.cbor_grammar.specs.declared.layout.ContainerStyle.TheVariants as style
 use Rattle.cbor_grammar.specs.Item as spec
 use Rattle.cbor_grammar.specs.Item.{Chunk, Atom, integer, negative, string, chunked_string}
 use Rattle.cbor_grammar.specs.Item.{float, simple, Item, atom, array, tagged, Items, no_items, item, Pairs, no_pairs}
@@ -18,7 +18,8 @@ use Rattle.cbor_grammar.specs.Item.{pair}
 use Rattle.cbor_grammar.specs.WellFormed.{WellFormedAtom, WellFormed, WellFormedItems, WellFormedPairs}
 use Rattle.cbor_grammar.specs.Written.{encoded, encoded_items, resolve_float, resolve, resolve_items}
 use Rattle.cbor_grammar.specs.Embedded.{embedded_at, sequence_at}
-use Rattle.cbor_grammar.specs.StringKind.{bytes_kind, text_kind, no_chunks}
+use Rattle.cbor_grammar.specs.declared.strings.StringKind.TheVariants.{Bytes, Text}
+use Rattle.cbor_grammar.specs.StringKind.{no_chunks}
 use Rattle.cbor_grammar.specs.NotationText.{indicator, bracketed, inside, float_text, encoding_below}
 use Rattle.cbor_grammar.specs.NotationText.{item_texts, pair_texts, embedded_text, rest_text, sequence_text}
 use Rattle.cbor_grammar.specs.NotationText.{content_text}
@@ -191,8 +192,8 @@ module _ (level left : ℕ) (levels : level + left ≡ 129)
       ≡ atom_text left (text_at left) (at e tag) a
   atom_normal_text e tag (integer n w) h = ap (λ t. decimal n ++ t) (indicator_kept n w)
   atom_normal_text e tag (negative n w) h = ap (λ t. codes "-" ++ (decimal (n + 1) ++ t)) (indicator_kept n w)
-  atom_normal_text e tag (string bytes_kind c) h = content_normal_text e tag c.bytes h.bytes
-  atom_normal_text e tag (string text_kind c) h = refl
+  atom_normal_text e tag (string Bytes c) h = content_normal_text e tag c.bytes h.bytes
+  atom_normal_text e tag (string Text c) h = refl
   atom_normal_text e tag (chunked_string kind cs) h = ap (chunks_listed style.Compact (no_chunks kind))
       (map_kept (λ s. string_text kind e s.bytes) normal_chunk (λ c. refl) cs)
   atom_normal_text e tag (float bits w) h = float_normal_text bits w
@@ -293,9 +294,9 @@ module _ (level left : ℕ) (levels : level + left ≡ 129)
       ≡ normal_atom left (normal_at left) tag a
   atom_twice tag (integer n w) h = ap (integer n) (normal_width_twice n w)
   atom_twice tag (negative n w) h = ap (negative n) (normal_width_twice n w)
-  atom_twice tag (string bytes_kind c) h =
-      ap (λ x. string bytes_kind (record { bytes = x; width = Unknown })) (content_twice tag c.bytes h.bytes)
-  atom_twice tag (string text_kind c) h = refl
+  atom_twice tag (string Bytes c) h =
+      ap (λ x. string Bytes (record { bytes = x; width = Unknown })) (content_twice tag c.bytes h.bytes)
+  atom_twice tag (string Text c) h = refl
   atom_twice tag (chunked_string kind cs) h =
       ap (chunked_string kind) (map_kept normal_chunk normal_chunk (λ c. refl) cs)
   atom_twice tag (float bits w) h = ap (float bits) (resolve_float_twice w)

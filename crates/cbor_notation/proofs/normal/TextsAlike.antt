@@ -1,7 +1,7 @@
 -- Compact texts are equal exactly where the normal forms of the items are.
 use Rattle.std.proofs.Common.{◌≡◌, ◌↔◌, List, ℕ, None, refl, sym, ap, subst, ◌∙◌, arith}
-use Rattle.cbor_grammar.specs.Encoding.{Base16}
-use Rattle.cbor_grammar.specs.Layout.{Compact}
+use Rattle.cbor_grammar.specs.declared.encoding.Encoding.TheVariants.{Base16}
+use Rattle.cbor_grammar.specs.declared.layout.Layout.TheVariants.{Compact}
 use Rattle.cbor_grammar.specs.Item.{Item}
 use Rattle.cbor_grammar.specs.Facts.{IsWellFormed, diag_of, normal_of}
 use Rattle.cbor_grammar.specs.Notation.{Reads}

@@ -15,7 +15,9 @@ use Rattle.cbor_grammar.specs.Head.{FitsWidth, head, break_byte, HeadThen}
 use Rattle.cbor_grammar.specs.WellFormed.{IsChunk, WellFormedAtom, FitsCount, WellFormed, WellFormedItems}
 use Rattle.cbor_grammar.specs.WellFormed.{WellFormedPairs}
 use Rattle.cbor_grammar.specs.Bytes.{any, ChunkThen, SpellsChunks, SpellsAtom}
-use Rattle.cbor_grammar.specs.StringKind.{StringKind, bytes_kind, text_kind, major_of}
+use Rattle.cbor_grammar.specs.declared.strings.StringKind.{StringKind}
+use Rattle.cbor_grammar.specs.declared.strings.StringKind.TheVariants.{Bytes, Text}
+use Rattle.cbor_grammar.specs.StringKind.{major_of}
 use Rattle.cbor_grammar.specs.Bytes.{SpellsFloat, SpellsSimple, MembersThen, Spells, SpellsItems, SpellsPairs}
 use Rattle.cbor_grammar.specs.Written.{encoded_head, encoded_chunk, encoded_float, encoded_simple, encoded_atom}
 use Rattle.cbor_grammar.specs.Written.{encoded_open, encoded_close, encoded, encoded_items, encoded_pairs}
@@ -341,7 +343,7 @@ module _ (level left : ℕ) (levels : (level + 1) + left ≡ 129) (into : Option
       (normal_atom left into tag a) × (length (encoded_atom (normal_atom left into tag a)) ≤ length (encoded_atom a))
   atom_serves tag (integer n w) h = (normal_fits n w h, omega (arith, ap length (normal_head 0 n w)))
   atom_serves tag (negative n w) h = (normal_fits n w h, omega (arith, ap length (normal_head 1 n w)))
-  atom_serves tag (string bytes_kind c) h =
+  atom_serves tag (string Bytes c) h =
       let x = normal_content left (into None) tag c.bytes in
       let s = content_serves (level + 1) left levels (into None) (serves None) tag c.bytes h.bytes in (
         record {
@@ -351,8 +353,8 @@ module _ (level left : ℕ) (levels : (level + 1) + left ≡ 129) (into : Option
         },
         string_no_longer 2 c x h.fits s.no_longer,
       )
-  atom_serves tag (string text_kind c) h =
-      (chunk_serves text_kind c h, string_no_longer 3 c c.bytes h.fits (omega arith))
+  atom_serves tag (string Text c) h =
+      (chunk_serves Text c h, string_no_longer 3 c c.bytes h.fits (omega arith))
   atom_serves tag (chunked_string kind cs) h = let s = chunks_serve kind cs h in (s.0, omega (arith, s.1))
   atom_serves tag (float bits w) h = (float_fits bits w h, omega (arith, ap length (float-resolve bits w)))
   atom_serves tag (simple n) h = (h, omega arith)

@@ -2,7 +2,8 @@
 use Rattle.std.proofs.Common.{◌≡◌, ℕ, List, [], ◌∷◌, ◌++◌, codes, Ok, refl, sym, ap, ◌∙◌, subst, inl, inr}
 use Rattle.std.proofs.lemmas.List.{append_assoc}
 use Rattle.cbor_grammar.specs.Item.{Chunk, Item, atom, chunked_string}
-use Rattle.cbor_grammar.specs.StringKind.{StringKind, bytes_kind, text_kind}
+use Rattle.cbor_grammar.specs.declared.strings.StringKind.{StringKind}
+use Rattle.cbor_grammar.specs.declared.strings.StringKind.TheVariants.{Bytes, Text}
 use Rattle.cbor_grammar.specs.Reading.{Read}
 use Rattle.cbor_grammar.specs.Notation.{Blanked, Closes, Members, StringOf, ChunksOf, ShowsKind}
 use Rattle.cbor_notation.specs.mirror.NotationReading.{skip_blank, start_of, first_start, read_string, read_chunk}
@@ -61,30 +62,29 @@ module _ (Reads : List ℕ → Item → Type 0) (kind : StringKind) where
       closing end (inr last) = subst (λ (t : List ℕ). Begins (codes ",)") (t ++ rest)) (sym last.1) refl
 
 -- the kind that the first byte has
-by_bytes : (text : List ℕ) → Begins (codes "'<bh,)") text → kind_from (first_start text) ≡ bytes_kind
+by_bytes : (text : List ℕ) → Begins (codes "'<bh,)") text → kind_from (first_start text) ≡ Bytes
 unfolding start_of
 by_bytes [] is = absurd is
-by_bytes (b ∷ text) is = at_one_of (λ c. kind_from (start_of c) ≡ bytes_kind) (codes "'<bh,)") b
+by_bytes (b ∷ text) is = at_one_of (λ c. kind_from (start_of c) ≡ Bytes) (codes "'<bh,)") b
     (refl, (refl, (refl, (refl, (refl, (refl, tt)))))) is
 
-by_text : (text : List ℕ) → Begins (codes "\"") text → kind_from (first_start text) ≡ text_kind
+by_text : (text : List ℕ) → Begins (codes "\"") text → kind_from (first_start text) ≡ Text
 unfolding start_of
 by_text [] is = absurd is
-by_text (b ∷ text) is = at_one_of (λ c. kind_from (start_of c) ≡ text_kind) (codes "\"") b (refl, tt) is
+by_text (b ∷ text) is = at_one_of (λ c. kind_from (start_of c) ≡ Text) (codes "\"") b (refl, tt) is
 
 module _ (Reads : List ℕ → Item → Type 0) (read : List ℕ → Read Item) (it : ReadsAgain Reads read) where
   shown : (kind : StringKind) (cs : List Chunk) (inner rest : List ℕ)
       → Members (ChunkOf kind Reads) (codes ")") inner cs → ShowsKind kind cs
       → kind_from (first_start (skip_blank (inner ++ rest))) ≡ kind
-  shown bytes_kind [] inner rest is shows = by_bytes (skip_blank (inner ++ rest))
-      (begins_more (codes ",)") (codes "'<bh,)") (skip_blank (inner ++ rest)) refl
-      (no_chunk Reads bytes_kind inner rest is))
-  shown bytes_kind (c ∷ cs) inner rest is shows = by_bytes (skip_blank (inner ++ rest))
+  shown Bytes [] inner rest is shows = by_bytes (skip_blank (inner ++ rest))
+      (begins_more (codes ",)") (codes "'<bh,)") (skip_blank (inner ++ rest)) refl (no_chunk Reads Bytes inner rest is))
+  shown Bytes (c ∷ cs) inner rest is shows = by_bytes (skip_blank (inner ++ rest))
       (begins_more (codes "'<bh") (codes "'<bh,)") (skip_blank (inner ++ rest)) refl
-      (first_chunk Reads bytes_kind cs c inner rest is))
-  shown text_kind [] inner rest is shows = absurd cc
-  shown text_kind (c ∷ cs) inner rest is shows =
-      by_text (skip_blank (inner ++ rest)) (first_chunk Reads text_kind cs c inner rest is)
+      (first_chunk Reads Bytes cs c inner rest is))
+  shown Text [] inner rest is shows = absurd cc
+  shown Text (c ∷ cs) inner rest is shows =
+      by_text (skip_blank (inner ++ rest)) (first_chunk Reads Text cs c inner rest is)
 
   pub chunks_again : (kind : StringKind) (cs : List Chunk) (text rest : List ℕ) → ChunksOf kind Reads text cs
       → ShowsKind kind cs

@@ -6,7 +6,9 @@ use Rattle.cbor_notes.specs.Token.{nothing}
 use Rattle.cbor_grammar.specs.Item as spec
 use Rattle.cbor_grammar.specs.Item.{Chunk, Atom, integer, negative, string, chunked_string}
 use Rattle.cbor_grammar.specs.Item.{float, simple, Item, atom, array, tagged}
-use Rattle.cbor_grammar.specs.StringKind.{StringKind, bytes_kind, text_kind, no_chunks}
+use Rattle.cbor_grammar.specs.declared.strings.StringKind.{StringKind}
+use Rattle.cbor_grammar.specs.declared.strings.StringKind.TheVariants.{Bytes, Text}
+use Rattle.cbor_grammar.specs.StringKind.{no_chunks}
 use Rattle.cbor_grammar.specs.Reading.{Read}
 use Rattle.cbor_grammar.specs.Notation.{IsBlank, Opens, StringOf, ChunksOf, ShowsKind, AtomCore, Core, Reads}
 use Rattle.cbor_notation.specs.mirror.NotationReading.{skip_blank, string_of, read_string_item}
@@ -24,8 +26,8 @@ use Rattle.cbor_notation.proofs.notation.Containers.{array_again, map_again}
 -- ---- what a core begins with
 
 no_chunks_start : (kind : StringKind) → Starts (no_chunks kind)
-no_chunks_start bytes_kind = refl
-no_chunks_start text_kind = refl
+no_chunks_start Bytes = refl
+no_chunks_start Text = refl
 
 atom_starts : (Reads : List ℕ → Item → Type 0) (text : List ℕ) (a : Atom) → AtomCore Reads text a → Starts text
 atom_starts Reads text (integer n w) is = begins_more digits core_starts text refl (number_begins text n is.0 is.1)
@@ -66,18 +68,18 @@ module _ (Reads : List ℕ → Item → Type 0) (read : List ℕ → Read Item) 
       → read_core read text ≡ read_string_item read kind text
   unfolding read_core start_of
   string_core kind [] begins = absurd begins
-  string_core bytes_kind (b ∷ text) begins =
-      at_one_of (λ c. core_of read (start_of c) (b ∷ text) text ≡ read_string_item read bytes_kind (b ∷ text))
+  string_core Bytes (b ∷ text) begins =
+      at_one_of (λ c. core_of read (start_of c) (b ∷ text) text ≡ read_string_item read Bytes (b ∷ text))
       (codes "'<bh") b (refl, (refl, (refl, (refl, tt)))) begins
-  string_core text_kind (b ∷ text) begins =
-      at_one_of (λ c. core_of read (start_of c) (b ∷ text) text ≡ read_string_item read text_kind (b ∷ text))
+  string_core Text (b ∷ text) begins =
+      at_one_of (λ c. core_of read (start_of c) (b ∷ text) text ≡ read_string_item read Text (b ∷ text))
       (codes "\"") b (refl, tt) begins
 
   no_chunks_again : (kind : StringKind) (rest : List ℕ)
       → read_core read (no_chunks kind ++ rest) ≡ Ok (atom (chunked_string kind []), rest)
   unfolding read_core start_of
-  no_chunks_again bytes_kind rest = refl
-  no_chunks_again text_kind rest = refl
+  no_chunks_again Bytes rest = refl
+  no_chunks_again Text rest = refl
 
   string_item_again : (kind : StringKind) (text after rest : List ℕ) (c : Chunk) → StringOf kind Reads text c
       → IsBlank after → Follows rest → read_core read (text ++ (after ++ rest)) ≡ Ok (atom (string kind c), rest)

@@ -8,7 +8,9 @@ use Rattle.cbor_grammar.specs.declared.error.Error.TheVariants as refusal
 use Rattle.cbor_notation.specs.declared.start.Start.{Start}
 use Rattle.cbor_notation.specs.declared.start.Start.TheVariants as start
 use Rattle.cbor_grammar.specs.Item.{Item}
-use Rattle.cbor_grammar.specs.StringKind.{StringKind, bytes_kind, text_kind, no_chunks}
+use Rattle.cbor_grammar.specs.declared.strings.StringKind.{StringKind}
+use Rattle.cbor_grammar.specs.declared.strings.StringKind.TheVariants.{Bytes, Text}
+use Rattle.cbor_grammar.specs.StringKind.{no_chunks}
 use Rattle.cbor_grammar.specs.Reading.{Read, ◌>>=◌}
 use Rattle.cbor_notation.specs.mirror.NotationReading.{or_refused, after_byte, after_word, read_unsigned_number}
 use Rattle.cbor_notation.specs.mirror.NotationReading.{integer_or_tag, read_integer, after_end, more_members}
@@ -177,11 +179,11 @@ module _ (few many : List ℕ → Read Item) (grows : (text : List ℕ) → Grow
   core_of_grows start.Bracket text rest = array_grows rest
   core_of_grows start.Brace text rest = map_grows rest
   core_of_grows start.Parenthesis text rest = chunks_grow rest
-  core_of_grows start.Apostrophe text rest = string_item_grows bytes_kind text
-  core_of_grows start.Angle text rest = string_item_grows bytes_kind text
-  core_of_grows start.LetterB text rest = string_item_grows bytes_kind text
-  core_of_grows start.LetterH text rest = string_item_grows bytes_kind text
-  core_of_grows start.Quote text rest = string_item_grows text_kind text
+  core_of_grows start.Apostrophe text rest = string_item_grows Bytes text
+  core_of_grows start.Angle text rest = string_item_grows Bytes text
+  core_of_grows start.LetterB text rest = string_item_grows Bytes text
+  core_of_grows start.LetterH text rest = string_item_grows Bytes text
+  core_of_grows start.Quote text rest = string_item_grows Text text
   core_of_grows start.Other text rest = inr refl
 
   core_grows : (text : List ℕ) → Grows (read_core few text) (read_core many text)

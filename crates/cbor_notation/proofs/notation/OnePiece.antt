@@ -11,7 +11,8 @@ use Rattle.cbor_notes.proofs.tokens.Quoted.{unquoted-plain, closes}
 use Rattle.cbor_notes.proofs.tokens.TextPlaces.{first_at}
 use Rattle.cbor_grammar.specs.declared.error.Error.{Error}
 use Rattle.cbor_grammar.specs.Item.{Item, Atom, Chunk, atom, string}
-use Rattle.cbor_grammar.specs.StringKind.{StringKind, bytes_kind, text_kind}
+use Rattle.cbor_grammar.specs.declared.strings.StringKind.{StringKind}
+use Rattle.cbor_grammar.specs.declared.strings.StringKind.TheVariants.{Bytes, Text}
 use Rattle.cbor_grammar.specs.Reading.{Read, ◌>>=◌}
 use Rattle.cbor_notation.specs.mirror.NotationReading.{after_word, or_refused, skip_blank, start_of, first_start}
 use Rattle.cbor_notation.specs.mirror.NotationReading.{begins_piece, ends_string, one_string, read_piece, read_pieces}
@@ -70,7 +71,7 @@ no_empty (b ∷ inner) content rest is ends = by_test (b == 34) refl where
   by_test true quote =
       let same : inner ≡ rest = ap behind (rw quote at is) in
       let none : after_word (codes "\"\"_") (34 ∷ 34 ∷ rest) ≡ None =
-      cond-false (starts_with nat_eq rest (codes "_")) _ None (ends_plainly text_kind rest ends).2 in
+      cond-false (starts_with nat_eq rest (codes "_")) _ None (ends_plainly Text rest ends).2 in
       rw (eqb-true b 34 quote, same) none
   by_test false other =
       let apart : nat_eq 34 b ≡ false = search (rules, tests) in
@@ -87,18 +88,18 @@ one leaf rest (Err e) = refl
 -- A text without escapes, and after it what ends a string: what the rules give.
 pub plain_text : (read : List ℕ → Read Item) (text inner content rest : List ℕ) → text ≡ 34 ∷ inner
     → unquoted 34 false inner ≡ Some (content, rest) → ends_string rest ≡ true
-    → read_string_item read text_kind text ≡ one_string text_kind content rest
+    → read_string_item read Text text ≡ one_string Text content rest
 unfolding read_string read_piece start_of
 plain_text read text inner content rest front is ends =
-    let pieces = one_piece read text_kind (length inner) (34 ∷ inner) content rest refl (ap or_refused is) ends in
-    ap (read_string_item read text_kind) front ∙ rw (no_empty inner content rest is ends, pieces)
-    (one (string text_kind) rest (checked text_kind content))
+    let pieces = one_piece read Text (length inner) (34 ∷ inner) content rest refl (ap or_refused is) ends in
+    ap (read_string_item read Text) front ∙ rw (no_empty inner content rest is ends, pieces)
+    (one (string Text) rest (checked Text content))
 
 -- Hex digits, and after them what ends a string: what the rules give.
 pub plain_hex : (read : List ℕ → Read Item) (text inner bytes rest : List ℕ) → text ≡ 104 ∷ 39 ∷ inner
     → read_decoded true base16_of inner ≡ Ok (bytes, rest) → ends_string rest ≡ true
-    → read_string_item read bytes_kind text ≡ one_string bytes_kind bytes rest
+    → read_string_item read Bytes text ≡ one_string Bytes bytes rest
 unfolding read_string read_piece start_of
 plain_hex read text inner bytes rest front is ends =
-    let pieces = one_piece read bytes_kind (suc (length inner)) (104 ∷ 39 ∷ inner) bytes rest refl is ends in
-    ap (read_string_item read bytes_kind) front ∙ rw pieces refl
+    let pieces = one_piece read Bytes (suc (length inner)) (104 ∷ 39 ∷ inner) bytes rest refl is ends in
+    ap (read_string_item read Bytes) front ∙ rw pieces refl

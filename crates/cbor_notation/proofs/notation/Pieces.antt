@@ -10,7 +10,8 @@ use Rattle.cbor_notes.proofs.tokens.Quoted.{unquoted-in_quotes}
 use Rattle.cbor_notes.proofs.tokens.Spaced.{digits_of-DigitsBetween}
 use Rattle.cbor_grammar.specs.Item.{Item, Items, no_items, item}
 use Rattle.cbor_grammar.specs.Item.{items_of}
-use Rattle.cbor_grammar.specs.StringKind.{StringKind, bytes_kind, text_kind}
+use Rattle.cbor_grammar.specs.declared.strings.StringKind.{StringKind}
+use Rattle.cbor_grammar.specs.declared.strings.StringKind.TheVariants.{Bytes, Text}
 use Rattle.cbor_grammar.specs.Written.{encoded_items}
 use Rattle.cbor_grammar.specs.Reading.{Read, ◌>>=◌}
 use Rattle.cbor_grammar.specs.Notation.{IsBlank, QuotedBy, DigitsIn, Notation, in_base16, in_base32, in_base32hex}
@@ -94,17 +95,17 @@ module _ (Reads : List ℕ → Item → Type 0) (read : List ℕ → Read Item) 
   pub piece_again : (kind : StringKind) (text bytes rest : List ℕ) → PieceOf kind Reads text bytes
       → read_piece read (text ++ rest) ≡ Ok (bytes, rest)
   unfolding read_piece start_of
-  piece_again bytes_kind text bytes rest is = notation_again text bytes rest is
-  piece_again text_kind text bytes rest (inr is) = notation_again text bytes rest is
-  piece_again text_kind text bytes rest (inl is) = ap (read_piece read) (quoted_parts 34 text bytes rest is)
+  piece_again Bytes text bytes rest is = notation_again text bytes rest is
+  piece_again Text text bytes rest (inr is) = notation_again text bytes rest is
+  piece_again Text text bytes rest (inl is) = ap (read_piece read) (quoted_parts 34 text bytes rest is)
       ∙ quoted_again 34 bytes rest quotation_mark
 
 -- ---- several pieces
 
 -- what pieces begin with, and what a string of each kind begins with
 abbrev pub piece_starts : StringKind → List ℕ
-piece_starts bytes_kind = codes "'<bh"
-piece_starts text_kind = codes "'<bh\""
+piece_starts Bytes = codes "'<bh"
+piece_starts Text = codes "'<bh\""
 
 module _ (Reads : List ℕ → Item → Type 0) where
   notation_begins : (text bytes : List ℕ) → Notation Reads text bytes → Begins notation_starts text
@@ -117,10 +118,10 @@ module _ (Reads : List ℕ → Item → Type 0) where
 
   pub piece_begins : (kind : StringKind) (text bytes : List ℕ) → PieceOf kind Reads text bytes
       → Begins (piece_starts kind) text
-  piece_begins bytes_kind text bytes is = notation_begins text bytes is
-  piece_begins text_kind text bytes (inr is) =
-      begins_more notation_starts (piece_starts text_kind) text refl (notation_begins text bytes is)
-  piece_begins text_kind text bytes (inl is) = subst (Begins (piece_starts text_kind)) (sym is) refl
+  piece_begins Bytes text bytes is = notation_begins text bytes is
+  piece_begins Text text bytes (inr is) =
+      begins_more notation_starts (piece_starts Text) text refl (notation_begins text bytes is)
+  piece_begins Text text bytes (inl is) = subst (Begins (piece_starts Text)) (sym is) refl
 
   pub joined_begins : (kind : StringKind) (text bytes : List ℕ) → Joined (PieceOf kind Reads) text bytes
       → Begins (piece_starts kind) text
@@ -130,13 +131,12 @@ module _ (Reads : List ℕ → Item → Type 0) where
       (begins_append (piece_starts kind) first (blank ++ rest) (piece_begins kind first bytes_first is))
 
 -- all begin as pieces of texts may
-pub any_piece : (kind : StringKind) (text : List ℕ) → Begins (piece_starts kind) text
-    → Begins (piece_starts text_kind) text
-any_piece bytes_kind text is = begins_more (piece_starts bytes_kind) (piece_starts text_kind) text refl is
-any_piece text_kind text is = is
+pub any_piece : (kind : StringKind) (text : List ℕ) → Begins (piece_starts kind) text → Begins (piece_starts Text) text
+any_piece Bytes text is = begins_more (piece_starts Bytes) (piece_starts Text) text refl is
+any_piece Text text is = is
 
 pub piece_starts_core : (kind : StringKind) (text : List ℕ) → Begins (piece_starts kind) text → Starts text
-piece_starts_core kind text is = begins_more (piece_starts text_kind) core_starts text refl (any_piece kind text is)
+piece_starts_core kind text is = begins_more (piece_starts Text) core_starts text refl (any_piece kind text is)
 
 begins_length : (bytes text : List ℕ) → Begins bytes text → 0 < length text
 begins_length bytes [] is = absurd is
@@ -147,9 +147,8 @@ goes_on : (kind : StringKind) (text : List ℕ) → Begins (piece_starts kind) t
     → begins_piece kind (first_start text) ≡ true
 unfolding start_of
 goes_on kind [] is = absurd is
-goes_on bytes_kind (b ∷ text) is = holds_of (λ c. begins_piece bytes_kind (start_of c)) (piece_starts bytes_kind) b
-    refl is
-goes_on text_kind (b ∷ text) is = holds_of (λ c. begins_piece text_kind (start_of c)) (piece_starts text_kind) b refl is
+goes_on Bytes (b ∷ text) is = holds_of (λ c. begins_piece Bytes (start_of c)) (piece_starts Bytes) b refl is
+goes_on Text (b ∷ text) is = holds_of (λ c. begins_piece Text (start_of c)) (piece_starts Text) b refl is
 
 ends_there : (kind : StringKind) (text : List ℕ) → Follows text → begins_piece kind (first_start text) ≡ false
 unfolding start_of

@@ -8,7 +8,9 @@ use Rattle.cbor_notes.specs.Token.{in_quotes, escaped_byte}
 use Rattle.cbor_grammar.specs.declared.width.IntegerWidth.{IntegerWidth}
 use Rattle.cbor_grammar.specs.declared.width.IntegerWidth.TheVariants.{Unknown}
 use Rattle.cbor_grammar.specs.Item.{Chunk, Item}
-use Rattle.cbor_grammar.specs.StringKind.{StringKind, bytes_kind, text_kind, IsContent, no_chunks}
+use Rattle.cbor_grammar.specs.declared.strings.StringKind.{StringKind}
+use Rattle.cbor_grammar.specs.declared.strings.StringKind.TheVariants.{Bytes, Text}
+use Rattle.cbor_grammar.specs.StringKind.{IsContent, no_chunks}
 use Rattle.cbor_grammar.specs.Reading.{Read}
 use Rattle.cbor_grammar.specs.Notation.{IsBlank, QuotedBy, Notation, in_base16, in_base32, in_base32hex, in_base64}
 use Rattle.cbor_grammar.specs.Notation.{as_text, as_items, PieceOf, Joined, one, more, StringOf}
@@ -24,13 +26,13 @@ use Rattle.cbor_notation.proofs.notation.Pieces.{any_piece, piece_starts_core, j
 
 -- what a string of each kind begins with
 abbrev pub string_starts : StringKind → List ℕ
-string_starts bytes_kind = codes "'<bh"
-string_starts text_kind = codes "\""
+string_starts Bytes = codes "'<bh"
+string_starts Text = codes "\""
 
 pub string_begins : (Reads : List ℕ → Item → Type 0) (kind : StringKind) (text : List ℕ) (c : Chunk)
     → StringOf kind Reads text c → Begins (string_starts kind) text
-string_begins Reads bytes_kind text c is = joined_begins Reads bytes_kind text c.bytes is.2
-string_begins Reads text_kind text c is = subst (Begins (string_starts text_kind)) (sym is.1.1) refl
+string_begins Reads Bytes text c is = joined_begins Reads Bytes text c.bytes is.2
+string_begins Reads Text text c is = subst (Begins (string_starts Text)) (sym is.1.1) refl
 
 pub string_starts_core : (Reads : List ℕ → Item → Type 0) (kind : StringKind) (text : List ℕ) (c : Chunk)
     → StringOf kind Reads text c → Starts text
@@ -40,16 +42,13 @@ string_goes : (kind : StringKind) (text : List ℕ) → Begins (string_starts ki
     → begins_string kind (first_start text) ≡ true
 unfolding start_of
 string_goes kind [] is = absurd is
-string_goes bytes_kind (b ∷ text) is = holds_of (λ c. begins_string bytes_kind (start_of c)) (string_starts bytes_kind)
-    b refl is
-string_goes text_kind (b ∷ text) is = holds_of (λ c. begins_string text_kind (start_of c)) (string_starts text_kind) b
-    refl is
+string_goes Bytes (b ∷ text) is = holds_of (λ c. begins_string Bytes (start_of c)) (string_starts Bytes) b refl is
+string_goes Text (b ∷ text) is = holds_of (λ c. begins_string Text (start_of c)) (string_starts Text) b refl is
 
 checked_again : (kind : StringKind) (c : Chunk) → c.width ≡ Unknown → IsContent kind c.bytes
     → checked kind c.bytes ≡ Ok c
-checked_again bytes_kind c unknown is = ap (λ (w : IntegerWidth). Ok (record { bytes = c.bytes; width = w }))
-    (sym unknown)
-checked_again text_kind c unknown is = rw (utf8_passes c.bytes is)
+checked_again Bytes c unknown is = ap (λ (w : IntegerWidth). Ok (record { bytes = c.bytes; width = w })) (sym unknown)
+checked_again Text c unknown is = rw (utf8_passes c.bytes is)
     (ap (λ (w : IntegerWidth). Ok (record { bytes = c.bytes; width = w })) (sym unknown))
 
 pub string_again : (Reads : List ℕ → Item → Type 0) (read : List ℕ → Read Item) (it : ReadsAgain Reads read)
@@ -125,13 +124,13 @@ module _ (Reads : List ℕ → Item → Type 0) where
 
   piece_no_word : (kind : StringKind) (text bytes rest : List ℕ) → Ends piece_ends rest → PieceOf kind Reads text bytes
       → after_word (no_chunks kind) (text ++ rest) ≡ None
-  piece_no_word bytes_kind text bytes rest ends is = notation_no_word text bytes rest ends (text_or_other text bytes is)
-  piece_no_word text_kind text bytes rest ends (inl is) =
+  piece_no_word Bytes text bytes rest ends is = notation_no_word text bytes rest ends (text_or_other text bytes is)
+  piece_no_word Text text bytes rest ends (inl is) =
       ap (after_word (empty_word 34)) (quoted_parts 34 text bytes rest is)
       ∙ quoted_no_word 34 bytes rest quotation_mark ends
-  piece_no_word text_kind text bytes rest ends (inr is) =
+  piece_no_word Text text bytes rest ends (inr is) =
       other_start 34 notation_starts (text ++ rest) refl
-      (begins_append notation_starts text rest (piece_begins Reads bytes_kind text bytes is))
+      (begins_append notation_starts text rest (piece_begins Reads Bytes text bytes is))
 
   joined_no_word : (kind : StringKind) (text bytes rest : List ℕ) → Ends core_ends rest
       → Joined (PieceOf kind Reads) text bytes → after_word (no_chunks kind) (text ++ rest) ≡ None

@@ -1,7 +1,7 @@
 -- What the calls of cbor_notes answer, beside what reading gives.
 use Rattle.std.proofs.Common.{◌≡◌, ℕ, ◌≤◌, List, [], ◌∷◌, ◌++◌, ◌+◌, ◌-◌, ◌*◌, ◌^◌, ◌<◌, ◌≢◌, Bool, false, not, nat_lt}
 use Rattle.std.proofs.Common.{◌==◌, if◌then◌else◌, true, option_and_then, length, take, drop, position, Option, Some}
-use Rattle.std.proofs.Common.{None, Ok, Err, slice_range, refl, sym, ap, ◌∙◌, arith}
+use Rattle.std.proofs.Common.{None, Ok, Err, refl, sym, ap, ◌∙◌, arith}
 use Rattle.std.specs.Char.{digit_value}
 use Rattle.std.specs.List.{list_all}
 use Rattle.std.specs.Str.Parse.{digits_value_after}
@@ -9,42 +9,22 @@ use Rattle.std.proofs.lemmas.List.{take_rest}
 use Rattle.std.proofs.lemmas.Bool.{cond-true, lt-ltb}
 use Rattle.std.proofs.Math.Nat.{pow-le-pow_right}
 use Rattle.cbor_grammar.specs.declared.error.Error.TheVariants as refusal
-use Rattle.cbor_notes.specs.Token.{Blank, IsLongest, IsNumber, IsSomeNumber, is_whitespace, in_quotes, DigitsBetween}
-use Rattle.cbor_notes.specs.TokenReading.{after_blank, number_of, unquoted, digits_of}
-use Rattle.cbor_notes.proofs.tokens.Blanks.{after_longest_blank}
-use Rattle.cbor_notes.proofs.tokens.Numbers.{IsNumber-number_of, number_of-longest}
-use Rattle.cbor_notes.proofs.tokens.Quoted.{in_quotes-unquoted, unquoted-in_quotes}
-use Rattle.cbor_notes.proofs.tokens.Spaced.{DigitsBetween-digits_of, digits_of-DigitsBetween}
-use Rattle.cbor_notes.proofs.tokens.TextPlaces.{part_and_rest}
+use Rattle.cbor_notes.specs.Token.{is_whitespace, DigitsBetween}
+use Rattle.cbor_notes.specs.TokenReading.{number_of, digits_of}
+use Rattle.cbor_notes.proofs.tokens.Spaced.{digits_of-DigitsBetween}
 use Rattle.cbor_grammar.specs.Reading.{◌>>=◌}
-use Rattle.cbor_notation.specs.mirror.NotationReading.{or_refused, skip_blank, read_number, after_byte, after_space}
+use Rattle.cbor_notation.specs.mirror.NotationReading.{or_refused, read_number, after_byte, after_space}
 use Rattle.cbor_notation.specs.mirror.NotationReading.{numeral}
 
-pub blank_left : (text : List ℕ) (end : ℕ) → IsLongest (Blank true) (slice_range text 0 end) (drop end text)
-    → take (length text - end) (drop end text) ≡ skip_blank text
-blank_left text end longest = take_rest text end
-    ∙ after_longest_blank true (slice_range text 0 end) (drop end text) longest
-    ∙ ap (after_blank true) (sym (part_and_rest text 0 end (omega arith)))
-
 pub number_found : (text : List ℕ) (end value : ℕ) (indicator : Option ℕ)
-    → IsNumber (slice_range text 0 end) value indicator
-    → IsLongest IsSomeNumber (slice_range text 0 end) (drop end text)
+    → number_of text ≡ Some (value, indicator, drop end text)
     → read_number text ≡ Ok ((value, indicator), take (length text - end) (drop end text))
-number_found text end value indicator is longest =
-    let here : number_of text ≡ Some (value, indicator, drop end text) =
-    ap number_of (part_and_rest text 0 end (omega arith))
-    ∙ number_of-longest (slice_range text 0 end) (drop end text) value indicator is longest in
+number_found text end value indicator here =
     ap (λ r. or_refused r >>= λ x. Ok ((x.0, x.1), x.2)) here
     ∙ ap (λ rest. Ok ((value, indicator), rest)) (sym (take_rest text end))
 
-pub number_missing : (text : List ℕ) → ((front rest : List ℕ) → drop 0 text ≡ front ++ rest → ¬ (IsSomeNumber front))
-    → read_number text ≡ Err refusal.Notation
-number_missing text none = from_none (number_of text) refl where
-  from_none : (r : Option (ℕ × Option ℕ × List ℕ)) → number_of text ≡ r → read_number text ≡ Err refusal.Notation
-  from_none None e = ap (λ r. or_refused r >>= λ x. Ok ((x.0, x.1), x.2)) e
-  from_none (Some read) e =
-      let found = IsNumber-number_of text read e in
-      absurd (none found.0 read.2 found.1 (read.0, read.1, found.2))
+pub number_missing : (text : List ℕ) → number_of text ≡ None → read_number text ≡ Err refusal.Notation
+number_missing text none = ap (λ r. or_refused r >>= λ x. Ok ((x.0, x.1), x.2)) none
 
 -- whitespace before the close of a list
 abbrev after_spaces : ℕ → List ℕ → Option ℕ → Option (List ℕ)
@@ -89,30 +69,8 @@ room_for_digit n i small lt =
     omega arith in pow-le-pow_right sixteen low in
     omega (arith, most)
 
--- content of quotes
-pub quoted_found : (quote : ℕ) (text content rest : List ℕ) → quote ≢ 92
-    → text ≡ in_quotes quote content ++ quote ∷ rest → unquoted quote false text ≡ Some (content, rest)
-quoted_found quote text content rest other is = ap (unquoted quote false) is
-    ∙ unquoted-in_quotes quote content rest other
-
-pub quoted_missing : (quote : ℕ) (text : List ℕ)
-    → ((content rest : List ℕ) → text ≢ in_quotes quote content ++ quote ∷ rest) → unquoted quote false text ≡ None
-quoted_missing quote text none = from_none (unquoted quote false text) refl where
-  from_none : (r : Option (List ℕ × List ℕ)) → unquoted quote false text ≡ r → r ≡ None
-  from_none None e = refl
-  from_none (Some read) e = absurd (none read.0 read.1 (in_quotes-unquoted quote text read e))
-
+-- digits between quotes
 pub digits_found : (comments : Bool) (text content digits rest : List ℕ) → text ≡ content ++ 39 ∷ rest
     → DigitsBetween comments content digits → digits_of comments text ≡ Some (digits, rest)
 digits_found comments text content digits rest is between = ap (digits_of comments) is
     ∙ digits_of-DigitsBetween comments content digits rest between
-
-pub digits_missing : (comments : Bool) (text : List ℕ)
-    → ((content digits rest : List ℕ) → text ≡ content ++ 39 ∷ rest → ¬ (DigitsBetween comments content digits))
-    → digits_of comments text ≡ None
-digits_missing comments text none = from_none (digits_of comments text) refl where
-  from_none : (r : Option (List ℕ × List ℕ)) → digits_of comments text ≡ r → r ≡ None
-  from_none None e = refl
-  from_none (Some read) e =
-      let found = DigitsBetween-digits_of comments text read e in
-      absurd (none found.0 read.0 read.1 found.1 found.2)

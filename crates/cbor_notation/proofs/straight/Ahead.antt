@@ -4,19 +4,17 @@ use Rattle.std.proofs.Common.{Ok, Err, IfSome, ◌⊎◌, inl, inr, refl, sym, a
 use Rattle.cbor_grammar.specs.declared.width.IntegerWidth.{IntegerWidth}
 use Rattle.cbor_grammar.specs.declared.error.Error.{Error}
 use Rattle.cbor_notation.specs.declared.ahead.Ahead.{Ahead}
-use Rattle.cbor_bytes.specs.declared.argument.Argument as code_argument
-use Rattle.cbor_grammar.specs.Argument.{Argument}
+use Rattle.cbor_grammar.specs.declared.argument.Argument.{Argument}
 use Rattle.cbor_grammar.specs.Estimate.{digit_count, estimated_length, estimated_items, estimated_pairs}
 use Rattle.cbor_grammar.specs.Item as spec
 use Rattle.cbor_grammar.specs.Item.{Item, Items, no_items, item, Pairs, no_pairs, pair, array, tagged}
-use Rattle.cbor_grammar.specs.ItemHead as item_head
-use Rattle.cbor_grammar.specs.ItemHead.{ItemHead}
+use Rattle.cbor_grammar.specs.declared.head.ItemHead.TheVariants as item_head
+use Rattle.cbor_grammar.specs.declared.head.ItemHead.{ItemHead}
 use Rattle.cbor_grammar.specs.Reading.{Counted, ◌>>-◌, Frame, items_in, pairs_in, value_of, tag_of, tagged_with, opened}
 use Rattle.cbor_grammar.specs.Reading.{joined, joined_pairs, one_less, put, after_members, after_end, closed, close_or}
 use Rattle.cbor_grammar.specs.Reading.{count_width, parts_from, read_body, read_head, counted_item, read_item}
 use Rattle.cbor_notation.specs.mirror.Ahead.{Leaves, Estimates, front_read, body_read}
-use Rattle.cbor_bytes.specs.mirror.HeadView.{argument_view}
-use Rattle.cbor_bytes.specs.mirror.HeadView.{left_of}
+use Rattle.cbor_grammar.specs.mirror.Lengths.{left_of}
 use Rattle.cbor_grammar.proofs.bytes.Heads.{then_ok, ok_is}
 use Rattle.cbor_grammar.proofs.bytes.Steps.{parts_more, item_shortens}
 use Rattle.cbor_notation.proofs.straight.Readings.{ok_then, parts_read, parts_ended, none_held}
@@ -104,7 +102,7 @@ part_step levels f b x none is =
 
 pub tag_found : (found : Option Ahead) (budget left t : ℕ) (w : IntegerWidth) (b : List ℕ)
     → left ≡ budget - (digit_count t + 2) → Estimates found left (front_read b)
-    → Estimates found budget (body_read (item_head.tag t w) b)
+    → Estimates found budget (body_read (item_head.Tag t w) b)
 tag_found found budget left t w b same finds levels i rest is =
     let step = part_step levels (tag_of t w) b (i, rest) refl is in
     let y = step.0 in
@@ -170,20 +168,20 @@ grows (suc n) levels f b x e =
 -- ---- the items of an array
 
 -- After the first `held` items of an array this is left of the budget, and these bytes.
-abbrev pub ItemsSoFar : ℕ → code_argument.Argument → List ℕ → ℕ → ℕ → List ℕ → Type 0
+abbrev pub ItemsSoFar : ℕ → Argument → List ℕ → ℕ → ℕ → List ℕ → Type 0
 ItemsSoFar budget count b held left rest = (levels : ℕ) (x : Item × List ℕ)
-    → body_read (item_head.array (argument_view count)) b levels ≡ Ok x
+    → body_read (item_head.Array count) b levels ≡ Ok x
     → (is : Items) × (parts_read levels (items_in is (left_of count held)) rest ≡ Ok x)
     × (left ≡ budget - estimated_items is)
 
-pub no_items_yet : (budget : ℕ) (count : code_argument.Argument) (b : List ℕ) → ItemsSoFar budget count b 0 budget b
+pub no_items_yet : (budget : ℕ) (count : Argument) (b : List ℕ) → ItemsSoFar budget count b 0 budget b
 no_items_yet budget count b levels x is = (
   no_items,
   ap (λ a. parts_read levels (items_in no_items a) b) (none_held count) ∙ is,
   omega arith,
 )
 
-pub one_item_more : (budget : ℕ) (count : code_argument.Argument) (b : List ℕ) (held left : ℕ) (rest : List ℕ)
+pub one_item_more : (budget : ℕ) (count : Argument) (b : List ℕ) (held left : ℕ) (rest : List ℕ)
     (a : Ahead) → ItemsSoFar budget count b held left rest → None ≡ after_members (left_of count held) rest
     → Estimates (Some a) left (front_read rest) → ItemsSoFar budget count b (held + 1) (a.left - 2) a.rest.now
 one_item_more budget count b held left rest a so_far none finds levels x is =
@@ -201,10 +199,9 @@ one_item_more budget count b held left rest a so_far none finds levels x is =
     )
 
 -- an item takes all that is left
-pub item_takes_all : (budget : ℕ) (count : code_argument.Argument) (b : List ℕ) (held left : ℕ) (rest : List ℕ)
+pub item_takes_all : (budget : ℕ) (count : Argument) (b : List ℕ) (held left : ℕ) (rest : List ℕ)
     → ItemsSoFar budget count b held left rest → None ≡ after_members (left_of count held) rest
-    → Estimates None left (front_read rest)
-    → Estimates None (4 + budget) (body_read (item_head.array (argument_view count)) b)
+    → Estimates None left (front_read rest) → Estimates None (4 + budget) (body_read (item_head.Array count) b)
 item_takes_all budget count b held left rest so_far none finds levels i after is =
     let s = so_far levels (i, after) is in
     let step = part_step levels (items_in s.0 (left_of count held)) rest (i, after) (sym none) s.1 in
@@ -212,11 +209,11 @@ item_takes_all budget count b held left rest so_far none finds levels i after is
     let longer = grows _ levels _ step.0.1 (i, after) step.2 in
     omega (arith, items_longer s.0 step.0.0, found, s.2, longer)
 
-pub items_found : (found : Option Ahead) (budget : ℕ) (count : code_argument.Argument) (b : List ℕ) (held left : ℕ)
+pub items_found : (found : Option Ahead) (budget : ℕ) (count : Argument) (b : List ℕ) (held left : ℕ)
     (rest after : List ℕ) → ItemsSoFar budget count b held left rest
     → Some after ≡ after_members (left_of count held) rest
     → ((all size : ℕ) → left ≡ all - size → Leaves found all size after)
-    → Estimates found (4 + budget) (body_read (item_head.array (argument_view count)) b)
+    → Estimates found (4 + budget) (body_read (item_head.Array count) b)
 items_found found budget count b held left rest after so_far ends finds levels i end is =
     let s = so_far levels (i, end) is in
     let whole = parts_ended levels (items_in s.0 (left_of count held)) rest after
@@ -228,13 +225,13 @@ items_found found budget count b held left rest after so_far ends finds levels i
 -- ---- the pairs of a map
 
 -- After the first `held` pairs of a map this is left of the budget, and these bytes.
-abbrev pub PairsSoFar : ℕ → code_argument.Argument → List ℕ → ℕ → ℕ → List ℕ → Type 0
+abbrev pub PairsSoFar : ℕ → Argument → List ℕ → ℕ → ℕ → List ℕ → Type 0
 PairsSoFar budget count b held left rest = (levels : ℕ) (x : Item × List ℕ)
-    → body_read (item_head.map (argument_view count)) b levels ≡ Ok x
+    → body_read (item_head.Map count) b levels ≡ Ok x
     → (ps : Pairs) × (parts_read levels (pairs_in ps (left_of count held)) rest ≡ Ok x)
     × (left ≡ budget - estimated_pairs ps)
 
-pub no_pairs_yet : (budget : ℕ) (count : code_argument.Argument) (b : List ℕ) → PairsSoFar budget count b 0 budget b
+pub no_pairs_yet : (budget : ℕ) (count : Argument) (b : List ℕ) → PairsSoFar budget count b 0 budget b
 no_pairs_yet budget count b levels x is = (
   no_pairs,
   ap (λ a. parts_read levels (pairs_in no_pairs a) b) (none_held count) ∙ is,
@@ -251,7 +248,7 @@ pair_step levels ps a b x none is =
     let value = part_step levels (value_of ps key.0.0 (one_less a)) key.0.1 x refl key.2 in
     (key.0, value.0, key.1, value.1, value.2)
 
-pub one_pair_more : (budget : ℕ) (count : code_argument.Argument) (b : List ℕ) (held left : ℕ) (rest : List ℕ)
+pub one_pair_more : (budget : ℕ) (count : Argument) (b : List ℕ) (held left : ℕ) (rest : List ℕ)
     (key value : Ahead) → PairsSoFar budget count b held left rest → None ≡ after_members (left_of count held) rest
     → Estimates (Some key) left (front_read rest) → Estimates (Some value) key.left (front_read key.rest.now)
     → PairsSoFar budget count b (held + 1) (value.left - 2) value.rest.now
@@ -269,10 +266,9 @@ one_pair_more budget count b held left rest key value so_far none finds_key find
     (qs, next, omega (arith, pairs_longer s.0 step.0.0 step.1.0, k.0, k.1, v.0, v.1, s.2))
 
 -- a key takes all that is left, or its value does
-pub key_takes_all : (budget : ℕ) (count : code_argument.Argument) (b : List ℕ) (held left : ℕ) (rest : List ℕ)
+pub key_takes_all : (budget : ℕ) (count : Argument) (b : List ℕ) (held left : ℕ) (rest : List ℕ)
     → PairsSoFar budget count b held left rest → None ≡ after_members (left_of count held) rest
-    → Estimates None left (front_read rest)
-    → Estimates None (4 + budget) (body_read (item_head.map (argument_view count)) b)
+    → Estimates None left (front_read rest) → Estimates None (4 + budget) (body_read (item_head.Map count) b)
 key_takes_all budget count b held left rest so_far none finds levels i after is =
     let s = so_far levels (i, after) is in
     let step = pair_step levels s.0 (left_of count held) rest (i, after) (sym none) s.1 in
@@ -280,10 +276,10 @@ key_takes_all budget count b held left rest so_far none finds levels i after is 
     let longer = grows _ levels _ step.1.1 (i, after) step.4 in
     omega (arith, pairs_longer s.0 step.0.0 step.1.0, k, s.2, longer)
 
-pub value_takes_all : (budget : ℕ) (count : code_argument.Argument) (b : List ℕ) (held left : ℕ) (rest : List ℕ)
+pub value_takes_all : (budget : ℕ) (count : Argument) (b : List ℕ) (held left : ℕ) (rest : List ℕ)
     (key : Ahead) → PairsSoFar budget count b held left rest → None ≡ after_members (left_of count held) rest
     → Estimates (Some key) left (front_read rest) → Estimates None key.left (front_read key.rest.now)
-    → Estimates None (4 + budget) (body_read (item_head.map (argument_view count)) b)
+    → Estimates None (4 + budget) (body_read (item_head.Map count) b)
 value_takes_all budget count b held left rest key so_far none finds_key finds_value levels i after is =
     let s = so_far levels (i, after) is in
     let step = pair_step levels s.0 (left_of count held) rest (i, after) (sym none) s.1 in
@@ -294,11 +290,11 @@ value_takes_all budget count b held left rest key so_far none finds_key finds_va
     let longer = grows _ levels _ step.1.1 (i, after) step.4 in
     omega (arith, pairs_longer s.0 step.0.0 step.1.0, k.0, k.1, v, s.2, longer)
 
-pub pairs_found : (found : Option Ahead) (budget : ℕ) (count : code_argument.Argument) (b : List ℕ) (held left : ℕ)
+pub pairs_found : (found : Option Ahead) (budget : ℕ) (count : Argument) (b : List ℕ) (held left : ℕ)
     (rest after : List ℕ) → PairsSoFar budget count b held left rest
     → Some after ≡ after_members (left_of count held) rest
     → ((all size : ℕ) → left ≡ all - size → Leaves found all size after)
-    → Estimates found (4 + budget) (body_read (item_head.map (argument_view count)) b)
+    → Estimates found (4 + budget) (body_read (item_head.Map count) b)
 pairs_found found budget count b held left rest after so_far ends finds levels i end is =
     let s = so_far levels (i, end) is in
     let whole = parts_ended levels (pairs_in s.0 (left_of count held)) rest after

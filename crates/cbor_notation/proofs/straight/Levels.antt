@@ -3,7 +3,7 @@ use Rattle.std.proofs.Common.{◌≡◌, ℕ, ◌+◌, ◌<◌, ◌≤◌, List,
 use Rattle.std.proofs.lemmas.Bool.{cases_lt}
 use Rattle.cbor_grammar.specs.declared.error.Error.{Error}
 use Rattle.cbor_grammar.specs.Item.{Item}
-use Rattle.cbor_grammar.specs.ItemHead.{ItemHead}
+use Rattle.cbor_grammar.specs.declared.head.ItemHead.{ItemHead}
 use Rattle.cbor_grammar.specs.Reading.{Fails, opened, read_body, read_head, no_level_left, counted_item, read_item}
 use Rattle.cbor_grammar.specs.WellFormed.{levels_left}
 use Rattle.cbor_grammar.specs.mirror.AtLevel.{read_at, read_behind}

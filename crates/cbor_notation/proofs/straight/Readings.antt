@@ -7,25 +7,24 @@ use Rattle.cbor_grammar.specs.declared.width.FloatWidth.TheVariants as float_wid
 use Rattle.cbor_grammar.specs.declared.error.Error.{Error}
 use Rattle.cbor_grammar.specs.declared.error.Error.TheVariants as refusal
 use Rattle.cbor_notation.specs.declared.context.NotationContext.{NotationContext}
-use Rattle.cbor_bytes.specs.declared.argument.Argument as code_argument
-use Rattle.cbor_bytes.specs.declared.argument.Argument.TheVariants.{Number, Indefinite}
+use Rattle.cbor_grammar.specs.declared.argument.Argument.{Argument}
+use Rattle.cbor_grammar.specs.declared.argument.Argument.TheVariants.{Number, Indefinite}
 use Rattle.cbor_grammar.specs.declared.strings.StringContent.{StringContent}
-use Rattle.cbor_grammar.specs.Argument.{number}
+use Rattle.cbor_grammar.specs.declared.argument.Argument.TheVariants.{Number}
 use Rattle.cbor_grammar.specs.Item.{Chunk, string, Item, atom, Items, no_items, item, Pairs, no_pairs, pair, tagged}
-use Rattle.cbor_grammar.specs.ItemHead as item_head
-use Rattle.cbor_grammar.specs.ItemHead.{ItemHead}
+use Rattle.cbor_grammar.specs.declared.head.ItemHead.TheVariants as item_head
+use Rattle.cbor_grammar.specs.declared.head.ItemHead.{ItemHead}
 use Rattle.cbor_grammar.specs.NotationText.{text_with}
 use Rattle.cbor_grammar.specs.Reading.{Read, Fails, read_content, read_atom, Counted, ◌>>=◌, ◌>>-◌, Frame, items_in}
 use Rattle.cbor_grammar.specs.Reading.{pairs_in, value_of, tag_of}
 use Rattle.cbor_grammar.specs.Reading.{tagged_with, opened, joined, joined_pairs, one_less, put, after_members}
 use Rattle.cbor_grammar.specs.Reading.{after_end}
 use Rattle.cbor_grammar.specs.Reading.{closed, read_parts, read_body, read_head, no_level_left, counted_item, read_item}
-use Rattle.cbor_grammar.specs.StringKind.{StringKind}
+use Rattle.cbor_grammar.specs.declared.strings.StringKind.{StringKind}
 use Rattle.cbor_grammar.specs.mirror.StringView.{kind_of, borrowed_chunk}
 use Rattle.cbor_grammar.specs.WellFormed.{levels_left, FitsFloat}
-use Rattle.cbor_grammar.specs.mirror.Counting.{Stops}
-use Rattle.cbor_bytes.specs.mirror.HeadView.{argument_view}
-use Rattle.cbor_bytes.specs.mirror.HeadView.{left_of}
+use Rattle.cbor_grammar.specs.mirror.Counting.{FailsIn}
+use Rattle.cbor_grammar.specs.mirror.Lengths.{left_of}
 use Rattle.cbor_notation.specs.mirror.LayoutView.{context_view, item_text}
 use Rattle.cbor_notation.specs.mirror.Straight.{Printed, read_there, read_after}
 use Rattle.cbor_grammar.proofs.bytes.Heads.{IsBytes, HeadIs, head_takes}
@@ -52,7 +51,7 @@ pub fails_then : {A B : Type 0} (e : Error) (c : Counted A) (f : A × List ℕ �
 fails_then refusal.Memory c f h = tt
 fails_then e c f h = then_first c (0, Err e) f h
 
-pub fails_stopped : {A : Type 0} (e : Error) (n : ℕ) (c : Counted A) → Stops e n c → Fails e c.1
+pub fails_stopped : {A : Type 0} (e : Error) (n : ℕ) (c : Counted A) → FailsIn e n c → Fails e c.1
 fails_stopped refusal.Memory n c h = tt
 fails_stopped {A = A} e n c h = ap (λ (d : Counted A). d.1) h
 
@@ -87,15 +86,15 @@ pub atom_printed : (c : NotationContext) (b : List ℕ) (h : ItemHead) (rest : L
 atom_printed c b h rest i old new le e is written =
     (i, head_reads c b h rest le e ∙ is, opened_again c.level (context_view c) i old new le written)
 
-fits_so : (bits : ℕ) (w : FloatWidth) (b rest : List ℕ) → HeadIs (item_head.float bits w) b rest → FitsFloat w bits
+fits_so : (bits : ℕ) (w : FloatWidth) (b rest : List ℕ) → HeadIs (item_head.Float bits w) b rest → FitsFloat w bits
 fits_so bits float_width.Unknown b rest h = absurd h
 fits_so bits float_width.Sixteen b rest h = h.0
 fits_so bits float_width.ThirtyTwo b rest h = h.0
 fits_so bits float_width.SixtyFour b rest h = h.0
 
 pub float_fits : (b rest : List ℕ) (bits : ℕ) (w : FloatWidth) → IsBytes b
-    → read_head b ≡ Ok (item_head.float bits w, rest) → FitsFloat w bits
-float_fits b rest bits w fits e = fits_so bits w b rest (head_takes b rest (item_head.float bits w) fits e).0
+    → read_head b ≡ Ok (item_head.Float bits w, rest) → FitsFloat w bits
+float_fits b rest bits w fits e = fits_so bits w b rest (head_takes b rest (item_head.Float bits w) fits e).0
 
 pub head_fails : (c : NotationContext) (b : List ℕ) (e : Error) → c.level ≤ 128 → Fails e (read_head b)
     → Fails e (read_there c b)
@@ -130,18 +129,18 @@ parts_ended left f b after i is ends = ap (λ (c : Counted Item). c.1)
     (parts_end (counted_item left) (item_shortens left) f b after i is ends)
 
 -- nothing is held yet
-pub none_held : (len : code_argument.Argument) → left_of len 0 ≡ argument_view len
-none_held (Number n w) = let e : n - 0 ≡ n = omega arith in ap (λ k. number k w) e
+pub none_held : (len : Argument) → left_of len 0 ≡ len
+none_held (Number n w) = let e : n - 0 ≡ n = omega arith in ap (λ k. Number k w) e
 none_held Indefinite = refl
 
-pub member_read : (left : ℕ) (is : Items) (len : code_argument.Argument) (held : ℕ) (b rest : List ℕ) (i : Item)
+pub member_read : (left : ℕ) (is : Items) (len : Argument) (held : ℕ) (b rest : List ℕ) (i : Item)
     → after_members (left_of len held) b ≡ None → read_item left b ≡ Ok (i, rest)
     → parts_read left (items_in is (left_of len held)) b
     ≡ parts_read left (items_in (joined is (item i no_items)) (left_of len (held + 1))) rest
 member_read left is len held b rest i none e = part_read left (items_in is (left_of len held)) b rest i none e
     ∙ ap (λ a. parts_read left (items_in (joined is (item i no_items)) a) rest) (sym (left_less len held))
 
-pub pair_read : (left : ℕ) (ps : Pairs) (len : code_argument.Argument) (held : ℕ) (b mid rest : List ℕ) (k v : Item)
+pub pair_read : (left : ℕ) (ps : Pairs) (len : Argument) (held : ℕ) (b mid rest : List ℕ) (k v : Item)
     → after_members (left_of len held) b ≡ None → read_item left b ≡ Ok (k, mid) → read_item left mid ≡ Ok (v, rest)
     → parts_read left (pairs_in ps (left_of len held)) b
     ≡ parts_read left (pairs_in (joined_pairs ps (pair k v no_pairs)) (left_of len (held + 1))) rest
@@ -150,7 +149,7 @@ pair_read left ps len held b mid rest k v none key value =
     ∙ part_read left (value_of ps k (one_less (left_of len held))) mid rest v refl value
     ∙ ap (λ a. parts_read left (pairs_in (joined_pairs ps (pair k v no_pairs)) a) rest) (sym (left_less len held))
 
-pub value_fails : (e : Error) (left : ℕ) (ps : Pairs) (len : code_argument.Argument) (held : ℕ) (b mid : List ℕ)
+pub value_fails : (e : Error) (left : ℕ) (ps : Pairs) (len : Argument) (held : ℕ) (b mid : List ℕ)
     (k : Item) → after_members (left_of len held) b ≡ None → read_item left b ≡ Ok (k, mid)
     → Fails e (read_item left mid) → Fails e (parts_read left (pairs_in ps (left_of len held)) b)
 value_fails e left ps len held b mid k none key h =
@@ -175,8 +174,7 @@ none_before c = go c.0 c.1
 
 pub content_read : (n : ℕ) (w : IntegerWidth) (s : StringContent) (b rest : List ℕ) (kind : StringKind)
     → kind_of s ≡ kind → read_content kind n w b ≡ Ok (borrowed_chunk w s, rest)
-    → (read_atom (item_head.string kind (number n w)) b).1
-    ≡ Ok (atom (string (kind_of s) (borrowed_chunk w s)), rest)
+    → (read_atom (item_head.String kind (Number n w)) b).1 ≡ Ok (atom (string (kind_of s) (borrowed_chunk w s)), rest)
 content_read n w s b rest kind same e = ap (λ r. r >>= λ c. Ok (atom (string kind c.0), c.1)) e
     ∙ ap (λ k. Ok (atom (string k (borrowed_chunk w s)), rest)) (sym same)
 

@@ -5,17 +5,17 @@ use Rattle.std.specs.Io.{StartsWith}
 use Rattle.cbor_grammar.specs.declared.error.Error.{Error}
 use Rattle.cbor_grammar.specs.declared.error.Error.TheVariants as refusal
 use Rattle.cbor_notation.specs.declared.context.NotationContext.{NotationContext}
-use Rattle.cbor_grammar.specs.ContainerStyle.{ContainerStyle}
+use Rattle.cbor_grammar.specs.declared.layout.ContainerStyle.{ContainerStyle}
 use Rattle.cbor_grammar.specs.Embedded.{before, sequence_of, sequence_at}
 use Rattle.cbor_grammar.specs.Estimate.{estimated_items}
 use Rattle.cbor_grammar.specs.Item.{Item, Items, no_items, item}
-use Rattle.cbor_grammar.specs.Layout.{Context}
-use Rattle.cbor_grammar.specs.Layout as shown
+use Rattle.cbor_grammar.specs.Context.{Context}
+use Rattle.cbor_grammar.specs.declared.layout.Content.TheVariants as shown
 use Rattle.cbor_grammar.specs.NotationText.{Writer, members, members_layout, last_line, inside, item_texts}
 use Rattle.cbor_grammar.specs.NotationText.{rest_text, sequence_listed, sequence_text, text_at_level}
 use Rattle.cbor_grammar.specs.Reading.{Fails, joined, read_item}
 use Rattle.cbor_grammar.specs.WellFormed.{levels_left}
-use Rattle.cbor_grammar.specs.mirror.Appends.{Appends}
+use Rattle.cbor_notes.specs.Appends.{Appends}
 use Rattle.cbor_notation.specs.mirror.LayoutView.{context_view, content_there, item_text}
 use Rattle.cbor_grammar.proofs.bytes.FoundAgain.{joined-none, joined_one}
 use Rattle.cbor_grammar.proofs.bytes.Shorter.{item_shorter}

@@ -8,14 +8,17 @@ use Rattle.cbor_grammar.specs.declared.width.IntegerWidth.{IntegerWidth}
 use Rattle.cbor_grammar.specs.declared.error.Error.{Error}
 use Rattle.cbor_grammar.specs.declared.error.Error.TheVariants as refusal
 use Rattle.cbor_notation.specs.declared.ahead.Ahead.{Ahead}
-use Rattle.cbor_grammar.specs.Argument.{Argument, number, indefinite}
+use Rattle.cbor_grammar.specs.declared.argument.Argument.{Argument}
+use Rattle.cbor_grammar.specs.declared.argument.Argument.TheVariants.{Number, Indefinite}
 use Rattle.cbor_grammar.specs.Estimate.{estimated_length, estimated_chunks, estimated_string}
 use Rattle.cbor_grammar.specs.Head.{break_byte}
 use Rattle.cbor_grammar.specs.Item.{Chunk, string, chunked_string, Item, atom}
-use Rattle.cbor_grammar.specs.ItemHead as item_head
+use Rattle.cbor_grammar.specs.declared.head.ItemHead.TheVariants as item_head
 use Rattle.cbor_grammar.specs.Reading.{Fails, Read, ◌>>=◌, split_at, checked_chunk, read_content, read_argument}
 use Rattle.cbor_grammar.specs.Reading.{length_of, chunk_of, read_chunk_length, read_chunk, more_chunks, read_chunks}
-use Rattle.cbor_grammar.specs.StringKind.{StringKind, bytes_kind, text_kind, major_of}
+use Rattle.cbor_grammar.specs.declared.strings.StringKind.{StringKind}
+use Rattle.cbor_grammar.specs.declared.strings.StringKind.TheVariants.{Bytes, Text}
+use Rattle.cbor_grammar.specs.StringKind.{major_of}
 use Rattle.cbor_notation.specs.mirror.Ahead.{Leaves, Estimates, body_read}
 use Rattle.cbor_grammar.proofs.bytes.Heads.{bind_ok, then_ok, ok_is, guard_held}
 
@@ -28,8 +31,8 @@ failed e read other fails = fails
 
 content_of : (kind : StringKind) (w : IntegerWidth) (s : List ℕ) (c : Chunk) → checked_chunk kind w s ≡ Ok c
     → c.bytes ≡ s
-content_of bytes_kind w s c e = ap (λ (x : Chunk). x.bytes) (sym (ok_is (record { bytes = s; width = w }) c e))
-content_of text_kind w s c e = ap (λ (x : Chunk). x.bytes)
+content_of Bytes w s c e = ap (λ (x : Chunk). x.bytes) (sym (ok_is (record { bytes = s; width = w }) c e))
+content_of Text w s c e = ap (λ (x : Chunk). x.bytes)
     (sym (guard_held (is_utf8 s) refusal.Utf8 (record { bytes = s; width = w }) c e).1)
 
 -- the bytes that were split off are the content
@@ -57,7 +60,7 @@ no_content kind n w b e x fails is =
 pub string_found : (found : Option Ahead) (budget : ℕ) (kind : StringKind) (n : ℕ) (w : IntegerWidth) (b : List ℕ)
     → ((c : Chunk) (rest : List ℕ) → read_content kind n w b ≡ Ok (c, rest)
     → Leaves found budget (estimated_string kind c) rest)
-    → Estimates found budget (body_read (item_head.string kind (number n w)) b)
+    → Estimates found budget (body_read (item_head.String kind (Number n w)) b)
 string_found found budget kind n w b finds levels i rest is =
     let a = bind_ok (read_content kind n w b) (λ c. Ok (atom (string kind c.0), c.1)) (i, rest) is in
     subst (λ (x : Item × List ℕ). Leaves found budget (estimated_length x.0) x.1)
@@ -78,8 +81,8 @@ by_length kind (first ∷ b) = go (first == break_byte) (first / 32 == major_of 
   where
     at : (a : Argument) (b : List ℕ)
         → chunk_of kind a b ≡ (length_of a b >>= λ n. after_length kind n.0 n.1)
-    at (number n w) b = refl
-    at indefinite b = refl
+    at (Number n w) b = refl
+    at Indefinite b = refl
 
     go : (ends same : Bool) (r : Read Argument)
         → cond ends (Ok (None, b)) (cond same (r >>= λ a. chunk_of kind a.0 a.1) (Err refusal.Head))
@@ -130,7 +133,7 @@ abbrev as_item : StringKind → List Chunk × List ℕ → Item × List ℕ
 as_item kind x = (atom (chunked_string kind x.0), x.1)
 
 whole_chunks : (kind : StringKind) (b : List ℕ) (levels : ℕ) (y : Item × List ℕ)
-    → body_read (item_head.string kind indefinite) b levels ≡ Ok y
+    → body_read (item_head.String kind Indefinite) b levels ≡ Ok y
     → (x : List Chunk × List ℕ) × ((read_chunks (length b) kind b).1 ≡ Ok x) × (as_item kind x ≡ y)
 whole_chunks kind b levels y is =
     let x = then_ok (read_chunks (length b) kind b) (λ cs. (0, Ok (as_item kind cs))) y is in
@@ -161,7 +164,7 @@ pub chunk_takes_all : (budget : ℕ) (kind : StringKind) (b : List ℕ) (left : 
     → read_chunk_length (major_of kind) rest ≡ Ok (Some (k, w), mid)
     → ((c : Chunk) (after : List ℕ) → read_content kind k w mid ≡ Ok (c, after)
     → Leaves None left (estimated_string kind c) after)
-    → Estimates None (4 + budget) (body_read (item_head.string kind indefinite) b)
+    → Estimates None (4 + budget) (body_read (item_head.String kind Indefinite) b)
 chunk_takes_all budget kind b left rest k w mid so_far len finds levels i after is =
     let x = whole_chunks kind b levels (i, after) is in
     let s = so_far x.0 x.1 in
@@ -178,7 +181,7 @@ chunk_takes_all budget kind b left rest k w mid so_far len finds levels i after 
 pub chunks_found : (found : Option Ahead) (budget : ℕ) (kind : StringKind) (b : List ℕ) (left : ℕ) (rest after : List ℕ)
     → ChunksSoFar budget kind b left rest → read_chunk_length (major_of kind) rest ≡ Ok (None, after)
     → ((all size : ℕ) → left ≡ all - size → Leaves found all size after)
-    → Estimates found (4 + budget) (body_read (item_head.string kind indefinite) b)
+    → Estimates found (4 + budget) (body_read (item_head.String kind Indefinite) b)
 chunks_found found budget kind b left rest after so_far len finds levels i end is =
     let x = whole_chunks kind b levels (i, end) is in
     let s = so_far x.0 x.1 in
@@ -197,7 +200,7 @@ chunks_found found budget kind b left rest after so_far len finds levels i end i
 
 pub chunk_unread : (budget : ℕ) (kind : StringKind) (b : List ℕ) (left : ℕ) (rest : List ℕ) (e : Error)
     → ChunksSoFar budget kind b left rest → read_chunk_length (major_of kind) rest ≡ Err e
-    → Estimates None (4 + budget) (body_read (item_head.string kind indefinite) b)
+    → Estimates None (4 + budget) (body_read (item_head.String kind Indefinite) b)
 chunk_unread budget kind b left rest e so_far fails levels i after is =
     let x = whole_chunks kind b levels (i, after) is in
     let s = so_far x.0 x.1 in

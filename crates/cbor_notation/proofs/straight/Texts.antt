@@ -9,23 +9,25 @@ use Rattle.cbor_grammar.specs.declared.width.IntegerWidth.{IntegerWidth}
 use Rattle.cbor_notation.specs.declared.context.NotationContext.{NotationContext}
 use Rattle.cbor_grammar.specs.declared.strings.StringContent.{StringContent}
 use Rattle.cbor_grammar.specs.declared.strings.StringContent.TheVariants as content
-use Rattle.cbor_grammar.specs.ContainerStyle as style
-use Rattle.cbor_grammar.specs.ContainerStyle.{ContainerStyle, OneLine, MultiLine}
-use Rattle.cbor_grammar.specs.Encoding.{Encoding}
+use Rattle.cbor_grammar.specs.declared.layout.ContainerStyle.TheVariants as style
+use Rattle.cbor_grammar.specs.declared.layout.ContainerStyle.{ContainerStyle}
+use Rattle.cbor_grammar.specs.declared.layout.ContainerStyle.TheVariants.{OneLine, MultiLine}
+use Rattle.cbor_grammar.specs.declared.encoding.Encoding.{Encoding}
 use Rattle.cbor_grammar.specs.Item as spec
 use Rattle.cbor_grammar.specs.Item.{Chunk, string, chunked_string, Item, atom, array, Items, no_items, item, item_count}
 use Rattle.cbor_grammar.specs.Item.{Pairs, no_pairs, pair, pair_count}
-use Rattle.cbor_grammar.specs.Layout.{Context}
+use Rattle.cbor_grammar.specs.Context.{Context}
 use Rattle.cbor_grammar.specs.NotationText.{line, separated, members, members_layout, last_line, bracketed, opened}
 use Rattle.cbor_grammar.specs.NotationText.{colon}
 use Rattle.cbor_grammar.specs.NotationText.{container_style, inside, item_texts, pair_texts}
 use Rattle.cbor_grammar.specs.NotationText.{array_text, map_text, string_text, chunks_listed, chunks_text}
 use Rattle.cbor_grammar.specs.NotationText.{text_at_level}
 use Rattle.cbor_grammar.specs.Reading.{joined, joined_pairs}
-use Rattle.cbor_grammar.specs.StringKind.{StringKind, bytes_kind, text_kind, no_chunks}
+use Rattle.cbor_grammar.specs.declared.strings.StringKind.{StringKind}
+use Rattle.cbor_grammar.specs.declared.strings.StringKind.TheVariants.{Bytes, Text}
+use Rattle.cbor_grammar.specs.StringKind.{no_chunks}
 use Rattle.cbor_grammar.specs.Estimate.{estimated_items, estimated_pairs, estimated_chunks}
-use Rattle.cbor_notation.specs.mirror.EncodingView.{encoding_view}
-use Rattle.cbor_notation.specs.mirror.LayoutView.{layout_view, context_view, before_member, after_member, item_text}
+use Rattle.cbor_notation.specs.mirror.LayoutView.{context_view, before_member, after_member, item_text}
 use Rattle.cbor_notation.specs.mirror.Straight.{string_there, before_chunk, after_chunks}
 use Rattle.cbor_grammar.specs.mirror.StringView.{borrowed_chunk, kind_of}
 use Rattle.cbor_grammar.proofs.text.Parts.{write_below, opened_again, bracketed_written}
@@ -135,7 +137,7 @@ writes_inner inner level c p q = ap (λ n. text_at_level n (context_view inner))
 
 -- the style of a container that is estimated so
 abbrev pub style_there : NotationContext → ℕ → ContainerStyle
-style_there c size = container_style (layout_view c.layout) size
+style_there c size = container_style c.layout size
 
 module _ (l : ContainerStyle) (c inner : NotationContext) (level : c.level ≤ 128) (deeper : inner.level ≡ c.level + 1)
     (inside_it : context_view inner ≡ inside (members_layout l) (context_view c)) where
@@ -210,24 +212,24 @@ listed_so l kind (m ∷ ms) held is = rw (sym is)
 
 pub chunks_printed : (l : ContainerStyle) (c : NotationContext) (kind : StringKind) (cs : List Chunk) (held : ℕ)
     (old out new : List ℕ) → c.level ≤ 128 → l ≡ style_there c (4 + estimated_chunks kind cs) → length cs ≡ held
-    → out ≡ old ++ chunks_begun l (chunk_texts kind (encoding_view c.encoding) cs)
+    → out ≡ old ++ chunks_begun l (chunk_texts kind c.encoding cs)
     → new ≡ out ++ after_chunks l kind held
     → new ≡ old ++ item_text c (atom (chunked_string kind cs))
 chunks_printed l c kind cs held old out new level same count p q =
-    let ms : List (List ℕ) = chunk_texts kind (encoding_view c.encoding) cs in
+    let ms : List (List ℕ) = chunk_texts kind c.encoding cs in
     let held_so : length ms ≡ held =
-    length-map cs (λ (x : Chunk). string_text kind (encoding_view c.encoding) x.bytes) ∙ count in
+    length-map cs (λ (x : Chunk). string_text kind c.encoding x.bytes) ∙ count in
     opened_again c.level (context_view c) (atom (chunked_string kind cs)) old new level
     (q ∙ ap (λ y. y ++ after_chunks l kind held) p ∙ append_assoc old (chunks_begun l ms) (after_chunks l kind held)
     ∙ ap (λ y. old ++ y) (listed_so l kind ms held held_so)
-    ∙ ap (λ k. old ++ chunks_text kind (encoding_view c.encoding) k cs) same)
+    ∙ ap (λ k. old ++ chunks_text kind c.encoding k cs) same)
 
 -- ---- strings of definite length
 
 pub string_printed : (c : NotationContext) (w : IntegerWidth) (s : StringContent) (old new : List ℕ) → c.level ≤ 128
     → new ≡ old ++ string_there c s → new ≡ old ++ item_text c (atom (string (kind_of s) (borrowed_chunk w s)))
 string_printed c w (content.Bytes b) old new level h =
-    opened_again c.level (context_view c) (atom (string bytes_kind (borrowed_chunk w (content.Bytes b))))
+    opened_again c.level (context_view c) (atom (string Bytes (borrowed_chunk w (content.Bytes b))))
     old new level h
 string_printed c w (content.Text t) old new level h =
-    opened_again c.level (context_view c) (atom (string text_kind (borrowed_chunk w (content.Text t)))) old new level h
+    opened_again c.level (context_view c) (atom (string Text (borrowed_chunk w (content.Text t)))) old new level h

@@ -8,8 +8,9 @@ use Rattle.std.proofs.lemmas.Bool.Decides.{nat_tests}
 use Rattle.cbor_notes.specs.Ascii.{quote}
 use Rattle.cbor_notes.specs.Token.{is_special, escaped_byte, in_quotes}
 use Rattle.cbor_grammar.specs.NotationText.{members, bracketed, opened, chunks_listed}
-use Rattle.cbor_grammar.specs.ContainerStyle as style
-use Rattle.cbor_grammar.specs.ContainerStyle.{ContainerStyle, OneLine, MultiLine}
+use Rattle.cbor_grammar.specs.declared.layout.ContainerStyle.TheVariants as style
+use Rattle.cbor_grammar.specs.declared.layout.ContainerStyle.{ContainerStyle}
+use Rattle.cbor_grammar.specs.declared.layout.ContainerStyle.TheVariants.{OneLine, MultiLine}
 use Rattle.cbor_notation.specs.mirror.LayoutView.{before_member, after_member}
 
 -- a byte that is escaped is a character

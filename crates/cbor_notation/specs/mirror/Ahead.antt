@@ -3,7 +3,7 @@ use Rattle.std.specs.Prelude.{◌≡◌, ℕ, ◌+◌, ◌<◌, ◌≤◌, List,
 use Rattle.cbor_notation.specs.declared.ahead.Ahead.{Ahead}
 use Rattle.cbor_grammar.specs.Estimate.{estimated_length}
 use Rattle.cbor_grammar.specs.Item.{Item}
-use Rattle.cbor_grammar.specs.ItemHead.{ItemHead}
+use Rattle.cbor_grammar.specs.declared.head.ItemHead.{ItemHead}
 use Rattle.cbor_grammar.specs.Reading.{Read, opened, read_body, counted_item, read_item}
 
 -- What is that long takes this much of the budget, and these bytes follow it; or it takes all.

@@ -26,7 +26,9 @@ use Rattle.cbor_grammar.specs.Item as spec
 use Rattle.cbor_grammar.specs.Item.{Chunk, Atom, integer, negative, string, chunked_string}
 use Rattle.cbor_grammar.specs.Item.{float, simple, Item, atom, array, tagged}
 use Rattle.cbor_grammar.specs.Item.{items_of, pairs_of}
-use Rattle.cbor_grammar.specs.StringKind.{StringKind, bytes_kind, text_kind, no_chunks}
+use Rattle.cbor_grammar.specs.declared.strings.StringKind.{StringKind}
+use Rattle.cbor_grammar.specs.declared.strings.StringKind.TheVariants.{Bytes, Text}
+use Rattle.cbor_grammar.specs.StringKind.{no_chunks}
 use Rattle.cbor_grammar.specs.Reading.{Read, ◌>>=◌, checked_chunk}
 use Rattle.cbor_grammar.specs.Written.{encoded_items}
 use Rattle.cbor_grammar.specs.Notation.{width_of, number_width}
@@ -267,8 +269,8 @@ rest_of (b ∷ text) = text
 
 -- whether texts may be pieces of a string
 abbrev pub takes_texts : StringKind → Bool
-takes_texts bytes_kind = false
-takes_texts text_kind = true
+takes_texts Bytes = false
+takes_texts Text = true
 
 -- whether a piece of a string of this kind begins so
 abbrev pub begins_piece : StringKind → Start → Bool
@@ -305,9 +307,9 @@ read_pieces read kind (suc n) text =
 
 -- whether a string of this kind begins so: the first piece of a text string is a text
 abbrev pub begins_string : StringKind → Start → Bool
-begins_string bytes_kind s = begins_piece bytes_kind s
-begins_string text_kind start.Quote = true
-begins_string text_kind _ = false
+begins_string Bytes s = begins_piece Bytes s
+begins_string Text start.Quote = true
+begins_string Text _ = false
 
 -- the content of a string, which is UTF-8 in a text string
 abbrev pub checked : StringKind → List ℕ → Result Chunk Error
@@ -339,8 +341,8 @@ chunks_of read kind text = read_members (read_chunk read kind) 41 text
 
 -- the kind of an indefinite string, by what its first chunk begins with
 abbrev pub kind_from : Start → StringKind
-kind_from start.Quote = text_kind
-kind_from _ = bytes_kind
+kind_from start.Quote = Text
+kind_from _ = Bytes
 
 -- an indefinite string after its parenthesis
 abbrev pub read_chunks : (List ℕ → Read Item) → List ℕ → Read Item
@@ -416,11 +418,11 @@ core_of read start.Minus text rest = read_negative rest
 core_of read start.Bracket text rest = read_array read rest
 core_of read start.Brace text rest = read_map read rest
 core_of read start.Parenthesis text rest = read_chunks read rest
-core_of read start.Apostrophe text rest = read_string_item read bytes_kind text
-core_of read start.Angle text rest = read_string_item read bytes_kind text
-core_of read start.LetterB text rest = read_string_item read bytes_kind text
-core_of read start.LetterH text rest = read_string_item read bytes_kind text
-core_of read start.Quote text rest = read_string_item read text_kind text
+core_of read start.Apostrophe text rest = read_string_item read Bytes text
+core_of read start.Angle text rest = read_string_item read Bytes text
+core_of read start.LetterB text rest = read_string_item read Bytes text
+core_of read start.LetterH text rest = read_string_item read Bytes text
+core_of read start.Quote text rest = read_string_item read Text text
 core_of read start.Other text rest = read_word text
 
 unfoldable pub read_core : (List ℕ → Read Item) → List ℕ → Read Item

@@ -1,8 +1,8 @@
 -- The lines of a layout, read one after the other.
 use Rattle.std.proofs.Common.{◌≡◌, ◌≢◌, ℕ, suc, ◌+◌, ◌-◌, ◌*◌, ◌==◌, ◌≤◌, ◌<◌, Bool, true, false, not, cond, List, []}
-use Rattle.std.proofs.Common.{◌∷◌, ◌++◌, length, take, drop, get_or, refl, sym, ap, ◌∙◌, arith, append_assoc}
+use Rattle.std.proofs.Common.{◌∷◌, ◌++◌, length, take, get_or, refl, sym, ap, ◌∙◌, arith, append_assoc}
 use Rattle.std.proofs.Common.{append-nil, zero, length-append, Some, subst}
-use Rattle.std.specs.List.{AllByRecursion, after_first, before_first, position, position_or_len, slice_split, filter}
+use Rattle.std.specs.List.{AllByRecursion, before_first, position, position_or_len, slice_split, filter}
 use Rattle.std.specs.List.{flat_map, onto_first}
 use Rattle.std.specs.Str.Lines.{lines, lines_of_parts, strip_carriage_return}
 use Rattle.std.proofs.lemmas.Bool.{ne_eqb}
@@ -11,7 +11,7 @@ use Rattle.std.proofs.lemmas.List.{get_or_append_left, length-replicate}
 use Rattle.std.proofs.lemmas.List.Elements.{All-append, All-replicate, filter-append}
 use Rattle.std.proofs.lemmas.List.Splits.{slice_split_at}
 use Rattle.std.proofs.lemmas.List.Sums.{position_or_len_is}
-use Rattle.std.proofs.Math.Seq.{drop-append-add, get_or-append_seam, take-append_seam, take-append-add}
+use Rattle.std.proofs.Math.Seq.{get_or-append_seam, take-append_seam, take-append-add}
 use Rattle.cbor_notes.specs.Layout.{DumpLine, blanks, left_column, line_text, reach, width_of}
 use Rattle.cbor_notes.specs.Columns.{Lacks, IsPlain, IsColumn, digits_of, uncommented}
 
@@ -27,10 +27,6 @@ first_at c front back lacks =
 pub before : (c : ℕ) (front back : List ℕ) → Lacks c front → before_first (λ b. b == c) (front ++ c ∷ back) ≡ front
 before c front back lacks = ap (λ n. take n (front ++ c ∷ back)) (first_at c front back lacks)
     ∙ take-append_seam front (c ∷ back)
-
-pub after : (c : ℕ) (front back : List ℕ) → Lacks c front → after_first (λ b. b == c) (front ++ c ∷ back) ≡ back
-after c front back lacks = ap (λ n. drop (n + 1) (front ++ c ∷ back)) (first_at c front back lacks)
-    ∙ drop-append-add front (c ∷ back) 1
 
 place : (c : ℕ) (front back : List ℕ) → Lacks c front → position (λ b. b == c) (front ++ c ∷ back) ≡ Some (length front)
 place c front back lacks =

@@ -1,12 +1,12 @@
 -- Texts that begin with an earlier text, and may be cut back to it.
 use Rattle.std.proofs.Common.{◌≡◌, ℕ, List, ◌++◌, length, Result, Ok, Err, OnErr, subst, sym, arith}
 use Rattle.std.proofs.Transfers.{starts_with_length, starts_with_of_append, starts_with_trans}
-use Rattle.std.proofs.lemmas.Result.{on_err_weaker}
 use Rattle.std.proofs.lemmas.Str.{IsCharBoundary-from_take, IsUtf8-string_bytes}
 use Rattle.std.proofs.Common.{ap, ◌∙◌, append_assoc}
 use Rattle.std.proofs.lemmas.Grind.{flat_map-append}
 use Rattle.std.specs.Io.{StartsWith}
 use Rattle.std.specs.List.{flat_map}
+use Rattle.cbor_notes.specs.Appends.{AppendsText}
 use Rattle.cbor_notes.specs.Text.{escaped_byte}
 use Rattle.std.specs.Prelude.{String, string_bytes}
 use Rattle.std.specs.Str.{IsUtf8}
@@ -19,7 +19,7 @@ front_before old text more new appended front =
     starts_with_trans new text old front (starts_with_of_append text old more appended)
 
 -- a text that begins with an old one may be cut where that one ended
-split_after : {Z : Type 0} (old new : String Z) → StartsWith (string_bytes new) (string_bytes old)
+pub split_after : {Z : Type 0} (old new : String Z) → StartsWith (string_bytes new) (string_bytes old)
     → IsSplitPoint (string_bytes new) (length (string_bytes old))
 split_after old new front =
     let within = starts_with_length (string_bytes new) (string_bytes old) front in
@@ -28,17 +28,12 @@ split_after old new front =
     (at.0, λ some. at.1)
 
 -- so it may be cut after an error
-pub cut_point : {Z V E : Type 0} (old new : String Z) (result : Result V E) (len : ℕ) → len ≡ string_len old
-    → OnErr result (StartsWith (string_bytes new) (string_bytes old))
-    → OnErr result (IsSplitPoint (string_bytes new) len)
-cut_point old new result len is =
+pub cut_point : {Z V E : Type 0} (old new : String Z) (text : List ℕ) (result : Result V E) (len : ℕ)
+    → len ≡ string_len old → AppendsText result old new text → OnErr result (IsSplitPoint (string_bytes new) len)
+cut_point old new text (Ok value) len is h = tt
+cut_point old new text (Err error) len is front =
     let same : length (string_bytes old) ≡ len = omega (arith, is, old.bytes.ok.0) in
-    on_err_weaker result (λ front. subst (IsSplitPoint (string_bytes new)) same (split_after old new front))
-
--- what holds, holds after an error
-pub on_err : {V E P : Type 0} (result : Result V E) → P → OnErr result P
-on_err (Ok value) holds = tt
-on_err (Err error) holds = holds
+    subst (IsSplitPoint (string_bytes new)) same (split_after old new front)
 
 -- a piece more is written, escaped
 pub escaped_more : (text piece after rest whole : List ℕ) → piece ++ after ≡ rest

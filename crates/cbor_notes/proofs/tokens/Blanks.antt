@@ -2,14 +2,14 @@
 use Rattle.std.proofs.Common.{◌≡◌, ◌≢◌, ℕ, suc, ◌+◌, ◌<◌, ◌≤◌, Bool, true, false, ◌==◌, ◌&&◌, ◌||◌, List, [], ◌∷◌, ◌++◌}
 use Rattle.std.proofs.Common.{length, drop, slice_range, Option, Some, None, refl, sym, ap, ◌∙◌, subst, inl, inr, arith}
 use Rattle.std.proofs.Common.{IsTrue}
-use Rattle.std.specs.List.{AllByRecursion, position_or_len}
+use Rattle.std.specs.List.{AllByRecursion, position, position_or_len}
 use Rattle.std.proofs.lemmas.List.{length-append, append_assoc, append-nil}
 use Rattle.std.proofs.lemmas.Bool.{cond_both, and_parts, or_cases, eqb-true, eqb-false, ne_eqb, cases_Bool, false≢true}
 use Rattle.std.proofs.Math.Numerals.{one-add}
 use Rattle.cbor_notes.specs.Token.{Blank, nothing, whitespace, comment, IsLongest, is_whitespace}
 use Rattle.cbor_notes.specs.TokenReading.{after_blank_in, after_blank}
 use Rattle.cbor_notes.proofs.tokens.Longest.{one_longest}
-use Rattle.cbor_notes.proofs.tokens.TextPlaces.{part_and_rest, part_is}
+use Rattle.cbor_notes.proofs.tokens.TextPlaces.{part_and_rest, part_is, first_at, first_nowhere}
 
 -- what holds at each of the four holds of all whitespace
 pub at_whitespace : (P : ℕ → Type 0) → P 32 → P 9 → P 10 → P 13 → (byte : ℕ) → IsTrue (is_whitespace byte) → P byte
@@ -202,15 +202,17 @@ after_blank-again comments text =
 
 -- a `/` that opens a comment, and one that opens none
 pub comment_left : (comments : Bool) (text rest : List ℕ) (place : ℕ) → IsTrue comments → text ≡ 47 ∷ rest
-    → place ≡ position_or_len (λ b. b == 47) rest → place < length rest
-    → after_blank comments (drop (place + 1) rest) ≡ after_blank comments text
-comment_left true text rest place allowed is first within =
-    sym (ap (after_blank true) is ∙ after_comment true (47 ∷ rest) rest place first within)
-comment_left false text rest place allowed is first within = absurd (false≢true allowed)
+    → position (λ b. b == 47) rest ≡ Some place → after_blank comments (drop (place + 1) rest) ≡ after_blank comments text
+comment_left true text rest place allowed is found =
+    let first = first_at (λ b. b == 47) rest (Some place) place (sym found) refl in
+    sym (ap (after_blank true) is ∙ after_comment true (47 ∷ rest) rest place first.0 first.1)
+comment_left false text rest place allowed is found = absurd (false≢true allowed)
 
 pub slash_left : (comments : Bool) (text rest : List ℕ) → IsTrue comments → text ≡ 47 ∷ rest
-    → position_or_len (λ b. b == 47) rest ≡ length rest → text ≡ after_blank comments text
-slash_left true text rest allowed is none = is ∙ sym (ap (after_blank true) is ∙ no_comment true (47 ∷ rest) rest none)
+    → position (λ b. b == 47) rest ≡ None → text ≡ after_blank comments text
+slash_left true text rest allowed is none =
+    is ∙ sym (ap (after_blank true) is ∙ no_comment true (47 ∷ rest) rest
+    (first_nowhere (λ b. b == 47) rest None (sym none) refl))
 slash_left false text rest allowed is none = absurd (false≢true allowed)
 
 -- nothing is left of a blank

@@ -1,55 +1,41 @@
--- The number at a place of a text, as its digits are read there.
-use Rattle.std.proofs.Common.{◌≡◌, ◌≢◌, ℕ, ◌+◌, ◌<◌, ◌≤◌, false, not, ◌==◌, ◌&&◌, List, [], ◌∷◌}
-use Rattle.std.proofs.Common.{◌++◌, length, drop, slice_range, Option, Some, None, refl, sym, ap, ◌∙◌, inl, inr, subst}
-use Rattle.std.proofs.Common.{arith}
-use Rattle.std.proofs.lemmas.List.{length-append, length-drop, drop-drop}
-use Rattle.std.proofs.lemmas.Bool.{and_parts, cond_both, cond-true, cond-false, cases_Bool, ne_eqb}
-use Rattle.std.proofs.lemmas.Bool.{false≢true}
-use Rattle.cbor_notes.specs.Token.{Base}
-use Rattle.cbor_notes.specs.Token.{decimal_base, hexadecimal_base, octal_base, binary_base}
+-- The number at the front of a text and at a place in it, as its digits are read there.
+use Rattle.std.proofs.Common.{◌≡◌, ℕ, ◌+◌, ◌-◌, ◌<◌, List, ◌++◌, length, drop, slice_range, Option, Some, None, refl}
+use Rattle.std.proofs.Common.{sym, ap, ◌∙◌, inl, inr, subst, arith}
+use Rattle.std.proofs.Common.{◌≢◌, ◌≤◌, false, not, ◌==◌, ◌&&◌, [], ◌∷◌}
+use Rattle.std.proofs.lemmas.List.{length-append, drop-drop}
+use Rattle.std.proofs.lemmas.Bool.{cond-true, cond-false, cases_Bool, and_parts, cond_both, ne_eqb, false≢true}
+use Rattle.cbor_notes.specs.Token.{Base, decimal_base, hexadecimal_base, octal_base, binary_base}
 use Rattle.cbor_notes.specs.Token.{IsNumber, IsSomeNumber, IsLongest, prefix, radix}
 use Rattle.cbor_notes.specs.TokenReading.{starts_with_digit, base_of, digit_run, indicator_of, with_indicator}
-use Rattle.cbor_notes.specs.TokenReading.{after_run, number_of}
+use Rattle.cbor_notes.specs.TokenReading.{after_run, number_in, number_of}
 use Rattle.cbor_notes.proofs.tokens.NumberRuns.{digit_run-stops, is_run}
-use Rattle.cbor_notes.proofs.tokens.TextPlaces.{part_and_rest, part_is}
+use Rattle.cbor_notes.proofs.tokens.TextPlaces.{part_and_rest, part_is, rest_place}
 use Rattle.cbor_notes.proofs.tokens.Numbers.{IsNumber-number_of, some_digits, number_of-reaches, longest_number}
 use Rattle.cbor_notes.proofs.tokens.Numbers.{one_number}
 
--- where no digits were read, no number begins
-pub no_number : (text : List ℕ) (value : ℕ)
-    → digit_run (radix (base_of text)) 0 (drop (length (prefix (base_of text))) text)
-    ≡ (value, drop (length (prefix (base_of text))) text) → (front rest : List ℕ) → text ≡ front ++ rest
-    → IsSomeNumber front → ⊥
-no_number text value run front rest is some =
-    let base = base_of text in
-    let digits = drop (length (prefix base)) text in
-    let reached = number_of-reaches front rest some.0 some.1 some.2 in
+-- where no digits were read, there is none
+number_in-none : (base : Base) (digits : List ℕ) (value : ℕ) (after : List ℕ)
+    → digit_run (radix base) 0 digits ≡ (value, after) → length after ≡ length digits → number_in base digits ≡ None
+number_in-none base digits value after run same =
     elim (cases_Bool (starts_with_digit (radix base) digits)) [
       | inl starts ↦
           let one = is_run (radix base) 0 digits in
-          let read = some_digits (radix base) digits (digit_run (radix base) 0 digits) starts one in
           absurd (omega (
             arith,
             ap length one.text_is,
             length-append one.digits (digit_run (radix base) 0 digits).1,
-            read,
+            some_digits (radix base) digits (digit_run (radix base) 0 digits) starts one,
             ap (λ (r : ℕ × List ℕ). length r.1) run,
+            same,
           ))
-      | inr none ↦
-          let never : ◌≡◌ {A = Option (ℕ × Option ℕ × List ℕ)} None (Some reached.0) =
-          sym (cond-false _ (Some (after_run (digit_run (radix base) 0 digits))) None none)
-          ∙ (ap number_of is ∙ reached.1) in
-          cc never
+      | inr none ↦ cond-false _ (Some (after_run (digit_run (radix base) 0 digits))) None none
     ]
 
--- and where some were, one does
-pub number_of-run : (text : List ℕ) (value : ℕ) (rest : List ℕ)
-    → digit_run (radix (base_of text)) 0 (drop (length (prefix (base_of text))) text) ≡ (value, rest)
-    → length rest < length (drop (length (prefix (base_of text))) text)
-    → number_of text ≡ Some (with_indicator value rest (indicator_of rest))
-number_of-run text value rest run shorter =
-    let base = base_of text in
-    let digits = drop (length (prefix base)) text in
+-- and where some were, there is one
+number_in-run : (base : Base) (digits : List ℕ) (value : ℕ) (after : List ℕ)
+    → digit_run (radix base) 0 digits ≡ (value, after) → length after < length digits
+    → number_in base digits ≡ Some (with_indicator value after (indicator_of after))
+number_in-run base digits value after run shorter =
     elim (cases_Bool (starts_with_digit (radix base) digits)) [
       | inl starts ↦ cond-true _ (Some (after_run (digit_run (radix base) 0 digits))) None starts
           ∙ ap (λ (r : ℕ × List ℕ). Some (after_run r)) run
@@ -60,6 +46,35 @@ number_of-run text value rest run shorter =
       ))
     ]
 
+-- the number of a text is that of the digits behind its prefix
+number_of-is : (text digits : List ℕ) (bytes : ℕ) (base : Base) → base ≡ base_of text → bytes ≡ length (prefix base)
+    → digits ≡ drop bytes text → number_of text ≡ number_in base digits
+number_of-is text digits bytes base base_is bytes_are digits_are = rw (digits_are, bytes_are, base_is) refl
+
+pub number_none : (text digits after : List ℕ) (bytes count value : ℕ) (base : Base) → base ≡ base_of text
+    → bytes ≡ length (prefix base) → count ≡ radix base → digits ≡ drop bytes text
+    → digit_run count 0 digits ≡ (value, after) → length after ≡ length digits → number_of text ≡ None
+number_none text digits after bytes count value base base_is bytes_are count_is digits_are run same =
+    number_of-is text digits bytes base base_is bytes_are digits_are
+    ∙ number_in-none base digits value after (rw count_is at run) same
+
+pub number_some : (text digits after : List ℕ) (bytes count value : ℕ) (base : Base) → base ≡ base_of text
+    → bytes ≡ length (prefix base) → count ≡ radix base → digits ≡ drop bytes text
+    → digit_run count 0 digits ≡ (value, after) → length after < length digits → {next : Option (ℕ × List ℕ)}
+    → indicator_of after ≡ next → number_of text ≡ Some (with_indicator value after next)
+number_some text digits after bytes count value base base_is bytes_are count_is digits_are run shorter next =
+    number_of-is text digits bytes base base_is bytes_are digits_are
+    ∙ (number_in-run base digits value after (rw count_is at run) shorter
+    ∙ ap (λ (o : Option (ℕ × List ℕ)). Some (with_indicator value after o)) next)
+
+-- what follows the number, by its place
+pub number_place : (text : List ℕ) (value : ℕ) (indicator : Option ℕ) (rest : List ℕ)
+    → number_of text ≡ Some (value, indicator, rest)
+    → number_of text ≡ Some (value, indicator, drop (length text - length rest) text)
+number_place text value indicator rest read =
+    let found = IsNumber-number_of text (value, indicator, rest) read in
+    read ∙ ap (λ (t : List ℕ). Some (value, indicator, t)) (sym (rest_place text found.0 rest found.1))
+
 -- the number that is read, by its places
 pub record IsReadAt (text : List ℕ) (at end value : ℕ) (indicator : Option ℕ) : Type 0 where
   pub is : IsNumber (slice_range text at end) value indicator
@@ -67,18 +82,30 @@ pub record IsReadAt (text : List ℕ) (at end value : ℕ) (indicator : Option �
   pub only : (other : ℕ) (another : Option ℕ) → IsNumber (slice_range text at end) other another
       → (value ≡ other) × (indicator ≡ another)
 
-pub read_at : (text : List ℕ) (at end value : ℕ) (indicator : Option ℕ) → at ≤ end
-    → number_of (drop at text) ≡ Some (value, indicator, drop end text) → IsReadAt text at end value indicator
-read_at text at end value indicator in_order read =
-    let found = IsNumber-number_of (drop at text) (value, indicator, drop end text) read in
-    let same = part_is text found.0 at end in_order found.1 in
-    let is = subst (λ (t : List ℕ). IsNumber t value indicator) (sym same) found.2 in
+pub read_at : (text rest : List ℕ) (at len value : ℕ) (indicator : Option ℕ) → rest ≡ drop at text
+    → number_of rest ≡ Some (value, indicator, drop len rest) → IsReadAt text at (at + len) value indicator
+read_at text rest at len value indicator is_rest found =
+    let end = at + len in
+    let read : number_of (drop at text) ≡ Some (value, indicator, drop end text) = sym (ap number_of is_rest)
+    ∙ (found ∙ ap (λ (t : List ℕ). Some (value, indicator, t)) (ap (drop len) is_rest ∙ drop-drop len at text)) in
+    let number = IsNumber-number_of (drop at text) (value, indicator, drop end text) read in
+    let same = part_is text number.0 at end (omega arith) number.1 in
+    let is = subst (λ (t : List ℕ). IsNumber t value indicator) (sym same) number.2 in
     record {
       is = is;
       longest = longest_number (slice_range text at end) (drop end text) value indicator is
-          (ap number_of (sym (part_and_rest text at end in_order)) ∙ read);
+          (ap number_of (sym (part_and_rest text at end (omega arith))) ∙ read);
       only = λ other another is_too. one_number (slice_range text at end) value other indicator another is is_too;
     }
+
+-- or none begins there
+pub none_at : (text : List ℕ) → number_of text ≡ None → (front rest : List ℕ) → text ≡ front ++ rest
+    → IsSomeNumber front → ⊥
+none_at text none front rest is some =
+    let reached = number_of-reaches front rest some.0 some.1 some.2 in
+    let never : ◌≡◌ {A = Option (ℕ × Option ℕ × List ℕ)} None (Some reached.0) = sym none
+    ∙ (ap number_of is ∙ reached.1) in
+    cc never
 
 -- a text of two bytes has no prefix and digit
 pub base_of-short : (text : List ℕ) → length text ≤ 2 → base_of text ≡ decimal_base
@@ -97,34 +124,3 @@ base_of-short (first ∷ letter ∷ []) short =
 pub base_of-other : (first : ℕ) (rest : List ℕ) → first ≢ 48 → base_of (first ∷ rest) ≡ decimal_base
 base_of-other first [] other = refl
 base_of-other first (letter ∷ rest) other = rw (ne_eqb first 48 other) refl
-
--- the digits that were read after a prefix, by their places
-run_at : (text : List ℕ) (at bytes digits end value : ℕ) (base : Base) → base ≡ base_of (drop at text)
-    → bytes ≡ length (prefix base) → digits ≡ radix base
-    → digit_run digits 0 (drop (at + bytes) text) ≡ (value, drop end text)
-    → let b = base_of (drop at text) in (drop (at + bytes) text ≡ drop (length (prefix b)) (drop at text))
-    × (digit_run (radix b) 0 (drop (length (prefix b)) (drop at text)) ≡ (value, drop end text))
-run_at text at bytes digits end value base base_is bytes_are digits_are run =
-    let start : drop (at + bytes) text ≡ drop (length (prefix (base_of (drop at text)))) (drop at text) =
-    ap (λ (n : ℕ). drop (at + n) text) (bytes_are ∙ ap (λ (b : Base). length (prefix b)) base_is)
-    ∙ sym (drop-drop (length (prefix (base_of (drop at text)))) at text) in
-    let count : digits ≡ radix (base_of (drop at text)) = digits_are ∙ ap radix base_is in
-    (start, rw (← start, ← count) run)
-
-pub no_number_at : (text : List ℕ) (at bytes digits end value : ℕ) (base : Base) → base ≡ base_of (drop at text)
-    → bytes ≡ length (prefix base) → digits ≡ radix base
-    → digit_run digits 0 (drop (at + bytes) text) ≡ (value, drop end text)
-    → end ≡ at + bytes → (front rest : List ℕ) → drop at text ≡ front ++ rest → IsSomeNumber front → ⊥
-no_number_at text at bytes digits end value base base_is bytes_are digits_are run none =
-    let is = run_at text at bytes digits end value base base_is bytes_are digits_are run in
-    no_number (drop at text) value (is.1 ∙ ap (λ (t : List ℕ). (value, t)) (ap (λ (n : ℕ). drop n text) none ∙ is.0))
-
-pub number_at_run : (text : List ℕ) (at bytes digits end value : ℕ) (base : Base) → base ≡ base_of (drop at text)
-    → bytes ≡ length (prefix base) → digits ≡ radix base
-    → digit_run digits 0 (drop (at + bytes) text) ≡ (value, drop end text)
-    → at + bytes ≤ end → end ≤ length text → (end ≡ at + bytes → ⊥)
-    → number_of (drop at text) ≡ Some (with_indicator value (drop end text) (indicator_of (drop end text)))
-number_at_run text at bytes digits end value base base_is bytes_are digits_are run from within some =
-    let is = run_at text at bytes digits end value base base_is bytes_are digits_are run in
-    number_of-run (drop at text) value (drop end text) is.1
-    (omega (arith, length-drop end text, length-drop (at + bytes) text, ap length is.0, from, within, some))

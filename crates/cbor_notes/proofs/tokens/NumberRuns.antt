@@ -1,14 +1,13 @@
 -- Digits that are read one after the other, and indicators.
-use Rattle.std.proofs.Common.{◌≡◌, ℕ, ◌+◌, ◌*◌, ◌^◌, ◌<◌, ◌≤◌, min, true, false, ◌==◌, ◌&&◌, nat_lt, nat_le, List, []}
-use Rattle.std.proofs.Common.{◌∷◌, ◌++◌, length, get_or, drop, Option, Some, None, refl, sym, ap, ◌∙◌, inl, inr, subst}
+use Rattle.std.proofs.Common.{◌≡◌, ℕ, ◌+◌, ◌*◌, ◌<◌, ◌≤◌, true, false, ◌==◌, ◌&&◌, nat_lt, nat_le, List, []}
+use Rattle.std.proofs.Common.{◌∷◌, ◌++◌, length, Option, Some, None, refl, sym, ap, ◌∙◌, inl, inr, subst}
 use Rattle.std.proofs.Common.{arith}
 use Rattle.std.specs.Char.{digit_value}
 use Rattle.std.specs.Str.Parse.{AllDigits, digits_value_after, digits_value}
-use Rattle.std.proofs.Math.Nat.{mul-le-mul_left, mul-le-mul_right}
-use Rattle.std.proofs.lemmas.List.{length-append, drop_more}
-use Rattle.std.proofs.lemmas.Bool.{and_parts, cond_both, cond-true, cond-false, cases_Bool, cases_lt, eqb-true, lt-ltb}
+use Rattle.std.proofs.lemmas.List.{length-append}
+use Rattle.std.proofs.lemmas.Bool.{and_parts, cond_both, cond-true, cond-false, cases_Bool, eqb-true, lt-ltb}
 use Rattle.std.proofs.lemmas.Bool.{ltb-true, ltb-false, le-leb, lt-leb, leb-true, false≢true}
-use Rattle.cbor_notes.specs.Token.{AreDigits, Indicates, capped}
+use Rattle.cbor_notes.specs.Token.{AreDigits, Indicates}
 use Rattle.cbor_notes.specs.TokenReading.{starts_with_digit, digit_run, small_run, indicator_of}
 
 -- digits that are read, and how reading goes on
@@ -152,28 +151,11 @@ Indicates-indicator_of (byte ∷ rest) read is =
           sym (cond-false _ (Some (small_run 0 rest)) None none) ∙ is in cc never
     ]
 
--- one more digit of a run
-pub run_more : (base value digit : ℕ) (text : List ℕ) (at : ℕ) → at < length text
-    → digit_value (get_or text at 0) < base → digit ≡ digit_value (get_or text at 0)
-    → digit_run base value (drop at text) ≡ digit_run base (value * base + digit) (drop (at + 1) text)
-run_more base value digit text at within small is =
-    rw is (ap (digit_run base value) (drop_more text at 0 within)
-    ∙ cond-true _ (digit_run base (value * base + digit_value (get_or text at 0)) (drop (at + 1) text)) _
-    (lt-ltb _ base small))
-
--- the same of runs whose value stays small
-pub small_more : (value digit : ℕ) (text : List ℕ) (at : ℕ) → at < length text → value * 10 + digit ≤ 3
-    → digit ≡ digit_value (get_or text at 0)
-    → small_run value (drop at text) ≡ small_run (value * 10 + digit) (drop (at + 1) text)
-small_more value digit text at within small is =
-    let few : value * 10 + digit_value (get_or text at 0) ≤ 3 = rw (← is) small in
-    rw is (ap (small_run value) (drop_more text at 0 within)
-    ∙ cond-true _ (small_run (value * 10 + digit_value (get_or text at 0)) (drop (at + 1) text)) _ (le-leb _ 3 few))
-
--- no small digit was read, or some were
-pub none_small : (text : List ℕ) (value : ℕ) → small_run 0 text ≡ (value, text) → starts_with_digit 4 text ≡ false
-none_small [] value is = refl
-none_small (d ∷ rest) value is =
+-- no small digit was read, so there is no indicator
+none_small : (text : List ℕ) (run : ℕ × List ℕ) → small_run 0 text ≡ run → length run.1 ≡ length text
+    → starts_with_digit 4 text ≡ false
+none_small [] run is same = refl
+none_small (d ∷ rest) run is same =
     elim (cases_Bool (nat_lt (digit_value d) 4)) [
       | inl small ↦
           let few : 0 * 10 + digit_value d ≤ 3 = omega (arith, ltb-true (digit_value d) 4 small) in
@@ -183,37 +165,12 @@ none_small (d ∷ rest) value is =
             arith,
             length-small_run (0 * 10 + digit_value d) rest few,
             ap (λ (r : ℕ × List ℕ). length r.1) (sym step ∙ is),
+            same,
           ))
       | inr large ↦ large
     ]
 
-pub starts_small : (text : List ℕ) (run : ℕ × List ℕ) → small_run 0 text ≡ run → length run.1 < length text
-    → starts_with_digit 4 text ≡ true
-starts_small [] run is shorter = absurd (omega arith)
-starts_small (d ∷ rest) run is shorter =
-    elim (cases_Bool (nat_lt (digit_value d) 4)) [
-      | inl small ↦ small
-      | inr large ↦
-          let many : 3 < 0 * 10 + digit_value d = omega (arith, ltb-false (digit_value d) 4 large) in
-          let step : small_run 0 (d ∷ rest) ≡ (0, d ∷ rest) = cond-false _ _ _ (lt-leb _ 3 many) in
-          absurd (omega (arith, shorter, ap (λ (r : ℕ × List ℕ). length r.1) (sym step ∙ is)))
-    ]
-
--- a value past 2^64 stays one with more digits
-pub capped_more : (value base digit : ℕ) → 1 ≤ base
-    → min (capped value * base + digit) (2 ^ 64 + 1) ≡ capped (value * base + digit)
-capped_more value base digit some =
-    elim (cases_lt value (2 ^ 64 + 1)) [
-      | inl small ↦ let same : capped value ≡ value = omega arith in rw same refl
-      | inr large ↦
-          let same : capped value ≡ 2 ^ 64 + 1 = omega arith in
-          let here : (2 ^ 64 + 1) * 1 ≤ (2 ^ 64 + 1) * base = mul-le-mul_left (2 ^ 64 + 1) some in
-          let there : (2 ^ 64 + 1) * base ≤ value * base = mul-le-mul_right base large in
-          rw same (omega (arith, here, there))
-    ]
-
--- a capped number times a base up to 16, and a digit more, fit 128 bits
-pub capped_fits : (value base number : ℕ) → number ≡ capped value → base ≤ 16 → number * base + 16 < 2 ^ 128
-capped_fits value base number is small =
-    let product : number * base ≤ number * 16 = mul-le-mul_left number small in
-    omega (arith, product, is)
+pub indicator_of-none : (text digits : List ℕ) (run : ℕ × List ℕ) → text ≡ 95 ∷ digits → small_run 0 digits ≡ run
+    → length run.1 ≡ length digits → indicator_of text ≡ None
+indicator_of-none text digits run is read same = ap indicator_of is
+    ∙ cond-false _ (Some (small_run 0 digits)) None (none_small digits run read same)

@@ -55,13 +55,6 @@ begins (first ∷ letter ∷ rest) =
     both : (a b c d : ℕ) (t : List ℕ) → a ≡ c → b ≡ d → ◌≡◌ {A = List ℕ} (a ∷ b ∷ t) (c ∷ d ∷ t)
     both a b c d t e f = cc (e, f)
 
-pub prefix_fits : (text : List ℕ) → length (prefix (base_of text)) ≤ length text
-prefix_fits text = omega (
-  arith,
-  ap length (begins text).0,
-  length-append (prefix (base_of text)) (drop (length (prefix (base_of text))) text),
-)
-
 -- no prefix has such a second byte
 base_of-decimal : (first letter : ℕ) (rest : List ℕ) → (digit_value letter < 10) ⊎ (36 ≤ digit_value letter)
     → base_of (first ∷ letter ∷ rest) ≡ decimal_base

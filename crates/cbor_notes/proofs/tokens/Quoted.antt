@@ -1,14 +1,15 @@
 -- Content between quotes, with escapes.
-use Rattle.std.proofs.Common.{◌≡◌, ◌≢◌, ◌⊎◌, ℕ, ◌+◌, ◌-◌, ◌<◌, Bool, true, false, ◌==◌, List, [], ◌∷◌, ◌++◌, length}
-use Rattle.std.proofs.Common.{get_or, take, drop, slice_range, Option, Some, None, refl, sym, ap, ◌∙◌, inl, inr, eq-eqb}
+use Rattle.std.proofs.Common.{◌≡◌, ◌≢◌, ◌⊎◌, ℕ, ◌-◌, ◌<◌, ◌≤◌, Bool, true, false, ◌==◌, List, [], ◌∷◌, ◌++◌, length}
+use Rattle.std.proofs.Common.{get_or, take, drop, Option, Some, None, refl, sym, ap, ◌∙◌, inl, inr, eq-eqb}
 use Rattle.std.proofs.Common.{arith}
 use Rattle.std.specs.List.{position_or_len}
-use Rattle.std.proofs.lemmas.List.{append_assoc, drop-drop, drop_all, get_or-drop, length-drop}
+use Rattle.std.proofs.lemmas.List.{append_assoc, append-nil, get_or-drop, length-drop, nil_from_length}
 use Rattle.std.proofs.lemmas.List.Sums.{passes_at_first}
-use Rattle.std.proofs.lemmas.Bool.{cond-true, cond-false, or_parts, or_cases, eqb-true, ne_eqb, cases_Bool}
+use Rattle.std.proofs.lemmas.Bool.{or_parts, eqb-true, ne_eqb, cases_Bool}
 use Rattle.std.proofs.Math.Numerals.{one-add}
 use Rattle.cbor_notes.specs.Token.{is_special, escaped_byte, in_quotes}
 use Rattle.cbor_notes.specs.TokenReading.{with_front, unquoted}
+use Rattle.cbor_notes.proofs.tokens.TextPlaces.{place_after}
 use Rattle.cbor_notes.proofs.tokens.Contents.{from_front, with_front-append, with_front-nil}
 
 -- the text that is read, with the `\` before it in an escape
@@ -110,54 +111,44 @@ unquoted-plain quote (byte ∷ rest) =
           ∙ with_front-append (byte ∷ []) (take n rest) (unquoted quote false (drop n rest)))
     ]
 
--- plain bytes up to a quote or a `\`, by their places
-pub plain_to : (quote : ℕ) (text : List ℕ) (start end : ℕ)
-    → end ≡ start + position_or_len (is_special quote) (drop start text) → end < length text
-    → (unquoted quote false (drop start text) ≡ with_front (slice_range text start end)
-    (unquoted quote false (drop end text))) × (is_special quote (get_or text end 0) ≡ true)
-plain_to quote text start end is within =
-    let test = is_special quote in
-    let n = position_or_len test (drop start text) in
-    let count : n ≡ end - start = omega arith in
-    let rest : drop n (drop start text) ≡ drop end text = drop-drop n start text
-    ∙ ap (λ (m : ℕ). drop m text) (sym is) in
-    let place : get_or (drop start text) n 0 ≡ get_or text end 0 = get_or-drop start text n 0
-    ∙ ap (λ (m : ℕ). get_or text m 0) (sym is) in (
-      unquoted-plain quote (drop start text) ∙ (ap
-          (λ (m : ℕ). with_front (take m (drop start text)) (unquoted quote false (drop n (drop start text)))) count
-          ∙ ap (λ (t : List ℕ). with_front (slice_range text start end) (unquoted quote false t)) rest),
-      sym (ap test place) ∙ passes_at_first test (drop start text) 0 (omega (arith, length-drop start text)),
-    )
+pub plain_read : (quote : ℕ) (text piece rest : List ℕ) → let n = position_or_len (is_special quote) text in
+    piece ≡ take n text → rest ≡ drop n text → unquoted quote false text ≡ with_front piece (unquoted quote false rest)
+plain_read quote text piece rest front back = rw (front, back) (unquoted-plain quote text)
 
-pub plain_to_end : (quote : ℕ) (text : List ℕ) → position_or_len (is_special quote) text ≡ length text
-    → unquoted quote false text ≡ None
-plain_to_end quote text is =
+-- a quote or a `\` is the first byte behind them
+pub special_first : (quote : ℕ) (text rest : List ℕ) → rest ≡ drop (position_or_len (is_special quote) text) text
+    → 1 ≤ length rest → is_special quote (get_or rest 0 0) ≡ true
+special_first quote text rest is some =
     let n = position_or_len (is_special quote) text in
-    let none : drop n text ≡ [] = drop_all n text (omega (arith, is)) in
-    unquoted-plain quote text ∙ ap (λ (t : List ℕ). with_front (take n text) (unquoted quote false t)) none
+    let byte : get_or rest 0 0 ≡ get_or text n 0 = rw is (get_or-drop n text 0 0
+    ∙ ap (λ (m : ℕ). get_or text m 0) (omega arith)) in
+    rw byte (passes_at_first (is_special quote) text 0 (omega (arith, ap length is, length-drop n text)))
+
+pub plain_to_end : (quote : ℕ) (text rest : List ℕ) → rest ≡ drop (position_or_len (is_special quote) text) text
+    → length rest < 1 → unquoted quote false text ≡ None
+plain_to_end quote text rest is none =
+    let n = position_or_len (is_special quote) text in
+    unquoted-plain quote text ∙ ap (λ (t : List ℕ). with_front (take n text) (unquoted quote false t))
+    (sym is ∙ nil_from_length rest (omega arith))
 
 -- the quote closes
 pub closes : (quote : ℕ) (rest : List ℕ) → unquoted quote false (quote ∷ rest) ≡ Some ([], rest)
 closes quote rest = rw (eq-eqb quote quote refl) refl
 
--- an escape begins
-pub opens : (quote byte : ℕ) (rest : List ℕ) → byte ≢ quote → is_special quote byte ≡ true
-    → unquoted quote false (byte ∷ rest) ≡ unquoted quote true rest
-opens quote byte rest other special =
-    let no_quote = ne_eqb byte quote other in
-    let backslash : (byte == 92) ≡ true = elim (or_cases (byte == quote) (byte == 92) special)
-    [ inl is ↦ absurd (other (eqb-true byte quote is)) | inr is ↦ is ] in
-    rw (no_quote, backslash) refl
+pub closed : (quote : ℕ) (text piece : List ℕ) (byte : ℕ) (after : List ℕ)
+    → unquoted quote false text ≡ with_front piece (unquoted quote false (byte ∷ after)) → byte ≡ quote
+    → unquoted quote false text ≡ Some (piece, after)
+closed quote text piece byte after is same =
+    is ∙ (ap (λ (b : ℕ). with_front piece (unquoted quote false (b ∷ after))) same
+    ∙ (ap (with_front piece) (closes quote after) ∙ ap (λ (t : List ℕ). Some (t, after)) (append-nil piece)))
 
--- of the quote or a `\`, and of nothing else
-pub escape_is : (quote byte : ℕ) (rest : List ℕ) → is_special quote byte ≡ true
-    → unquoted quote true (byte ∷ rest) ≡ with_front (byte ∷ []) (unquoted quote false rest)
-escape_is quote byte rest special = cond-true (is_special quote byte) _ None special
-
-pub no_escape : (quote byte : ℕ) (rest : List ℕ) → is_special quote byte ≡ false
-    → unquoted quote true (byte ∷ rest) ≡ None
-no_escape quote byte rest other = cond-false (is_special quote byte)
-    (with_front (byte ∷ []) (unquoted quote false rest)) None other
+-- what is read and what is left, by its place
+pub quoted_place : (quote : ℕ) (text content rest : List ℕ) → unquoted quote false text ≡ Some (content, rest)
+    → unquoted quote false text ≡ Some (content, drop (length text - length rest) text)
+quoted_place quote text content rest read =
+    let place = place_after text (in_quotes quote content) rest quote
+    (in_quotes-unquoted quote text (content, rest) read) in
+    read ∙ ap (λ (t : List ℕ). Some (content, t)) (sym place)
 
 -- what the result says of the text: this content and this rest, or none
 pub only_quoted : (quote : ℕ) (text content rest : List ℕ) → quote ≢ 92

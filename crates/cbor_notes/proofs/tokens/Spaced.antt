@@ -1,10 +1,9 @@
 -- Digits with blanks before, between and after them, up to the quote.
-use Rattle.std.proofs.Common.{◌≡◌, ◌≢◌, ℕ, ◌+◌, ◌-◌, ◌<◌, Bool, true, false, not, ◌==◌, ◌&&◌, ◌||◌, List, [], ◌∷◌, ◌++◌}
-use Rattle.std.proofs.Common.{length, get_or, take, drop, slice_range, Option, Some, None, refl, sym, ap, ◌∙◌, inl, inr}
+use Rattle.std.proofs.Common.{◌≡◌, ◌≢◌, ◌⊎◌, ℕ, ◌+◌, ◌-◌, ◌<◌, Bool, true, false, not, ◌==◌, ◌&&◌, ◌||◌, List, [], ◌∷◌, ◌++◌}
+use Rattle.std.proofs.Common.{length, get_or, take, drop, Option, Some, None, refl, sym, ap, ◌∙◌, inl, inr}
 use Rattle.std.proofs.Common.{subst, arith, IsTrue, nat_lt}
 use Rattle.std.specs.List.{AllByRecursion, position_or_len}
-use Rattle.std.proofs.lemmas.List.{append_assoc, append-nil, drop-drop, length-drop}
-use Rattle.std.proofs.lemmas.List.Sums.{passes_at_first}
+use Rattle.std.proofs.lemmas.List.{append_assoc, append-nil, length-append, nil_from_length}
 use Rattle.std.proofs.lemmas.Bool.{or_parts, or_cases, and_parts, not-true, not-false, eqb-true, eqb-false, ne_eqb}
 use Rattle.std.proofs.lemmas.Bool.{cases_Bool, cond-true, cond-false, ltb-true, lt-ltb, le-ltb, false≢true}
 use Rattle.std.proofs.Math.Numerals.{one-add}
@@ -12,7 +11,7 @@ use Rattle.cbor_notes.specs.Token.{Blank, nothing, whitespace, comment, Spaced, 
 use Rattle.cbor_notes.specs.Token.{is_whitespace, is_digit}
 use Rattle.cbor_notes.specs.TokenReading.{with_front, after_blank_in, after_blank, digits_in, some_digits, digits_of}
 use Rattle.cbor_notes.proofs.tokens.Blanks.{Blank-append, all_push, at_whitespace, blank_left, length-after_blank}
-use Rattle.cbor_notes.proofs.tokens.TextPlaces.{from_byte}
+use Rattle.cbor_notes.proofs.tokens.TextPlaces.{place_after}
 use Rattle.cbor_notes.proofs.tokens.Contents.{from_front, with_front-append, with_front-nil}
 
 -- a blank before digits
@@ -295,44 +294,46 @@ digits_in-after_blank comments text =
     let left = blank_left comments text in
     ap (digits_in comments false) left.1 ∙ digits_in-blank left.2 (after_blank comments text)
 
--- digits up to the first byte that is none, by their places
-pub run_to : (comments : Bool) (text : List ℕ) (start stop : ℕ)
-    → stop ≡ start + position_or_len (λ b. not (is_digit comments b)) (drop start text)
-    → digits_in comments false (drop start text) ≡ with_front (slice_range text start stop)
-    (digits_in comments false (drop stop text))
-run_to comments text start stop is =
-    let n = position_or_len (λ b. not (is_digit comments b)) (drop start text) in
-    let count : n ≡ stop - start = omega arith in
-    let rest : drop n (drop start text) ≡ drop stop text = drop-drop n start text
-    ∙ ap (λ (m : ℕ). drop m text) (sym is) in
-    digits_in-run comments (drop start text)
-    ∙ (ap (λ (m : ℕ). with_front (take m (drop start text)) (digits_in comments false (drop n (drop start text))))
-    count ∙ ap (λ (t : List ℕ). with_front (slice_range text start stop) (digits_in comments false t)) rest)
+pub run_read : (comments : Bool) (text run rest : List ℕ)
+    → let n = position_or_len (λ b. not (is_digit comments b)) text in run ≡ take n text → rest ≡ drop n text
+    → digits_in comments false text ≡ with_front run (digits_in comments false rest)
+run_read comments text run rest front back = rw (front, back) (digits_in-run comments text)
 
 -- here is no digit, no blank and no quote
-pub none_from : (comments : Bool) (text : List ℕ) (at : ℕ) → at < length text
-    → position_or_len (λ b. not (is_digit comments b)) (drop at text) ≡ 0 → get_or text at 0 ≢ 39
-    → after_blank comments (drop at text) ≡ drop at text → digits_in comments false (drop at text) ≡ None
-none_from comments text at within none no_quote blank_read =
-    let byte = get_or text at 0 in
-    let first = from_byte text at byte within refl in
-    let test : ℕ → Bool = λ b. not (is_digit comments b) in
-    let place : get_or (drop at text) 0 0 ≡ byte = ap (λ (t : List ℕ). get_or t 0 0) first in
-    let passes : test (get_or (drop at text) (position_or_len test (drop at text)) 0) ≡ true =
-    passes_at_first test (drop at text) 0 (omega (arith, none, length-drop at text)) in
-    let no_digit : is_digit comments byte ≡ false =
-    not-true _ (sym (ap test (ap (λ (n : ℕ). get_or (drop at text) n 0) none ∙ place)) ∙ passes) in
-    ap (digits_in comments false) first ∙ digits_in-none comments byte (drop (at + 1) text) (ne_eqb byte 39 no_quote)
-    no_digit (sym (ap (after_blank comments) first) ∙ (blank_read ∙ first))
+pub none_from : (comments : Bool) (text : List ℕ) → position_or_len (λ b. not (is_digit comments b)) text ≡ 0
+    → (0 < length text → get_or text 0 0 ≢ 39) → after_blank comments text ≡ text
+    → digits_in comments false text ≡ None
+none_from comments [] none no_quote blank_read = refl
+none_from comments (byte ∷ rest) none no_quote blank_read =
+    elim (cases_Bool (is_digit comments byte)) [
+      | inl is_one ↦
+          let more : 1 + position_or_len (λ b. not (is_digit comments b)) rest ≡ 0 = rw is_one at none in
+          absurd (omega arith)
+      | inr no_digit ↦ digits_in-none comments byte rest (ne_eqb byte 39 (no_quote (omega arith))) no_digit blank_read
+    ]
 
 -- the quote closes
-pub digits_closed : (comments : Bool) (text digits : List ℕ) (at end : ℕ)
-    → digits_in comments false (drop at text) ≡ with_front digits (digits_in comments false (drop end text))
-    → end < length text → get_or text end 0 ≡ 39
-    → digits_in comments false (drop at text) ≡ Some (digits, drop (end + 1) text)
-digits_closed comments text digits at end read within quote =
-    read ∙ (ap (λ (t : List ℕ). with_front digits (digits_in comments false t)) (from_byte text end 39 within quote)
-    ∙ ap (λ (d : List ℕ). Some (d, drop (end + 1) text)) (append-nil digits))
+pub digits_closed : (comments : Bool) (text digits rest after : List ℕ)
+    → digits_in comments false text ≡ with_front digits (digits_in comments false rest) → rest ≡ 39 ∷ after
+    → digits_in comments false text ≡ Some (digits, after)
+digits_closed comments text digits rest after read quote =
+    read ∙ (ap (λ (t : List ℕ). with_front digits (digits_in comments false t)) quote
+    ∙ ap (λ (d : List ℕ). Some (d, after)) (append-nil digits))
+
+-- further digits, and the blank behind them
+pub run_more : (comments : Bool) (text digits run all rest after next : List ℕ)
+    → digits_in comments false text ≡ with_front digits (digits_in comments false rest)
+    → digits_in comments false rest ≡ with_front run (digits_in comments false after)
+    → next ≡ after_blank comments after → all ≡ digits ++ run
+    → digits_in comments false text ≡ with_front all (digits_in comments false next)
+run_more comments text digits run all rest after next read found next_is items =
+    rw (
+      items,
+      next_is,
+      ← digits_in-after_blank comments after,
+      ← with_front-append digits run (digits_in comments false after),
+      ← found,
+    ) read
 
 -- some digits, none in empty content, and none in blanks
 not_quote : (comments : Bool) (byte : ℕ) (rest digits after : List ℕ)
@@ -346,14 +347,24 @@ not_quote comments byte rest digits after read other =
     let pair : ◌≡◌ {A = List ℕ × List ℕ} ([], rest) (digits, after) = cc same in
     other (ap (λ (r : List ℕ × List ℕ). length r.0) (sym pair)) (ap (λ (r : List ℕ × List ℕ). r.1) pair))
 
-pub digits_of-some : (comments : Bool) (text digits rest : List ℕ) → digits_in comments false text ≡ Some (digits, rest)
-    → 0 < length digits → digits_of comments text ≡ Some (digits, rest)
-digits_of-some comments [] digits rest read some = cc read
-digits_of-some comments (byte ∷ more) digits rest read some =
-    cond-false (byte == 39) (Some ([], more)) (some_digits (digits_in comments false (byte ∷ more)))
-    (not_quote comments byte more digits rest read (λ none _. omega (arith, none, some)))
-    ∙ (ap some_digits read ∙ cond-true (nat_lt 0 (length digits)) (Some (digits, rest)) None
-    (lt-ltb 0 (length digits) some))
+-- digits up to the quote are read where there are some, or where nothing is before the quote
+pub digits_read : (comments : Bool) (text digits after : List ℕ) → digits_in comments false text ≡ Some (digits, after)
+    → (0 < length digits) ⊎ (length text ≡ length after + 1) → digits_of comments text ≡ Some (digits, after)
+digits_read comments text digits after read some =
+    let between = Spaced-digits_in comments text (digits, after) read in
+    let full : (between.0 ≡ []) ⊎ (0 < length digits) = elim some [
+      | inl one ↦ inr one
+      | inr same ↦ inl (nil_from_length between.0
+          (omega (arith, ap length between.1, length-append between.0 (39 ∷ after), same)))
+    ] in
+    ap (digits_of comments) between.1 ∙ digits_of-DigitsBetween comments between.0 digits after (between.2, full)
+
+-- and what is left, by its place
+pub digits_place : (comments : Bool) (text digits rest : List ℕ) → digits_of comments text ≡ Some (digits, rest)
+    → digits_of comments text ≡ Some (digits, drop (length text - length rest) text)
+digits_place comments text digits rest read =
+    let found = DigitsBetween-digits_of comments text (digits, rest) read in
+    read ∙ ap (λ (t : List ℕ). Some (digits, t)) (sym (place_after text found.0 rest 39 found.1))
 
 pub digits_of-blank : (comments : Bool) (text digits rest : List ℕ)
     → digits_in comments false text ≡ Some (digits, rest) → length digits ≡ 0 → length rest + 1 < length text

@@ -1,9 +1,10 @@
 //! Numbers of diagnostic notation, in four bases, with an indicator of their width or without.
 
-ghost use Rattle.std.specs.Prelude.{◌≡◌, ◌++◌, ◌+◌, ◌<◌, ◌≤◌, List, ℕ, Option, drop, length};
-ghost use Rattle.std.specs.Prelude.{slice_range, IfNone, IfSome, Some};
+ghost use Rattle.std.specs.Prelude.{◌≡◌, ◌++◌, ◌<◌, ◌≤◌, List, ℕ, Option, drop, length, option_map};
+ghost use Rattle.std.specs.Prelude.{slice_range, IfNone, IfSome, None, Some};
 ghost use Rattle.cbor_notes.specs.Token.{capped, prefix, radix, IsLongest, IsNumber, IsSomeNumber};
-ghost use Rattle.cbor_notes.specs.TokenReading.{base_of, digit_run, indicator_of, small_run};
+ghost use Rattle.cbor_notes.specs.TokenReading.{base_of, digit_run, indicator_of, number_of};
+ghost use Rattle.cbor_notes.specs.TokenReading.{small_run};
 ghost use Rattle.cbor_notes.specs.Views.{base_view};
 
 /// The value that is returned for all values past 2^64.
@@ -52,35 +53,55 @@ pub fn number_at(text: &[u8], at: usize) -> Option<(u128, Option<u8>, usize)>
         → IsNumber (slice_range text.now at found.2) value indicator
         → (found.0 ≡ capped value) × (found.1 ≡ indicator)) }
 {
-    let base = Base::at(text, at);
-    let start = at + base.prefix_len();
-    let (value, end) = digits_from(text, start, base.radix());
-    if end == start {
+    let (_, rest) = text.split_at(at);
+    let (value, indicator, len) = number_front(rest)?;
+    Some((value, indicator, at + len))
+}
+
+/// Returns the longest number at the front, as [`number_at`] does: its value, its indicator if it
+/// has one, and its length.
+///
+/// ```rust
+/// use cbor_notes::number_front;
+///
+/// assert_eq!(rt; number_front(b"18_1, 25"), Some((18, Some(1), 4)));
+/// ```
+///
+/// [`number_at`]: crate::number_at
+pub fn number_front(text: &[u8]) -> Option<(u128, Option<u8>, usize)>
+    ensures within { IfSome result (λ found. (0 < found.2) × (found.2 ≤ length text.now)) }
+    ensures found { IfSome result (λ found. (value : ℕ) × (found.0 ≡ capped value)
+        × (number_of text.now ≡ Some (value, found.1, drop found.2 text.now))) }
+    ensures none { IfNone result (number_of text.now ≡ None) }
+{
+    let base = Base::of(text);
+    let (_, digits) = text.split_at(base.prefix_len());
+    let (value, after) = read_digits(digits, base.radix());
+    if after.len() == digits.len() {
         return None;
     }
-    match indicator_at(text, end) {
-        Some((indicator, end)) => Some((value, Some(indicator), end)),
-        None => Some((value, None, end)),
+    match read_indicator(after) {
+        Some((indicator, rest)) => Some((value, Some(indicator), text.len() - rest.len())),
+        None => Some((value, None, text.len() - after.len())),
     }
 }
 
 impl Base {
-    /// The base of a number at `at`: that of its prefix if a digit of that base follows, else
+    /// The base of a number at the front: that of its prefix if a digit of that base follows, else
     /// decimal.
-    fn at(text: &[u8], at: usize) -> Base
-        requires { at ≤ length text.now }
-        ensures { base_view result ≡ base_of (drop at text.now) }
+    fn of(text: &[u8]) -> Base
+        ensures { base_view result ≡ base_of text.now }
     {
-        if text.len() - at <= 2 || text[at] != b'0' {
+        let [b'0', letter, digit, ..] = text else {
             return Base::Decimal;
-        }
-        let base = match text[at + 1] {
+        };
+        let base = match *letter {
             b'x' => Base::Hexadecimal,
             b'o' => Base::Octal,
             b'b' => Base::Binary,
             _ => return Base::Decimal,
         };
-        if char::from(text[at + 2]).is_digit(base.radix()) {
+        if char::from(*digit).is_digit(base.radix()) {
             base
         } else {
             Base::Decimal
@@ -110,102 +131,97 @@ impl Base {
     }
 }
 
-/// The number that the digits from `start` on write, past 2^64 as 2^64 + 1, and where they end.
-fn digits_from(text: &[u8], start: usize, radix: u32) -> (u128, usize)
-    requires start { start ≤ length text.now }
-    requires radix { (2 ≤ radix) × (radix ≤ 16) }
-    ensures within { (start ≤ result.1) × (result.1 ≤ length text.now) }
+/// The number that the digits at the front write, past 2^64 as 2^64 + 1, and the text after them.
+fn read_digits(text: &[u8], radix: u32) -> (u128, &[u8])
+    requires { (2 ≤ radix) × (radix ≤ 16) }
     ensures run { (value : ℕ) × (result.0 ≡ capped value)
-        × (digit_run radix 0 (drop start text.now) ≡ (value, drop result.1 text.now)) }
+        × (digit_run radix 0 text.now ≡ (value, result.1.now)) }
+    ensures within { length result.1.now ≤ length text.now }
 {
     // Most numbers are decimal, and a loop for a radix that is known has less to do for each digit.
     if radix == 10 {
-        digits_of_radix(text, start, 10)
+        read_digits_of(text, 10)
     } else {
-        digits_of_radix(text, start, radix)
+        read_digits_of(text, radix)
     }
 }
 
 /// The same, inlined for the radix that is given. As far as a further digit is sure to fit 64 bits,
 /// the number is computed in these.
 #[inline(always)]
-fn digits_of_radix(text: &[u8], start: usize, radix: u32) -> (u128, usize)
-    requires start { start ≤ length text.now }
-    requires radix { (2 ≤ radix) × (radix ≤ 16) }
-    ensures within { (start ≤ result.1) × (result.1 ≤ length text.now) }
+fn read_digits_of(text: &[u8], radix: u32) -> (u128, &[u8])
+    requires { (2 ≤ radix) × (radix ≤ 16) }
     ensures run { (value : ℕ) × (result.0 ≡ capped value)
-        × (digit_run radix 0 (drop start text.now) ≡ (value, drop result.1 text.now)) }
+        × (digit_run radix 0 text.now ≡ (value, result.1.now)) }
+    ensures within { length result.1.now ≤ length text.now }
 {
-    let (short, mut end) = short_digits_from(text, start, radix);
+    let (short, mut rest) = read_short(text, radix);
     let mut value = u128::from(short);
-    while end < text.len() {
-        let Some(digit) = char::from(text[end]).to_digit(radix) else {
+    'digits: while let [byte, after @ ..] = rest {
+        let Some(digit) = char::from(*byte).to_digit(radix) else {
             break;
         };
         value = (value * u128::from(radix) + u128::from(digit)).min(CAP);
-        end += 1;
+        rest = after;
     }
-    (value, end)
+    (value, rest)
 }
 
-/// The number that the digits from `start` on write as far as a further digit fits 64 bits, and
-/// where these digits end.
+/// The number that the digits at the front write as far as a further digit fits 64 bits, and the
+/// text after these digits.
 #[inline(always)]
-fn short_digits_from(text: &[u8], start: usize, radix: u32) -> (u64, usize)
-    requires start { start ≤ length text.now }
-    requires radix { (2 ≤ radix) × (radix ≤ 16) }
-    ensures within { (start ≤ result.1) × (result.1 ≤ length text.now) }
-    ensures run { digit_run radix result.0 (drop result.1 text.now)
-        ≡ digit_run radix 0 (drop start text.now) }
+fn read_short(text: &[u8], radix: u32) -> (u64, &[u8])
+    requires { (2 ≤ radix) × (radix ≤ 16) }
+    ensures run { digit_run radix result.0 result.1.now ≡ digit_run radix 0 text.now }
+    ensures within { length result.1.now ≤ length text.now }
 {
     let mut value = 0;
-    let mut end = start;
-    while end < text.len() && value < FITS_ONE_MORE {
-        let Some(digit) = char::from(text[end]).to_digit(radix) else {
+    let mut rest = text;
+    'digits: while let [byte, after @ ..] = rest
+        && value < FITS_ONE_MORE
+    {
+        let Some(digit) = char::from(*byte).to_digit(radix) else {
             break;
         };
         value = value * u64::from(radix) + u64::from(digit);
-        end += 1;
+        rest = after;
     }
-    (value, end)
+    (value, rest)
 }
 
-/// The longest indicator at `at`, which begins with `_`, and where it ends.
-fn indicator_at(text: &[u8], at: usize) -> Option<(u8, usize)>
-    requires { at ≤ length text.now }
-    ensures within { IfSome result (λ found. (at < found.1) × (found.1 ≤ length text.now)) }
-    ensures found { IfSome result (λ found.
-        indicator_of (drop at text.now) ≡ Some (found.0, drop found.1 text.now)) }
-    ensures none { IfNone result (indicator_of (drop at text.now) ≡ None) }
+/// The longest indicator at the front, which begins with `_`, and the text after it.
+fn read_indicator(text: &[u8]) -> Option<(u8, &[u8])>
+    ensures gives { option_map (λ x. (x.0, x.1.now)) result ≡ indicator_of text.now }
+    ensures shorter { IfSome result (λ x. length x.1.now < length text.now) }
 {
-    if at == text.len() || text[at] != b'_' {
+    let [b'_', digits @ ..] = text else {
         return None;
-    }
-    let start = at + 1;
-    let (indicator, end) = small_digits_from(text, start);
-    if end == start {
+    };
+    let (indicator, rest) = read_small(digits);
+    if rest.len() == digits.len() {
         None
     } else {
-        Some((indicator, end))
+        Some((indicator, rest))
     }
 }
 
-/// The number that the decimal digits from `start` on write as far as it is at most 3, and where
-/// these digits end.
-fn small_digits_from(text: &[u8], start: usize) -> (u8, usize)
-    requires { start ≤ length text.now }
-    ensures within { (start ≤ result.1) × (result.1 ≤ length text.now) }
-    ensures run { small_run 0 (drop start text.now) ≡ (result.0, drop result.1 text.now) }
+/// The number that the decimal digits at the front write as far as it is at most 3, and the text
+/// after these digits.
+fn read_small(text: &[u8]) -> (u8, &[u8])
+    ensures run { small_run 0 text.now ≡ (result.0, result.1.now) }
+    ensures within { length result.1.now ≤ length text.now }
 {
     let mut value = 0;
-    let mut end = start;
-    while end < text.len() && text[end].is_ascii_digit() {
-        let next = value * 10 + (text[end] - b'0');
+    let mut rest = text;
+    'digits: while let [byte, after @ ..] = rest
+        && byte.is_ascii_digit()
+    {
+        let next = value * 10 + (*byte - b'0');
         if next > 3 {
             break;
         }
         value = next;
-        end += 1;
+        rest = after;
     }
-    (value, end)
+    (value, rest)
 }

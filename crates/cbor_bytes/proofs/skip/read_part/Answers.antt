@@ -2,7 +2,6 @@
 use Rattle.std.proofs.Common.{◌-◌, ap, sym, ◌∙◌}
 use Rattle.std.specs.Prelude.{option_map}
 use Rattle.std.proofs.lemmas.Result.{err_from_is_err_and}
-use Rattle.cbor_bytes.specs.mirror.HeadView.{head_view}
 use Rattle.cbor_bytes.specs.mirror.Skipping.{frame_of}
 use Rattle.cbor_bytes.proofs.skipping.Skips.{goes_then, stops_then}
 use Rattle.cbor_bytes.proofs.skipping.SkippedParts.{opened_goes}
@@ -10,7 +9,7 @@ use Rattle.cbor_bytes.proofs.skip.read_part.Goals as goal
 
 pub returns-in-Some-clause-goes : goal.returns-in-Some-clause-goes
 returns-in-Some-clause-goes c =
-    goes_then c.in_ok-head.ensures.goes (opened_goes (c.args.levels - 1) (head_view c.in_ok-head.head) c.in-Some.parts
+    goes_then c.in_ok-head.ensures.goes (opened_goes (c.args.levels - 1) c.in_ok-head.head c.in-Some.parts
     c.in_ok-head.rest.now (ap (option_map frame_of) (sym c.in-Some.is) ∙ c.new.ensures))
 
 pub returns-in_err-rest-clause-stops : goal.returns-in_err-rest-clause-stops

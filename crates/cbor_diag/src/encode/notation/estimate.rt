@@ -6,22 +6,20 @@
 //! in steps that the budget bounds, however large it is.
 ghost use Rattle.std.specs.Prelude.{◌≡◌, ◌+◌, ◌-◌, ◌*◌, map};
 ghost use Rattle.cbor_diag.specs.View.{view, items_view, pairs_view};
-ghost use Rattle.cbor_notation.specs.mirror.LayoutView.{layout_view, style_view};
 ghost use Rattle.cbor_grammar.specs.NotationText.{container_style};
 ghost use Rattle.cbor_grammar.specs.Estimate.{digit_count};
 ghost use Rattle.cbor_grammar.specs.Estimate.{estimated_length};
 ghost use Rattle.cbor_grammar.specs.Estimate.{estimated_items, estimated_pairs};
 
 use crate::syntax::DataItem;
+use cbor_grammar::layout::{ContainerStyle, Layout};
 use cbor_notation::budget::{
     BUDGET, digit_count, float_len, left_after_chunks, left_after_string, pretty_style,
 };
-use cbor_notation::context::{ContainerStyle, Layout};
 
 /// The style of an array of these items, or of a sequence of them.
 pub(super) fn array_style(layout: Layout, items: &Vec<DataItem>) -> ContainerStyle
-    ensures { style_view result
-        ≡ container_style (layout_view layout)
+    ensures { result ≡ container_style layout
         (4 + estimated_items (items_view items.now.items)) }
 {
     match layout {
@@ -32,8 +30,7 @@ pub(super) fn array_style(layout: Layout, items: &Vec<DataItem>) -> ContainerSty
 
 /// The style of a map of these pairs.
 pub(super) fn map_style(layout: Layout, pairs: &Vec<(DataItem, DataItem)>) -> ContainerStyle
-    ensures { style_view result
-        ≡ container_style (layout_view layout)
+    ensures { result ≡ container_style layout
         (4 + estimated_pairs (pairs_view pairs.now.items)) }
 {
     match layout {

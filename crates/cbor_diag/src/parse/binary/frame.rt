@@ -3,14 +3,12 @@ ghost use Rattle.std.specs.Prelude.{◌≡◌, ◌≤◌, ℕ, Some, IsSome, IfS
 ghost use Rattle.std.specs.Prelude.{option_map};
 ghost use Rattle.cbor_diag.specs.View.{view};
 ghost use Rattle.cbor_grammar.specs.declared.width.IntegerWidth.{IntegerWidth};
-ghost use Rattle.cbor_grammar.specs.Argument.{number};
 ghost use Rattle.cbor_grammar.specs.Reading.{put, after_end, closed, opened};
-ghost use Rattle.cbor_bytes.specs.mirror.HeadView.{argument_view, head_view};
 ghost use Rattle.cbor_diag.specs.mirror.Stack.{frame, ReservesFew};
 
 use crate::syntax::DataItem;
-use cbor_bytes::argument::Argument;
-use cbor_bytes::head::ItemHead;
+use cbor_grammar::argument::Argument;
+use cbor_grammar::head::ItemHead;
 use cbor_grammar::{Error, IntegerWidth, Result, Tag};
 use std::alloc::Global;
 
@@ -42,7 +40,7 @@ pub(super) enum Frame {
 /// few.
 fn reserved(count: Argument, following: usize) -> usize
     ensures claimed { (n : ℕ) (width : IntegerWidth)
-        → argument_view count ≡ number n width → result ≤ n }
+        → count ≡ Argument.Number n width → result ≤ n }
     ensures there { result ≤ following }
     ensures few { result ≤ MOST_RESERVED }
 {
@@ -58,10 +56,9 @@ impl Frame {
     /// The container that a head opens, still empty, with `following` bytes after the head; `None`
     /// if the head opens no container. Memory is reserved for few members.
     pub(super) fn new(alloc: Global, head: ItemHead, following: usize) -> Result<Option<Frame>>
-        ensures opens { IfOk result (λ o. option_map frame o ≡ opened (head_view head)) }
+        ensures opens { IfOk result (λ o. option_map frame o ≡ opened head) }
         ensures few { IfOk result (λ o. IfSome o (λ container. ReservesFew following container)) }
-        ensures memory { IfErr result
-            (λ e. (e ≡ Error.Memory) × IsSome (opened (head_view head))) }
+        ensures memory { IfErr result (λ e. (e ≡ Error.Memory) × IsSome (opened head)) }
     {
         let (key, value) = (None, None);
         let frame = match head {

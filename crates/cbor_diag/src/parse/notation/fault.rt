@@ -6,6 +6,7 @@
 //! is not read is one. These functions are called after an error only, and read the parts before it
 //! again, once at each level.
 mod ends;
+mod fronts;
 mod members;
 mod tokens;
 
@@ -16,7 +17,7 @@ ghost use Rattle.cbor_grammar.specs.WellFormed.{deepest, levels_left};
 ghost use Rattle.cbor_grammar.specs.Item.{Item, Chunk};
 ghost use Rattle.cbor_grammar.specs.Notation.{Core, IsNotation, Members, Notation, PairOf, Reads};
 ghost use Rattle.cbor_grammar.specs.Notation.{StringOf};
-ghost use Rattle.cbor_grammar.specs.DeadEnd.{IsDeadEnd, IsDiagFault, IsCut};
+ghost use Rattle.cbor_grammar.specs.DeadEnd.{IsDeadEnd, IsDiagFault, CutOf};
 ghost use Rattle.cbor_grammar.specs.NotationRefused.{IsNoNotation};
 ghost use Rattle.cbor_diag.specs.mirror.DeadEnds.{NeverReads, NeverPieces, NotRead, Value};
 ghost use Rattle.cbor_diag.specs.mirror.DeadEnds.{read_member, MemberIs, ChunkIs, IsPieceCut};
@@ -27,19 +28,17 @@ ghost use Rattle.cbor_notation.specs.mirror.NotationReading.{read_piece, read_st
 ghost use Rattle.cbor_notation.specs.mirror.NotationReading.{read_embedded};
 ghost use Rattle.cbor_notation.specs.mirror.NotationReading.{read_string_item, begins_string};
 ghost use Rattle.cbor_notation.specs.mirror.NotationReading.{first_start};
-ghost use Rattle.cbor_grammar.specs.mirror.StringView.{kind_view};
 
-use super::strings::{read_content, read_piece};
-use super::{parse_diag, read_items};
+use super::parse_diag;
 use cbor_grammar::level::DEEPEST;
 use cbor_grammar::strings::StringKind;
 use cbor_grammar::{Error, Result};
-use cbor_notation::number::read_unsigned_number;
 use cbor_notation::scan::{after_blank, after_byte, read_length};
 use cbor_notation::start::Start;
 use ends::{
     has_no_close, is_apart_from_no_chunks, is_begun, is_dead_content, is_unclosed, is_unended,
 };
+use fronts::{content_front, items_front, piece_front, unsigned_front};
 use members::{after_item, after_member};
 use std::alloc::Global;
 use tokens::{
@@ -67,7 +66,7 @@ fn is_dead_item(alloc: Global, text: &[u8], level: u8) -> Result<bool>
         → NeverReads (read_item (levels_left level)) text.now) }
     ensures cut { IfOk result (λ dead. IsFalse dead
         → NotRead (read_item (levels_left level) text.now)
-        → IsCut (Reads (levels_left level)) text.now) }
+        → CutOf (Reads (levels_left level)) text.now) }
     ensures refused { IfErr result (λ e. e ≡ Error.Memory) }
 {
     if level > DEEPEST {
@@ -90,7 +89,7 @@ fn is_dead_core(alloc: Global, text: &[u8], inner: u8) -> Result<bool>
         → NeverReads (read_core (read_item (levels_left inner))) text.now) }
     ensures cut { IfOk result (λ dead. IsFalse dead
         → NotRead (read_core (read_item (levels_left inner)) text.now)
-        → IsCut (Core (Reads (levels_left inner))) text.now) }
+        → CutOf (Core (Reads (levels_left inner))) text.now) }
     ensures refused { IfErr result (λ e. e ≡ Error.Memory) }
 {
     let (start, rest) = Start::split(text);
@@ -123,10 +122,10 @@ fn is_dead_integer(alloc: Global, text: &[u8], inner: u8) -> Result<bool>
         → NeverReads (read_integer (read_item (levels_left inner))) text.now) }
     ensures cut { IfOk result (λ dead. IsFalse dead
         → NotRead (read_integer (read_item (levels_left inner)) text.now)
-        → IsCut (Core (Reads (levels_left inner))) text.now) }
+        → CutOf (Core (Reads (levels_left inner))) text.now) }
     ensures refused { IfErr result (λ e. e ≡ Error.Memory) }
 {
-    let Ok((_, after)) = read_unsigned_number(text) else {
+    let Ok((_, after)) = unsigned_front(text) else {
         return Ok(is_dead_unsigned(text));
     };
     let Some(rest) = after_byte(after, b'(') else {
@@ -147,7 +146,7 @@ fn is_dead_pair(alloc: Global, text: &[u8], level: u8) -> Result<bool>
         → NeverReads (read_pair (read_item (levels_left level))) text.now) }
     ensures cut { IfOk result (λ dead. IsFalse dead
         → NotRead (read_pair (read_item (levels_left level)) text.now)
-        → IsCut (PairOf (Reads (levels_left level))) text.now) }
+        → CutOf (PairOf (Reads (levels_left level))) text.now) }
     ensures refused { IfErr result (λ e. e ≡ Error.Memory) }
 {
     let Some(after) = but_memory(after_item(alloc, text, level))? else {
@@ -168,10 +167,10 @@ fn is_dead_pair(alloc: Global, text: &[u8], level: u8) -> Result<bool>
 fn is_dead_chunk(alloc: Global, kind: StringKind, text: &[u8], level: u8) -> Result<bool>
     requires { level ≤ 129 }
     ensures dead { IfOk result (λ dead. IsTrue dead
-        → NeverReads (read_chunk (read_item (levels_left level)) (kind_view kind)) text.now) }
+        → NeverReads (read_chunk (read_item (levels_left level)) kind) text.now) }
     ensures cut { IfOk result (λ dead. IsFalse dead
-        → NotRead (read_chunk (read_item (levels_left level)) (kind_view kind) text.now)
-        → IsCut (ChunkIs (kind_view kind) (Reads (levels_left level))) text.now) }
+        → NotRead (read_chunk (read_item (levels_left level)) kind text.now)
+        → CutOf (ChunkIs kind (Reads (levels_left level))) text.now) }
     ensures refused { IfErr result (λ e. e ≡ Error.Memory) }
 {
     let core = after_blank(text);
@@ -189,7 +188,7 @@ fn is_dead_member(alloc: Global, member: Member, text: &[u8], level: u8) -> Resu
         → NeverReads (read_member member (read_item (levels_left level))) text.now) }
     ensures cut { IfOk result (λ dead. IsFalse dead
         → NotRead (read_member member (read_item (levels_left level)) text.now)
-        → IsCut (MemberIs member (Reads (levels_left level))) text.now) }
+        → CutOf (MemberIs member (Reads (levels_left level))) text.now) }
     ensures refused { IfErr result (λ e. e ≡ Error.Memory) }
 {
     match member {
@@ -208,7 +207,7 @@ fn is_dead_list(alloc: Global, member: Member, close: u8, text: &[u8], level: u8
         (read_members (read_member member (read_item (levels_left level))) close) text.now) }
     ensures cut { IfOk result (λ dead. IsFalse dead
         → NotRead (read_members (read_member member (read_item (levels_left level))) close text.now)
-        → IsCut (Members (MemberIs member (Reads (levels_left level))) (close ∷ [])) text.now) }
+        → CutOf (Members (MemberIs member (Reads (levels_left level))) (close ∷ [])) text.now) }
     ensures refused { IfErr result (λ e. e ≡ Error.Memory) }
 {
     let mut rest = after_blank(text);
@@ -238,7 +237,7 @@ fn is_dead_chunks(alloc: Global, text: &[u8], inner: u8) -> Result<bool>
         → NeverReads (read_chunks (read_item (levels_left inner))) text.now) }
     ensures cut { IfOk result (λ dead. IsFalse dead
         → NotRead (read_chunks (read_item (levels_left inner)) text.now)
-        → IsCut (Core (Reads (levels_left inner))) (40 ∷ text.now)) }
+        → CutOf (Core (Reads (levels_left inner))) (40 ∷ text.now)) }
     ensures refused { IfErr result (λ e. e ≡ Error.Memory) }
 {
     let Some(opened) = after_byte(text, b'_') else {
@@ -261,13 +260,13 @@ fn is_dead_embedded(alloc: Global, text: &[u8], inner: u8) -> Result<bool>
         → NeverReads (read_embedded (read_item (levels_left inner))) text.now) }
     ensures cut { IfOk result (λ dead. IsFalse dead
         → NotRead (read_embedded (read_item (levels_left inner)) text.now)
-        → IsCut (Notation (Reads (levels_left inner))) (60 ∷ text.now)) }
+        → CutOf (Notation (Reads (levels_left inner))) (60 ∷ text.now)) }
     ensures refused { IfErr result (λ e. e ≡ Error.Memory) }
 {
     let Some(first) = after_byte(text, b'<') else {
         return Ok(!text.is_empty());
     };
-    match but_memory(read_items(alloc, b'>', first, inner))? {
+    match but_memory(items_front(alloc, b'>', first, inner))? {
         Some((_, rest)) => Ok(has_no_close(rest)),
         None => is_dead_list(alloc, Member::Item, b'>', first, inner),
     }
@@ -300,16 +299,16 @@ fn is_dead_piece(alloc: Global, text: &[u8], inner: u8) -> Result<bool>
 fn is_dead_pieces(alloc: Global, kind: StringKind, text: &[u8], inner: u8) -> Result<bool>
     requires { inner ≤ 129 }
     ensures dead { IfOk result (λ dead. IsTrue dead
-        → NeverPieces (read_item (levels_left inner)) (kind_view kind) text.now) }
+        → NeverPieces (read_item (levels_left inner)) kind text.now) }
     ensures cut { IfOk result (λ dead. IsFalse dead
-        → begins_string (kind_view kind) (first_start text.now) ≡ true
-        → NotRead (read_content (read_item (levels_left inner)) (kind_view kind) text.now)
-        → IsCut (StringOf (kind_view kind) (Reads (levels_left inner))) text.now) }
+        → begins_string kind (first_start text.now) ≡ true
+        → NotRead (read_content (read_item (levels_left inner)) kind text.now)
+        → CutOf (StringOf kind (Reads (levels_left inner))) text.now) }
     ensures refused { IfErr result (λ e. e ≡ Error.Memory) }
 {
     let mut rest = text;
     'pieces: while Start::of(rest).begins_piece(kind) {
-        let Some((_, after)) = but_memory(read_piece(alloc, rest, inner))? else {
+        let Some((_, after)) = but_memory(piece_front(alloc, rest, inner))? else {
             return is_dead_piece(alloc, rest, inner);
         };
         rest = after_blank(after);
@@ -326,16 +325,16 @@ fn is_dead_pieces(alloc: Global, kind: StringKind, text: &[u8], inner: u8) -> Re
 fn is_dead_string(alloc: Global, kind: StringKind, text: &[u8], inner: u8) -> Result<bool>
     requires { inner ≤ 129 }
     ensures dead { IfOk result (λ dead. IsTrue dead
-        → NeverReads (read_string (read_item (levels_left inner)) (kind_view kind)) text.now) }
+        → NeverReads (read_string (read_item (levels_left inner)) kind) text.now) }
     ensures cut { IfOk result (λ dead. IsFalse dead
-        → NotRead (read_string (read_item (levels_left inner)) (kind_view kind) text.now)
-        → IsCut (StringOf (kind_view kind) (Reads (levels_left inner))) text.now) }
+        → NotRead (read_string (read_item (levels_left inner)) kind text.now)
+        → CutOf (StringOf kind (Reads (levels_left inner))) text.now) }
     ensures refused { IfErr result (λ e. e ≡ Error.Memory) }
 {
     if !Start::of(text).begins_string(kind) {
         return Ok(!text.is_empty());
     }
-    match but_memory(read_content(alloc, kind, text, inner))? {
+    match but_memory(content_front(alloc, kind, text, inner))? {
         Some((content, rest)) => Ok(is_dead_content(kind, &content, rest)),
         None => is_dead_pieces(alloc, kind, text, inner),
     }
@@ -347,10 +346,10 @@ fn is_dead_string(alloc: Global, kind: StringKind, text: &[u8], inner: u8) -> Re
 fn is_dead_string_item(alloc: Global, kind: StringKind, text: &[u8], inner: u8) -> Result<bool>
     requires { inner ≤ 129 }
     ensures dead { IfOk result (λ dead. IsTrue dead → NeverReads
-        (read_string_item (read_item (levels_left inner)) (kind_view kind)) text.now) }
+        (read_string_item (read_item (levels_left inner)) kind) text.now) }
     ensures cut { IfOk result (λ dead. IsFalse dead
-        → NotRead (read_string_item (read_item (levels_left inner)) (kind_view kind) text.now)
-        → IsCut (Core (Reads (levels_left inner))) text.now) }
+        → NotRead (read_string_item (read_item (levels_left inner)) kind text.now)
+        → CutOf (Core (Reads (levels_left inner))) text.now) }
     ensures refused { IfErr result (λ e. e ≡ Error.Memory) }
 {
     if !is_apart_from_no_chunks(kind, text) {
@@ -364,7 +363,7 @@ fn is_dead_string_item(alloc: Global, kind: StringKind, text: &[u8], inner: u8) 
 fn is_dead_end(alloc: Global, text: &[u8]) -> Result<bool>
     ensures dead { IfOk result (λ dead. IsTrue dead → IsDeadEnd text.now) }
     ensures cut { IfOk result (λ dead. IsFalse dead → NotRead (notation_of deepest text.now)
-        → IsCut IsNotation text.now) }
+        → CutOf IsNotation text.now) }
     ensures refused { IfErr result (λ e. e ≡ Error.Memory) }
 {
     match but_memory(after_item(alloc, text, 1))? {

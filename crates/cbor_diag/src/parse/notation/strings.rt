@@ -9,7 +9,6 @@ ghost use Rattle.std.specs.List.{AllByRecursion};
 ghost use Rattle.cbor_grammar.specs.declared.width.IntegerWidth.TheVariants.{Unknown};
 ghost use Rattle.cbor_diag.specs.View.{view, items_view};
 ghost use Rattle.cbor_grammar.specs.WellFormed.{levels_left, WellFormed, WellFormedItems, IsChunk};
-ghost use Rattle.cbor_grammar.specs.StringKind.{bytes_kind, text_kind};
 ghost use Rattle.cbor_grammar.specs.Written.{encoded_items};
 ghost use Rattle.cbor_grammar.specs.Item.{Item, atom, chunked_string};
 ghost use Rattle.cbor_grammar.specs.Reading.{Gives, Read};
@@ -20,7 +19,6 @@ ghost use Rattle.cbor_notation.specs.mirror.NotationReading.{ends_string, read_i
 ghost use Rattle.cbor_notation.specs.mirror.NotationReading.{one_string, read_piece, read_pieces};
 ghost use Rattle.cbor_notation.specs.mirror.NotationReading.{read_string, read_content, with_chunk};
 ghost use Rattle.cbor_diag.specs.mirror.ChunkList.{chunk_list, list_kind};
-ghost use Rattle.cbor_grammar.specs.mirror.StringView.{kind_view};
 
 use super::read_items;
 use crate::encode::push_items;
@@ -28,7 +26,8 @@ use crate::syntax::DataItem;
 use cbor_grammar::strings::{DefiniteString, StringKind};
 use cbor_grammar::{ByteString, Error, IntegerWidth, TextString};
 use cbor_notation::content::{b_notation, base16, h_notation, read_plain, read_quoted};
-use cbor_notation::scan::{after_blank, after_byte, after_end, after_word, expect_byte};
+use cbor_notation::cursor::Cursor;
+use cbor_notation::scan::{after_byte, after_word};
 use cbor_notation::start::Start;
 use memchr::memchr;
 use std::alloc::{AllocError, Global};
@@ -54,7 +53,7 @@ impl Chunks {
     /// No chunks yet, of a string of this kind.
     fn new(alloc: Global, kind: StringKind) -> Chunks
         ensures none { chunk_list result ≡ [] }
-        ensures kind { list_kind result ≡ kind_view kind }
+        ensures kind { list_kind result ≡ kind }
     {
         match kind {
             StringKind::Bytes => Chunks::Bytes(Vec::new(alloc)),
@@ -113,16 +112,16 @@ fn encoded(alloc: Global, items: &Vec<DataItem>) -> Result<Vec<u8>, AllocError>
 
 /// The items after the first `<` of `<<`, up to their `>>`, in bytes.
 #[cycle(diag)]
-fn read_embedded(alloc: Global, text: &[u8], inner: u8) -> cbor_grammar::Result<(Vec<u8>, &[u8])>
+fn read_embedded(alloc: Global, text: &mut Cursor<'_>, inner: u8) -> cbor_grammar::Result<Vec<u8>>
     requires { inner ≤ 129 }
-    ensures gives { Gives (λ x. (x.0.items, x.1.now)) result
-        (read_embedded (read_item (levels_left inner)) text.now) }
-    ensures shorter { IfOk result (λ x. length x.1.now < length text.now) }
+    ensures gives { Gives (λ x. (x.items, text.new)) result
+        (read_embedded (read_item (levels_left inner)) text.old) }
+    ensures shorter { IfOk result (λ _. length text.new < length text.old) }
 {
-    let rest = expect_byte(text, b'<')?;
-    let (items, rest) = read_items(alloc, b'>', rest, inner)?;
-    let rest = expect_byte(rest, b'>')?;
-    Ok((encoded(alloc, &items)?, rest))
+    text.expect_byte(b'<')?;
+    let items = read_items(alloc, b'>', text, inner)?;
+    text.expect_byte(b'>')?;
+    Ok(encoded(alloc, &items)?)
 }
 
 /// A piece of a string: a text, or a notation of bytes, whose items are at `inner`.
@@ -130,21 +129,22 @@ fn read_embedded(alloc: Global, text: &[u8], inner: u8) -> cbor_grammar::Result<
 #[tactic(auto, using(crate::proofs::notation::Cores::piece_by))]
 pub(super) fn read_piece(
     alloc: Global,
-    text: &[u8],
+    text: &mut Cursor<'_>,
     inner: u8,
-) -> cbor_grammar::Result<(Vec<u8>, &[u8])>
+) -> cbor_grammar::Result<Vec<u8>>
     requires { inner ≤ 129 }
-    ensures gives { Gives (λ x. (x.0.items, x.1.now)) result
-        (read_piece (read_item (levels_left inner)) text.now) }
-    ensures shorter { IfOk result (λ x. length x.1.now < length text.now) }
+    ensures gives { Gives (λ x. (x.items, text.new)) result
+        (read_piece (read_item (levels_left inner)) text.old) }
+    ensures shorter { IfOk result (λ _. length text.new < length text.old) }
 {
-    let (start, rest) = Start::split(text);
+    let start = text.start();
+    text.skip_byte();
     match start {
-        Start::Quote => read_quoted(alloc, rest, b'"'),
-        Start::Apostrophe => read_quoted(alloc, rest, b'\''),
-        Start::Angle => read_embedded(alloc, rest, inner),
-        Start::LetterB => b_notation(alloc, rest),
-        Start::LetterH => h_notation(alloc, rest),
+        Start::Quote => read_quoted(alloc, text, b'"'),
+        Start::Apostrophe => read_quoted(alloc, text, b'\''),
+        Start::Angle => read_embedded(alloc, text, inner),
+        Start::LetterB => b_notation(alloc, text),
+        Start::LetterH => h_notation(alloc, text),
         _ => Err(Error::Notation),
     }
 }
@@ -154,23 +154,22 @@ pub(super) fn read_piece(
 fn read_pieces(
     alloc: Global,
     kind: StringKind,
-    text: &[u8],
+    text: &mut Cursor<'_>,
     inner: u8,
-) -> cbor_grammar::Result<(Vec<u8>, &[u8])>
+) -> cbor_grammar::Result<Vec<u8>>
     requires { inner ≤ 129 }
-    ensures gives { Gives (λ x. (x.0.items, x.1.now)) result
-        (read_pieces (read_item (levels_left inner)) (kind_view kind)
-        (suc (length text.now)) text.now) }
-    ensures shorter { IfOk result (λ x. length x.1.now ≤ length text.now) }
+    ensures gives { Gives (λ x. (x.items, text.new)) result
+        (read_pieces (read_item (levels_left inner)) kind
+        (suc (length text.old)) text.old) }
+    ensures shorter { IfOk result (λ _. length text.new ≤ length text.old) }
 {
     let mut content = Vec::new(alloc);
-    let mut rest = text;
-    'pieces: while Start::of(rest).begins_piece(kind) {
-        let (piece, after) = read_piece(alloc, rest, inner)?;
+    'pieces: while text.start().begins_piece(kind) {
+        let piece = read_piece(alloc, text, inner)?;
         append(&mut content, piece)?;
-        rest = after_blank(after);
+        text.skip_blank();
     }
-    Ok((content, rest))
+    Ok(content)
 }
 
 /// The content of a string of this kind and of definite length, with the blank after it.
@@ -179,15 +178,15 @@ fn read_pieces(
 pub(super) fn read_content(
     alloc: Global,
     kind: StringKind,
-    text: &[u8],
+    text: &mut Cursor<'_>,
     inner: u8,
-) -> cbor_grammar::Result<(Vec<u8>, &[u8])>
+) -> cbor_grammar::Result<Vec<u8>>
     requires { inner ≤ 129 }
-    ensures gives { Gives (λ x. (x.0.items, x.1.now)) result
-        (read_content (read_item (levels_left inner)) (kind_view kind) text.now) }
-    ensures shorter { IfOk result (λ x. length x.1.now ≤ length text.now) }
+    ensures gives { Gives (λ x. (x.items, text.new)) result
+        (read_content (read_item (levels_left inner)) kind text.old) }
+    ensures shorter { IfOk result (λ _. length text.new ≤ length text.old) }
 {
-    if !Start::of(text).begins_string(kind) {
+    if !text.start().begins_string(kind) {
         return Err(Error::Notation);
     }
     read_pieces(alloc, kind, text, inner)
@@ -206,7 +205,8 @@ fn ends_string(text: &[u8]) -> bool
 fn read_plain_hex(text: &[u8]) -> Option<(&[u8], &[u8])>
     ensures gives { IfSome result (λ x. (read : List ℕ → Read Item) (bytes : List ℕ)
         → base16_of x.0.now ≡ Some bytes
-        → read_string_item read bytes_kind text.now ≡ one_string bytes_kind bytes x.1.now) }
+        → read_string_item read StringKind.Bytes text.now
+        ≡ one_string StringKind.Bytes bytes x.1.now) }
     ensures shorter { IfSome result (λ x. length x.1.now ≤ length text.now) }
 {
     let inner = after_word(text, b"h'")?;
@@ -224,34 +224,36 @@ fn read_plain_hex(text: &[u8]) -> Option<(&[u8], &[u8])>
 #[tactic(auto, unfolding(cbor_notation::specs::mirror::NotationReading::read_string))]
 pub(super) fn read_byte_item(
     alloc: Global,
-    text: &[u8],
+    text: &mut Cursor<'_>,
     inner: u8,
-) -> cbor_grammar::Result<(DataItem, &[u8])>
+) -> cbor_grammar::Result<DataItem>
     requires low { 1 ≤ inner }
     requires high { inner ≤ 129 }
-    ensures gives { Gives (λ x. (view x.0, x.1.now)) result
-        (read_string_item (read_item (levels_left inner)) bytes_kind text.now) }
-    ensures well { IfOk result (λ x. WellFormed (inner - 1) (view x.0)) }
-    ensures shorter { IfOk result (λ x. length x.1.now ≤ length text.now) }
+    ensures gives { Gives (λ x. (view x, text.new)) result
+        (read_string_item (read_item (levels_left inner)) StringKind.Bytes text.old) }
+    ensures shorter { IfOk result (λ _. length text.new ≤ length text.old) }
+    ensures well { IfOk result (λ x. WellFormed (inner - 1) (view x)) }
 {
     // The digits of most byte strings are decoded in place.
-    if let Some((digits, rest)) = read_plain_hex(text) {
+    if let Some((digits, rest)) = read_plain_hex(text.rest()) {
         if let Some(content) = base16(alloc, digits)? {
-            return Ok((DataItem::ByteString(unstated(content)?), rest));
+            *text = Cursor::new(rest);
+            return Ok(DataItem::ByteString(unstated(content)?));
         }
     }
-    if let Some(rest) = after_word(text, b"''_") {
-        return Ok((DataItem::IndefiniteByteString(Vec::new(alloc)), rest));
+    if text.take_word(b"''_") {
+        return Ok(DataItem::IndefiniteByteString(Vec::new(alloc)));
     }
-    let (content, rest) = read_content(alloc, StringKind::Bytes, text, inner)?;
-    Ok((DataItem::ByteString(unstated(content)?), rest))
+    let content = read_content(alloc, StringKind::Bytes, text, inner)?;
+    Ok(DataItem::ByteString(unstated(content)?))
 }
 
 /// The content of a text of one piece without escapes, and the text after it, if a string ends
 /// there. `None` otherwise.
 fn read_plain_text(text: &[u8]) -> Option<(&[u8], &[u8])>
     ensures gives { IfSome result (λ x. (read : List ℕ → Read Item)
-        → read_string_item read text_kind text.now ≡ one_string text_kind x.0.now x.1.now) }
+        → read_string_item read StringKind.Text text.now
+        ≡ one_string StringKind.Text x.0.now x.1.now) }
     ensures shorter { IfSome result (λ x. length x.1.now ≤ length text.now) }
 {
     let inner = after_byte(text, b'"')?;
@@ -268,26 +270,27 @@ fn read_plain_text(text: &[u8]) -> Option<(&[u8], &[u8])>
 #[tactic(auto, unfolding(cbor_notation::specs::mirror::NotationReading::read_string))]
 pub(super) fn read_text_item(
     alloc: Global,
-    text: &[u8],
+    text: &mut Cursor<'_>,
     inner: u8,
-) -> cbor_grammar::Result<(DataItem, &[u8])>
+) -> cbor_grammar::Result<DataItem>
     requires low { 1 ≤ inner }
     requires high { inner ≤ 129 }
-    ensures gives { Gives (λ x. (view x.0, x.1.now)) result
-        (read_string_item (read_item (levels_left inner)) text_kind text.now) }
-    ensures well { IfOk result (λ x. WellFormed (inner - 1) (view x.0)) }
-    ensures shorter { IfOk result (λ x. length x.1.now ≤ length text.now) }
+    ensures gives { Gives (λ x. (view x, text.new)) result
+        (read_string_item (read_item (levels_left inner)) StringKind.Text text.old) }
+    ensures shorter { IfOk result (λ _. length text.new ≤ length text.old) }
+    ensures well { IfOk result (λ x. WellFormed (inner - 1) (view x)) }
 {
     // The content of most texts is copied from where it is.
-    if let Some((content, rest)) = read_plain_text(text) {
+    if let Some((content, rest)) = read_plain_text(text.rest()) {
         let content = content.to_vec(alloc)?;
-        return Ok((DataItem::TextString(unstated(content)?), rest));
+        *text = Cursor::new(rest);
+        return Ok(DataItem::TextString(unstated(content)?));
     }
-    if let Some(rest) = after_word(text, b"\"\"_") {
-        return Ok((DataItem::IndefiniteTextString(Vec::new(alloc)), rest));
+    if text.take_word(b"\"\"_") {
+        return Ok(DataItem::IndefiniteTextString(Vec::new(alloc)));
     }
-    let (content, rest) = read_content(alloc, StringKind::Text, text, inner)?;
-    Ok((DataItem::TextString(unstated(content)?), rest))
+    let content = read_content(alloc, StringKind::Text, text, inner)?;
+    Ok(DataItem::TextString(unstated(content)?))
 }
 
 /// The chunks of an indefinite string of this kind after its opening, up to its closing byte.
@@ -295,29 +298,30 @@ pub(super) fn read_text_item(
 fn read_chunk_list(
     alloc: Global,
     kind: StringKind,
-    text: &[u8],
+    text: &mut Cursor<'_>,
     inner: u8,
-) -> cbor_grammar::Result<(Chunks, &[u8])>
+) -> cbor_grammar::Result<Chunks>
     requires { inner ≤ 129 }
-    ensures gives { Gives (λ x. (chunk_list x.0, x.1.now)) result
-        (read_members (read_chunk (read_item (levels_left inner)) (kind_view kind)) 41 text.now) }
-    ensures kind { IfOk result (λ x. list_kind x.0 ≡ kind_view kind) }
+    ensures gives { Gives (λ x. (chunk_list x, text.new)) result
+        (read_members (read_chunk (read_item (levels_left inner)) kind) 41 text.old) }
+    ensures shorter { IfOk result (λ _. length text.new ≤ length text.old) }
+    ensures kind { IfOk result (λ x. list_kind x ≡ kind) }
     ensures well { IfOk result (λ x.
-        AllByRecursion (IsChunk (kind_view kind)) (chunk_list x.0)) }
-    ensures shorter { IfOk result (λ x. length x.1.now ≤ length text.now) }
+        AllByRecursion (IsChunk kind) (chunk_list x)) }
 {
     let mut chunks = Chunks::new(alloc, kind);
-    let mut rest = after_blank(text);
-    if let Some(after) = after_end(rest, b')') {
-        return Ok((chunks, after));
+    text.skip_blank();
+    if text.take_end(b')') {
+        return Ok(chunks);
     }
     'chunks: loop {
-        let (content, after) = read_content(alloc, kind, after_blank(rest), inner)?;
+        text.skip_blank();
+        let content = read_content(alloc, kind, text, inner)?;
         chunks.push(content)?;
-        if let Some(end) = after_end(after, b')') {
-            return Ok((chunks, end));
+        let more = text.take_comma(b')')?;
+        if !more {
+            return Ok(chunks);
         }
-        rest = expect_byte(after, b',')?;
     }
 }
 
@@ -326,18 +330,19 @@ fn read_chunk_list(
 #[cycle(diag)]
 pub(super) fn read_chunks(
     alloc: Global,
-    text: &[u8],
+    text: &mut Cursor<'_>,
     inner: u8,
-) -> cbor_grammar::Result<(DataItem, &[u8])>
+) -> cbor_grammar::Result<DataItem>
     requires low { 1 ≤ inner }
     requires high { inner ≤ 129 }
-    ensures gives { Gives (λ x. (view x.0, x.1.now)) result
-        (read_chunks (read_item (levels_left inner)) text.now) }
-    ensures well { IfOk result (λ x. WellFormed (inner - 1) (view x.0)) }
-    ensures shorter { IfOk result (λ x. length x.1.now ≤ length text.now) }
+    ensures gives { Gives (λ x. (view x, text.new)) result
+        (read_chunks (read_item (levels_left inner)) text.old) }
+    ensures shorter { IfOk result (λ _. length text.new ≤ length text.old) }
+    ensures well { IfOk result (λ x. WellFormed (inner - 1) (view x)) }
 {
-    let first = after_blank(expect_byte(text, b'_')?);
-    let kind = Start::of(first).kind();
-    let (chunks, rest) = read_chunk_list(alloc, kind, first, inner)?;
-    Ok((chunks.into_item(), rest))
+    text.expect_byte(b'_')?;
+    text.skip_blank();
+    let kind = text.start().kind();
+    let chunks = read_chunk_list(alloc, kind, text, inner)?;
+    Ok(chunks.into_item())
 }

@@ -11,8 +11,8 @@ ghost use Rattle.cbor_notation.specs.mirror.NotationReading.{float_of, read_floa
 
 use crate::syntax::DataItem;
 use cbor_grammar::{Error, FloatWidth, Result, Simple};
+use cbor_notation::cursor::Cursor;
 use cbor_notation::number::read_number;
-use cbor_notation::scan::{after_word, expect_byte};
 
 /// Whether all of them are decimal digits.
 pub(super) fn are_decimal(digits: &[u8]) -> bool
@@ -22,17 +22,19 @@ pub(super) fn are_decimal(digits: &[u8]) -> bool
 }
 
 /// A simple value after `simple(`: decimal digits of a value below 256, and `)`.
-pub(super) fn read_simple(text: &[u8]) -> Result<(DataItem, &[u8])>
-    ensures gives { Gives (λ x. (view x.0, x.1.now)) result (read_simple text.now) }
-    ensures well { IfOk result (λ x. (level : ℕ) → level ≤ deepest → WellFormed level (view x.0)) }
-    ensures shorter { IfOk result (λ x. length x.1.now < length text.now) }
+pub(super) fn read_simple(text: &mut Cursor<'_>) -> Result<DataItem>
+    ensures gives { Gives (λ x. (view x, text.new)) result
+        (read_simple text.old) }
+    ensures shorter { IfOk result (λ _. length text.new ≤ length text.old) }
+    ensures well { IfOk result (λ x. (level : ℕ) → level ≤ deepest → WellFormed level (view x)) }
 {
-    let ((value, _), rest) = read_number(text)?;
-    if value > 255 || !are_decimal(&text[..text.len() - rest.len()]) {
+    let digits = text.rest();
+    let (value, _) = read_number(text)?;
+    if value > 255 || !are_decimal(&digits[..digits.len() - text.rest().len()]) {
         return Err(Error::Notation);
     }
-    let rest = expect_byte(rest, b')')?;
-    Ok((DataItem::Simple(Simple(value as u8)), rest))
+    text.expect_byte(b')')?;
+    Ok(DataItem::Simple(Simple(value as u8)))
 }
 
 /// The width of a float of `count` hex digits.
@@ -80,44 +82,39 @@ pub(super) fn find_apostrophe(text: &[u8]) -> Result<usize>
 }
 
 /// A float after `float'`: 4, 8 or 16 hex digits and `'`.
-pub(super) fn read_float(text: &[u8]) -> Result<(DataItem, &[u8])>
-    ensures gives { Gives (λ x. (view x.0, x.1.now)) result (read_float text.now) }
-    ensures well { IfOk result (λ x. (level : ℕ) → level ≤ deepest → WellFormed level (view x.0)) }
-    ensures shorter { IfOk result (λ x. length x.1.now < length text.now) }
+pub(super) fn read_float(text: &mut Cursor<'_>) -> Result<DataItem>
+    ensures gives { Gives (λ x. (view x, text.new)) result
+        (read_float text.old) }
+    ensures shorter { IfOk result (λ _. length text.new ≤ length text.old) }
+    ensures well { IfOk result (λ x. (level : ℕ) → level ≤ deepest → WellFormed level (view x)) }
 {
-    let count = find_apostrophe(text)?;
+    let digits = text.rest();
+    let count = find_apostrophe(digits)?;
     let bitwidth = float_width(count)?;
-    let bits = hex_number(&text[..count])?;
-    Ok((DataItem::Float { bits, bitwidth }, &text[count + 1..]))
-}
-
-/// A simple value by its name.
-fn named(value: Simple, rest: &[u8]) -> Result<(DataItem, &[u8])>
-    ensures gives { Gives (λ x. (view x.0, x.1.now)) result (named value.0 rest.now) }
-    ensures well { IfOk result (λ x. (level : ℕ) → level ≤ deepest → WellFormed level (view x.0)) }
-    ensures shorter { IfOk result (λ x. length x.1.now ≤ length rest.now) }
-{
-    Ok((DataItem::Simple(value), rest))
+    let bits = hex_number(&digits[..count])?;
+    *text = Cursor::new(&digits[count + 1..]);
+    Ok(DataItem::Float { bits, bitwidth })
 }
 
 /// A simple value or a float at the front.
-pub(super) fn read_word(text: &[u8]) -> Result<(DataItem, &[u8])>
-    ensures gives { Gives (λ x. (view x.0, x.1.now)) result (read_word text.now) }
-    ensures well { IfOk result (λ x. (level : ℕ) → level ≤ deepest → WellFormed level (view x.0)) }
-    ensures shorter { IfOk result (λ x. length x.1.now ≤ length text.now) }
+pub(super) fn read_word(text: &mut Cursor<'_>) -> Result<DataItem>
+    ensures gives { Gives (λ x. (view x, text.new)) result
+        (read_word text.old) }
+    ensures shorter { IfOk result (λ _. length text.new ≤ length text.old) }
+    ensures well { IfOk result (λ x. (level : ℕ) → level ≤ deepest → WellFormed level (view x)) }
 {
-    if let Some(rest) = after_word(text, b"false") {
-        named(Simple::FALSE, rest)
-    } else if let Some(rest) = after_word(text, b"true") {
-        named(Simple::TRUE, rest)
-    } else if let Some(rest) = after_word(text, b"null") {
-        named(Simple::NULL, rest)
-    } else if let Some(rest) = after_word(text, b"undefined") {
-        named(Simple::UNDEFINED, rest)
-    } else if let Some(rest) = after_word(text, b"simple(") {
-        read_simple(rest)
-    } else if let Some(rest) = after_word(text, b"float'") {
-        read_float(rest)
+    if text.take_word(b"false") {
+        Ok(DataItem::Simple(Simple::FALSE))
+    } else if text.take_word(b"true") {
+        Ok(DataItem::Simple(Simple::TRUE))
+    } else if text.take_word(b"null") {
+        Ok(DataItem::Simple(Simple::NULL))
+    } else if text.take_word(b"undefined") {
+        Ok(DataItem::Simple(Simple::UNDEFINED))
+    } else if text.take_word(b"simple(") {
+        read_simple(text)
+    } else if text.take_word(b"float'") {
+        read_float(text)
     } else {
         Err(Error::Notation)
     }

@@ -6,8 +6,8 @@ use Rattle.cbor_grammar.specs.Reading.{Fails, read_item}
 use Rattle.cbor_grammar.proofs.bytes.ExactlyOne.{one_outcome}
 use Rattle.cbor_grammar.proofs.bytes.Outcomes.{same}
 use Rattle.cbor_grammar.proofs.bytes.Shorter.{item_shorter}
-use Rattle.cbor_dump.proofs.dump.PublicDumps.{gave_dump, gave_error}
-use Rattle.cbor_grammar.proofs.straight.PublicCalls.{begins_so, front_fault, front_cut_so}
+use Rattle.cbor_grammar.specs.Dump.{dump}
+use Rattle.cbor_grammar.proofs.straight.PublicCalls.{begins_so, front_fault, front_cut_so, gave_text, gave_fault}
 use Rattle.cbor_dump.proofs.convert.push_bytes_to_hex_partial.Goals as goal
 
 pub returns-in-CutShort-clause-cut : goal.returns-in-CutShort-clause-cut
@@ -49,10 +49,9 @@ pub returns-in_ok-push_str-in-Ok-clause-exact : goal.returns-in_ok-push_str-in-O
 returns-in_ok-push_str-in-Ok-clause-exact c =
     let p = c.in-Ok.ensures.dumped in
     let b = c.args.bytes.now in
-    λ o h. gave_dump b c.in-Ok.rest.now p.0 c.deref.result.now (string_bytes c.args.out.now)
-    (string_bytes c.push_str.new.self) o (λ i. omega (arith, c.type_inv.bytes i))
-    (one_outcome 1 128 b refl (λ i. omega (arith, c.type_inv.bytes i))) p.1 (c.deref.ensures ∙ p.2)
-    c.in_ok-push_str-in-Ok.ensures.bytes h
+    λ o h. gave_text dump b c.in-Ok.rest.now p.0 (string_bytes c.args.out.now) (string_bytes c.push_str.new.self) o
+    (λ i. omega (arith, c.type_inv.bytes i)) (one_outcome 1 128 b refl (λ i. omega (arith, c.type_inv.bytes i))) p.1
+    (c.in_ok-push_str-in-Ok.ensures.bytes ∙ ap (λ x. string_bytes c.args.out.now ++ x) (c.deref.ensures ∙ p.2)) h
 
 pub returns-in_ok-push_str-in-Ok-clause-one_of_three : goal.returns-in_ok-push_str-in-Ok-clause-one_of_three
 returns-in_ok-push_str-in-Ok-clause-one_of_three c =
@@ -67,7 +66,7 @@ returns-in_default c =
       cut = λ e. absurd cc;
       fault = front_fault b c.in-Err.error (λ i. omega (arith, c.type_inv.bytes i)) c.in_default.not-CutShort
           c.in-Err.ensures.refused;
-      exact = λ o h. gave_error b c.in-Err.error (string_bytes c.args.out.now) (string_bytes c.args.out.now) o
+      exact = λ o h. gave_fault dump b c.in-Err.error (string_bytes c.args.out.now) (string_bytes c.args.out.now) o
           (λ i. omega (arith, c.type_inv.bytes i)) one c.in_default.not-CutShort c.in-Err.ensures.refused h;
       one_of_three = one;
       cut_unchanged = λ e. absurd cc;

@@ -13,8 +13,7 @@ use Rattle.cbor_grammar.specs.Reading.{no_level_left}
 use Rattle.cbor_grammar.specs.WellFormed.{levels_left}
 use Rattle.cbor_grammar.specs.mirror.AtLevel.{read_at}
 use Rattle.cbor_dump.specs.mirror.Dumped.{embedded_lines, Wrote}
-use Rattle.cbor_bytes.specs.mirror.HeadView.{head_view}
-use Rattle.cbor_bytes.specs.mirror.HeadView.{left_of}
+use Rattle.cbor_grammar.specs.mirror.Lengths.{left_of}
 use Rattle.cbor_grammar.proofs.bytes.Frames.{count_more, pair_count_more}
 use Rattle.cbor_grammar.proofs.bytes.Heads.{ok_is}
 use Rattle.cbor_grammar.proofs.bytes.Shorter.{item_shorter}
@@ -51,7 +50,7 @@ dump_front-returns-in_err-head-clause-refused t c =
 
 pub dump_front-head_line-requires-clause-bytes : goal.dump_front-head_line-requires-clause-bytes
 dump_front-head_line-requires-clause-bytes t c =
-    head_shown (head_view c.in_ok-head.head) c.args.bytes.now c.in_ok-head.rest.now _
+    head_shown c.in_ok-head.head c.args.bytes.now c.in_ok-head.rest.now _
     (λ i. omega (arith, c.type_inv.bytes i)) c.in_ok-head.ensures.gives refl
 
 pub dump_front-returns-in-String-clause-dumped : goal.dump_front-returns-in-String-clause-dumped
@@ -118,7 +117,7 @@ pub dump_front-returns-in_default-clause-dumped : goal.dump_front-returns-in_def
 dump_front-returns-in_default-clause-dumped t c =
     let d = c.in_default in
     let rest = c.in_ok-head.rest.now in
-    dumped_front c.args.context.now c.args.bytes.now rest rest (head_view c.in_ok-head.head) c.args.walk.now _ _
+    dumped_front c.args.context.now c.args.bytes.now rest rest c.in_ok-head.head c.args.walk.now _ _
     (omega (arith, c.if-context-gt-DEEPEST.false)) c.in_ok-head.ensures.gives refl c.in_ok-head_line.ensures
     (alone_dumped c.args.context.now c.in_ok-head.head rest _ d.not-String d.not-Array d.not-Map d.not-Tag)
 

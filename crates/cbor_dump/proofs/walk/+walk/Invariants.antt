@@ -5,8 +5,7 @@ use Rattle.cbor_grammar.specs.Item.{Items, no_items, Pairs, no_pairs, item_count
 use Rattle.cbor_grammar.specs.Reading.{items_in, pairs_in}
 use Rattle.cbor_grammar.specs.WellFormed.{levels_left}
 use Rattle.cbor_dump.specs.mirror.Dumped.{items_there, pairs_there, sequence_notes_there, Wrote}
-use Rattle.cbor_bytes.specs.mirror.HeadView.{argument_view}
-use Rattle.cbor_bytes.specs.mirror.HeadView.{left_of}
+use Rattle.cbor_grammar.specs.mirror.Lengths.{left_of}
 use Rattle.cbor_dump.proofs.dump.EmbeddedDumps.{SequenceLeft}
 use Rattle.cbor_dump.proofs.dump.Members.{Announced}
 use Rattle.cbor_notation.proofs.straight.Readings.{parts_read}
@@ -53,7 +52,7 @@ invariant-dump_items-items l =
     record {
       members : Items;
       so_far : parts_read left (items_in members (left_of l.count l.held)) l.rest
-          ≡ parts_read left (items_in no_items (argument_view l.count)) l.bytes;
+          ≡ parts_read left (items_in no_items l.count) l.bytes;
       count : item_count members ≡ l.held;
       announced : Announced l.count l.held;
       wrote : Wrote l.fn.walk.writer l.walk.writer (items_there l.inner l.fn.walk.shared members);
@@ -67,7 +66,7 @@ invariant-dump_pairs-pairs l =
     record {
       members : Pairs;
       so_far : parts_read left (pairs_in members (left_of l.count l.held)) l.rest
-          ≡ parts_read left (pairs_in no_pairs (argument_view l.count)) l.bytes;
+          ≡ parts_read left (pairs_in no_pairs l.count) l.bytes;
       count : pair_count members ≡ l.held;
       announced : Announced l.count l.held;
       wrote : Wrote l.fn.walk.writer l.walk.writer (pairs_there l.inner l.fn.walk.shared members);

@@ -1,13 +1,10 @@
 -- What is written are the lines of the chunks before the rest, and each chunk shortens the rest.
-use Rattle.std.proofs.Common.{◌≡◌, ℕ, ◌≤◌, List, length}
+use Rattle.std.proofs.Common.{◌≡◌, length}
 use Rattle.std.specs.List.{flat_map}
 use Rattle.cbor_grammar.specs.Dump.{inside, string_lines}
-use Rattle.cbor_grammar.specs.Item.{Chunk}
-use Rattle.cbor_grammar.specs.Reading.{later, read_chunks}
 use Rattle.cbor_dump.specs.mirror.Dumped.{context_view, Wrote}
-use Rattle.cbor_grammar.specs.mirror.StringView.{kind_view}
 use Rattle.cbor_grammar.proofs.bytes.Heads.{IsBytes}
-use Rattle.cbor_grammar.proofs.turns.ChunkLoops.{onto}
+use Rattle.cbor_notation.proofs.straight.ChunksRead.{ChunksRead}
 use Rattle.cbor_dump.proofs.walk.dump_chunks.Given as goal
 
 abbrev pub decreases-chunks : goal.decreases-chunks
@@ -16,14 +13,9 @@ decreases-chunks l = length l.rest
 -- what was read of the chunks, and their lines
 abbrev pub invariant-chunks : goal.invariant-chunks
 invariant-chunks l = record {
-  chunks : List Chunk;
-  turns : ℕ;
-  bound : ℕ;
-  enough : length l.rest ≤ bound;
-  so_far : later turns (onto chunks (read_chunks bound (kind_view l.kind) l.rest))
-      ≡ read_chunks (length l.bytes) (kind_view l.kind) l.bytes;
+  read : ChunksRead l.kind l.bytes l.rest;
   wrote : Wrote l.fn.walk.writer l.walk.writer
-      (flat_map (string_lines (kind_view l.kind) (inside (context_view l.context))) chunks);
+      (flat_map (string_lines l.kind (inside (context_view l.context))) read.chunks);
   fits : IsBytes l.rest;
   shared : l.walk.shared ≡ l.fn.walk.shared;
 }

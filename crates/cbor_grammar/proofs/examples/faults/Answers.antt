@@ -4,7 +4,7 @@ use Rattle.std.proofs.Common.{◌≡◌, false, [], ◌∷◌, refl, sym, ◌∙
 use Rattle.std.proofs.lemmas.Bool.{false≢true}
 use Rattle.std.specs.Str.{chars, is_utf8}
 use Rattle.cbor_grammar.specs.declared.width.IntegerWidth.TheVariants.{Zero}
-use Rattle.cbor_grammar.specs.StringKind.{bytes_kind}
+use Rattle.cbor_grammar.specs.declared.strings.StringKind.TheVariants.{Bytes}
 use Rattle.cbor_grammar.specs.Refused.{no_length, part, at_open_value, no_chunk, too_deep, bad_head, bad_text}
 use Rattle.cbor_grammar.specs.Refused.{bad_chunk_head, bad_part}
 use Rattle.cbor_grammar.specs.Examples.{small}
@@ -56,7 +56,7 @@ returns-clause-text c =
 
 pub returns-clause-chunk : goal.returns-clause-chunk
 returns-clause-chunk c =
-    bad_chunk_head bytes_kind (0x61 ∷ []) (omega arith) (
+    bad_chunk_head Bytes (0x61 ∷ []) (omega arith) (
       record { bytes = 1 ∷ []; width = Zero } ∷ [],
       0x41 ∷ 1 ∷ 0x61 ∷ [],
       refl,

@@ -2,7 +2,7 @@ use Rattle.std.proofs.Common.{◌≡◌, ◌↔◌, IsTrue, refl, rules, sym, su
 use Rattle.cbor_diag.specs.declared.syntax.DataItem.{the_lemmas}
 use Rattle.cbor_diag.specs.Item as spec
 use Rattle.cbor_diag.specs.Item.{Item, atom, chunked_string, array, tagged}
-use Rattle.cbor_diag.specs.StringKind.{bytes_kind, text_kind}
+use Rattle.cbor_grammar.specs.declared.strings.StringKind.TheVariants.{Bytes, Text}
 use Rattle.cbor_diag.specs.View.{view, items_view, pairs_view}
 use Rattle.cbor_diag.specs.Strings.{byte_chunk, text_chunk}
 use Rattle.cbor_inspect.specs.Paths.{plain_key}
@@ -12,7 +12,7 @@ use Rattle.cbor_inspect.proofs.path.is_key.Goals as goal
 pub returns-in-IndefiniteByteString : goal.returns-in-IndefiniteByteString
 returns-in-IndefiniteByteString c =
     let wanted = view c.args.wanted.now in
-    let is : wanted ≡ atom (chunked_string bytes_kind (map byte_chunk c.in-IndefiniteByteString.field-0.items)) =
+    let is : wanted ≡ atom (chunked_string Bytes (map byte_chunk c.in-IndefiniteByteString.field-0.items)) =
     rw c.in-IndefiniteByteString.is (search (rules, the_lemmas)) in
     let other : IsOther wanted = subst IsOther (sym is) tt in
     let plain : plain_key wanted ≡ wanted = subst (λ (x : Item). plain_key x ≡ x) (sym is) refl in
@@ -22,7 +22,7 @@ returns-in-IndefiniteByteString c =
 pub returns-in-IndefiniteTextString : goal.returns-in-IndefiniteTextString
 returns-in-IndefiniteTextString c =
     let wanted = view c.args.wanted.now in
-    let is : wanted ≡ atom (chunked_string text_kind (map text_chunk c.in-IndefiniteTextString.field-0.items)) =
+    let is : wanted ≡ atom (chunked_string Text (map text_chunk c.in-IndefiniteTextString.field-0.items)) =
     rw c.in-IndefiniteTextString.is (search (rules, the_lemmas)) in
     let other : IsOther wanted = subst IsOther (sym is) tt in
     let plain : plain_key wanted ≡ wanted = subst (λ (x : Item). plain_key x ≡ x) (sym is) refl in

@@ -2,9 +2,7 @@
 use Rattle.std.proofs.Common.{refl, ap, arith}
 use Rattle.cbor_grammar.specs.Estimate.{digit_count}
 use Rattle.cbor_grammar.specs.Item.{atom, integer, negative, float, simple}
-use Rattle.cbor_grammar.specs.ItemHead as item_head
-use Rattle.cbor_bytes.specs.mirror.HeadView.{argument_view}
-use Rattle.cbor_grammar.specs.mirror.StringView.{kind_view}
+use Rattle.cbor_grammar.specs.declared.head.ItemHead.TheVariants as item_head
 use Rattle.cbor_notation.proofs.straight.Ahead.{no_item, headed, atom_found, container_found, tag_found}
 use Rattle.cbor_notation.proofs.straight.Ahead.{no_items_yet, one_item_more, item_takes_all, items_found}
 use Rattle.cbor_notation.proofs.straight.Ahead.{no_pairs_yet, one_pair_more, key_takes_all, value_takes_all}
@@ -19,7 +17,7 @@ item_ahead-returns-in_default-clause-leaves t c levels i rest e =
 
 pub item_ahead-returns-in-Integer-clause-leaves : goal.item_ahead-returns-in-Integer-clause-leaves
 item_ahead-returns-in-Integer-clause-leaves t c =
-    let h = item_head.integer c.in-Integer.value c.in-Integer.field-1 in
+    let h = item_head.Integer c.in-Integer.value c.in-Integer.field-1 in
     headed c.new.result c.args.budget c.args.bytes.now h c.in-Ok.rest.now
     (rw c.in-Integer.is at c.in-Ok.ensures.gives)
     (atom_found c.new.result c.args.budget h (atom (integer c.in-Integer.value c.in-Integer.field-1))
@@ -28,7 +26,7 @@ item_ahead-returns-in-Integer-clause-leaves t c =
 
 pub item_ahead-returns-in-Negative-clause-leaves : goal.item_ahead-returns-in-Negative-clause-leaves
 item_ahead-returns-in-Negative-clause-leaves t c =
-    let h = item_head.negative c.in-Negative.value c.in-Negative.field-1 in
+    let h = item_head.Negative c.in-Negative.value c.in-Negative.field-1 in
     headed c.new-in-Negative.result c.args.budget c.args.bytes.now h c.in-Ok.rest.now
     (rw c.in-Negative.is at c.in-Ok.ensures.gives)
     (atom_found c.new-in-Negative.result c.args.budget h (atom (negative c.in-Negative.value c.in-Negative.field-1))
@@ -37,13 +35,13 @@ item_ahead-returns-in-Negative-clause-leaves t c =
 
 pub item_ahead-returns-in-String-clause-leaves : goal.item_ahead-returns-in-String-clause-leaves
 item_ahead-returns-in-String-clause-leaves t c =
-    let h = item_head.string (kind_view c.in-String.kind) (argument_view c.in-String.len) in
+    let h = item_head.String c.in-String.kind c.in-String.len in
     headed c.string_ahead.result c.args.budget c.args.bytes.now h c.in-Ok.rest.now
     (rw c.in-String.is at c.in-Ok.ensures.gives) c.string_ahead.ensures.leaves
 
 pub item_ahead-returns-in-Array-clause-leaves : goal.item_ahead-returns-in-Array-clause-leaves
 item_ahead-returns-in-Array-clause-leaves t c =
-    let h = item_head.array (argument_view c.in-Array.count) in
+    let h = item_head.Array c.in-Array.count in
     headed c.items_ahead.result c.args.budget c.args.bytes.now h c.in-Ok.rest.now
     (rw c.in-Array.is at c.in-Ok.ensures.gives)
     (container_found c.items_ahead.result c.args.budget c.saturating_sub-in-Array.result h c.in-Ok.rest.now
@@ -51,7 +49,7 @@ item_ahead-returns-in-Array-clause-leaves t c =
 
 pub item_ahead-returns-in-Map-clause-leaves : goal.item_ahead-returns-in-Map-clause-leaves
 item_ahead-returns-in-Map-clause-leaves t c =
-    let h = item_head.map (argument_view c.in-Map.count) in
+    let h = item_head.Map c.in-Map.count in
     headed c.pairs_ahead.result c.args.budget c.args.bytes.now h c.in-Ok.rest.now
     (rw c.in-Map.is at c.in-Ok.ensures.gives)
     (container_found c.pairs_ahead.result c.args.budget c.saturating_sub-in-Map.result h c.in-Ok.rest.now
@@ -59,14 +57,14 @@ item_ahead-returns-in-Map-clause-leaves t c =
 
 pub item_ahead-returns-in-Tag-clause-leaves : goal.item_ahead-returns-in-Tag-clause-leaves
 item_ahead-returns-in-Tag-clause-leaves t c =
-    headed c.item_ahead.result c.args.budget c.args.bytes.now (item_head.tag c.in-Tag.tag c.in-Tag.field-1)
+    headed c.item_ahead.result c.args.budget c.args.bytes.now (item_head.Tag c.in-Tag.tag c.in-Tag.field-1)
     c.in-Ok.rest.now (rw c.in-Tag.is at c.in-Ok.ensures.gives)
     (tag_found c.item_ahead.result c.args.budget c.saturating_sub-in-Tag.result c.in-Tag.tag c.in-Tag.field-1
     c.in-Ok.rest.now (omega arith) c.item_ahead.ensures.leaves)
 
 pub item_ahead-returns-in-Float-clause-leaves : goal.item_ahead-returns-in-Float-clause-leaves
 item_ahead-returns-in-Float-clause-leaves t c =
-    let h = item_head.float c.in-Float.field-0 c.in-Float.width in
+    let h = item_head.Float c.in-Float.field-0 c.in-Float.width in
     headed c.new-in-Float.result c.args.budget c.args.bytes.now h c.in-Ok.rest.now
     (rw c.in-Float.is at c.in-Ok.ensures.gives)
     (atom_found c.new-in-Float.result c.args.budget h (atom (float c.in-Float.field-0 c.in-Float.width))
@@ -75,7 +73,7 @@ item_ahead-returns-in-Float-clause-leaves t c =
 
 pub item_ahead-returns-in-Simple-clause-leaves : goal.item_ahead-returns-in-Simple-clause-leaves
 item_ahead-returns-in-Simple-clause-leaves t c =
-    let h = item_head.simple c.in-Simple.value in
+    let h = item_head.Simple c.in-Simple.value in
     headed c.new-in-Simple.result c.args.budget c.args.bytes.now h c.in-Ok.rest.now
     (rw c.in-Simple.is at c.in-Ok.ensures.gives)
     (atom_found c.new-in-Simple.result c.args.budget h (atom (simple c.in-Simple.value)) c.in-Ok.rest.now (λ n. refl)

@@ -1,6 +1,5 @@
 -- The budget lacks the estimate of the chunks before the rest, and each chunk takes some of it.
 use Rattle.std.proofs.Common.{◌≤◌}
-use Rattle.cbor_grammar.specs.mirror.StringView.{kind_view}
 use Rattle.cbor_notation.proofs.straight.StringsAhead.{ChunksSoFar}
 use Rattle.cbor_notation.proofs.ahead.chunks_ahead.Given as goal
 
@@ -9,6 +8,6 @@ decreases-chunks l = l.left
 
 abbrev pub invariant-chunks : goal.invariant-chunks
 invariant-chunks l = record {
-  so_far : ChunksSoFar l.budget (kind_view l.kind) l.bytes l.left l.rest;
+  so_far : ChunksSoFar l.budget l.kind l.bytes l.left l.rest;
   room : l.left ≤ l.budget;
 }

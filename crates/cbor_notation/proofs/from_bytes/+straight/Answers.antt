@@ -6,15 +6,14 @@ use Rattle.cbor_grammar.specs.Item as spec
 use Rattle.cbor_grammar.specs.Item.{atom, integer, negative, string, float, simple, array, tagged, no_items, item}
 use Rattle.cbor_grammar.specs.Item.{no_pairs}
 use Rattle.cbor_grammar.specs.Item.{pair}
-use Rattle.cbor_grammar.specs.ItemHead as item_head
+use Rattle.cbor_grammar.specs.declared.head.ItemHead.TheVariants as item_head
 use Rattle.cbor_grammar.specs.Embedded.{sequence_at}
 use Rattle.cbor_grammar.specs.NotationText.{container_style, sequence_size, opened, inside, below}
 use Rattle.cbor_grammar.specs.Reading.{Fails, items_in, pairs_in, tag_of, joined, joined_pairs, count_width}
 use Rattle.cbor_grammar.specs.Reading.{read_head, no_level_left}
 use Rattle.cbor_grammar.specs.WellFormed.{levels_left}
-use Rattle.cbor_bytes.specs.mirror.HeadView.{argument_view}
-use Rattle.cbor_notation.specs.mirror.LayoutView.{layout_view, style_view, context_view, item_text}
-use Rattle.cbor_bytes.specs.mirror.HeadView.{left_of}
+use Rattle.cbor_notation.specs.mirror.LayoutView.{context_view, item_text}
+use Rattle.cbor_grammar.specs.mirror.Lengths.{left_of}
 use Rattle.cbor_notation.specs.mirror.Straight.{Printed, read_there}
 use Rattle.cbor_grammar.specs.mirror.StringView.{kind_of, borrowed_chunk}
 use Rattle.cbor_grammar.proofs.bytes.Frames.{count_more, pair_count_more}
@@ -107,7 +106,7 @@ push_front-push_float-requires t c =
 pub push_front-returns-in_ok-push_number-in-Integer-clause-printed
     : goal.push_front-returns-in_ok-push_number-in-Integer-clause-printed
 push_front-returns-in_ok-push_number-in-Integer-clause-printed t c =
-    atom_printed c.args.context.now c.args.bytes.now (item_head.integer c.in-Integer.value c.in-Integer.width)
+    atom_printed c.args.context.now c.args.bytes.now (item_head.Integer c.in-Integer.value c.in-Integer.width)
     c.in_ok-head.rest.now
     (atom (integer c.in-Integer.value c.in-Integer.width)) (string_bytes c.args.out.now)
     (string_bytes c.push_number.new.out)
@@ -117,7 +116,7 @@ push_front-returns-in_ok-push_number-in-Integer-clause-printed t c =
 pub push_front-returns-in_ok-push_negative-in-Negative-clause-printed
     : goal.push_front-returns-in_ok-push_negative-in-Negative-clause-printed
 push_front-returns-in_ok-push_negative-in-Negative-clause-printed t c =
-    atom_printed c.args.context.now c.args.bytes.now (item_head.negative c.in-Negative.value c.in-Negative.width)
+    atom_printed c.args.context.now c.args.bytes.now (item_head.Negative c.in-Negative.value c.in-Negative.width)
     c.in_ok-head.rest.now
     (atom (negative c.in-Negative.value c.in-Negative.width)) (string_bytes c.args.out.now)
     (string_bytes c.push_negative.new.out)
@@ -127,7 +126,7 @@ push_front-returns-in_ok-push_negative-in-Negative-clause-printed t c =
 pub push_front-returns-in_ok-push_float-in-Float-clause-printed
     : goal.push_front-returns-in_ok-push_float-in-Float-clause-printed
 push_front-returns-in_ok-push_float-in-Float-clause-printed t c =
-    atom_printed c.args.context.now c.args.bytes.now (item_head.float c.in-Float.bits c.in-Float.width)
+    atom_printed c.args.context.now c.args.bytes.now (item_head.Float c.in-Float.bits c.in-Float.width)
     c.in_ok-head.rest.now
     (atom (float c.in-Float.bits c.in-Float.width)) (string_bytes c.args.out.now) (string_bytes c.push_float.new.out)
     (omega (arith, c.if-context-gt-DEEPEST.false)) (rw c.in-Float.is at c.in_ok-head.ensures.gives) refl
@@ -136,7 +135,7 @@ push_front-returns-in_ok-push_float-in-Float-clause-printed t c =
 pub push_front-returns-in_ok-push_simple-in-Simple-clause-printed
     : goal.push_front-returns-in_ok-push_simple-in-Simple-clause-printed
 push_front-returns-in_ok-push_simple-in-Simple-clause-printed t c =
-    atom_printed c.args.context.now c.args.bytes.now (item_head.simple c.in-Simple.value) c.in_ok-head.rest.now
+    atom_printed c.args.context.now c.args.bytes.now (item_head.Simple c.in-Simple.value) c.in_ok-head.rest.now
     (atom (simple c.in-Simple.value)) (string_bytes c.args.out.now) (string_bytes c.push_simple.new.out)
     (omega (arith, c.if-context-gt-DEEPEST.false)) (rw c.in-Simple.is at c.in_ok-head.ensures.gives) refl
     c.in_ok-push_simple-in-Simple.ensures
@@ -146,7 +145,7 @@ push_front-returns-in_ok-push_simple-in-Simple-clause-printed t c =
 pub push_array_front-items-init : goal.push_array_front-items-init
 push_array_front-items-init t c =
     let old = string_bytes c.args.out.now in
-    let l = style_view c.array_style_ahead-style.result in
+    let l = c.array_style_ahead-style.result in
     let width = c.width.ensures 0 ∙ ap count_width (none_held c.args.count) in
     record {
       found = no_items;
@@ -161,9 +160,9 @@ push_array_front-items-init t c =
 pub push_array_front-returns-in-Some-clause-printed : goal.push_array_front-returns-in-Some-clause-printed
 push_array_front-returns-in-Some-clause-printed t c =
     let i = c.items.invariant in
-    let l = style_view c.array_style_ahead-style.result in
+    let l = c.array_style_ahead-style.result in
     let context = c.args.context.now in
-    let w = count_width (argument_view c.args.count) in
+    let w = count_width c.args.count in
     let width = sym (c.width.ensures c.items.held) ∙ c.width.ensures 0 ∙ ap count_width (none_held c.args.count) in
     let f = items_in i.found (left_of c.args.count c.items.held) in
     let read = sym i.so_far ∙ parts_ended (levels_left (context.level + 1)) f c.items.rest.now c.in-Some.after.now
@@ -208,7 +207,7 @@ push_array_front-items-preserved t c =
       so_far = sym (member_read left i.found c.args.count c.items.held c.items.rest.now c.in_ok-rest.rest.now p.0
           (sym c.in_default.ensures) read) ∙ i.so_far;
       count = omega (arith, count_more i.found p.0, i.count);
-      text = item_more (style_view c.array_style_ahead-style.result) (item_text c.inside-inner.result) i.found p.0
+      text = item_more c.array_style_ahead-style.result (item_text c.inside-inner.result) i.found p.0
           c.items.held _ (string_bytes c.items.out) (string_bytes c.push_start.new.out)
           (string_bytes c.push_front.new.out)
           (string_bytes c.push_end.new.out) i.count i.text c.in_ok-push_start.ensures p.2 c.in_ok-push_end.ensures;
@@ -220,7 +219,7 @@ push_array_front-items-preserved t c =
 pub push_map_front-pairs-init : goal.push_map_front-pairs-init
 push_map_front-pairs-init t c =
     let old = string_bytes c.args.out.now in
-    let l = style_view c.map_style_ahead-style.result in
+    let l = c.map_style_ahead-style.result in
     let width = c.width.ensures 0 ∙ ap count_width (none_held c.args.count) in
     record {
       found = no_pairs;
@@ -235,9 +234,9 @@ push_map_front-pairs-init t c =
 pub push_map_front-returns-in-Some-clause-printed : goal.push_map_front-returns-in-Some-clause-printed
 push_map_front-returns-in-Some-clause-printed t c =
     let i = c.pairs.invariant in
-    let l = style_view c.map_style_ahead-style.result in
+    let l = c.map_style_ahead-style.result in
     let context = c.args.context.now in
-    let w = count_width (argument_view c.args.count) in
+    let w = count_width c.args.count in
     let width = sym (c.width.ensures c.pairs.held) ∙ c.width.ensures 0 ∙ ap count_width (none_held c.args.count) in
     let f = pairs_in i.found (left_of c.args.count c.pairs.held) in
     let read = sym i.so_far ∙ parts_ended (levels_left (context.level + 1)) f c.pairs.rest.now c.in-Some.after.now
@@ -306,7 +305,7 @@ push_map_front-pairs-preserved t c =
       so_far = sym (pair_read left i.found c.args.count c.pairs.held c.pairs.rest.now c.in_ok-value.value.now
           c.in_ok-rest.rest.now k.0 v.0 (sym c.in_default.ensures) key value) ∙ i.so_far;
       count = omega (arith, pair_count_more i.found k.0 v.0, i.count);
-      text = pair_more (style_view c.map_style_ahead-style.result) (item_text c.inside-inner.result) i.found k.0 v.0
+      text = pair_more c.map_style_ahead-style.result (item_text c.inside-inner.result) i.found k.0 v.0
           c.pairs.held _ (string_bytes c.pairs.out) (string_bytes c.push_start.new.out)
           (string_bytes c.push_front.new.out)
           (string_bytes c.push_colon.new.out) (string_bytes c.push_front-in-pairs.new.out)
@@ -368,7 +367,7 @@ push_sequence-items-init t c = record {
   found = no_items;
   so_far = sequence_begun (levels_left (c.args.context.now.level + 1)) c.args.bytes.now;
   count = refl;
-  text = c.in_ok-push_str.ensures.bytes ∙ none_written (style_view c.sequence_style_ahead-style.result) _;
+  text = c.in_ok-push_str.ensures.bytes ∙ none_written c.sequence_style_ahead-style.result _;
   room = omega arith;
 }
 
@@ -390,7 +389,7 @@ push_sequence-items-preserved t c =
       found = joined i.found (item p.0 no_items);
       so_far = sequence_more left i.found p.0 c.items.rest.now after _ read i.so_far;
       count = omega (arith, count_more i.found p.0, i.count);
-      text = item_more (style_view c.sequence_style_ahead-style.result) (item_text c.inside-inner.result) i.found p.0
+      text = item_more c.sequence_style_ahead-style.result (item_text c.inside-inner.result) i.found p.0
           c.items.held _ (string_bytes c.items.out) (string_bytes c.push_start.new.out)
           (string_bytes c.push_front.new.out)
           (string_bytes c.push_end.new.out) i.count i.text c.in_ok-push_start.ensures p.2
@@ -414,7 +413,7 @@ push_sequence-truncate-requires t c =
 pub push_sequence-returns-in_default : goal.push_sequence-returns-in_default
 push_sequence-returns-in_default t c =
     let i = c.items.invariant in
-    let l = style_view c.sequence_style_ahead-style.result in
+    let l = c.sequence_style_ahead-style.result in
     let context = c.args.context.now in
     let left = levels_left (context.level + 1) in
     let old = string_bytes c.args.out.now in
@@ -425,7 +424,7 @@ push_sequence-returns-in_default t c =
     c.in_default.not-Memory
     (below_fails c.in-Err.error c.inside-inner.result (context.level + 1) rest c.inside-inner.ensures.level
     c.in-Err.ensures.refused) i.so_far in
-    let same = c.sequence_style_ahead-style.ensures.style ∙ ap (λ n. container_style (layout_view context.layout) n)
+    let same = c.sequence_style_ahead-style.ensures.style ∙ ap (λ n. container_style context.layout n)
     (ap sequence_size (sym whole)) in
     let back = c.truncate.ensures.bytes ∙ (cut_back c.items.out c.push_front.new.out c.len-start.result
     c.len-start.ensures (begun_member (string_bytes c.items.out) (string_bytes c.push_start.new.out)

@@ -6,9 +6,8 @@ use Rattle.cbor_grammar.specs.Item.{Items, no_items, Pairs, no_pairs, item_count
 use Rattle.cbor_grammar.specs.NotationText.{members, opened, colon, item_texts, pair_texts}
 use Rattle.cbor_grammar.specs.Reading.{items_in, pairs_in, count_width}
 use Rattle.cbor_grammar.specs.WellFormed.{levels_left}
-use Rattle.cbor_bytes.specs.mirror.HeadView.{argument_view}
-use Rattle.cbor_notation.specs.mirror.LayoutView.{style_view, item_text}
-use Rattle.cbor_bytes.specs.mirror.HeadView.{left_of}
+use Rattle.cbor_notation.specs.mirror.LayoutView.{item_text}
+use Rattle.cbor_grammar.specs.mirror.Lengths.{left_of}
 use Rattle.cbor_notation.proofs.straight.Sequences.{SoFar}
 use Rattle.cbor_notation.proofs.straight.Readings.{parts_read}
 use Rattle.cbor_notation.proofs.from_bytes.+straight.Given as goal
@@ -57,11 +56,11 @@ invariant-push_array_front-items l =
     record {
       found : Items;
       so_far : parts_read left (items_in found (left_of l.count l.held)) l.rest
-          ≡ parts_read left (items_in no_items (argument_view l.count)) l.bytes;
+          ≡ parts_read left (items_in no_items l.count) l.bytes;
       count : item_count found ≡ l.held;
       text : string_bytes l.out ≡ (string_bytes l.fn.out
-          ++ opened (style_view l.style) (codes "[") (count_width (argument_view l.count)))
-          ++ members (style_view l.style) (item_texts (item_text l.inner) found);
+          ++ opened l.style (codes "[") (count_width l.count))
+          ++ members l.style (item_texts (item_text l.inner) found);
       room : l.held + length l.rest ≤ length l.bytes;
     }
 
@@ -71,11 +70,11 @@ invariant-push_map_front-pairs l =
     record {
       found : Pairs;
       so_far : parts_read left (pairs_in found (left_of l.count l.held)) l.rest
-          ≡ parts_read left (pairs_in no_pairs (argument_view l.count)) l.bytes;
+          ≡ parts_read left (pairs_in no_pairs l.count) l.bytes;
       count : pair_count found ≡ l.held;
       text : string_bytes l.out ≡ (string_bytes l.fn.out
-          ++ opened (style_view l.style) (codes "{") (count_width (argument_view l.count)))
-          ++ members (style_view l.style) (pair_texts (item_text l.inner) (colon (style_view l.style)) found);
+          ++ opened l.style (codes "{") (count_width l.count))
+          ++ members l.style (pair_texts (item_text l.inner) (colon l.style) found);
       room : l.held + length l.rest ≤ length l.bytes;
     }
 
@@ -88,6 +87,6 @@ invariant-push_sequence-items l =
       so_far : SoFar left found l.rest (sequence_at left l.bytes);
       count : item_count found ≡ l.held;
       text : string_bytes l.out ≡ (string_bytes l.fn.out ++ codes "<<")
-          ++ members (style_view l.style) (item_texts (item_text l.inner) found);
+          ++ members l.style (item_texts (item_text l.inner) found);
       room : l.held + length l.rest ≤ length l.bytes;
     }

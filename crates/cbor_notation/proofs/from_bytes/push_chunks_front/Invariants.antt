@@ -1,13 +1,8 @@
 -- What is written is the text of the chunks before the rest, and each chunk shortens the rest.
-use Rattle.std.proofs.Common.{◌≡◌, ℕ, ◌+◌, ◌≤◌, List, ◌++◌, length}
+use Rattle.std.proofs.Common.{◌≡◌, ◌+◌, ◌≤◌, ◌++◌, length}
 use Rattle.std.specs.String.{string_bytes}
-use Rattle.cbor_grammar.specs.Item.{Chunk}
-use Rattle.cbor_grammar.specs.Reading.{later, read_chunks}
-use Rattle.cbor_notation.specs.mirror.EncodingView.{encoding_view}
-use Rattle.cbor_notation.specs.mirror.LayoutView.{style_view}
-use Rattle.cbor_grammar.specs.mirror.StringView.{kind_view}
 use Rattle.cbor_notation.proofs.straight.Texts.{chunks_begun, chunk_texts}
-use Rattle.cbor_grammar.proofs.turns.ChunkLoops.{onto}
+use Rattle.cbor_notation.proofs.straight.ChunksRead.{ChunksRead}
 use Rattle.cbor_notation.proofs.from_bytes.push_chunks_front.Given as goal
 
 abbrev pub decreases-chunks : goal.decreases-chunks
@@ -16,14 +11,10 @@ decreases-chunks l = length l.rest
 -- what was read of the chunks, and their text
 abbrev pub invariant-chunks : goal.invariant-chunks
 invariant-chunks l = record {
-  chunks : List Chunk;
-  turns : ℕ;
-  bound : ℕ;
-  enough : length l.rest ≤ bound;
-  so_far : later turns (onto chunks (read_chunks bound (kind_view l.kind) l.rest))
-      ≡ read_chunks (length l.bytes) (kind_view l.kind) l.bytes;
-  count : length chunks ≡ l.held;
+  read : ChunksRead l.kind l.bytes l.rest;
+  count : length read.chunks ≡ l.held;
   text : string_bytes l.out ≡ string_bytes l.fn.out
-      ++ chunks_begun (style_view l.style) (chunk_texts (kind_view l.kind) (encoding_view l.context.encoding) chunks);
+      ++ chunks_begun l.style
+      (chunk_texts l.kind l.context.encoding read.chunks);
   room : l.held + length l.rest ≤ length l.bytes;
 }

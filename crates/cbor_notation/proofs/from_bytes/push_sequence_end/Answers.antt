@@ -2,7 +2,7 @@
 use Rattle.std.proofs.Common.{◌≡◌, ℕ, ◌++◌, List, codes, ap, ◌∙◌, append_assoc, arith}
 use Rattle.std.specs.String.{string_bytes}
 use Rattle.cbor_grammar.specs.NotationText.{last_line, rest_text}
-use Rattle.cbor_notation.specs.mirror.LayoutView.{context_view, style_view}
+use Rattle.cbor_notation.specs.mirror.LayoutView.{context_view}
 use Rattle.cbor_grammar.proofs.shared.Appending.{begins_two, appends_last}
 use Rattle.cbor_notation.proofs.from_bytes.push_sequence_end.Goals as goal
 
@@ -14,7 +14,7 @@ pub returns : goal.returns
 returns c =
     let old = string_bytes c.args.out.now in
     let first = string_bytes c.push_closing.new.out in
-    let line = last_line (style_view c.args.style) in
+    let line = last_line c.args.style in
     let rest = rest_text (context_view c.args.context.now) c.args.rest.now in
     let second = c.in_ok-push.ensures.bytes ∙ ap (λ x. first ++ x) (c.in_ok-push.ensures.ascii (omega arith)) in
     appends_last c.push_rest.result old (string_bytes c.push.new.self) (string_bytes c.push_rest.new.out) rest _

@@ -3,8 +3,6 @@ use Rattle.std.proofs.Common.{◌≡◌, ◌+◌, List, ℕ, [], ◌∷◌, ◌+
 use Rattle.std.proofs.lemmas.List.{drop_all, length-map}
 use Rattle.std.specs.String.{string_bytes}
 use Rattle.cbor_grammar.specs.Item.{Chunk}
-use Rattle.cbor_notation.specs.mirror.EncodingView.{encoding_view}
-use Rattle.cbor_notation.specs.mirror.LayoutView.{style_view}
 use Rattle.cbor_grammar.specs.StringKind.{no_chunks}
 use Rattle.cbor_grammar.specs.NotationText.{string_text, chunks_listed}
 use Rattle.cbor_grammar.specs.mirror.StringView.{bytes_of}
@@ -16,7 +14,7 @@ use Rattle.cbor_notation.proofs.members.push_chunks.Goals as goal
 pub chunks-preserved : goal.chunks-preserved
 chunks-preserved g c =
     let kind = g.S.DefiniteString.kind in
-    let encoding = encoding_view c.args.context.now.encoding in
+    let encoding = c.args.context.now.encoding in
     let begun_at = string_bytes c.push_start.new.out in
     let all = c.args.chunks.now in
     let i = c.chunks.chunk-index in
@@ -31,7 +29,7 @@ chunks-preserved g c =
     (string_bytes c.push_string.new.out) (string_bytes c.push_end.new.out) _ _ _ c.chunks.invariant.begins
     c.in_ok-push_start.ensures c.in_ok-push_string.ensures c.in_ok-push_end.ensures in
     record {
-      written = member_more (style_view c.chunks_style-style.result) c.chunks.first _ _ (string_bytes c.chunks.out)
+      written = member_more c.chunks_style-style.result c.chunks.first _ _ (string_bytes c.chunks.out)
           (string_bytes c.push_start.new.out) (string_bytes c.push_string.new.out) (string_bytes c.push_end.new.out) _
           c.in_ok-push_start.ensures written c.in_ok-push_end.ensures (rw here at c.chunks.invariant.written);
       begins = begun;
@@ -43,9 +41,9 @@ returns g c =
     let all = c.args.chunks.now in
     let cs = map g.S.DefiniteString.chunk all in
     let out = string_bytes c.args.out.now in
-    let l = style_view c.chunks_style-style.result in
+    let l = c.chunks_style-style.result in
     let none : drop c.chunks.chunk-index all ≡ [] = drop_all c.chunks.chunk-index all c.chunks-test.false in
-    let f : Chunk → List ℕ = λ s. string_text kind (encoding_view c.args.context.now.encoding) s.bytes in
+    let f : Chunk → List ℕ = λ s. string_text kind c.args.context.now.encoding s.bytes in
     let whole = members_end l c.chunks.first (string_bytes c.chunks.out) _ _ (rw none at c.chunks.invariant.written) in
     let some : eqb (length cs) 0 ≡ false = rw length-map (sym c.is_empty.ensures ∙ c.if-is_empty.false) in
     appends_last c.push_closing.result out (string_bytes c.chunks.out) (string_bytes c.push_closing.new.out) _ _

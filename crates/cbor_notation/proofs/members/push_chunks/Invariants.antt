@@ -2,8 +2,6 @@
 use Rattle.std.proofs.Common.{◌≡◌, ◌++◌, true, map, drop}
 use Rattle.std.specs.Io.{StartsWith}
 use Rattle.std.specs.String.{string_bytes}
-use Rattle.cbor_notation.specs.mirror.EncodingView.{encoding_view}
-use Rattle.cbor_notation.specs.mirror.LayoutView.{style_view}
 use Rattle.cbor_grammar.specs.NotationText.{string_text}
 use Rattle.cbor_notation.proofs.text.Scalars.{members_left}
 use Rattle.cbor_notation.proofs.members.push_chunks.Given as goal
@@ -11,8 +9,8 @@ use Rattle.cbor_notation.proofs.members.push_chunks.Given as goal
 abbrev pub invariant-chunks : goal.invariant-chunks
 invariant-chunks g l =
     let chunk = g.S.DefiniteString.chunk in
-    let texts = map (λ s. string_text g.S.DefiniteString.kind (encoding_view l.context.encoding) s.bytes) in
-    let style = style_view l.style in
+    let texts = map (λ s. string_text g.S.DefiniteString.kind l.context.encoding s.bytes) in
+    let style = l.style in
     record {
       written : string_bytes l.out ++ members_left style l.first (texts (map chunk (drop l.chunk-index l.chunks)))
           ≡ string_bytes l.initial.out ++ members_left style true (texts (map chunk l.chunks));

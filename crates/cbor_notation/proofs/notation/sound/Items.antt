@@ -9,7 +9,9 @@ use Rattle.cbor_grammar.specs.declared.width.IntegerWidth.TheVariants.{Unknown}
 use Rattle.cbor_grammar.specs.Item as spec
 use Rattle.cbor_grammar.specs.Item.{Chunk, string, chunked_string, Item, atom, array, no_items, item, no_pairs, pair}
 use Rattle.cbor_grammar.specs.Item.{items_of, pairs_of}
-use Rattle.cbor_grammar.specs.StringKind.{StringKind, bytes_kind, text_kind, no_chunks}
+use Rattle.cbor_grammar.specs.declared.strings.StringKind.{StringKind}
+use Rattle.cbor_grammar.specs.declared.strings.StringKind.TheVariants.{Bytes, Text}
+use Rattle.cbor_grammar.specs.StringKind.{no_chunks}
 use Rattle.cbor_grammar.specs.Reading.{Read, ◌>>=◌}
 use Rattle.cbor_grammar.specs.Notation.{IsBlank, Blanked, Closes, Members, pairs_list, PairOf, StringOf, ShowsKind}
 use Rattle.cbor_grammar.specs.Notation.{Core}
@@ -252,11 +254,11 @@ module _ (left : ℕ) (R : List ℕ → Item → Type 0) (read : List ℕ → Re
 
   core_by : (b : ℕ) (text : List ℕ) (s : Start) → StartIs s b
       → Sound (suc left) CoreThen (b ∷ text) (core_of read s (b ∷ text) text)
-  core_by b text start.Quote is = string_item_sound text_kind (b ∷ text)
-  core_by b text start.Apostrophe is = string_item_sound bytes_kind (b ∷ text)
-  core_by b text start.Angle is = string_item_sound bytes_kind (b ∷ text)
-  core_by b text start.LetterB is = string_item_sound bytes_kind (b ∷ text)
-  core_by b text start.LetterH is = string_item_sound bytes_kind (b ∷ text)
+  core_by b text start.Quote is = string_item_sound Text (b ∷ text)
+  core_by b text start.Apostrophe is = string_item_sound Bytes (b ∷ text)
+  core_by b text start.Angle is = string_item_sound Bytes (b ∷ text)
+  core_by b text start.LetterB is = string_item_sound Bytes (b ∷ text)
+  core_by b text start.LetterH is = string_item_sound Bytes (b ∷ text)
   core_by b text start.Parenthesis is = behind b 40 text (read_chunks read text) is (chunks_sound text)
   core_by b text start.Minus is = behind b 45 text (read_negative text) is (negative_sound left R read sound text)
   core_by b text start.Digit is = alone (b ∷ text) (read_integer read (b ∷ text))

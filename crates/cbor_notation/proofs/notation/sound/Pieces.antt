@@ -17,7 +17,9 @@ use Rattle.cbor_notation.specs.declared.start.Start.{Start}
 use Rattle.cbor_notation.specs.declared.start.Start.TheVariants as start
 use Rattle.cbor_grammar.specs.Item.{Chunk, Item}
 use Rattle.cbor_grammar.specs.Item.{items_of}
-use Rattle.cbor_grammar.specs.StringKind.{StringKind, bytes_kind, text_kind, IsContent}
+use Rattle.cbor_grammar.specs.declared.strings.StringKind.{StringKind}
+use Rattle.cbor_grammar.specs.declared.strings.StringKind.TheVariants.{Bytes, Text}
+use Rattle.cbor_grammar.specs.StringKind.{IsContent}
 use Rattle.cbor_grammar.specs.Reading.{Read, ◌>>=◌}
 use Rattle.cbor_grammar.specs.Written.{encoded_items}
 use Rattle.cbor_grammar.specs.Notation.{IsBlank, Blanked, Members, QuotedBy, Notation, as_text, as_items, PieceOf}
@@ -103,13 +105,13 @@ module _ (left : ℕ) (R : List ℕ → Item → Type 0) (read : List ℕ → Re
   PieceFrom kind b g bytes = PieceOf kind R g bytes × (tail : List ℕ) × (g ≡ b ∷ tail)
 
   in_kind : (kind : StringKind) (g bytes : List ℕ) → Notation R g bytes → PieceOf kind R g bytes
-  in_kind bytes_kind g bytes h = h
-  in_kind text_kind g bytes h = inr h
+  in_kind Bytes g bytes h = h
+  in_kind Text g bytes h = inr h
 
   quoted_piece : (kind : StringKind) (g bytes : List ℕ) → takes_texts kind ≡ true → QuotedBy 34 g bytes
       → PieceOf kind R g bytes
-  quoted_piece bytes_kind g bytes texts h = absurd cc
-  quoted_piece text_kind g bytes texts h = inl h
+  quoted_piece Bytes g bytes texts h = absurd cc
+  quoted_piece Text g bytes texts h = inl h
 
   pub piece_sound : (kind : StringKind) (b : ℕ) (text : List ℕ) (s : Start) → StartIs s b
       → begins_piece kind s ≡ true
@@ -237,11 +239,11 @@ module _ (left : ℕ) (R : List ℕ → Item → Type 0) (read : List ℕ → Re
   -- ---- strings
 
   -- a text string begins with a quote
-  quote_start : (s : Start) (b : ℕ) → StartIs s b → begins_string text_kind s ≡ true → b ≡ 34
+  quote_start : (s : Start) (b : ℕ) → StartIs s b → begins_string Text s ≡ true → b ≡ 34
   quote_start start.Quote b is h = is
   quote_start _ b is h = absurd cc
 
-  piece_start : (s : Start) → begins_string text_kind s ≡ true → begins_piece text_kind s ≡ true
+  piece_start : (s : Start) → begins_string Text s ≡ true → begins_piece Text s ≡ true
   piece_start start.Quote h = refl
   piece_start start.Apostrophe h = refl
   piece_start start.Parenthesis h = h
@@ -255,20 +257,20 @@ module _ (left : ℕ) (R : List ℕ → Item → Type 0) (read : List ℕ → Re
 
   string_begins : (kind : StringKind) (b : ℕ) → begins_string kind (start_of b) ≡ true
       → begins_piece kind (start_of b) ≡ true
-  string_begins bytes_kind b h = h
-  string_begins text_kind b h = piece_start (start_of b) h
+  string_begins Bytes b h = h
+  string_begins Text b h = piece_start (start_of b) h
 
   begins_as : (kind : StringKind) (b : ℕ) (core tail : List ℕ) → begins_string kind (start_of b) ≡ true
       → core ≡ b ∷ tail → BeginsAs kind core
-  begins_as bytes_kind b core tail begins is = tt
-  begins_as text_kind b core tail begins is =
+  begins_as Bytes b core tail begins is = tt
+  begins_as Text b core tail begins is =
       (tail, is ∙ ap (λ (z : ℕ). z ∷ tail) (quote_start (start_of b) b (start_is b) begins))
 
   -- its content is UTF-8 in a text string, or it is refused so
   checked_is : (kind : StringKind) (content : List ℕ) (c : Chunk) → checked kind content ≡ Ok c
       → (c ≡ record { bytes = content; width = Unknown }) × IsContent kind content
-  checked_is bytes_kind content c e = (cc, tt)
-  checked_is text_kind content c e =
+  checked_is Bytes content c e = (cc, tt)
+  checked_is Text content c e =
       elim (a_test (is_utf8 content)) [
         | inl this ↦
             let made : Chunk = record { bytes = content; width = Unknown } in
@@ -293,8 +295,8 @@ module _ (left : ℕ) (R : List ℕ → Item → Type 0) (read : List ℕ → Re
   checked_odd : (kind : StringKind) (b : ℕ) (text content : List ℕ) (e : Error)
       → begins_string kind (start_of b) ≡ true
       → checked kind content ≡ Err e → MayRefuse (suc left) (b ∷ text) e
-  checked_odd bytes_kind b text content e begins is = absurd cc
-  checked_odd text_kind b text content e begins is =
+  checked_odd Bytes b text content e begins is = absurd cc
+  checked_odd Text b text content e begins is =
       elim (a_test (is_utf8 content)) [
         | inl this ↦ absurd (cc (rw this at is))
         | inr other ↦
@@ -308,8 +310,8 @@ module _ (left : ℕ) (R : List ℕ → Item → Type 0) (read : List ℕ → Re
       → Sound (suc left) (λ g c. Trailed (λ core. StringOf kind R core c) g) text
       (content_of read kind text t >>= λ x. checked kind x.0 >>= λ c. Ok (c, x.1))
   of_test kind text false is = tt
-  of_test bytes_kind [] true is = absurd cc
-  of_test text_kind [] true is = absurd cc
+  of_test Bytes [] true is = absurd cc
+  of_test Text [] true is = absurd cc
   of_test kind (b ∷ text) true is =
       sound_check (suc left) (SomePieces kind b) (λ g c. Trailed (λ core. StringOf kind R core c) g) (b ∷ text)
       (read_pieces read kind (suc (length (b ∷ text))) (b ∷ text)) (checked kind)

@@ -1,6 +1,7 @@
 -- What follows a blank is what the definition leaves of the text.
-use Rattle.cbor_notation.proofs.notation.Tokens.{blank_left}
+use Rattle.std.proofs.Common.{◌∙◌}
+use Rattle.std.proofs.lemmas.List.{take_rest}
 use Rattle.cbor_notation.proofs.scan.after_blank.Goals as goal
 
 pub returns-clause-gives : goal.returns-clause-gives
-returns-clause-gives c = blank_left c.args.text.now c.blank_end.result c.blank_end.ensures.longest
+returns-clause-gives c = take_rest c.args.text.now c.blank_len.result ∙ c.blank_len.ensures.rest

@@ -44,7 +44,7 @@ write_value_text-answer-requires c =
 pub cut_after_error-requires : goal.cut_after_error-requires
 cut_after_error-requires c =
     let written = c.write_value_text-answer in
-    cut_point c.args.text.now written.new.text written.result c.len-len.result c.len-len.ensures written.ensures.front
+    cut_point c.args.text.now written.new.text _ written.result c.len-len.result c.len-len.ensures written.ensures
 
 pub returns : goal.returns
 unfolding element_text
@@ -57,5 +57,5 @@ returns c =
     let written = c.write_value_text-answer in
     let ok = sym c.in_ok-cut_after_error.ensures.answer in
     let kept = rw ok at c.in_ok-cut_after_error.ensures.kept in
-    let appended = rw (ok, is.1, ordered) at written.ensures.text in
+    let appended = rw (ok, is.1, ordered) at written.ensures in
     record { some = rw (is.0, same) refl; text = rw (is.0, same) (kept ∙ appended); unchanged = tt }

@@ -4,8 +4,8 @@ use Rattle.std.proofs.lemmas.Grind.{common_steps}
 use Rattle.cbor_notes.proofs.text.push_code.Goals as goal
 use Rattle.cbor_notes.proofs.text.push_code.Goals.{then-code-ge16+in_ok-push, else-code-ge16}
 
-pub returns-clause-text : goal.returns-clause-text
-returns-clause-text c = elim c.if-code-ge16.branch [
+pub returns : goal.returns
+returns c = elim c.if-code-ge16.branch [
   | then-code-ge16+in_ok-push w ↦
       grind (arith, common_steps, hex_two_digits false c.args.code)
   | else-code-ge16 w ↦

@@ -4,4 +4,4 @@ use Rattle.cbor_notes.proofs.text.push_quoted_bytes.Goals as goal
 pub cut_after_error-requires : goal.cut_after_error-requires
 cut_after_error-requires c =
     let written = c.write_quoted_bytes-answer in
-    cut_point c.args.text.now written.new.text written.result c.len-len.result c.len-len.ensures written.ensures.front
+    cut_point c.args.text.now written.new.text _ written.result c.len-len.result c.len-len.ensures written.ensures

@@ -3,9 +3,10 @@ use Rattle.std.proofs.lemmas.Grind.{common_steps}
 use Rattle.std.proofs.lemmas.Iterator.{YieldsList-from_chars}
 use Rattle.std.proofs.lemmas.Iterator.Consumers.{YieldsList-end}
 use Rattle.std.proofs.lemmas.List.{map-id}
+use Rattle.std.proofs.lemmas.Result.{err_from_is_err_and}
 use Rattle.std.specs.List.{flat_map}
 use Rattle.cbor_notes.specs.Text as spec
-use Rattle.cbor_notes.proofs.texts.Fronts.{front_before, on_err}
+use Rattle.cbor_notes.proofs.texts.Fronts.{front_before}
 use Rattle.cbor_notes.proofs.text.write_escaped_text.Goals as goal
 
 -- the loop has gone over the characters of the text
@@ -13,17 +14,14 @@ pub returns : goal.returns
 returns c =
     let t = YieldsList-end (YieldsList-from_chars c.args.text.now c.utf8.text cc) c.loop-character.yielded _
     c.loop-character.yielded_by _ _ c.in-None.is c.next.ensures.steps in
-    record {
-      front = tt;
-      text = c.loop-character.invariant
-          ∙ ap (λ written. string_bytes c.args.escaped.now ++ flat_map spec.escaped_char written)
-          (sym (map-id c.loop-character.yielded) ∙ t.0);
-    }
+    c.loop-character.invariant ∙ ap (λ written. string_bytes c.args.escaped.now ++ flat_map spec.escaped_char written)
+    (sym (map-id c.loop-character.yielded) ∙ t.0)
 
-pub returns-in_err-push_escaped_char-clause-front : goal.returns-in_err-push_escaped_char-clause-front
-returns-in_err-push_escaped_char-clause-front c =
-    on_err c.from_residual.result (front_before _ (string_bytes c.loop-character.escaped) _ _ c.loop-character.invariant
-    c.in_err-push_escaped_char.ensures.front)
+pub returns-in_err-push_escaped_char : goal.returns-in_err-push_escaped_char
+returns-in_err-push_escaped_char c =
+    let p = err_from_is_err_and c.from_residual.result c.from_residual.ensures.1 in
+    rw p.1 (front_before _ (string_bytes c.loop-character.escaped) _ _ c.loop-character.invariant
+    c.in_err-push_escaped_char.ensures)
 
 pub loop-character-preserved : goal.loop-character-preserved
 loop-character-preserved c = grind (arith, common_steps)

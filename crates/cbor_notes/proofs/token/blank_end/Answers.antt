@@ -1,7 +1,13 @@
+-- The longest blank of the text from the place on.
+use Rattle.std.proofs.Common.{◌∙◌, ap, drop, sym, true, arith}
+use Rattle.std.proofs.lemmas.List.{drop-drop}
+use Rattle.cbor_notes.specs.TokenReading.{after_blank}
 use Rattle.cbor_notes.proofs.tokens.Blanks.{longest_blank_at}
-use Rattle.std.proofs.Common.{true}
 use Rattle.cbor_notes.proofs.token.blank_end.Goals as goal
 
 pub returns-clause-longest : goal.returns-clause-longest
-returns-clause-longest c = longest_blank_at true c.args.text.now c.args.at c.end_of_blank.result
-    c.end_of_blank.ensures.within.0 c.end_of_blank.ensures.rest
+returns-clause-longest c =
+    let text = c.args.text.now in
+    let rest = c.split_at.ensures.back in
+    longest_blank_at true text c.args.at _ (omega arith) (sym (drop-drop c.blank_len.result c.args.at text)
+    ∙ sym (ap (drop c.blank_len.result) rest) ∙ c.blank_len.ensures.rest ∙ ap (after_blank true) rest)

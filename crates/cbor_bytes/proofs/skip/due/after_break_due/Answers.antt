@@ -1,26 +1,26 @@
 -- Scanning goes on from chunk to chunk up to the break, and pauses where a chunk does.
 use Rattle.std.proofs.Common.{arith}
 use Rattle.std.proofs.lemmas.Result.{err_from_is_err_and}
+use Rattle.cbor_bytes.specs.mirror.Scanning.{skip_due}
 use Rattle.cbor_grammar.specs.declared.width.IntegerWidth.TheVariants.{Zero}
 use Rattle.cbor_grammar.specs.Reading.{◌>>=◌}
 use Rattle.cbor_bytes.specs.mirror.Skipping.{skip_content, skip_chunks}
-use Rattle.cbor_grammar.specs.mirror.StringView.{kind_view}
 use Rattle.cbor_bytes.proofs.skipping.Skips.{goes_then, goes_within, shows_then}
 use Rattle.cbor_bytes.proofs.skipping.Scans.{pauses_then}
 use Rattle.cbor_bytes.proofs.skip.due.after_break_due.Goals as goal
 
 pub returns-in_err-rest-in-Ok-clause-pauses : goal.returns-in_err-rest-in-Ok-clause-pauses
 returns-in_err-rest-in-Ok-clause-pauses c =
-    let k = kind_view c.args.kind in
+    let k = c.args.kind in
     let head = rw c.in-Some.is at c.in-Ok.ensures.goes in
     let p = err_from_is_err_and c.from_residual.result c.from_residual.ensures.1 in
-    rw (p.1, p.2) (pauses_then (skip_chunks k) (λ r. skip_content k c.in-Some.len Zero r >>= skip_chunks k)
+    rw (p.1, p.2) (pauses_then skip_due (skip_chunks k) (λ r. skip_content k c.in-Some.len Zero r >>= skip_chunks k)
     c.args.bytes.now c.in-Ok.after.now c.in_err-rest-in-Ok.field-0.0 (goes_then c.chunks.invariant.goes head)
     c.in_err-rest-in-Ok.ensures.pauses)
 
 pub chunks-preserved : goal.chunks-preserved
 chunks-preserved c =
-    let k = kind_view c.args.kind in
+    let k = c.args.kind in
     let head = rw c.in-Some.is at c.in-Ok.ensures.goes in
     let next = c.in_ok-rest-in-Ok.ensures in
     record {

@@ -2,15 +2,15 @@
 use Rattle.std.proofs.Common.{◌≡◌, ◌+◌, ℕ, List, ◌++◌, map, drop, ap, sym, subst, ◌∙◌, append_assoc, arith}
 use Rattle.std.proofs.lemmas.List.{drop_all}
 use Rattle.std.specs.String.{string_bytes}
-use Rattle.cbor_grammar.specs.mirror.Appends.{Appends}
+use Rattle.cbor_notes.specs.Appends.{Appends}
 use Rattle.cbor_grammar.specs.Item as spec
 use Rattle.cbor_grammar.specs.Item.{Items, atom, array, integer, negative, string, chunked_string, float, simple}
 use Rattle.cbor_diag.specs.View.{view, items_view, pairs_view}
 use Rattle.cbor_grammar.specs.Strings.{byte_chunk, text_chunk}
 use Rattle.cbor_notation.specs.declared.context.NotationContext.{NotationContext}
-use Rattle.cbor_grammar.specs.Layout.{Context}
-use Rattle.cbor_grammar.specs.StringKind.{bytes_kind, text_kind}
-use Rattle.cbor_notation.specs.mirror.LayoutView.{style_view, context_view, item_text, content_there, chunks_there}
+use Rattle.cbor_grammar.specs.Context.{Context}
+use Rattle.cbor_grammar.specs.declared.strings.StringKind.TheVariants.{Bytes, Text}
+use Rattle.cbor_notation.specs.mirror.LayoutView.{context_view, item_text, content_there, chunks_there}
 use Rattle.cbor_grammar.specs.NotationText.{text, inside, members, members_layout, colon, item_texts, pair_texts}
 use Rattle.cbor_grammar.specs.NotationText.{array_text, map_text, below}
 use Rattle.cbor_grammar.specs.NotationText.{text_at_level}
@@ -67,9 +67,9 @@ push_item-returns-in-ByteString t c =
     let new = string_bytes c.push_content.new.out in
     let context = c.args.context.now in
     shown c.push_content.result context.level (context_view context) (view c.args.item.now)
-    (atom (string bytes_kind (byte_chunk c.in-ByteString.string))) old new c.requires.well_formed seen
+    (atom (string Bytes (byte_chunk c.in-ByteString.string))) old new c.requires.well_formed seen
     (subst
-    (λ (b : List ℕ). Appends c.push_content.result old new (content_there context (context_view context).content b))
+    (λ (b : List ℕ). Appends c.push_content.result old new (content_there context context.content b))
     c.deref.ensures.value c.push_content.ensures)
 
 pub push_item-returns-in-TextString : goal.push_item-returns-in-TextString
@@ -79,7 +79,7 @@ push_item-returns-in-TextString t c =
     let new = string_bytes c.push_text.new.out in
     let context = c.args.context.now in
     shown c.push_text.result context.level (context_view context) (view c.args.item.now)
-    (atom (string text_kind (text_chunk c.in-TextString.string))) old new c.requires.well_formed seen
+    (atom (string Text (text_chunk c.in-TextString.string))) old new c.requires.well_formed seen
     (subst (λ (b : List ℕ). Appends c.push_text.result old new (text b)) c.as_str.ensures.value c.push_text.ensures)
 
 pub push_item-returns-in-IndefiniteByteString : goal.push_item-returns-in-IndefiniteByteString
@@ -88,9 +88,9 @@ push_item-returns-in-IndefiniteByteString t c =
     let old = string_bytes c.args.out.now in
     let new = string_bytes c.push_chunks.new.out in
     shown c.push_chunks.result c.args.context.now.level (context_view c.args.context.now) (view c.args.item.now)
-    (atom (chunked_string bytes_kind (map byte_chunk c.in-IndefiniteByteString.chunks.items))) old new
+    (atom (chunked_string Bytes (map byte_chunk c.in-IndefiniteByteString.chunks.items))) old new
     c.requires.well_formed seen
-    (subst (λ vs. Appends c.push_chunks.result old new (chunks_there c.args.context.now bytes_kind (map byte_chunk vs)))
+    (subst (λ vs. Appends c.push_chunks.result old new (chunks_there c.args.context.now Bytes (map byte_chunk vs)))
     c.deref-in-IndefiniteByteString.ensures.value c.push_chunks.ensures)
 
 pub push_item-returns-in-IndefiniteTextString : goal.push_item-returns-in-IndefiniteTextString
@@ -99,11 +99,10 @@ push_item-returns-in-IndefiniteTextString t c =
     let old = string_bytes c.args.out.now in
     let new = string_bytes c.push_chunks-in-IndefiniteTextString.new.out in
     shown c.push_chunks-in-IndefiniteTextString.result c.args.context.now.level (context_view c.args.context.now)
-    (view c.args.item.now)
-    (atom (chunked_string text_kind (map text_chunk c.in-IndefiniteTextString.chunks.items))) old new
+    (view c.args.item.now) (atom (chunked_string Text (map text_chunk c.in-IndefiniteTextString.chunks.items))) old new
     c.requires.well_formed seen
     (subst (λ vs. Appends c.push_chunks-in-IndefiniteTextString.result old new
-    (chunks_there c.args.context.now text_kind (map text_chunk vs)))
+    (chunks_there c.args.context.now Text (map text_chunk vs)))
     c.deref-in-IndefiniteTextString.ensures.value c.push_chunks-in-IndefiniteTextString.ensures)
 
 pub push_array-returns : goal.push_array-returns
@@ -113,7 +112,7 @@ push_array-returns t c =
     let new = string_bytes c.push_closing.new.out in
     let context = context_view c.args.context.now in
     let level = c.args.context.now.level in
-    let l = style_view c.array_style-style.result in
+    let l = c.array_style-style.result in
     let members = items_view c.args.items.now.items in
     let begun = begins_two old (string_bytes c.push_opening.new.out) _ _ written c.in_ok-push_opening.ensures
     c.in_ok-push_items.ensures in
@@ -131,7 +130,7 @@ push_map-returns t c =
     let new = string_bytes c.push_closing.new.out in
     let context = context_view c.args.context.now in
     let level = c.args.context.now.level in
-    let l = style_view c.map_style-style.result in
+    let l = c.map_style-style.result in
     let members = pairs_view c.args.pairs.now.items in
     let begun = begins_two old (string_bytes c.push_opening.new.out) _ _ written c.in_ok-push_opening.ensures
     c.in_ok-push_pairs.ensures in
@@ -164,7 +163,7 @@ push_items-items-preserved t c =
     let all = c.deref-item-items.result.now in
     let i = c.items.item-index in
     let v = c.item-item.result in
-    let l = style_view c.args.style in
+    let l = c.args.style in
     let write = item_text c.inside-inner.result in
     let rest = item_texts write (items_view (drop (i + 1) all)) in
     let left = ap (λ ms. string_bytes c.items.out ++ members_left l c.items.first ms)
@@ -185,7 +184,7 @@ push_items-items-preserved t c =
 
 pub push_items-returns : goal.push_items-returns
 push_items-returns t c =
-    let l = style_view c.args.style in
+    let l = c.args.style in
     let context = c.args.context.now in
     let write = item_text c.inside-inner.result in
     let none = ap (λ vs. string_bytes c.items.out ++ members_left l c.items.first (item_texts write (items_view vs)))
@@ -204,7 +203,7 @@ push_pairs-pairs-preserved t c =
     let all = c.deref-key-items.result.now in
     let i = c.pairs.key-index in
     let v = c.pairs-item.result in
-    let l = style_view c.args.style in
+    let l = c.args.style in
     let write = item_text c.inside-inner.result in
     let rest = pair_texts write (colon l) (pairs_view (drop (i + 1) all)) in
     let pair = c.in_ok-push_item-2.ensures
@@ -229,7 +228,7 @@ push_pairs-pairs-preserved t c =
 
 pub push_pairs-returns : goal.push_pairs-returns
 push_pairs-returns t c =
-    let l = style_view c.args.style in
+    let l = c.args.style in
     let context = c.args.context.now in
     let write = item_text c.inside-inner.result in
     let none =

@@ -4,7 +4,7 @@ use Rattle.std.specs.Io.{StartsWith}
 use Rattle.std.specs.String.{string_bytes}
 use Rattle.cbor_diag.specs.View.{items_view, pairs_view}
 use Rattle.cbor_grammar.specs.WellFormed.{WellFormedItems, WellFormedPairs}
-use Rattle.cbor_notation.specs.mirror.LayoutView.{style_view, item_text}
+use Rattle.cbor_notation.specs.mirror.LayoutView.{item_text}
 use Rattle.cbor_grammar.specs.NotationText.{colon, item_texts, pair_texts}
 use Rattle.cbor_notation.proofs.text.Scalars.{members_left}
 use Rattle.cbor_diag.proofs.encode.notation.+text.Given as goal
@@ -33,7 +33,7 @@ abbrev pub invariant-push_items-items : goal.invariant-push_items-items
 invariant-push_items-items l =
     let rest = items_view (drop l.item-index l.item-items) in
     let texts = item_texts (item_text l.inner) in
-    let style = style_view l.style in
+    let style = l.style in
     record {
       written : string_bytes l.out ++ members_left style l.first (texts rest)
           ≡ string_bytes l.fn.out ++ members_left style true (texts (items_view l.item-items));
@@ -44,7 +44,7 @@ invariant-push_items-items l =
 abbrev pub invariant-push_pairs-pairs : goal.invariant-push_pairs-pairs
 invariant-push_pairs-pairs l =
     let rest = pairs_view (drop l.key-index l.key-items) in
-    let style = style_view l.style in
+    let style = l.style in
     let texts = pair_texts (item_text l.inner) (colon style) in
     record {
       written : string_bytes l.out ++ members_left style l.first (texts rest)

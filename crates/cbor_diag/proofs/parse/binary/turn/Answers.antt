@@ -4,8 +4,7 @@ use Rattle.std.proofs.lemmas.List.{length-map}
 use Rattle.std.proofs.lemmas.Result.{err_from_is_err_and}
 use Rattle.cbor_diag.specs.View.{view}
 use Rattle.cbor_grammar.specs.Reading.{later, read_atom}
-use Rattle.cbor_grammar.specs.mirror.Counting.{Stops}
-use Rattle.cbor_bytes.specs.mirror.HeadView.{head_view}
+use Rattle.cbor_grammar.specs.mirror.Counting.{FailsIn}
 use Rattle.cbor_diag.specs.mirror.Stack.{frame, frames}
 use Rattle.cbor_grammar.specs.declared.error.Error.TheVariants as refusal
 use Rattle.cbor_grammar.proofs.bytes.HeadRefusals.{err_is}
@@ -47,27 +46,24 @@ returns-in_err-head-clause-stops c =
 
 pub returns-in_err-container-clause-memory : goal.returns-in_err-container-clause-memory
 returns-in_err-container-clause-memory c = λ e none.
-    wanted_opens _ c.args.bytes.now (head_view c.in_ok-head.head) c.in_ok-head.rest.now
-    (λ i. omega (arith, c.type_inv.bytes i))
-    c.in_ok-head.ensures.gives (some_holds (head_view c.in_ok-head.head) c.in_err-container.ensures.memory.1)
+    wanted_opens _ c.args.bytes.now c.in_ok-head.head c.in_ok-head.rest.now (λ i. omega (arith, c.type_inv.bytes i))
+    c.in_ok-head.ensures.gives (some_holds c.in_ok-head.head c.in_err-container.ensures.memory.1)
 
 pub returns-in_err-open-in-Some-2-clause-memory : goal.returns-in_err-open-in-Some-2-clause-memory
 returns-in_err-open-in-Some-2-clause-memory c = λ e none.
     let is = sym c.in_ok-container.ensures.opens ∙ ap (option_map frame) c.in-Some-2.is in
-    wanted_opens _ c.args.bytes.now (head_view c.in_ok-head.head) c.in_ok-head.rest.now
-    (λ i. omega (arith, c.type_inv.bytes i))
-    c.in_ok-head.ensures.gives (opened_holds (head_view c.in_ok-head.head) (frame c.in-Some-2.container) is)
+    wanted_opens _ c.args.bytes.now c.in_ok-head.head c.in_ok-head.rest.now (λ i. omega (arith, c.type_inv.bytes i))
+    c.in_ok-head.ensures.gives (opened_holds c.in_ok-head.head (frame c.in-Some-2.container) is)
 
 pub returns-in_err-item-in-None-clause-stops : goal.returns-in_err-item-in-None-clause-stops
 returns-in_err-item-in-None-clause-stops c =
     let p = err_from_is_err_and c.from_residual-in_err-item-in-None.result
     c.from_residual-in_err-item-in-None.ensures.1 in
     let is = sym c.in_ok-container.ensures.opens ∙ ap (option_map frame) c.in-None.is in
-    let stops = subst (λ t. Stops c.in_err-item-in-None.field-0.0 c.read_atom.new.turns
-    (later t (read_atom (head_view c.in_ok-head.head) c.in_ok-head.rest.now))) c.rise.ensures
-    c.in_err-item-in-None.ensures.gives in
+    let stops = subst (λ t. FailsIn c.in_err-item-in-None.field-0.0 c.read_atom.new.turns
+    (later t (read_atom c.in_ok-head.head c.in_ok-head.rest.now))) c.rise.ensures c.in_err-item-in-None.ensures.gives in
     rw (p.1, p.2) (atom_stops c.in_err-item-in-None.field-0.0 (129 - c.args.level) c.args.turns.now _
-    c.read_atom.new.turns (frames c.args.stack.now) c.args.bytes.now (head_view c.in_ok-head.head) c.in_ok-head.rest.now
+    c.read_atom.new.turns (frames c.args.stack.now) c.args.bytes.now c.in_ok-head.head c.in_ok-head.rest.now
     (omega (arith, length-map c.args.stack.now frame)) c.in_default.ensures c.in_ok-head.ensures.gives is stops)
 
 pub returns-in_err-item-in-None-clause-memory : goal.returns-in_err-item-in-None-clause-memory
@@ -75,38 +71,36 @@ returns-in_err-item-in-None-clause-memory c = λ e none.
     let p = err_from_is_err_and c.from_residual-in_err-item-in-None.result
     c.from_residual-in_err-item-in-None.ensures.1 in
     let wants = sym p.2 ∙ err_is c.from_residual-in_err-item-in-None.result p.0 refusal.Memory p.1 e in
-    wanted_opens _ c.args.bytes.now (head_view c.in_ok-head.head) c.in_ok-head.rest.now
-    (λ i. omega (arith, c.type_inv.bytes i))
+    wanted_opens _ c.args.bytes.now c.in_ok-head.head c.in_ok-head.rest.now (λ i. omega (arith, c.type_inv.bytes i))
     c.in_ok-head.ensures.gives (c.in_err-item-in-None.ensures.memory (ap Err wants))
 
 pub returns-in_ok-open-in-Some-2-clause-gives : goal.returns-in_ok-open-in-Some-2-clause-gives
 returns-in_ok-open-in-Some-2-clause-gives c =
     let is = sym c.in_ok-container.ensures.opens ∙ ap (option_map frame) c.in-Some-2.is in
     rw (c.rise.ensures, c.in_ok-open-in-Some-2.ensures.opened)
-    (opens (129 - c.args.level) c.args.turns.now _ (frames c.args.stack.now) c.args.bytes.now (head_view c.in_ok-head.head)
+    (opens (129 - c.args.level) c.args.turns.now _ (frames c.args.stack.now) c.args.bytes.now c.in_ok-head.head
     (frame c.in-Some-2.container) c.in_ok-head.rest.now (omega (arith, length-map c.args.stack.now frame)) c.in_default.ensures c.in_ok-head.ensures.gives
     is)
 
 pub returns-in_ok-open-in-Some-2-clause-level : goal.returns-in_ok-open-in-Some-2-clause-level
 returns-in_ok-open-in-Some-2-clause-level c =
-    let o = head_opens _ c.args.bytes.now (head_view c.in_ok-head.head) c.in_ok-head.rest.now
+    let o = head_opens _ c.args.bytes.now c.in_ok-head.head c.in_ok-head.rest.now
     c.in_ok-head.ensures.gives in
     omega (arith, o.1, ap length c.in_ok-open-in-Some-2.ensures.opened)
 
 pub returns-in_ok-open-in-Some-2-clause-opens : goal.returns-in_ok-open-in-Some-2-clause-opens
 returns-in_ok-open-in-Some-2-clause-opens c = λ e none.
     let is = sym c.in_ok-container.ensures.opens ∙ ap (option_map frame) c.in-Some-2.is in
-    wanted_opens _ c.args.bytes.now (head_view c.in_ok-head.head) c.in_ok-head.rest.now
-    (λ i. omega (arith, c.type_inv.bytes i))
-    c.in_ok-head.ensures.gives (opened_holds (head_view c.in_ok-head.head) (frame c.in-Some-2.container) is)
+    wanted_opens _ c.args.bytes.now c.in_ok-head.head c.in_ok-head.rest.now (λ i. omega (arith, c.type_inv.bytes i))
+    c.in_ok-head.ensures.gives (opened_holds c.in_ok-head.head (frame c.in-Some-2.container) is)
 
 pub returns-in_ok-item-in-None-clause-gives : goal.returns-in_ok-item-in-None-clause-gives
 returns-in_ok-item-in-None-clause-gives c =
     let is = sym c.in_ok-container.ensures.opens ∙ ap (option_map frame) c.in-None.is in
-    let whole = ap (λ t. later t (read_atom (head_view c.in_ok-head.head) c.in_ok-head.rest.now)) (sym c.rise.ensures)
+    let whole = ap (λ t. later t (read_atom c.in_ok-head.head c.in_ok-head.rest.now)) (sym c.rise.ensures)
     ∙ c.in_ok-item-in-None.ensures.gives in
     atom_whole (129 - c.args.level) c.args.turns.now _ c.read_atom.new.turns (frames c.args.stack.now) c.args.bytes.now
-    (head_view c.in_ok-head.head) c.in_ok-head.rest.now (view c.in_ok-item-in-None.item) c.in_ok-item-in-None.rest.now
+    c.in_ok-head.head c.in_ok-head.rest.now (view c.in_ok-item-in-None.item) c.in_ok-item-in-None.rest.now
     (omega (arith, length-map c.args.stack.now frame)) c.in_default.ensures c.in_ok-head.ensures.gives is whole
 
 pub returns-in_ok-open-in-Some-2-clause-falls : goal.returns-in_ok-open-in-Some-2-clause-falls

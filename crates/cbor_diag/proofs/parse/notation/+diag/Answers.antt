@@ -1,7 +1,10 @@
 -- The functions that read notation return what the definition reads, and well-formed items alone.
-use Rattle.std.proofs.Common.{◌≡◌, suc, ◌+◌, ◌-◌, ◌≤◌, ◌++◌, ◌∷◌, [], Ok, length, map, sym, ap, subst, ◌∙◌, arith}
+use Rattle.std.proofs.Common.{◌≡◌, suc, ◌+◌, ◌-◌, ◌≤◌, ◌++◌, ◌∷◌, [], List, ℕ, Result, Ok, Err, refl, length, map}
+use Rattle.std.proofs.Common.{sym, ap, subst, ◌∙◌, arith}
 use Rattle.std.proofs.lemmas.List.{map_push}
 use Rattle.std.proofs.lemmas.Result.{err_from_is_err_and}
+use Rattle.cbor_grammar.specs.declared.error.Error.{Error}
+use Rattle.cbor_grammar.specs.declared.error.Error.TheVariants as refusal
 use Rattle.cbor_notation.specs.declared.start.Start.TheVariants as start
 use Rattle.cbor_diag.specs.declared.syntax.DataItem.{DataItem}
 use Rattle.cbor_grammar.specs.Item as spec
@@ -11,8 +14,8 @@ use Rattle.cbor_grammar.specs.Item.{items_of, pairs_of}
 use Rattle.cbor_grammar.specs.Reading.{◌>>=◌, Fails}
 use Rattle.cbor_notation.specs.mirror.NotationReading.{skip_blank, read_negative_number, read_length, read_pair}
 use Rattle.cbor_notation.specs.mirror.NotationReading.{read_chunk, read_item, read_core, read_members, read_pieces}
-use Rattle.cbor_notation.specs.mirror.NotationReading.{begins_piece, kind_from, members_from}
-use Rattle.cbor_grammar.specs.mirror.StringView.{kind_view}
+use Rattle.cbor_notation.specs.mirror.NotationReading.{begins_piece, kind_from, members_from, or_refused, after_byte}
+use Rattle.cbor_notation.specs.mirror.NotationReading.{after_end, rest_of}
 use Rattle.cbor_diag.specs.mirror.ChunkList.{chunk_list, list_kind}
 use Rattle.cbor_diag.proofs.notation.ChunkLoops.{Fails-bind, onto}
 use Rattle.cbor_diag.proofs.notation.Loops.{members_closed, members_begin, member_fails, member_last, no_comma}
@@ -24,23 +27,28 @@ use Rattle.cbor_diag.proofs.notation.Cores.{pairs_push, array_well, map_well}
 use Rattle.cbor_diag.proofs.shared.Views.{items_push, view-Array, view-Map, view-Negative}
 use Rattle.cbor_diag.proofs.parse.notation.+diag.Goals as goal
 
-pub read_items-returns-in-Some-clause-gives : goal.read_items-returns-in-Some-clause-gives
-read_items-returns-in-Some-clause-gives t c =
-    members_closed (read_item (129 - c.args.level)) c.args.close c.args.text.now c.after_blank-rest.result.now
-    c.in-Some.after.now (map view c.new.result.items) (ap (map view) c.new.ensures.items)
-    c.after_blank-rest.ensures.gives (sym c.in-Some.ensures.gives)
+failed : (e : Error) (read : Result (List ℕ) Error) → e ≡ refusal.Notation → read ≡ Err refusal.Notation → Fails e read
+failed e read is none = subst (λ d. Fails d read) (sym is) none
+
+pub read_items-returns-then-take_end-clause-gives : goal.read_items-returns-then-take_end-clause-gives
+read_items-returns-then-take_end-clause-gives t c =
+    members_closed (read_item (129 - c.args.level)) c.args.close c.args.text.now c.skip_blank.new.self
+    c.take_end.new.self (map view c.new.result.items) (ap (map view) c.new.ensures.items)
+    c.skip_blank.ensures.rest (rw c.if-take_end.true at c.take_end.ensures.takes)
 
 pub read_items-items-init : goal.read_items-items-init
 read_items-items-init t c =
     let read = read_item (129 - c.args.level) in
-    let begun = members_begin read c.args.close c.args.text.now c.after_blank-rest.result.now
+    let none = rw c.if-take_end.false at c.take_end.ensures.takes in
+    let begun = members_begin read c.args.close c.args.text.now c.take_end.new.self
     (map view c.in_ok-items.items.items) (ap (map view) c.in_ok-items.ensures.items)
-    c.after_blank-rest.ensures.gives (sym c.in_default.ensures.gives) in
+    (none.1 ∙ c.skip_blank.ensures.rest)
+    (ap (after_end c.args.close) none.1 ∙ none.0) in
     record {
       bound = begun.0;
       enough = begun.1;
       so_far = begun.2;
-      room = c.after_blank-rest.ensures.shorter;
+      room = omega (arith, c.skip_blank.ensures.shorter, c.take_end.ensures.shorter);
       well = rw c.in_ok-items.ensures.items tt;
     }
 
@@ -49,30 +57,32 @@ read_items-returns-in_err-item-clause-gives t c =
     let p = err_from_is_err_and c.from_residual-in_err-item.result c.from_residual-in_err-item.ensures.1 in
     let read = read_item (129 - c.args.level) in
     let i = c.items.invariant in
-    rw (p.1, p.2) (member_fails read c.args.close (map view c.items.items.items) i.bound c.items.rest.now
+    rw (p.1, p.2) (member_fails read c.args.close (map view c.items.items.items) i.bound c.items.text
     (read_members read
     c.args.close c.args.text.now) i.enough i.so_far c.in_err-item.field-0.0 c.in_err-item.ensures.gives)
 
-pub read_items-returns-in-Some-after_end-clause-gives : goal.read_items-returns-in-Some-after_end-clause-gives
-read_items-returns-in-Some-after_end-clause-gives t c =
+pub read_items-returns-then-not-more-clause-gives : goal.read_items-returns-then-not-more-clause-gives
+read_items-returns-then-not-more-clause-gives t c =
     let read = read_item (129 - c.args.level) in
     let i = c.items.invariant in
     let held = c.items.items.items in
     let pushed : map view c.push.new.self.items ≡ map view held ++ (view c.in_ok-item.item) ∷ [] =
     rw c.in_ok-push.ensures.items (map_push view held c.in_ok-item.item) in
-    rw pushed (member_last read c.args.close (map view held) i.bound c.items.rest.now (read_members read c.args.close
-    c.args.text.now) i.enough i.so_far (view c.in_ok-item.item) c.in_ok-item.after.now c.in-Some-after_end.end.now
-    c.in_ok-item.ensures.gives (sym c.in-Some-after_end.ensures.gives))
+    rw pushed (member_last read c.args.close (map view held) i.bound c.items.text (read_members read c.args.close
+    c.args.text.now) i.enough i.so_far (view c.in_ok-item.item) c.read_item.new.text c.take_comma.new.self
+    c.in_ok-item.ensures.gives (rw c.if-not-more.true at c.in_ok-more.ensures.takes))
 
-pub read_items-returns-in_err-rest-clause-gives : goal.read_items-returns-in_err-rest-clause-gives
-read_items-returns-in_err-rest-clause-gives t c =
-    let p = err_from_is_err_and c.from_residual-in_err-rest.result c.from_residual-in_err-rest.ensures.1 in
+pub read_items-returns-in_err-more-clause-gives : goal.read_items-returns-in_err-more-clause-gives
+read_items-returns-in_err-more-clause-gives t c =
+    let p = err_from_is_err_and c.from_residual-in_err-more.result c.from_residual-in_err-more.ensures.1 in
     let read = read_item (129 - c.args.level) in
     let i = c.items.invariant in
-    rw (p.1, p.2) (no_comma read c.args.close (map view c.items.items.items) i.bound c.items.rest.now (read_members read
-    c.args.close c.args.text.now) i.enough i.so_far (view c.in_ok-item.item) c.in_ok-item.after.now
-    c.in_err-rest.field-0.0
-    c.in_ok-item.ensures.gives (sym c.in_default-after_end.ensures.gives) c.in_err-rest.ensures.gives)
+    rw (p.1, p.2) (no_comma read c.args.close (map view c.items.items.items) i.bound c.items.text (read_members read
+    c.args.close c.args.text.now) i.enough i.so_far (view c.in_ok-item.item) c.read_item.new.text
+    c.in_err-more.field-0.0
+    c.in_ok-item.ensures.gives c.in_err-more.ensures.takes.0 (failed c.in_err-more.field-0.0
+    (or_refused (after_byte 44 c.read_item.new.text)) c.in_err-more.ensures.takes.1
+    c.in_err-more.ensures.takes.2))
 
 pub read_items-items-preserved : goal.read_items-items-preserved
 read_items-items-preserved t c =
@@ -81,42 +91,45 @@ read_items-items-preserved t c =
     let held = c.items.items.items in
     let pushed : map view c.push.new.self.items ≡ map view held ++ (view c.in_ok-item.item) ∷ [] =
     rw c.in_ok-push.ensures.items (map_push view held c.in_ok-item.item) in
-    let next = member_more read c.args.close (map view held) i.bound c.items.rest.now (read_members read c.args.close
+    let comma = rw c.if-not-more.false at c.in_ok-more.ensures.takes in
+    let next = member_more read c.args.close (map view held) i.bound c.items.text (read_members read c.args.close
     c.args.text.now) i.enough i.so_far (view c.in_ok-item.item)
-    c.in_ok-item.after.now c.in_ok-rest.rest.now c.in_ok-item.ensures.gives
-    (sym c.in_default-after_end.ensures.gives) c.in_ok-rest.ensures.gives c.in_ok-item.ensures.shorter
-    c.in_ok-rest.ensures.shorter in
+    c.read_item.new.text c.take_comma.new.self c.in_ok-item.ensures.gives
+    comma.0 comma.1 c.in_ok-item.ensures.shorter
+    c.in_ok-more.ensures.shorter in
     record {
       bound = next.0;
       enough = next.1;
       so_far = rw pushed next.2;
-      room = omega (arith, c.in_ok-rest.ensures.shorter, c.in_ok-item.ensures.shorter, i.room);
+      room = omega (arith, c.in_ok-more.ensures.shorter, c.in_ok-item.ensures.shorter, i.room);
       well = rw c.in_ok-push.ensures.items (items_push c.args.level held c.in_ok-item.item i.well
           c.in_ok-item.ensures.well);
     }
 
-pub read_items-returns-in-Some-after_end-clause-well : goal.read_items-returns-in-Some-after_end-clause-well
-read_items-returns-in-Some-after_end-clause-well t c =
+pub read_items-returns-then-not-more-clause-well : goal.read_items-returns-then-not-more-clause-well
+read_items-returns-then-not-more-clause-well t c =
     rw c.in_ok-push.ensures.items (items_push c.args.level c.items.items.items c.in_ok-item.item c.items.invariant.well
     c.in_ok-item.ensures.well)
 
-pub read_pairs-returns-in-Some-clause-gives : goal.read_pairs-returns-in-Some-clause-gives
-read_pairs-returns-in-Some-clause-gives t c =
-    members_closed (read_pair (read_item (129 - c.args.level))) 125 c.args.text.now c.after_blank-rest.result.now
-    c.in-Some.after.now (map pair_view c.new.result.items) (ap (map pair_view) c.new.ensures.items)
-    c.after_blank-rest.ensures.gives (sym c.in-Some.ensures.gives)
+pub read_pairs-returns-then-take_end-clause-gives : goal.read_pairs-returns-then-take_end-clause-gives
+read_pairs-returns-then-take_end-clause-gives t c =
+    members_closed (read_pair (read_item (129 - c.args.level))) 125 c.args.text.now c.skip_blank.new.self
+    c.take_end.new.self (map pair_view c.new.result.items) (ap (map pair_view) c.new.ensures.items)
+    c.skip_blank.ensures.rest (rw c.if-take_end.true at c.take_end.ensures.takes)
 
 pub read_pairs-pairs-init : goal.read_pairs-pairs-init
 read_pairs-pairs-init t c =
     let read = read_pair (read_item (129 - c.args.level)) in
-    let begun = members_begin read 125 c.args.text.now c.after_blank-rest.result.now
+    let none = rw c.if-take_end.false at c.take_end.ensures.takes in
+    let begun = members_begin read 125 c.args.text.now c.take_end.new.self
     (map pair_view c.in_ok-pairs.pairs.items) (ap (map pair_view) c.in_ok-pairs.ensures.items)
-    c.after_blank-rest.ensures.gives (sym c.in_default.ensures.gives) in
+    (none.1 ∙ c.skip_blank.ensures.rest)
+    (ap (after_end 125) none.1 ∙ none.0) in
     record {
       bound = begun.0;
       enough = begun.1;
       so_far = begun.2;
-      room = c.after_blank-rest.ensures.shorter;
+      room = omega (arith, c.skip_blank.ensures.shorter, c.take_end.ensures.shorter);
       well = rw c.in_ok-pairs.ensures.items tt;
     }
 
@@ -125,59 +138,62 @@ read_pairs-returns-in_err-key-clause-gives t c =
     let p = err_from_is_err_and c.from_residual-in_err-key.result c.from_residual-in_err-key.ensures.1 in
     let item = read_item (129 - c.args.level) in
     let i = c.pairs.invariant in
-    rw (p.1, p.2) (member_fails (read_pair item) 125 (map pair_view c.pairs.pairs.items) i.bound c.pairs.rest.now
+    rw (p.1, p.2) (member_fails (read_pair item) 125 (map pair_view c.pairs.pairs.items) i.bound c.pairs.text
     (read_members (read_pair item) 125 c.args.text.now) i.enough
-    i.so_far c.in_err-key.field-0.0 (no_key item c.pairs.rest.now c.in_err-key.field-0.0 c.in_err-key.ensures.gives))
+    i.so_far c.in_err-key.field-0.0 (no_key item c.pairs.text c.in_err-key.field-0.0 c.in_err-key.ensures.gives))
 
-pub read_pairs-returns-in_err-next-clause-gives : goal.read_pairs-returns-in_err-next-clause-gives
-read_pairs-returns-in_err-next-clause-gives t c =
-    let p = err_from_is_err_and c.from_residual-in_err-next.result c.from_residual-in_err-next.ensures.1 in
+pub read_pairs-returns-in_err-expect_byte-clause-gives : goal.read_pairs-returns-in_err-expect_byte-clause-gives
+read_pairs-returns-in_err-expect_byte-clause-gives t c =
+    let p = err_from_is_err_and c.from_residual-in_err-expect_byte.result
+    c.from_residual-in_err-expect_byte.ensures.1 in
     let item = read_item (129 - c.args.level) in
     let i = c.pairs.invariant in
-    rw (p.1, p.2) (member_fails (read_pair item) 125 (map pair_view c.pairs.pairs.items) i.bound c.pairs.rest.now
+    rw (p.1, p.2) (member_fails (read_pair item) 125 (map pair_view c.pairs.pairs.items) i.bound c.pairs.text
     (read_members (read_pair item) 125 c.args.text.now) i.enough
-    i.so_far c.in_err-next.field-0.0 (no_colon item c.pairs.rest.now (view c.in_ok-key.key) c.in_ok-key.after_key.now
-    c.in_ok-key.ensures.gives c.in_err-next.field-0.0 c.in_err-next.ensures.gives))
+    i.so_far c.in_err-expect_byte.field-0.0 (no_colon item c.pairs.text (view c.in_ok-key.key) c.read_item.new.text
+    c.in_ok-key.ensures.gives c.in_err-expect_byte.field-0.0 c.in_err-expect_byte.ensures.gives))
 
 pub read_pairs-returns-in_err-value-clause-gives : goal.read_pairs-returns-in_err-value-clause-gives
 read_pairs-returns-in_err-value-clause-gives t c =
     let p = err_from_is_err_and c.from_residual-in_err-value.result c.from_residual-in_err-value.ensures.1 in
     let item = read_item (129 - c.args.level) in
     let i = c.pairs.invariant in
-    rw (p.1, p.2) (member_fails (read_pair item) 125 (map pair_view c.pairs.pairs.items) i.bound c.pairs.rest.now
+    rw (p.1, p.2) (member_fails (read_pair item) 125 (map pair_view c.pairs.pairs.items) i.bound c.pairs.text
     (read_members (read_pair item) 125 c.args.text.now) i.enough i.so_far c.in_err-value.field-0.0
-    (no_value item c.pairs.rest.now
-    (view c.in_ok-key.key) c.in_ok-key.after_key.now c.in_ok-key.ensures.gives c.in_ok-next.next.now
-    c.in_ok-next.ensures.gives c.in_err-value.field-0.0 c.in_err-value.ensures.gives))
+    (no_value item c.pairs.text
+    (view c.in_ok-key.key) c.read_item.new.text c.in_ok-key.ensures.gives c.expect_byte.new.self
+    c.in_ok-expect_byte.ensures.gives c.in_err-value.field-0.0 c.in_err-value.ensures.gives))
 
-pub read_pairs-returns-in-Some-after_end-clause-gives : goal.read_pairs-returns-in-Some-after_end-clause-gives
-read_pairs-returns-in-Some-after_end-clause-gives t c =
+pub read_pairs-returns-then-not-more-clause-gives : goal.read_pairs-returns-then-not-more-clause-gives
+read_pairs-returns-then-not-more-clause-gives t c =
     let item = read_item (129 - c.args.level) in
     let i = c.pairs.invariant in
     let held = c.pairs.pairs.items in
     let p : DataItem × DataItem = (c.in_ok-key.key, c.in_ok-value.value) in
-    let read = pair_read item c.pairs.rest.now (view p.0) c.in_ok-key.after_key.now c.in_ok-key.ensures.gives
-    c.in_ok-next.next.now c.in_ok-next.ensures.gives (view p.1) c.in_ok-value.after.now
+    let read = pair_read item c.pairs.text (view p.0) c.read_item.new.text c.in_ok-key.ensures.gives
+    c.expect_byte.new.self c.in_ok-expect_byte.ensures.gives (view p.1) c.read_item-in-pairs.new.text
     c.in_ok-value.ensures.gives in
     let pushed : map pair_view c.push.new.self.items ≡ map pair_view held ++ pair_view p ∷ [] =
     rw c.in_ok-push.ensures.items (map_push pair_view held p) in
-    rw pushed (member_last (read_pair item) 125 (map pair_view held) i.bound c.pairs.rest.now (read_members (read_pair
+    rw pushed (member_last (read_pair item) 125 (map pair_view held) i.bound c.pairs.text (read_members (read_pair
     item) 125 c.args.text.now) i.enough i.so_far (pair_view p)
-    c.in_ok-value.after.now c.in-Some-after_end.end.now read (sym c.in-Some-after_end.ensures.gives))
+    c.read_item-in-pairs.new.text c.take_comma.new.self read (rw c.if-not-more.true at c.in_ok-more.ensures.takes))
 
-pub read_pairs-returns-in_err-rest-clause-gives : goal.read_pairs-returns-in_err-rest-clause-gives
-read_pairs-returns-in_err-rest-clause-gives t c =
-    let p = err_from_is_err_and c.from_residual-in_err-rest.result c.from_residual-in_err-rest.ensures.1 in
+pub read_pairs-returns-in_err-more-clause-gives : goal.read_pairs-returns-in_err-more-clause-gives
+read_pairs-returns-in_err-more-clause-gives t c =
+    let p = err_from_is_err_and c.from_residual-in_err-more.result c.from_residual-in_err-more.ensures.1 in
     let item = read_item (129 - c.args.level) in
     let i = c.pairs.invariant in
-    let read = pair_read item c.pairs.rest.now (view c.in_ok-key.key) c.in_ok-key.after_key.now
-    c.in_ok-key.ensures.gives c.in_ok-next.next.now c.in_ok-next.ensures.gives (view c.in_ok-value.value)
-    c.in_ok-value.after.now c.in_ok-value.ensures.gives in
-    rw (p.1, p.2) (no_comma (read_pair item) 125 (map pair_view c.pairs.pairs.items) i.bound c.pairs.rest.now
+    let read = pair_read item c.pairs.text (view c.in_ok-key.key) c.read_item.new.text
+    c.in_ok-key.ensures.gives c.expect_byte.new.self c.in_ok-expect_byte.ensures.gives (view c.in_ok-value.value)
+    c.read_item-in-pairs.new.text c.in_ok-value.ensures.gives in
+    rw (p.1, p.2) (no_comma (read_pair item) 125 (map pair_view c.pairs.pairs.items) i.bound c.pairs.text
     (read_members
     (read_pair item) 125 c.args.text.now) i.enough i.so_far
-    (view c.in_ok-key.key, view c.in_ok-value.value) c.in_ok-value.after.now c.in_err-rest.field-0.0 read
-    (sym c.in_default-after_end.ensures.gives) c.in_err-rest.ensures.gives)
+    (view c.in_ok-key.key, view c.in_ok-value.value) c.read_item-in-pairs.new.text c.in_err-more.field-0.0 read
+    c.in_err-more.ensures.takes.0 (failed c.in_err-more.field-0.0
+    (or_refused (after_byte 44 c.read_item-in-pairs.new.text)) c.in_err-more.ensures.takes.1
+    c.in_err-more.ensures.takes.2))
 
 pub read_pairs-pairs-preserved : goal.read_pairs-pairs-preserved
 read_pairs-pairs-preserved t c =
@@ -185,47 +201,51 @@ read_pairs-pairs-preserved t c =
     let i = c.pairs.invariant in
     let held = c.pairs.pairs.items in
     let p : DataItem × DataItem = (c.in_ok-key.key, c.in_ok-value.value) in
-    let read = pair_read item c.pairs.rest.now (view p.0) c.in_ok-key.after_key.now c.in_ok-key.ensures.gives
-    c.in_ok-next.next.now c.in_ok-next.ensures.gives (view p.1) c.in_ok-value.after.now
+    let read = pair_read item c.pairs.text (view p.0) c.read_item.new.text c.in_ok-key.ensures.gives
+    c.expect_byte.new.self c.in_ok-expect_byte.ensures.gives (view p.1) c.read_item-in-pairs.new.text
     c.in_ok-value.ensures.gives in
-    let shorter : length c.in_ok-value.after.now ≤ length c.pairs.rest.now =
-    omega (arith, c.in_ok-key.ensures.shorter, c.in_ok-next.ensures.shorter, c.in_ok-value.ensures.shorter) in
+    let shorter : length c.read_item-in-pairs.new.text ≤ length c.pairs.text =
+    omega (arith, c.in_ok-key.ensures.shorter, c.in_ok-expect_byte.ensures.shorter, c.in_ok-value.ensures.shorter) in
     let pushed : map pair_view c.push.new.self.items ≡ map pair_view held ++ pair_view p ∷ [] =
     rw c.in_ok-push.ensures.items (map_push pair_view held p) in
-    let next = member_more (read_pair item) 125 (map pair_view held) i.bound c.pairs.rest.now (read_members (read_pair
+    let comma = rw c.if-not-more.false at c.in_ok-more.ensures.takes in
+    let next = member_more (read_pair item) 125 (map pair_view held) i.bound c.pairs.text (read_members (read_pair
     item) 125 c.args.text.now) i.enough i.so_far (pair_view p)
-    c.in_ok-value.after.now c.in_ok-rest.rest.now read (sym c.in_default-after_end.ensures.gives)
-    c.in_ok-rest.ensures.gives shorter c.in_ok-rest.ensures.shorter in
+    c.read_item-in-pairs.new.text c.take_comma.new.self read comma.0
+    comma.1 shorter c.in_ok-more.ensures.shorter in
     record {
       bound = next.0;
       enough = next.1;
       so_far = rw pushed next.2;
-      room = omega (arith, c.in_ok-rest.ensures.shorter, shorter, i.room);
+      room = omega (arith, c.in_ok-more.ensures.shorter, shorter, i.room);
       well = rw c.in_ok-push.ensures.items (pairs_push c.args.level held p i.well c.in_ok-key.ensures.well
           c.in_ok-value.ensures.well);
     }
 
-pub read_pairs-returns-in-Some-after_end-clause-well : goal.read_pairs-returns-in-Some-after_end-clause-well
-read_pairs-returns-in-Some-after_end-clause-well t c =
+pub read_pairs-returns-then-not-more-clause-well : goal.read_pairs-returns-then-not-more-clause-well
+read_pairs-returns-then-not-more-clause-well t c =
     rw c.in_ok-push.ensures.items (pairs_push c.args.level c.pairs.pairs.items (c.in_ok-key.key, c.in_ok-value.value)
     c.pairs.invariant.well c.in_ok-key.ensures.well c.in_ok-value.ensures.well)
 
-pub strings::read_chunk_list-returns-in-Some-clause-gives : goal.strings::read_chunk_list-returns-in-Some-clause-gives
-strings::read_chunk_list-returns-in-Some-clause-gives t c =
-    members_closed (read_chunk (read_item (129 - c.args.inner)) (kind_view c.args.kind)) 41 c.args.text.now
-    c.after_blank-rest.result.now c.in-Some.after.now (chunk_list c.new-chunks.result) c.new-chunks.ensures.none
-    c.after_blank-rest.ensures.gives (sym c.in-Some.ensures.gives)
+pub strings::read_chunk_list-returns-then-take_end-clause-gives :
+    goal.strings::read_chunk_list-returns-then-take_end-clause-gives
+strings::read_chunk_list-returns-then-take_end-clause-gives t c =
+    members_closed (read_chunk (read_item (129 - c.args.inner)) c.args.kind) 41 c.args.text.now
+    c.skip_blank.new.self c.take_end.new.self (chunk_list c.new-chunks.result) c.new-chunks.ensures.none
+    c.skip_blank.ensures.rest (rw c.if-take_end.true at c.take_end.ensures.takes)
 
 pub strings::read_chunk_list-chunks-init : goal.strings::read_chunk_list-chunks-init
 strings::read_chunk_list-chunks-init t c =
-    let read = read_chunk (read_item (129 - c.args.inner)) (kind_view c.args.kind) in
-    let begun = members_begin read 41 c.args.text.now c.after_blank-rest.result.now (chunk_list c.new-chunks.result)
-    c.new-chunks.ensures.none c.after_blank-rest.ensures.gives (sym c.in_default.ensures.gives) in
+    let read = read_chunk (read_item (129 - c.args.inner)) c.args.kind in
+    let none = rw c.if-take_end.false at c.take_end.ensures.takes in
+    let begun = members_begin read 41 c.args.text.now c.take_end.new.self (chunk_list c.new-chunks.result)
+    c.new-chunks.ensures.none (none.1 ∙ c.skip_blank.ensures.rest)
+    (ap (after_end 41) none.1 ∙ none.0) in
     record {
       bound = begun.0;
       enough = begun.1;
       so_far = begun.2;
-      room = c.after_blank-rest.ensures.shorter;
+      room = omega (arith, c.skip_blank.ensures.shorter, c.take_end.ensures.shorter);
       well = rw c.new-chunks.ensures.none tt;
       kind = c.new-chunks.ensures.kind;
     }
@@ -235,84 +255,91 @@ pub strings::read_chunk_list-returns-in_err-content-clause-gives :
 strings::read_chunk_list-returns-in_err-content-clause-gives t c =
     let p = err_from_is_err_and c.from_residual.result c.from_residual.ensures.1 in
     let item = read_item (129 - c.args.inner) in
-    let read = read_chunk item (kind_view c.args.kind) in
+    let read = read_chunk item c.args.kind in
     let i = c.chunks.invariant in
-    rw (p.1, p.2) (member_fails read 41 (chunk_list c.chunks.chunks) i.bound c.chunks.rest.now (read_members read 41
-    c.args.text.now) i.enough i.so_far c.in_err-content.field-0.0
-    (no_content item (kind_view c.args.kind) c.chunks.rest.now
-    c.after_blank.result.now c.after_blank.ensures.gives c.in_err-content.field-0.0 c.in_err-content.ensures.gives))
+    rw (p.1, p.2) (member_fails read 41 (chunk_list c.chunks.chunks) i.bound c.chunks.text (read_members read 41
+    c.args.text.now) i.enough i.so_far c.in_err-content.field-0.0 (no_content item c.args.kind c.chunks.text
+    c.skip_blank-in-chunks.new.self c.skip_blank-in-chunks.ensures.rest c.in_err-content.field-0.0
+    c.in_err-content.ensures.gives))
 
 pub strings::read_chunk_list-returns-in_err-push-clause-gives :
     goal.strings::read_chunk_list-returns-in_err-push-clause-gives
 strings::read_chunk_list-returns-in_err-push-clause-gives t c =
     let p = err_from_is_err_and c.from_residual-in_err-push.result c.from_residual-in_err-push.ensures.1 in
     let item = read_item (129 - c.args.inner) in
-    let read = read_chunk item (kind_view c.args.kind) in
+    let read = read_chunk item c.args.kind in
     let i = c.chunks.invariant in
-    rw (p.1, p.2) (member_fails read 41 (chunk_list c.chunks.chunks) i.bound c.chunks.rest.now (read_members read 41
-    c.args.text.now) i.enough i.so_far c.in_err-push.field-0.0 (no_string item (kind_view c.args.kind) c.chunks.rest.now
-    c.after_blank.result.now c.after_blank.ensures.gives c.in_ok-content.content.items c.in_ok-content.after.now
+    rw (p.1, p.2) (member_fails read 41 (chunk_list c.chunks.chunks) i.bound c.chunks.text (read_members read 41
+    c.args.text.now) i.enough i.so_far c.in_err-push.field-0.0 (no_string item c.args.kind c.chunks.text
+    c.skip_blank-in-chunks.new.self c.skip_blank-in-chunks.ensures.rest c.in_ok-content.content.items
+    c.read_content.new.text
     c.in_ok-content.ensures.gives (list_kind c.chunks.chunks) (chunk_list c.chunks.chunks) i.kind
     c.in_err-push.field-0.0
     c.in_err-push.ensures.gives))
 
-pub strings::read_chunk_list-returns-in-Some-after_end-clause-gives :
-    goal.strings::read_chunk_list-returns-in-Some-after_end-clause-gives
-strings::read_chunk_list-returns-in-Some-after_end-clause-gives t c =
+pub strings::read_chunk_list-returns-then-not-more-clause-gives :
+    goal.strings::read_chunk_list-returns-then-not-more-clause-gives
+strings::read_chunk_list-returns-then-not-more-clause-gives t c =
     let item = read_item (129 - c.args.inner) in
-    let read = read_chunk item (kind_view c.args.kind) in
+    let read = read_chunk item c.args.kind in
     let i = c.chunks.invariant in
-    let added = string_read item (kind_view c.args.kind) c.chunks.rest.now c.after_blank.result.now
-    c.after_blank.ensures.gives c.in_ok-content.content.items c.in_ok-content.after.now c.in_ok-content.ensures.gives
+    let added = string_read item c.args.kind c.chunks.text c.skip_blank-in-chunks.new.self
+    c.skip_blank-in-chunks.ensures.rest c.in_ok-content.content.items c.read_content.new.text
+    c.in_ok-content.ensures.gives
     (list_kind c.chunks.chunks) (chunk_list c.chunks.chunks) i.kind (chunk_list c.push.new.self)
     c.in_ok-push.ensures.gives in
-    rw added.1 (member_last read 41 (chunk_list c.chunks.chunks) i.bound c.chunks.rest.now
-    (read_members read 41 c.args.text.now) i.enough i.so_far added.0 c.in_ok-content.after.now
-    c.in-Some-after_end.end.now added.2
-    (sym c.in-Some-after_end.ensures.gives))
+    rw added.1 (member_last read 41 (chunk_list c.chunks.chunks) i.bound c.chunks.text
+    (read_members read 41 c.args.text.now) i.enough i.so_far added.0 c.read_content.new.text
+    c.take_comma.new.self added.2
+    (rw c.if-not-more.true at c.in_ok-more.ensures.takes))
 
-pub strings::read_chunk_list-returns-in-Some-after_end-clause-well :
-    goal.strings::read_chunk_list-returns-in-Some-after_end-clause-well
-strings::read_chunk_list-returns-in-Some-after_end-clause-well t c =
+pub strings::read_chunk_list-returns-then-not-more-clause-well :
+    goal.strings::read_chunk_list-returns-then-not-more-clause-well
+strings::read_chunk_list-returns-then-not-more-clause-well t c =
     let i = c.chunks.invariant in
     (rw i.kind at c.in_ok-push.ensures.well) i.well
 
-pub strings::read_chunk_list-returns-in_err-rest-clause-gives :
-    goal.strings::read_chunk_list-returns-in_err-rest-clause-gives
-strings::read_chunk_list-returns-in_err-rest-clause-gives t c =
-    let p = err_from_is_err_and c.from_residual-in_err-rest.result c.from_residual-in_err-rest.ensures.1 in
+pub strings::read_chunk_list-returns-in_err-more-clause-gives :
+    goal.strings::read_chunk_list-returns-in_err-more-clause-gives
+strings::read_chunk_list-returns-in_err-more-clause-gives t c =
+    let p = err_from_is_err_and c.from_residual-in_err-more.result c.from_residual-in_err-more.ensures.1 in
     let item = read_item (129 - c.args.inner) in
-    let read = read_chunk item (kind_view c.args.kind) in
+    let read = read_chunk item c.args.kind in
     let i = c.chunks.invariant in
-    let added = string_read item (kind_view c.args.kind) c.chunks.rest.now c.after_blank.result.now
-    c.after_blank.ensures.gives c.in_ok-content.content.items c.in_ok-content.after.now c.in_ok-content.ensures.gives
+    let added = string_read item c.args.kind c.chunks.text c.skip_blank-in-chunks.new.self
+    c.skip_blank-in-chunks.ensures.rest c.in_ok-content.content.items c.read_content.new.text
+    c.in_ok-content.ensures.gives
     (list_kind c.chunks.chunks) (chunk_list c.chunks.chunks) i.kind (chunk_list c.push.new.self)
     c.in_ok-push.ensures.gives in
-    rw (p.1, p.2) (no_comma read 41 (chunk_list c.chunks.chunks) i.bound c.chunks.rest.now (read_members read 41
-    c.args.text.now) i.enough i.so_far added.0 c.in_ok-content.after.now c.in_err-rest.field-0.0 added.2 (sym
-    c.in_default-after_end.ensures.gives) c.in_err-rest.ensures.gives)
+    rw (p.1, p.2) (no_comma read 41 (chunk_list c.chunks.chunks) i.bound c.chunks.text (read_members read 41
+    c.args.text.now) i.enough i.so_far added.0 c.read_content.new.text c.in_err-more.field-0.0 added.2
+    c.in_err-more.ensures.takes.0 (failed c.in_err-more.field-0.0
+    (or_refused (after_byte 44 c.read_content.new.text)) c.in_err-more.ensures.takes.1
+    c.in_err-more.ensures.takes.2))
 
 pub strings::read_chunk_list-chunks-preserved : goal.strings::read_chunk_list-chunks-preserved
 strings::read_chunk_list-chunks-preserved t c =
     let item = read_item (129 - c.args.inner) in
-    let read = read_chunk item (kind_view c.args.kind) in
+    let read = read_chunk item c.args.kind in
     let i = c.chunks.invariant in
-    let added = string_read item (kind_view c.args.kind) c.chunks.rest.now c.after_blank.result.now
-    c.after_blank.ensures.gives c.in_ok-content.content.items c.in_ok-content.after.now c.in_ok-content.ensures.gives
+    let added = string_read item c.args.kind c.chunks.text c.skip_blank-in-chunks.new.self
+    c.skip_blank-in-chunks.ensures.rest c.in_ok-content.content.items c.read_content.new.text
+    c.in_ok-content.ensures.gives
     (list_kind c.chunks.chunks) (chunk_list c.chunks.chunks) i.kind (chunk_list c.push.new.self)
     c.in_ok-push.ensures.gives in
-    let shorter : length c.in_ok-content.after.now ≤ length c.chunks.rest.now =
-    omega (arith, c.in_ok-content.ensures.shorter, c.after_blank.ensures.shorter) in
-    let next = member_more read 41 (chunk_list c.chunks.chunks) i.bound c.chunks.rest.now
-    (read_members read 41 c.args.text.now) i.enough i.so_far added.0 c.in_ok-content.after.now c.in_ok-rest.rest.now
+    let shorter : length c.read_content.new.text ≤ length c.chunks.text =
+    omega (arith, c.in_ok-content.ensures.shorter, c.skip_blank-in-chunks.ensures.shorter) in
+    let comma = rw c.if-not-more.false at c.in_ok-more.ensures.takes in
+    let next = member_more read 41 (chunk_list c.chunks.chunks) i.bound c.chunks.text
+    (read_members read 41 c.args.text.now) i.enough i.so_far added.0 c.read_content.new.text c.take_comma.new.self
     added.2
-    (sym c.in_default-after_end.ensures.gives) c.in_ok-rest.ensures.gives shorter c.in_ok-rest.ensures.shorter in
+    comma.0 comma.1 shorter c.in_ok-more.ensures.shorter in
     record {
       bound = next.0;
       enough = next.1;
-      so_far = subst (λ cs. onto (λ xs. cs ++ xs) (members_from read 41 next.0 c.in_ok-rest.rest.now)
+      so_far = subst (λ cs. onto (λ xs. cs ++ xs) (members_from read 41 next.0 c.take_comma.new.self)
           ≡ read_members read 41 c.args.text.now) (sym added.1) next.2;
-      room = omega (arith, c.in_ok-rest.ensures.shorter, shorter, i.room);
+      room = omega (arith, c.in_ok-more.ensures.shorter, shorter, i.room);
       well = (rw i.kind at c.in_ok-push.ensures.well) i.well;
       kind = c.in_ok-push.ensures.kind ∙ i.kind;
     }
@@ -321,36 +348,36 @@ pub strings::read_chunks-returns-in_err-chunks-clause-gives :
     goal.strings::read_chunks-returns-in_err-chunks-clause-gives
 strings::read_chunks-returns-in_err-chunks-clause-gives t c =
     let p = err_from_is_err_and c.from_residual-in_err-chunks.result c.from_residual-in_err-chunks.ensures.1 in
-    rw (p.1, p.2) (no_chunks (read_item (129 - c.args.inner)) c.args.text.now c.in_ok-expect_byte.field-0.now
-    c.after_blank-first.result.now (kind_view c.kind-kind.result) c.in_ok-expect_byte.ensures.gives
-    c.after_blank-first.ensures.gives (c.kind-kind.ensures ∙ ap kind_from c.of.ensures)
+    rw (p.1, p.2) (no_chunks (read_item (129 - c.args.inner)) c.args.text.now c.expect_byte.new.self
+    c.skip_blank.new.self c.kind-kind.result c.in_ok-expect_byte.ensures.gives
+    c.skip_blank.ensures.rest (c.kind-kind.ensures ∙ ap kind_from c.start.ensures)
     c.in_err-chunks.field-0.0 c.in_err-chunks.ensures.gives)
 
 pub strings::read_chunks-returns-clause-gives : goal.strings::read_chunks-returns-clause-gives
 strings::read_chunks-returns-clause-gives t c =
-    chunks_read (read_item (129 - c.args.inner)) c.args.text.now c.in_ok-expect_byte.field-0.now
-    c.after_blank-first.result.now (kind_view c.kind-kind.result) c.in_ok-expect_byte.ensures.gives
-    c.after_blank-first.ensures.gives (c.kind-kind.ensures ∙ ap kind_from c.of.ensures)
-    (chunk_list c.in_ok-chunks.chunks) c.in_ok-chunks.rest.now (view c.into_item.result) c.in_ok-chunks.ensures.gives
+    chunks_read (read_item (129 - c.args.inner)) c.args.text.now c.expect_byte.new.self
+    c.skip_blank.new.self c.kind-kind.result c.in_ok-expect_byte.ensures.gives
+    c.skip_blank.ensures.rest (c.kind-kind.ensures ∙ ap kind_from c.start.ensures)
+    (chunk_list c.in_ok-chunks.chunks) c.read_chunk_list.new.text (view c.into_item.result) c.in_ok-chunks.ensures.gives
     (rw c.in_ok-chunks.ensures.kind at c.into_item.ensures)
 
 pub strings::read_chunks-returns-clause-well : goal.strings::read_chunks-returns-clause-well
 strings::read_chunks-returns-clause-well t c =
-    chunks_well (c.args.inner - 1) (kind_view c.kind-kind.result) (chunk_list c.in_ok-chunks.chunks)
+    chunks_well (c.args.inner - 1) c.kind-kind.result (chunk_list c.in_ok-chunks.chunks)
     (view c.into_item.result) (omega (arith, c.requires.high)) c.in_ok-chunks.ensures.well
     (rw c.in_ok-chunks.ensures.kind at c.into_item.ensures)
 
 pub read_core-returns-in-Digit-clause-gives : goal.read_core-returns-in-Digit-clause-gives
 read_core-returns-in-Digit-clause-gives t c =
-    rw (core_by (read_item (129 - c.args.inner)) c.args.text.now c.split-start.result.1.now start.Digit (sym
-    c.in-Digit.is ∙ c.split-start.ensures.start) c.split-start.ensures.rest) c.integer_or_tag.ensures.gives
+    rw (core_by (read_item (129 - c.args.inner)) c.args.text.now (rest_of c.args.text.now) start.Digit (sym
+    c.in-Digit.is ∙ c.start.ensures) refl) c.integer_or_tag.ensures.gives
 
 pub read_core-returns-in_err-value-in-Minus-clause-gives : goal.read_core-returns-in_err-value-in-Minus-clause-gives
 read_core-returns-in_err-value-in-Minus-clause-gives t c =
     let p = err_from_is_err_and c.from_residual.result c.from_residual.ensures.1 in
-    rw (core_by (read_item (129 - c.args.inner)) c.args.text.now c.split-start.result.1.now start.Minus (sym
-    c.in-Minus.is ∙ c.split-start.ensures.start) c.split-start.ensures.rest) (rw (p.1, p.2) (Fails-bind
-    c.in_err-value-in-Minus.field-0.0 (read_negative_number c.split-start.result.1.now) (λ n. Ok (
+    rw (core_by (read_item (129 - c.args.inner)) c.args.text.now c.skip_byte.new.self start.Minus (sym
+    c.in-Minus.is ∙ c.start.ensures) c.skip_byte.ensures.rest) (rw (p.1, p.2) (Fails-bind
+    c.in_err-value-in-Minus.field-0.0 (read_negative_number c.skip_byte.new.self) (λ n. Ok (
       atom (negative n.0.0
           n.0.1),
       n.1,
@@ -359,10 +386,10 @@ read_core-returns-in_err-value-in-Minus-clause-gives t c =
 pub read_core-returns-in_ok-value-in-Minus-clause-gives : goal.read_core-returns-in_ok-value-in-Minus-clause-gives
 read_core-returns-in_ok-value-in-Minus-clause-gives t c =
     let read = read_item (129 - c.args.inner) in
-    core_by read c.args.text.now c.split-start.result.1.now start.Minus
-    (sym c.in-Minus.is ∙ c.split-start.ensures.start) c.split-start.ensures.rest
+    core_by read c.args.text.now c.skip_byte.new.self start.Minus
+    (sym c.in-Minus.is ∙ c.start.ensures) c.skip_byte.ensures.rest
     ∙ ap (λ r. r >>= λ n. Ok (atom (negative n.0.0 n.0.1), n.1)) c.in_ok-value-in-Minus.ensures.gives
-    ∙ ap (λ i. Ok (i, c.in_ok-value-in-Minus.rest.now))
+    ∙ ap (λ i. Ok (i, c.read_negative_number.new.text))
     (sym (view-Negative c.in_ok-value-in-Minus.value c.in_ok-value-in-Minus.bitwidth))
 
 pub read_core-returns-in_err-content-in-Bracket-clause-gives :
@@ -372,34 +399,34 @@ read_core-returns-in_err-content-in-Bracket-clause-gives t c =
     c.from_residual-in_err-content-in-Bracket.ensures.1 in
     let read = read_item (129 - c.args.inner) in
     let e = c.in_err-content-in-Bracket.field-0.0 in
-    let opened = read_length c.split-start.result.1.now in
-    let failed = subst (λ b. Fails e (read_members read 93 b)) c.read_length-bitwidth.ensures.gives.1
+    let opened = read_length c.skip_byte-in-Bracket.new.self in
+    let failed = subst (λ b. Fails e (read_members read 93 b)) c.take_length-bitwidth.ensures.rest
     c.in_err-content-in-Bracket.ensures.gives in
-    rw (core_by read c.args.text.now c.split-start.result.1.now start.Bracket (sym c.in-Bracket.is ∙
-    c.split-start.ensures.start) c.split-start.ensures.rest) (rw (p.1, p.2) (Fails-bind e (read_members read 93
+    rw (core_by read c.args.text.now c.skip_byte-in-Bracket.new.self start.Bracket (sym c.in-Bracket.is ∙
+    c.start.ensures) c.skip_byte-in-Bracket.ensures.rest) (rw (p.1, p.2) (Fails-bind e (read_members read 93
     opened.1) (λ is. Ok (array (items_of is.0) opened.0, is.1)) failed))
 
 pub read_core-returns-in_ok-content-in-Bracket-clause-gives :
     goal.read_core-returns-in_ok-content-in-Bracket-clause-gives
 read_core-returns-in_ok-content-in-Bracket-clause-gives t c =
     let read = read_item (129 - c.args.inner) in
-    let length_is = c.read_length-bitwidth.ensures.gives in
-    let text = c.split-start.result.1.now in
-    let found = ap (read_members read 93) (sym length_is.1) ∙ c.in_ok-content-in-Bracket.ensures.gives in
-    core_by read c.args.text.now c.split-start.result.1.now start.Bracket
-    (sym c.in-Bracket.is ∙ c.split-start.ensures.start) c.split-start.ensures.rest
+    let text = c.skip_byte-in-Bracket.new.self in
+    let found = ap (read_members read 93) (sym c.take_length-bitwidth.ensures.rest) ∙
+    c.in_ok-content-in-Bracket.ensures.gives in
+    core_by read c.args.text.now c.skip_byte-in-Bracket.new.self start.Bracket
+    (sym c.in-Bracket.is ∙ c.start.ensures) c.skip_byte-in-Bracket.ensures.rest
     ∙ ap (λ r. r >>= λ is. Ok (array (items_of is.0) (read_length text).0, is.1)) found
     ∙ ap (λ w. Ok (
       array (items_view c.in_ok-content-in-Bracket.content.items) w,
-      c.in_ok-content-in-Bracket.rest.now,
-    )) (sym length_is.0)
-    ∙ ap (λ i. Ok (i, c.in_ok-content-in-Bracket.rest.now))
-    (sym (view-Array c.in_ok-content-in-Bracket.content c.read_length-bitwidth.result.0))
+      c.read_items.new.text,
+    )) (sym c.take_length-bitwidth.ensures.width)
+    ∙ ap (λ i. Ok (i, c.read_items.new.text))
+    (sym (view-Array c.in_ok-content-in-Bracket.content c.take_length-bitwidth.result))
 
 pub read_core-returns-in_ok-content-in-Bracket-clause-well : goal.read_core-returns-in_ok-content-in-Bracket-clause-well
 read_core-returns-in_ok-content-in-Bracket-clause-well t c =
-    array_well c.args.inner c.in_ok-content-in-Bracket.content c.read_length-bitwidth.result.0 (omega arith)
-    (omega arith) c.read_length-bitwidth.ensures.unstated c.in_ok-content-in-Bracket.ensures.well
+    array_well c.args.inner c.in_ok-content-in-Bracket.content c.take_length-bitwidth.result (omega arith)
+    (omega arith) c.take_length-bitwidth.ensures.unstated c.in_ok-content-in-Bracket.ensures.well
 
 pub read_core-returns-in_err-content-in-Brace-clause-gives : goal.read_core-returns-in_err-content-in-Brace-clause-gives
 read_core-returns-in_err-content-in-Brace-clause-gives t c =
@@ -407,60 +434,61 @@ read_core-returns-in_err-content-in-Brace-clause-gives t c =
     c.from_residual-in_err-content-in-Brace.ensures.1 in
     let read = read_item (129 - c.args.inner) in
     let e = c.in_err-content-in-Brace.field-0.0 in
-    let opened = read_length c.split-start.result.1.now in
+    let opened = read_length c.skip_byte-in-Brace.new.self in
     let failed = subst (λ b. Fails e (read_members (read_pair read) 125 b))
-    c.read_length-bitwidth-in-Brace.ensures.gives.1
+    c.take_length-bitwidth-in-Brace.ensures.rest
     c.in_err-content-in-Brace.ensures.gives in
-    rw (core_by read c.args.text.now c.split-start.result.1.now start.Brace (sym c.in-Brace.is ∙
-    c.split-start.ensures.start) c.split-start.ensures.rest) (rw (p.1, p.2) (Fails-bind e (read_members (read_pair read)
+    rw (core_by read c.args.text.now c.skip_byte-in-Brace.new.self start.Brace (sym c.in-Brace.is ∙
+    c.start.ensures) c.skip_byte-in-Brace.ensures.rest) (rw (p.1, p.2) (Fails-bind e (read_members (read_pair read)
     125 opened.1) (λ is. Ok (spec.map (pairs_of is.0) opened.0, is.1)) failed))
 
 pub read_core-returns-in_ok-content-in-Brace-clause-gives : goal.read_core-returns-in_ok-content-in-Brace-clause-gives
 read_core-returns-in_ok-content-in-Brace-clause-gives t c =
     let read = read_item (129 - c.args.inner) in
-    let length_is = c.read_length-bitwidth-in-Brace.ensures.gives in
-    let text = c.split-start.result.1.now in
-    let found = ap (read_members (read_pair read) 125) (sym length_is.1) ∙ c.in_ok-content-in-Brace.ensures.gives in
-    core_by read c.args.text.now c.split-start.result.1.now start.Brace
-    (sym c.in-Brace.is ∙ c.split-start.ensures.start) c.split-start.ensures.rest
+    let text = c.skip_byte-in-Brace.new.self in
+    let found = ap (read_members (read_pair read) 125) (sym c.take_length-bitwidth-in-Brace.ensures.rest) ∙
+    c.in_ok-content-in-Brace.ensures.gives in
+    core_by read c.args.text.now c.skip_byte-in-Brace.new.self start.Brace
+    (sym c.in-Brace.is ∙ c.start.ensures) c.skip_byte-in-Brace.ensures.rest
     ∙ ap (λ r. r >>= λ ps. Ok (spec.map (pairs_of ps.0) (read_length text).0, ps.1)) found
     ∙ ap (λ w. Ok (
       spec.map (pairs_view c.in_ok-content-in-Brace.content.items) w,
-      c.in_ok-content-in-Brace.rest.now,
-    )) (sym length_is.0)
-    ∙ ap (λ i. Ok (i, c.in_ok-content-in-Brace.rest.now))
-    (sym (view-Map c.in_ok-content-in-Brace.content c.read_length-bitwidth-in-Brace.result.0))
+      c.read_pairs.new.text,
+    )) (sym c.take_length-bitwidth-in-Brace.ensures.width)
+    ∙ ap (λ i. Ok (i, c.read_pairs.new.text))
+    (sym (view-Map c.in_ok-content-in-Brace.content c.take_length-bitwidth-in-Brace.result))
 
 pub read_core-returns-in_ok-content-in-Brace-clause-well : goal.read_core-returns-in_ok-content-in-Brace-clause-well
 read_core-returns-in_ok-content-in-Brace-clause-well t c =
-    map_well c.args.inner c.in_ok-content-in-Brace.content c.read_length-bitwidth-in-Brace.result.0 (omega arith)
-    (omega arith) c.read_length-bitwidth-in-Brace.ensures.unstated c.in_ok-content-in-Brace.ensures.well
+    map_well c.args.inner c.in_ok-content-in-Brace.content c.take_length-bitwidth-in-Brace.result (omega arith)
+    (omega arith) c.take_length-bitwidth-in-Brace.ensures.unstated c.in_ok-content-in-Brace.ensures.well
 
 pub read_core-returns-in-Parenthesis-clause-gives : goal.read_core-returns-in-Parenthesis-clause-gives
 read_core-returns-in-Parenthesis-clause-gives t c =
-    rw (core_by (read_item (129 - c.args.inner)) c.args.text.now c.split-start.result.1.now start.Parenthesis (sym
-    c.in-Parenthesis.is ∙ c.split-start.ensures.start) c.split-start.ensures.rest) c.read_chunks.ensures.gives
+    rw (core_by (read_item (129 - c.args.inner)) c.args.text.now c.skip_byte-in-Parenthesis.new.self
+    start.Parenthesis (sym
+    c.in-Parenthesis.is ∙ c.start.ensures) c.skip_byte-in-Parenthesis.ensures.rest) c.read_chunks.ensures.gives
 
 pub read_core-returns-in-Other-clause-gives : goal.read_core-returns-in-Other-clause-gives
 read_core-returns-in-Other-clause-gives t c =
-    rw (core_by (read_item (129 - c.args.inner)) c.args.text.now c.split-start.result.1.now start.Other (sym
-    c.in-Other.is ∙ c.split-start.ensures.start) c.split-start.ensures.rest) c.read_word.ensures.gives
+    rw (core_by (read_item (129 - c.args.inner)) c.args.text.now (rest_of c.args.text.now) start.Other (sym
+    c.in-Other.is ∙ c.start.ensures) refl) c.read_word.ensures.gives
 
 pub read_core-returns-in-Apostrophe-clause-gives : goal.read_core-returns-in-Apostrophe-clause-gives
 read_core-returns-in-Apostrophe-clause-gives t c =
     let read = read_item (129 - c.args.inner) in
     let text = c.args.text.now in
-    let begins = bytes_core read text c.split-start.result.1.now c.split-start.result.0 c.in-Apostrophe.is in
+    let begins = bytes_core read text (rest_of c.args.text.now) c.start.result c.in-Apostrophe.is in
     rw (
-      core_by read text c.split-start.result.1.now c.split-start.result.0 c.split-start.ensures.start
-          c.split-start.ensures.rest,
+      core_by read text (rest_of c.args.text.now) c.start.result c.start.ensures
+          refl,
       begins,
     ) c.read_byte_item.ensures.gives
 
 pub read_core-returns-in-Quote-clause-gives : goal.read_core-returns-in-Quote-clause-gives
 read_core-returns-in-Quote-clause-gives t c =
-    rw (core_by (read_item (129 - c.args.inner)) c.args.text.now c.split-start.result.1.now start.Quote (sym
-    c.in-Quote.is ∙ c.split-start.ensures.start) c.split-start.ensures.rest) c.read_text_item.ensures.gives
+    rw (core_by (read_item (129 - c.args.inner)) c.args.text.now (rest_of c.args.text.now) start.Quote (sym
+    c.in-Quote.is ∙ c.start.ensures) refl) c.read_text_item.ensures.gives
 
 pub read_item-returns-then-level-gt-DEEPEST-clause-gives : goal.read_item-returns-then-level-gt-DEEPEST-clause-gives
 read_item-returns-then-level-gt-DEEPEST-clause-gives t c = item_none (129 - c.args.level) c.args.text.now (omega arith)
@@ -469,7 +497,7 @@ pub read_item-returns-in_err-item-clause-gives : goal.read_item-returns-in_err-i
 read_item-returns-in_err-item-clause-gives t c =
     let p = err_from_is_err_and c.from_residual.result c.from_residual.ensures.1 in
     let read = read_item (129 - (c.args.level + 1)) in
-    let failed = subst (λ b. Fails c.in_err-item.field-0.0 (read_core read b)) c.after_blank.ensures.gives
+    let failed = subst (λ b. Fails c.in_err-item.field-0.0 (read_core read b)) c.skip_blank.ensures.rest
     c.in_err-item.ensures.gives in
     rw (item_some (129 - c.args.level) (129 - (c.args.level + 1)) c.args.text.now (omega arith))
     (rw (p.1, p.2) (Fails-bind c.in_err-item.field-0.0
@@ -478,14 +506,14 @@ read_item-returns-in_err-item-clause-gives t c =
 pub read_item-returns-clause-gives : goal.read_item-returns-clause-gives
 read_item-returns-clause-gives t c =
     let read = read_item (129 - (c.args.level + 1)) in
-    let found = ap (read_core read) (sym c.after_blank.ensures.gives) ∙ c.in_ok-item.ensures.gives in
+    let found = ap (read_core read) (sym c.skip_blank.ensures.rest) ∙ c.in_ok-item.ensures.gives in
     item_some (129 - c.args.level) (129 - (c.args.level + 1)) c.args.text.now (omega arith)
     ∙ ap (λ r. r >>= λ i. Ok (i.0, skip_blank i.1)) found
-    ∙ ap (λ b. Ok (view c.in_ok-item.item, b)) (sym c.after_blank-2.ensures.gives)
+    ∙ ap (λ b. Ok (view c.in_ok-item.item, b)) (sym c.skip_blank-2.ensures.rest)
 
 pub strings::read_pieces-pieces-init : goal.strings::read_pieces-pieces-init
 strings::read_pieces-pieces-init t c =
-    let begun = pieces_begin (read_item (129 - c.args.inner)) (kind_view c.args.kind) c.args.text.now
+    let begun = pieces_begin (read_item (129 - c.args.inner)) c.args.kind c.args.text.now
     c.new-content.result.items c.new-content.ensures.items in
     record { bound = begun.0; enough = begun.1; so_far = begun.2; room = omega arith }
 
@@ -494,33 +522,33 @@ strings::read_pieces-returns-in_err-piece-clause-gives t c =
     let p = err_from_is_err_and c.from_residual.result c.from_residual.ensures.1 in
     let read = read_item (129 - c.args.inner) in
     let i = c.pieces.invariant in
-    let begins = sym (c.begins_piece.ensures ∙ ap (begins_piece (kind_view c.args.kind)) c.of.ensures)
+    let begins = sym (c.begins_piece.ensures ∙ ap (begins_piece c.args.kind) c.start.ensures)
     ∙ c.pieces-test.true in
-    rw (p.1, p.2) (piece_fails read (kind_view c.args.kind) c.pieces.content.items i.bound c.pieces.rest.now
-    (read_pieces read (kind_view c.args.kind) (suc (length c.args.text.now)) c.args.text.now) i.enough i.so_far
+    rw (p.1, p.2) (piece_fails read c.args.kind c.pieces.content.items i.bound c.pieces.text
+    (read_pieces read c.args.kind (suc (length c.args.text.now)) c.args.text.now) i.enough i.so_far
     c.in_err-piece.field-0.0 begins c.in_err-piece.ensures.gives)
 
 pub strings::read_pieces-pieces-preserved : goal.strings::read_pieces-pieces-preserved
 strings::read_pieces-pieces-preserved t c =
     let read = read_item (129 - c.args.inner) in
     let i = c.pieces.invariant in
-    let begins = sym (c.begins_piece.ensures ∙ ap (begins_piece (kind_view c.args.kind)) c.of.ensures)
+    let begins = sym (c.begins_piece.ensures ∙ ap (begins_piece c.args.kind) c.start.ensures)
     ∙ c.pieces-test.true in
-    let next = piece_more read (kind_view c.args.kind) c.pieces.content.items i.bound c.pieces.rest.now
-    (read_pieces read (kind_view c.args.kind) (suc (length c.args.text.now)) c.args.text.now) i.enough i.so_far
-    c.in_ok-piece.piece.items c.in_ok-piece.after.now c.after_blank-rest.result.now begins c.in_ok-piece.ensures.gives
-    c.after_blank-rest.ensures.gives c.in_ok-piece.ensures.shorter c.after_blank-rest.ensures.shorter in
+    let next = piece_more read c.args.kind c.pieces.content.items i.bound c.pieces.text
+    (read_pieces read c.args.kind (suc (length c.args.text.now)) c.args.text.now) i.enough i.so_far
+    c.in_ok-piece.piece.items c.read_piece.new.text c.skip_blank.new.self begins c.in_ok-piece.ensures.gives
+    c.skip_blank.ensures.rest c.in_ok-piece.ensures.shorter c.skip_blank.ensures.shorter in
     record {
       bound = next.0;
       enough = next.1;
       so_far = rw c.in_ok-append.ensures next.2;
-      room = omega (arith, c.in_ok-piece.ensures.shorter, c.after_blank-rest.ensures.shorter, i.room);
+      room = omega (arith, c.in_ok-piece.ensures.shorter, c.skip_blank.ensures.shorter, i.room);
     }
 
 pub strings::read_pieces-returns-clause-gives : goal.strings::read_pieces-returns-clause-gives
 strings::read_pieces-returns-clause-gives t c =
     let read = read_item (129 - c.args.inner) in
     let i = c.pieces.invariant in
-    pieces_end read (kind_view c.args.kind) c.pieces.content.items i.bound c.pieces.rest.now
-    (read_pieces read (kind_view c.args.kind) (suc (length c.args.text.now)) c.args.text.now) i.enough i.so_far
-    (sym (c.begins_piece.ensures ∙ ap (begins_piece (kind_view c.args.kind)) c.of.ensures) ∙ c.pieces-test.false)
+    pieces_end read c.args.kind c.pieces.content.items i.bound c.pieces.text
+    (read_pieces read c.args.kind (suc (length c.args.text.now)) c.args.text.now) i.enough i.so_far
+    (sym (c.begins_piece.ensures ∙ ap (begins_piece c.args.kind) c.start.ensures) ∙ c.pieces-test.false)

@@ -5,7 +5,6 @@ use Rattle.cbor_diag.specs.View.{view, items_view, pairs_view}
 use Rattle.cbor_grammar.specs.WellFormed.{WellFormedItems, WellFormedPairs, IsChunk}
 use Rattle.cbor_notation.specs.mirror.NotationReading.{read_item, read_pair, read_chunk, read_members, members_from}
 use Rattle.cbor_notation.specs.mirror.NotationReading.{read_pieces}
-use Rattle.cbor_grammar.specs.mirror.StringView.{kind_view}
 use Rattle.cbor_diag.specs.mirror.ChunkList.{chunk_list, list_kind}
 use Rattle.cbor_diag.proofs.notation.ChunkLoops.{onto}
 use Rattle.cbor_diag.proofs.parse.notation.+diag.Given as goal
@@ -51,61 +50,62 @@ abbrev pub decreases-read_core : goal.decreases-read_core
 decreases-read_core l = (130 - l.inner) * 9 + 8
 
 abbrev pub decreases-read_items-items : goal.decreases-read_items-items
-decreases-read_items-items l = length l.rest
+decreases-read_items-items l = length l.text
 
 abbrev pub invariant-read_items-items : goal.invariant-read_items-items
 invariant-read_items-items l =
     let read = read_item (129 - l.level) in
     record {
       bound : ℕ;
-      enough : length l.rest < bound;
-      so_far : onto (λ xs. map view l.items.items ++ xs) (members_from read l.close bound l.rest)
-          ≡ read_members read l.close l.text;
-      room : length l.rest ≤ length l.text;
+      enough : length l.text < bound;
+      so_far : onto (λ xs. map view l.items.items ++ xs) (members_from read l.close bound l.text)
+          ≡ read_members read l.close l.fn.text;
+      room : length l.text ≤ length l.fn.text;
       well : WellFormedItems l.level (items_view l.items.items);
     }
 
 abbrev pub decreases-read_pairs-pairs : goal.decreases-read_pairs-pairs
-decreases-read_pairs-pairs l = length l.rest
+decreases-read_pairs-pairs l = length l.text
 
 abbrev pub invariant-read_pairs-pairs : goal.invariant-read_pairs-pairs
 invariant-read_pairs-pairs l =
     let read = read_pair (read_item (129 - l.level)) in
     record {
       bound : ℕ;
-      enough : length l.rest < bound;
-      so_far : onto (λ xs. map (λ p. (view p.0, view p.1)) l.pairs.items ++ xs) (members_from read 125 bound l.rest)
-          ≡ read_members read 125 l.text;
-      room : length l.rest ≤ length l.text;
+      enough : length l.text < bound;
+      so_far : onto (λ xs. map (λ p. (view p.0, view p.1)) l.pairs.items ++ xs) (members_from read 125 bound l.text)
+          ≡ read_members read 125 l.fn.text;
+      room : length l.text ≤ length l.fn.text;
       well : WellFormedPairs l.level (pairs_view l.pairs.items);
     }
 
 abbrev pub decreases-strings::read_pieces-pieces : goal.decreases-strings::read_pieces-pieces
-decreases-strings::read_pieces-pieces l = length l.rest
+decreases-strings::read_pieces-pieces l = length l.text
 
 abbrev pub invariant-strings::read_pieces-pieces : goal.invariant-strings::read_pieces-pieces
 invariant-strings::read_pieces-pieces l =
     let read = read_item (129 - l.inner) in
     record {
       bound : ℕ;
-      enough : length l.rest < bound;
-      so_far : onto (λ xs. l.content.items ++ xs) (read_pieces read (kind_view l.kind) bound l.rest)
-          ≡ read_pieces read (kind_view l.kind) (suc (length l.text)) l.text;
-      room : length l.rest ≤ length l.text;
+      enough : length l.text < bound;
+      so_far : onto (λ xs. l.content.items ++ xs) (read_pieces read l.kind bound l.text)
+          ≡ read_pieces read l.kind (suc (length l.fn.text)) l.fn.text;
+      room : length l.text ≤ length l.fn.text;
     }
 
 abbrev pub decreases-strings::read_chunk_list-chunks : goal.decreases-strings::read_chunk_list-chunks
-decreases-strings::read_chunk_list-chunks l = length l.rest
+decreases-strings::read_chunk_list-chunks l = length l.text
 
 abbrev pub invariant-strings::read_chunk_list-chunks : goal.invariant-strings::read_chunk_list-chunks
 invariant-strings::read_chunk_list-chunks l =
-    let kind = kind_view l.kind in
+    let kind = l.kind in
     let read = read_chunk (read_item (129 - l.inner)) kind in
     record {
       bound : ℕ;
-      enough : length l.rest < bound;
-      so_far : onto (λ xs. chunk_list l.chunks ++ xs) (members_from read 41 bound l.rest) ≡ read_members read 41 l.text;
-      room : length l.rest ≤ length l.text;
+      enough : length l.text < bound;
+      so_far : onto (λ xs. chunk_list l.chunks ++ xs) (members_from read 41 bound l.text) ≡ read_members read 41
+          l.fn.text;
+      room : length l.text ≤ length l.fn.text;
       well : AllByRecursion (IsChunk kind) (chunk_list l.chunks);
       kind : list_kind l.chunks ≡ kind;
     }

@@ -1,8 +1,8 @@
 -- What is promised of the text: it is read back, is that of the normal form, and tells normal forms apart.
 use Rattle.std.proofs.Common.{◌++◌, None, refl, ap, sym, subst, ◌∙◌, arith}
-use Rattle.cbor_grammar.specs.Encoding.{Base16}
+use Rattle.cbor_grammar.specs.declared.encoding.Encoding.TheVariants.{Base16}
 use Rattle.cbor_diag.specs.View.{view}
-use Rattle.cbor_grammar.specs.Layout.{Compact}
+use Rattle.cbor_grammar.specs.declared.layout.Layout.TheVariants.{Compact}
 use Rattle.cbor_grammar.specs.Facts.{diag_of}
 use Rattle.cbor_grammar.specs.Notation.{Reads}
 use Rattle.cbor_grammar.specs.NotationText.{in_encoding}

@@ -1,7 +1,7 @@
 -- The text is read back as the normal form, and embedded items are exactly what the bytes spell.
 use Rattle.std.proofs.Common.{◌++◌, None, refl, ap, sym, subst, ◌∙◌, arith}
-use Rattle.cbor_grammar.specs.Encoding.{Base16}
-use Rattle.cbor_grammar.specs.Layout.{Pretty}
+use Rattle.cbor_grammar.specs.declared.encoding.Encoding.TheVariants.{Base16}
+use Rattle.cbor_grammar.specs.declared.layout.Layout.TheVariants.{Pretty}
 use Rattle.cbor_diag.specs.View.{view}
 use Rattle.cbor_grammar.specs.Facts.{pretty_of}
 use Rattle.cbor_grammar.specs.Notation.{Reads}

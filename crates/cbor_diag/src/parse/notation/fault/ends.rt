@@ -10,7 +10,6 @@ ghost use Rattle.cbor_notation.specs.mirror.NotationReading.{after_byte, after_e
 ghost use Rattle.cbor_notation.specs.mirror.NotationReading.{checked};
 ghost use Rattle.cbor_notation.specs.mirror.NotationReading.{skip_blank};
 ghost use Rattle.cbor_notation.specs.mirror.OpenTokens.{Near};
-ghost use Rattle.cbor_grammar.specs.mirror.StringView.{kind_view};
 
 use super::tokens::{ends_blank, is_apart, is_firm, is_open};
 use cbor_grammar::strings::StringKind;
@@ -62,8 +61,8 @@ pub(super) fn is_unended(text: &[u8], close: u8) -> bool
 /// Whether the text and an indefinite string of no chunks differ before either ends.
 pub(super) fn is_apart_from_no_chunks(kind: StringKind, text: &[u8]) -> bool
     ensures apart { IsTrue result → (more : List ℕ)
-        → after_word (no_chunks (kind_view kind)) (text.now ++ more) ≡ None }
-    ensures near { IsFalse result → Near (no_chunks (kind_view kind)) text.now }
+        → after_word (no_chunks kind) (text.now ++ more) ≡ None }
+    ensures near { IsFalse result → Near (no_chunks kind) text.now }
 {
     match kind {
         StringKind::Bytes => is_apart(text, b"''_"),
@@ -85,9 +84,9 @@ pub(super) fn has_no_close(text: &[u8]) -> bool
 #[tactic(auto, using(crate::proofs::notation::DeadItems::no_content))]
 pub(super) fn is_dead_content(kind: StringKind, content: &Vec<u8>, rest: &[u8]) -> bool
     ensures ends { IsTrue result → ends_blank (skip_blank rest.now) ≡ true }
-    ensures content { IsTrue result → NotRead (checked (kind_view kind) content.now.items) }
+    ensures content { IsTrue result → NotRead (checked kind content.now.items) }
     ensures cut { IsFalse result → (ends_blank (skip_blank rest.now) ≡ false)
-        ⊎ IsContent (kind_view kind) content.now.items }
+        ⊎ IsContent kind content.now.items }
 {
     ends_blank(after_blank(rest)) && !kind.may_hold(content)
 }

@@ -4,11 +4,9 @@ ghost use Rattle.cbor_grammar.specs.WellFormed.{levels_left};
 ghost use Rattle.cbor_grammar.specs.Item.{Item, Chunk};
 ghost use Rattle.cbor_diag.specs.mirror.DeadEnds.{NotRead, Value, read_member};
 ghost use Rattle.cbor_notation.specs.mirror.NotationReading.{read_chunk, read_item, read_pair};
-ghost use Rattle.cbor_grammar.specs.mirror.StringView.{kind_view};
 
-use super::super::read_item;
-use super::super::strings::read_content;
 use super::Member;
+use super::fronts::{content_front, item_front};
 use cbor_grammar::strings::StringKind;
 use cbor_grammar::{Error, Result};
 use cbor_notation::scan::{after_blank, expect_byte};
@@ -23,7 +21,7 @@ pub(super) fn after_item(alloc: Global, text: &[u8], level: u8) -> Result<&[u8]>
         → NotRead (read_item (levels_left level) text.now)) }
     ensures shorter { IfOk result (λ rest. length rest.now ≤ length text.now) }
 {
-    let (_, rest) = read_item(alloc, text, level)?;
+    let (_, rest) = item_front(alloc, text, level)?;
     Ok(rest)
 }
 
@@ -47,13 +45,12 @@ pub(super) fn after_pair(alloc: Global, text: &[u8], level: u8) -> Result<&[u8]>
 pub(super) fn after_chunk(alloc: Global, kind: StringKind, text: &[u8], level: u8) -> Result<&[u8]>
     requires { level ≤ 129 }
     ensures found { IfOk result (λ rest. (x : Chunk)
-        × (read_chunk (read_item (levels_left level)) (kind_view kind) text.now
-        ≡ Ok (x, rest.now))) }
+        × (read_chunk (read_item (levels_left level)) kind text.now ≡ Ok (x, rest.now))) }
     ensures refused { IfErr result (λ e. e ≢ Error.Memory
-        → NotRead (read_chunk (read_item (levels_left level)) (kind_view kind) text.now)) }
+        → NotRead (read_chunk (read_item (levels_left level)) kind text.now)) }
     ensures shorter { IfOk result (λ rest. length rest.now ≤ length text.now) }
 {
-    let (content, rest) = read_content(alloc, kind, after_blank(text), level)?;
+    let (content, rest) = content_front(alloc, kind, after_blank(text), level)?;
     if kind.may_hold(&content) {
         Ok(rest)
     } else {

@@ -7,12 +7,12 @@ ghost use Rattle.std.specs.Char.{digit_value};
 ghost use Rattle.std.specs.Bool.{IsFalse};
 ghost use Rattle.cbor_notes.specs.Token.{Blank};
 ghost use Rattle.cbor_notes.specs.TokenReading.{unquoted};
-ghost use Rattle.cbor_grammar.specs.DeadEnd.{GoesOn, IsCut, closes, closes_text};
+ghost use Rattle.cbor_grammar.specs.DeadEnd.{GoesOn, CutOf, closes, closes_text};
 ghost use Rattle.cbor_grammar.specs.Notation.{NumberOf, NegativeOf, SimpleOf, Notation, Core};
 ghost use Rattle.cbor_grammar.specs.Notation.{Reads};
 ghost use Rattle.cbor_grammar.specs.Notation.{Closes};
 ghost use Rattle.cbor_diag.specs.mirror.DeadEnds.{NeverReads, ends_blank, is_firm};
-ghost use Rattle.cbor_diag.specs.mirror.DeadEnds.{is_settled, NotRead, IsRefused};
+ghost use Rattle.cbor_diag.specs.mirror.DeadEnds.{is_settled, NotRead, IsRealError};
 ghost use Rattle.cbor_notation.specs.mirror.NotationReading.{after_end, after_space, after_word};
 ghost use Rattle.cbor_notation.specs.mirror.NotationReading.{read_unsigned_number, read_word};
 ghost use Rattle.cbor_notation.specs.mirror.NotationReading.{read_negative_number, read_simple};
@@ -21,9 +21,10 @@ ghost use Rattle.cbor_notation.specs.mirror.OpenTokens.{widens, is_prefix, may_b
 ghost use Rattle.cbor_notation.specs.mirror.OpenTokens.{may_close, is_small, is_float, Near};
 
 use super::super::word::are_decimal;
+use super::fronts::{negative_front, number_front, unsigned_front};
 use cbor_grammar::{Error, IntegerWidth, Result};
 use cbor_notation::content::{b_notation, h_notation};
-use cbor_notation::number::{read_negative_number, read_number, read_unsigned_number};
+use cbor_notation::cursor::Cursor;
 use cbor_notation::scan::{after_blank, after_space, after_word, whitespace_len};
 use std::alloc::Global;
 
@@ -60,7 +61,7 @@ pub(super) fn is_firm(text: &[u8]) -> bool
 
 /// Whether this is an error other than `Memory`.
 fn is_refused<T: Drop>(answer: Result<T>) -> bool
-    ensures refused { IsTrue result → IsRefused answer }
+    ensures refused { IsTrue result → IsRealError answer }
     ensures other { IsFalse result → answer ≢ Err Error.Memory → (x : T) × (answer ≡ Ok x) }
 {
     match answer {
@@ -73,7 +74,7 @@ fn is_refused<T: Drop>(answer: Result<T>) -> bool
 /// What was read, or `None` for any error but `Memory`.
 pub(super) fn but_memory<T: Drop>(answer: Result<T>) -> Result<Option<T>>
     ensures found { IfOk result (λ found. IfSome found (λ x. answer ≡ Ok x)) }
-    ensures none { IfOk result (λ found. IfNone found (IsRefused answer)) }
+    ensures none { IfOk result (λ found. IfNone found (IsRealError answer)) }
     ensures refused { IfErr result (λ e. e ≡ Error.Memory) }
 {
     match answer {
@@ -136,11 +137,11 @@ fn widens(value: u128, indicator: Option<u8>, rest: &[u8]) -> bool
 pub(super) fn is_dead_unsigned(text: &[u8]) -> bool
     ensures dead { IsTrue result → NeverReads read_unsigned_number text.now }
     ensures cut { IsFalse result → NotRead (read_unsigned_number text.now)
-        → IsCut (λ t (x : ℕ × IntegerWidth). NumberOf t x.0 x.1) text.now }
+        → CutOf (λ t (x : ℕ × IntegerWidth). NumberOf t x.0 x.1) text.now }
 {
-    match read_number(text) {
+    match number_front(text) {
         Ok(((value, indicator), rest)) => {
-            !widens(value, indicator, rest) && is_refused(read_unsigned_number(text))
+            !widens(value, indicator, rest) && is_refused(unsigned_front(text))
         }
         Err(_) => !text.is_empty(),
     }
@@ -171,11 +172,11 @@ fn may_be_negative(text: &[u8], value: u128, indicator: Option<u8>, rest: &[u8])
 pub(super) fn is_dead_negative(text: &[u8]) -> bool
     ensures dead { IsTrue result → NeverReads read_negative_number text.now }
     ensures cut { IsFalse result → NotRead (read_negative_number text.now)
-        → IsCut (λ t (x : ℕ × IntegerWidth). NegativeOf t x.0 x.1) (45 ∷ text.now) }
+        → CutOf (λ t (x : ℕ × IntegerWidth). NegativeOf t x.0 x.1) (45 ∷ text.now) }
 {
-    match read_number(text) {
+    match number_front(text) {
         Ok(((value, indicator), rest)) => {
-            !may_be_negative(text, value, indicator, rest) && is_refused(read_negative_number(text))
+            !may_be_negative(text, value, indicator, rest) && is_refused(negative_front(text))
         }
         Err(_) => !text.is_empty(),
     }
@@ -204,7 +205,7 @@ fn is_dead_simple(text: &[u8]) -> bool
     ensures cut { IsFalse result → NotRead (read_simple text.now)
         → GoesOn SimpleOf (codes "simple(" ++ text.now) }
 {
-    match read_number(text) {
+    match number_front(text) {
         Ok(((value, _), rest)) => !is_small(value, &text[..text.len() - rest.len()], rest),
         Err(_) => !text.is_empty(),
     }
@@ -249,7 +250,7 @@ fn is_dead_float(text: &[u8]) -> bool
 pub(super) fn is_dead_word(text: &[u8]) -> bool
     ensures dead { IsTrue result → NeverReads read_word text.now }
     ensures cut { IsFalse result → NotRead (read_word text.now)
-        → IsCut (λ t i. (left : ℕ) → Core (Reads left) t i) text.now }
+        → CutOf (λ t i. (left : ℕ) → Core (Reads left) t i) text.now }
 {
     if let Some(rest) = after_word(text, b"simple(") {
         is_dead_simple(rest)
@@ -324,12 +325,13 @@ fn are_closed(text: &[u8], comments: bool) -> bool
     false
 }
 
-/// Whether no other bytes behind the text change that it is no `b32'..'` or `b64'..'` after the `b`.
+/// Whether no other bytes behind the text change that it is no `b32'..'` or `b64'..'` after the
+/// `b`.
 #[tactic(auto, using(crate::proofs::notation::DeadTokens::b32_dead, crate::proofs::notation::DeadTokens::b64_dead, crate::proofs::notation::DeadTokens::b_dead))]
 fn is_dead_b(text: &[u8]) -> bool
     ensures dead { IsTrue result → NotRead (b_notation text.now) → NeverReads b_notation text.now }
     ensures cut { IsFalse result → NotRead (b_notation text.now)
-        → IsCut (λ t bytes. (left : ℕ) → Notation (Reads left) t bytes) (98 ∷ text.now) }
+        → CutOf (λ t bytes. (left : ℕ) → Notation (Reads left) t bytes) (98 ∷ text.now) }
 {
     if let Some(digits) = after_word(text, b"32'") {
         are_closed(digits, true)
@@ -345,7 +347,7 @@ fn is_dead_b(text: &[u8]) -> bool
 fn is_dead_h(text: &[u8]) -> bool
     ensures dead { IsTrue result → NotRead (h_notation text.now) → NeverReads h_notation text.now }
     ensures cut { IsFalse result → NotRead (h_notation text.now)
-        → IsCut (λ t bytes. (left : ℕ) → Notation (Reads left) t bytes) (104 ∷ text.now) }
+        → CutOf (λ t bytes. (left : ℕ) → Notation (Reads left) t bytes) (104 ∷ text.now) }
 {
     if let Some(digits) = after_word(text, b"'") {
         are_closed(digits, true)
@@ -361,10 +363,10 @@ fn is_dead_h(text: &[u8]) -> bool
 pub(super) fn is_dead_b_notation(alloc: Global, text: &[u8]) -> Result<bool>
     ensures dead { IfOk result (λ dead. IsTrue dead → NeverReads b_notation text.now) }
     ensures cut { IfOk result (λ dead. IsFalse dead → NotRead (b_notation text.now)
-        → IsCut (λ t bytes. (left : ℕ) → Notation (Reads left) t bytes) (98 ∷ text.now)) }
+        → CutOf (λ t bytes. (left : ℕ) → Notation (Reads left) t bytes) (98 ∷ text.now)) }
     ensures refused { IfErr result (λ e. e ≡ Error.Memory) }
 {
-    match b_notation(alloc, text) {
+    match b_notation(alloc, &mut Cursor::new(text)) {
         Ok(_) => Ok(false),
         Err(Error::Memory) => Err(Error::Memory),
         Err(_) => Ok(is_dead_b(text)),
@@ -376,10 +378,10 @@ pub(super) fn is_dead_b_notation(alloc: Global, text: &[u8]) -> Result<bool>
 pub(super) fn is_dead_h_notation(alloc: Global, text: &[u8]) -> Result<bool>
     ensures dead { IfOk result (λ dead. IsTrue dead → NeverReads h_notation text.now) }
     ensures cut { IfOk result (λ dead. IsFalse dead → NotRead (h_notation text.now)
-        → IsCut (λ t bytes. (left : ℕ) → Notation (Reads left) t bytes) (104 ∷ text.now)) }
+        → CutOf (λ t bytes. (left : ℕ) → Notation (Reads left) t bytes) (104 ∷ text.now)) }
     ensures refused { IfErr result (λ e. e ≡ Error.Memory) }
 {
-    match h_notation(alloc, text) {
+    match h_notation(alloc, &mut Cursor::new(text)) {
         Ok(_) => Ok(false),
         Err(Error::Memory) => Err(Error::Memory),
         Err(_) => Ok(is_dead_h(text)),

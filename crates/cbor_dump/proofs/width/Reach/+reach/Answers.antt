@@ -7,8 +7,7 @@ use Rattle.cbor_grammar.specs.Item.{pair}
 use Rattle.cbor_grammar.specs.Reading.{Fails, items_in, pairs_in, joined, joined_pairs, count_width}
 use Rattle.cbor_grammar.specs.Reading.{read_head, no_level_left}
 use Rattle.cbor_grammar.specs.WellFormed.{levels_left}
-use Rattle.cbor_bytes.specs.mirror.HeadView.{argument_view, head_view}
-use Rattle.cbor_bytes.specs.mirror.HeadView.{left_of}
+use Rattle.cbor_grammar.specs.mirror.Lengths.{left_of}
 use Rattle.cbor_grammar.specs.mirror.AtLevel.{read_at}
 use Rattle.cbor_dump.specs.mirror.Widths.{head_reach, width_there}
 use Rattle.cbor_grammar.proofs.bytes.Shorter.{item_shorter}
@@ -39,7 +38,7 @@ front-returns-in_err-head-clause-refused t c =
 
 pub front-head-requires-clause-len : goal.front-head-requires-clause-len
 front-head-requires-clause-len t c =
-    let low = head_low c.args.bytes.now c.in_ok-head.rest.now (head_view c.in_ok-head.head)
+    let low = head_low c.args.bytes.now c.in_ok-head.rest.now c.in_ok-head.head
     (λ i. omega (arith, c.type_inv.bytes i)) c.in_ok-head.ensures.gives in
     rw c.shown_length.ensures low
 
@@ -122,7 +121,7 @@ front-returns-in_default-clause-measured t c =
     let d = c.in_default in
     let old = c.args.self.now.widest in
     let rest = c.in_ok-head.rest.now in
-    front_measured c.args.place c.args.bytes.now rest rest (head_view c.in_ok-head.head) old c.head.new.self.widest
+    front_measured c.args.place c.args.bytes.now rest rest c.in_ok-head.head old c.head.new.self.widest
     c.head.new.self.widest (λ i. omega (arith, c.type_inv.bytes i)) (omega (arith, c.if-place-gt-DEEPEST.false))
     c.in_ok-head.ensures.gives
     (c.head.ensures ∙ ap (λ n. max old (head_reach c.args.place.depth n)) c.shown_length.ensures)
@@ -143,7 +142,7 @@ items-items-init t c = record {
 pub items-returns-in-Some-clause-measured : goal.items-returns-in-Some-clause-measured
 items-returns-in-Some-clause-measured t c =
     let i = c.items.invariant in
-    let a = argument_view c.args.count in
+    let a = c.args.count in
     let w = count_width a in
     let f = items_in i.members (left_of c.args.count c.items.held) in
     array_measured c.args.place c.inside-inner.result c.inside-inner.ensures.level c.inside-inner.ensures.depth
@@ -200,7 +199,7 @@ pairs-pairs-init t c = record {
 pub pairs-returns-in-Some-clause-measured : goal.pairs-returns-in-Some-clause-measured
 pairs-returns-in-Some-clause-measured t c =
     let i = c.pairs.invariant in
-    let a = argument_view c.args.count in
+    let a = c.args.count in
     let w = count_width a in
     let f = pairs_in i.members (left_of c.args.count c.pairs.held) in
     map_measured c.args.place c.inside-inner.result c.inside-inner.ensures.level c.inside-inner.ensures.depth

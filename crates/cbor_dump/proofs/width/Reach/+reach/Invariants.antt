@@ -3,8 +3,7 @@ use Rattle.std.proofs.Common.{◌≡◌, ◌+◌, ◌-◌, ◌*◌, ◌≤◌, l
 use Rattle.cbor_grammar.specs.Item.{Items, no_items, Pairs, no_pairs}
 use Rattle.cbor_grammar.specs.Reading.{items_in, pairs_in}
 use Rattle.cbor_grammar.specs.WellFormed.{levels_left}
-use Rattle.cbor_bytes.specs.mirror.HeadView.{argument_view}
-use Rattle.cbor_bytes.specs.mirror.HeadView.{left_of}
+use Rattle.cbor_grammar.specs.mirror.Lengths.{left_of}
 use Rattle.cbor_dump.specs.mirror.Widths.{items_width, pairs_width, width_there}
 use Rattle.cbor_notation.proofs.straight.Readings.{parts_read}
 use Rattle.cbor_dump.proofs.width.Reach.+reach.Given as goal
@@ -32,7 +31,7 @@ invariant-items-items l =
     record {
       members : Items;
       so_far : parts_read left (items_in members (left_of l.count l.held)) l.rest
-          ≡ parts_read left (items_in no_items (argument_view l.count)) l.bytes;
+          ≡ parts_read left (items_in no_items l.count) l.bytes;
       reach : l.self.widest ≡ max l.fn.self.widest (items_width (width_there l.inner) members);
       room : l.held + length l.rest ≤ length l.bytes;
     }
@@ -43,7 +42,7 @@ invariant-pairs-pairs l =
     record {
       members : Pairs;
       so_far : parts_read left (pairs_in members (left_of l.count l.held)) l.rest
-          ≡ parts_read left (pairs_in no_pairs (argument_view l.count)) l.bytes;
+          ≡ parts_read left (pairs_in no_pairs l.count) l.bytes;
       reach : l.self.widest ≡ max l.fn.self.widest (pairs_width (width_there l.inner) members);
       room : l.held + length l.rest ≤ length l.bytes;
     }

@@ -1,83 +1,63 @@
 -- How far the digits of a string in chunks reach, and the error of a wrong chunk.
-use Rattle.std.proofs.Common.{◌+◌, List, [], ◌∷◌, ◌++◌, length, ap, ◌∙◌, arith}
+use Rattle.std.proofs.Common.{◌+◌, arith}
 use Rattle.std.proofs.lemmas.Result.{err_from_is_err_and}
-use Rattle.cbor_grammar.specs.Item.{Chunk}
-use Rattle.cbor_grammar.specs.Reading.{Counted, read_chunks}
-use Rattle.cbor_grammar.specs.mirror.StringView.{kind_view, borrowed_chunk}
+use Rattle.cbor_grammar.specs.mirror.StringView.{borrowed_chunk}
 use Rattle.cbor_grammar.proofs.bytes.Chunks.{chunk_takes}
-use Rattle.cbor_grammar.proofs.bytes.Steps.{later_none}
 use Rattle.cbor_dump.proofs.dump.FrontWidths.{none_yet, chunk_taken, chunk_counted, chunks_measured}
-use Rattle.cbor_notation.proofs.straight.Readings.{fails_then, fails_stopped, ok_then, none_before}
-use Rattle.cbor_grammar.proofs.turns.ChunkLoops.{onto, more_chunk, no_more_chunk, chunk_fails}
+use Rattle.cbor_notation.proofs.straight.Readings.{fails_then, ok_then}
+use Rattle.cbor_notation.proofs.straight.ChunksRead.{none_read, one_read, all_read, not_read}
 use Rattle.cbor_dump.proofs.width.Reach.chunks.Goals as goal
 
 pub chunks-init : goal.chunks-init
-chunks-init c =
-    let all = read_chunks (length c.args.bytes.now) (kind_view c.args.kind) c.args.bytes.now in
-    record {
-      chunks = [];
-      turns = 0;
-      bound = length c.args.bytes.now;
-      enough = omega arith;
-      so_far = later_none (onto [] all) ∙ none_before all;
-      fits = λ i. omega (arith, c.type_inv.bytes i);
-      reach = none_yet c.args.self.now.widest;
-    }
+chunks-init c = record {
+  read = none_read c.args.kind c.args.bytes.now;
+  fits = λ i. omega (arith, c.type_inv.bytes i);
+  reach = none_yet c.args.self.now.widest;
+}
 
 pub returns-in_err-chunk-clause-refused : goal.returns-in_err-chunk-clause-refused
 returns-in_err-chunk-clause-refused c =
     let p = err_from_is_err_and c.from_residual.result c.from_residual.ensures.1 in
-    let i = c.chunks.invariant in
     let e = c.in_err-chunk.field-0.0 in
-    let all = read_chunks (length c.args.bytes.now) (kind_view c.args.kind) c.args.bytes.now in
-    let stops = chunk_fails e (kind_view c.args.kind) i.chunks i.turns i.bound c.chunks.rest.now all i.enough
-    c.in_err-chunk.ensures.gives i.so_far in
-    rw (p.1, p.2) (fails_then e all _ (fails_stopped e (i.turns + 1) all stops))
+    rw (p.1, p.2) (fails_then e _ _ (not_read c.args.kind c.args.bytes.now c.chunks.rest.now e
+    c.chunks.invariant.read c.in_err-chunk.ensures.gives))
 
 pub returns-in_default-clause-measured : goal.returns-in_default-clause-measured
 returns-in_default-clause-measured c =
     let i = c.chunks.invariant in
-    let kind = kind_view c.args.kind in
+    let kind = c.args.kind in
     let after = c.in_ok-chunk.after.now in
-    let all = read_chunks (length c.args.bytes.now) kind c.args.bytes.now in
-    let whole = no_more_chunk kind i.chunks i.turns i.bound c.chunks.rest.now after all
-    (rw c.in_default.is at c.in_ok-chunk.ensures.gives) c.in_ok-chunk.ensures.shorter i.enough i.so_far in
-    chunks_measured c.args.place kind c.args.bytes.now after i.chunks c.args.self.now.widest c.chunks.self.widest
+    let whole = all_read kind c.args.bytes.now c.chunks.rest.now after i.read
+    (rw c.in_default.is at c.in_ok-chunk.ensures.gives) c.in_ok-chunk.ensures.shorter in
+    chunks_measured c.args.place kind c.args.bytes.now after i.read.chunks c.args.self.now.widest c.chunks.self.widest
     c.head.new.self.widest
-    (ok_then all (i.chunks, after) _ (ap (λ (d : Counted (List Chunk)). d.1) whole)) i.reach c.head.ensures
+    (ok_then _ (i.read.chunks, after) _ whole) i.reach c.head.ensures
 
 pub chunk-requires-clause-taken : goal.chunk-requires-clause-taken
 chunk-requires-clause-taken c =
     let chunk = borrowed_chunk c.in-Some.field-0-1 c.in-Some.content in
-    let taken = chunk_taken (kind_view c.args.kind) c.chunks.rest.now c.in_ok-chunk.after.now chunk
+    let taken = chunk_taken c.args.kind c.chunks.rest.now c.in_ok-chunk.after.now chunk
     c.chunks.invariant.fits (rw c.in-Some.is at c.in_ok-chunk.ensures.gives) in
     omega (arith, taken.0)
 
 pub chunk-requires-clause-head : goal.chunk-requires-clause-head
 chunk-requires-clause-head c =
     let chunk = borrowed_chunk c.in-Some.field-0-1 c.in-Some.content in
-    let taken = chunk_taken (kind_view c.args.kind) c.chunks.rest.now c.in_ok-chunk.after.now chunk
+    let taken = chunk_taken c.args.kind c.chunks.rest.now c.in_ok-chunk.after.now chunk
     c.chunks.invariant.fits (rw c.in-Some.is at c.in_ok-chunk.ensures.gives) in
     omega (arith, taken.0, taken.1)
 
 pub chunks-preserved : goal.chunks-preserved
 chunks-preserved c =
     let i = c.chunks.invariant in
-    let kind = kind_view c.args.kind in
+    let kind = c.args.kind in
     let after = c.in_ok-chunk.after.now in
-    let all = read_chunks (length c.args.bytes.now) kind c.args.bytes.now in
     let chunk = borrowed_chunk c.in-Some.field-0-1 c.in-Some.content in
     let read = rw c.in-Some.is at c.in_ok-chunk.ensures.gives in
-    let next = more_chunk kind i.chunks i.turns i.bound c.chunks.rest.now chunk after all read
-    c.in_ok-chunk.ensures.shorter i.enough i.so_far in
     record {
-      chunks = i.chunks ++ chunk ∷ [];
-      turns = i.turns + 1;
-      bound = next.0;
-      enough = next.1;
-      so_far = next.2;
+      read = one_read kind c.args.bytes.now c.chunks.rest.now chunk after i.read read c.in_ok-chunk.ensures.shorter;
       fits = (chunk_takes kind c.chunks.rest.now after chunk i.fits read).1;
-      reach = chunk_counted kind (c.args.place.depth + 1) i.chunks c.in-Some.field-0-1 c.in-Some.content
+      reach = chunk_counted kind (c.args.place.depth + 1) i.read.chunks c.in-Some.field-0-1 c.in-Some.content
           c.chunks.rest.now after c.args.self.now.widest c.chunks.self.widest c.chunk.new.self.widest
           i.fits (rw c.in-Some.is at c.in_ok-chunk.ensures.kind) read i.reach
           c.chunk.ensures;

@@ -2,7 +2,6 @@
 use Rattle.std.proofs.Common.{[], ◌∷◌, List, ℕ, OnOk, ap, subst, ◌∙◌}
 use Rattle.cbor_grammar.specs.Dump.{head_line}
 use Rattle.cbor_dump.specs.mirror.Dumped.{Wrote, head_bytes}
-use Rattle.cbor_bytes.specs.mirror.HeadView.{head_view}
 use Rattle.cbor_dump.specs.mirror.ShownLines.{comment_text}
 use Rattle.cbor_dump.proofs.dump.HeadLines.{head_few, head_is}
 use Rattle.cbor_dump.proofs.writer.Writer.head_line.Goals as goal
@@ -18,5 +17,5 @@ returns-in_default c =
     let line = head_line c.args.depth in
     let bytes = head_is c.args.head c.args.bytes.now c.in_default.not-Simple c.requires.bytes in
     let same = ap (λ (b : List ℕ). line b (comment_text c.of.result)) bytes
-    ∙ ap (line (head_bytes (head_view c.args.head))) c.of.ensures in
+    ∙ ap (line (head_bytes c.args.head)) c.of.ensures in
     subst (λ l. OnOk c.line.result (Wrote c.args.self.now c.line.new.self (l ∷ []))) same c.line.ensures

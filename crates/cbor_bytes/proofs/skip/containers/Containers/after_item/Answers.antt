@@ -1,40 +1,30 @@
 -- Scanning goes on from part to part over the open containers, and pauses where a part does.
-use Rattle.std.proofs.Common.{◌≡◌, ◌-◌, List, length, sym, subst, arith}
+use Rattle.std.proofs.Common.{◌≡◌, ◌-◌, length, subst, arith}
 use Rattle.std.proofs.lemmas.Result.{err_from_is_err_and}
-use Rattle.cbor_bytes.specs.declared.skip.to_come.ToCome.{ToCome}
-use Rattle.cbor_bytes.specs.mirror.Skipping.{here, Goes, skip_item, begun, skip_open}
+use Rattle.cbor_bytes.proofs.skipping.Scans.{pauses_then}
+use Rattle.cbor_bytes.specs.mirror.Scanning.{skip_from}
+use Rattle.cbor_bytes.specs.mirror.Skipping.{Goes, skip_item, begun, skip_open}
 use Rattle.cbor_grammar.specs.WellFormed.{deepest}
 use Rattle.cbor_bytes.proofs.skipping.Skips.{goes_then}
 use Rattle.cbor_bytes.proofs.skipping.SkippedParts.{last_ends, open_ends, whole_goes, opens_goes}
-use Rattle.cbor_bytes.proofs.skipping.ScannedParts.{pauses_in_then}
 use Rattle.cbor_bytes.proofs.skip.containers.Containers.after_item.Goals as goal
 
 pub returns-in_default-pop-clause-goes : goal.returns-in_default-pop-clause-goes
 returns-in_default-pop-clause-goes c =
-    let top = c.turns.top in
-    let rest = c.turns.rest.now in
-    let none = c.pop.ensures.none c.in_default-pop.is in
-    let ends = last_ends top rest c.in-Some.after.now c.in-Some.ensures in
-    goes_then c.turns.invariant.goes (subst (λ (outer : List ToCome). Goes (skip_open outer top) here rest
-    c.in-Some.after.now) (sym none) ends)
+    last_ends c.turns.self.outer c.turns.top c.turns.rest.now c.in-Some.after.now c.turns.invariant.goes
+    (c.pop.ensures.none c.in_default-pop.is) c.in-Some.ensures
 
 pub turns-preserved-in-Some : goal.turns-preserved-in-Some
-turns-preserved-in-Some c =
-    let top = c.turns.top in
-    let rest = c.turns.rest.now in
-    let outer = c.pop.new.self in
-    let open1 = c.in-Some-pop.«open» in
-    let ends = open_ends outer open1 top rest c.in-Some.after.now c.in-Some.ensures in
-    record {
-      goes = goes_then c.turns.invariant.goes
-          (subst (λ (all : List ToCome). Goes (skip_open all top) (skip_open outer open1) rest c.in-Some.after.now)
-          (sym c.in-Some-pop.ensures.some) ends);
-    }
+turns-preserved-in-Some c = record {
+  goes = open_ends c.turns.self.outer c.pop.new.self c.in-Some-pop.«open» c.turns.top c.turns.rest.now
+      c.in-Some.after.now
+      c.turns.invariant.goes c.in-Some-pop.ensures.some c.in-Some.ensures;
+}
 
 pub returns-in_err-rest-in-Err-clause-pauses : goal.returns-in_err-rest-in-Err-clause-pauses
 returns-in_err-rest-in-Err-clause-pauses c =
     let p = err_from_is_err_and c.from_residual.result c.from_residual.ensures.1 in
-    rw (p.1, p.2) (pauses_in_then c.after_part.new.self.outer c.after_part.new.self.top
+    rw (p.1, p.2) (pauses_then (skip_from c.after_part.new.self.outer c.after_part.new.self.top)
     (skip_open c.args.self.now.outer c.args.self.now.top)
     (skip_open c.turns.self.outer c.turns.top) c.args.bytes.now c.turns.rest.now c.in_err-rest-in-Err.field-0.0
     c.turns.invariant.goes c.in_err-rest-in-Err.ensures.pauses)

@@ -5,7 +5,6 @@ use Rattle.std.proofs.lemmas.List.{length-append}
 use Rattle.std.proofs.lemmas.Result.{IfOk-weaker, IfErr-weaker}
 use Rattle.cbor_bytes.specs.declared.skip.Stop.TheVariants as stops
 use Rattle.cbor_grammar.specs.WellFormed.{deepest}
-use Rattle.cbor_bytes.specs.mirror.HeadView.{head_view}
 use Rattle.cbor_bytes.specs.mirror.Skipping.{Goes, StopsSo, skip_item, skip_body, frame_of}
 use Rattle.cbor_bytes.proofs.skipping.Skips.{goes_then}
 use Rattle.cbor_bytes.proofs.skipping.SkippedParts.{part_stops, whole_goes, opens_goes, opened_goes}
@@ -38,9 +37,9 @@ returns-in-Some-clause-goes c =
     let rest = c.in-Ok.read.1.now in
     let parts = c.in-Some.parts in
     let levels : c.from.result - c.len.result ≡ deepest - length outer = omega arith in
-    let head = subst (λ (l : ℕ). Goes (skip_item l) (skip_body (l - 1) (head_view c.in-Ok.read.0)) b rest) levels
+    let head = subst (λ (l : ℕ). Goes (skip_item l) (skip_body (l - 1) c.in-Ok.read.0) b rest) levels
     c.in-Ok.ensures.goes in
-    let part = goes_then head (opened_goes (deepest - length outer - 1) (head_view c.in-Ok.read.0) parts rest
+    let part = goes_then head (opened_goes (deepest - length outer - 1) c.in-Ok.read.0 parts rest
     (ap (option_map frame_of) (sym c.in-Some.is) ∙ c.new.ensures)) in
     rw c.push.ensures (opens_goes outer c.args.self.now.top c.after_part-next.result parts b rest c.requires
     c.after_part-next.ensures c.in-Ok.ensures.shorter part)
@@ -51,7 +50,7 @@ returns-clause-goes c =
     let b = c.args.bytes.now in
     let r = c.in-Ok.read.1.now in
     let levels : c.from.result - c.len.result ≡ deepest - length outer = omega arith in
-    let head = subst (λ (l : ℕ). Goes (skip_item l) (skip_body (l - 1) (head_view c.in-Ok.read.0)) b r) levels
+    let head = subst (λ (l : ℕ). Goes (skip_item l) (skip_body (l - 1) c.in-Ok.read.0) b r) levels
     c.in-Ok.ensures.goes in
     IfOk-weaker c.after_atom_due.result _ _ (λ rest body. whole_goes outer c.args.self.now.top
     c.after_part-next.result b rest.now c.requires c.after_part-next.ensures
@@ -65,8 +64,8 @@ returns-clause-pauses c =
     let r = c.in-Ok.read.1.now in
     let left = deepest - length outer - 1 in
     let levels : c.from.result - c.len.result ≡ deepest - length outer = omega arith in
-    let head = subst (λ (l : ℕ). Goes (skip_item l) (skip_body (l - 1) (head_view c.in-Ok.read.0)) b r) levels
+    let head = subst (λ (l : ℕ). Goes (skip_item l) (skip_body (l - 1) c.in-Ok.read.0) b r) levels
     c.in-Ok.ensures.goes in
     IfErr-weaker c.after_atom_due.result _ _ (λ pause pauses. string_pauses outer c.args.self.now.top
-    c.after_part-next.result (skip_body left (head_view c.in-Ok.read.0)) b r pause c.requires
+    c.after_part-next.result (skip_body left c.in-Ok.read.0) b r pause c.requires
     c.after_part-next.ensures c.in-Ok.ensures.shorter head pauses) (c.after_atom_due.ensures.pauses left)

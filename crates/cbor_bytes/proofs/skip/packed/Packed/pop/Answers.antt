@@ -7,4 +7,5 @@ pub returns-clause-some : goal.returns-clause-some
 returns-clause-some c =
     let s = c.self.inside in
     let i = c.self.invariant in
-    sym c.self.view_is ∙ stack_pop s.kinds s.counts s.len i.1 i.2 (s.len - 1) _ _ c.of.result (omega arith) i.0 c.of.ensures
+    sym c.self.view_is ∙ stack_pop s.kinds s.counts s.len i.1 i.2 (s.len - 1) _ _ c.of.result (omega arith) i.0
+    c.of.ensures

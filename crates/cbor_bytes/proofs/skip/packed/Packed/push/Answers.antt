@@ -22,8 +22,11 @@ invariant_of-self c =
     let s = c.self.inside in
     let i = c.self.invariant in
     let below : s.len < 128 =
-    omega (arith, stack_len s.kinds s.counts s.len i.1 i.2 i.0, ap length c.self.view_is) in
-    (omega arith, length-set s.kinds s.len c.split-kind.result.0 ∙ i.1, length-set s.counts s.len c.split-kind.result.1 ∙ i.2)
+    omega (arith, stack_len s.kinds s.counts s.len i.1 i.2 i.0, ap length c.self.view_is) in (
+      omega arith,
+      length-set s.kinds s.len c.split-kind.result.0 ∙ i.1,
+      length-set s.counts s.len c.split-kind.result.1 ∙ i.2,
+    )
 
 pub returns : goal.returns
 returns c =
@@ -31,6 +34,7 @@ returns c =
     let i = c.self.invariant in
     let below : s.len < 128 =
     omega (arith, stack_len s.kinds s.counts s.len i.1 i.2 i.0, ap length c.self.view_is) in
-    stack_push s.kinds s.counts s.len i.1 i.2 c.split-kind.result.0 c.split-kind.result.1 c.args.«open» c.split-kind.ensures
+    stack_push s.kinds s.counts s.len i.1 i.2 c.split-kind.result.0 c.split-kind.result.1 c.args.«open»
+    c.split-kind.ensures
     below
     ∙ ap (λ (ts : List ToCome). ts ++ c.args.«open» ∷ []) c.self.view_is

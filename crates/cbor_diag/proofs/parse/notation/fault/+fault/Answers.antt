@@ -6,14 +6,13 @@ use Rattle.std.specs.Bool.{IsFalse}
 use Rattle.cbor_grammar.specs.declared.error.Error.TheVariants as refusal
 use Rattle.cbor_grammar.specs.declared.error.Error.{Error}
 use Rattle.cbor_notation.specs.declared.start.Start.TheVariants as start
-use Rattle.cbor_grammar.specs.StringKind.{bytes_kind}
-use Rattle.cbor_grammar.specs.mirror.StringView.{kind_view}
+use Rattle.cbor_grammar.specs.declared.strings.StringKind.TheVariants.{Bytes}
 use Rattle.cbor_notation.specs.mirror.NotationReading.{read_item, read_members, read_pair, read_negative_number}
 use Rattle.cbor_notation.specs.mirror.NotationReading.{kind_from}
 use Rattle.cbor_notation.specs.mirror.NotationReading.{read_string_item, read_string, begins_string}
-use Rattle.cbor_diag.specs.mirror.DeadEnds.{NeverReads, Value, read_member, NotRead, IsRefused, MemberIs, ends_blank}
+use Rattle.cbor_diag.specs.mirror.DeadEnds.{NeverReads, Value, read_member, NotRead, IsRealError, MemberIs, ends_blank}
 use Rattle.cbor_grammar.specs.Notation.{Members, PairOf, Reads}
-use Rattle.cbor_grammar.specs.DeadEnd.{IsCut}
+use Rattle.cbor_grammar.specs.DeadEnd.{CutOf}
 use Rattle.cbor_diag.proofs.notation.CutCores.{minus_core, bracket_core, brace_core, parenthesis_core, digit_core}
 use Rattle.cbor_diag.proofs.notation.CutCores.{quote_core, bytes_core_cut, word_core, quote_piece, apostrophe_piece}
 use Rattle.cbor_diag.proofs.notation.CutCores.{angle_piece, letter_b_piece, letter_h_piece}
@@ -104,7 +103,7 @@ is_dead_core-returns-in-Apostrophe-clause-dead t c =
     dead_from c.is_dead_string_item.result
     (λ never. core_dead (129 - c.args.inner) c.split-start.result.0 c.args.text.now c.split-start.result.1.now
     c.split-start.ensures.start c.split-start.ensures.rest c.requires.some
-    (λ more. not_by (read_string_item read bytes_kind (c.args.text.now ++ more)) _
+    (λ more. not_by (read_string_item read Bytes (c.args.text.now ++ more)) _
     (bytes_core read (c.args.text.now ++ more) (c.split-start.result.1.now ++ more) c.split-start.result.0
     c.in-Apostrophe.is) (never more))) c.is_dead_string_item.ensures.dead
 
@@ -112,7 +111,7 @@ pub is_dead_chunks-returns-clause-dead : goal.is_dead_chunks-returns-clause-dead
 is_dead_chunks-returns-clause-dead t c =
     dead_from c.is_dead_list.result
     (λ never. chunks_list_dead (129 - c.args.inner) c.args.text.now c.in-Some.opened.now c.after_blank-first.result.now
-    (kind_view c.kind-kind.result) (sym c.in-Some.ensures.gives) c.after_blank-first.ensures.gives
+    c.kind-kind.result (sym c.in-Some.ensures.gives) c.after_blank-first.ensures.gives
     (sym c.ends_blank.ensures ∙ c.if-not-ends_blank.false)
     (c.kind-kind.ensures ∙ ap kind_from c.of.ensures) never) c.is_dead_list.ensures.dead
 
@@ -210,18 +209,18 @@ is_dead_pair-returns-in-Some-after_byte-clause-dead t c =
 
 pub is_dead_pieces-returns-in_default-clause-dead : goal.is_dead_pieces-returns-in_default-clause-dead
 is_dead_pieces-returns-in_default-clause-dead t c =
-    let goes = sym (c.begins_piece.ensures ∙ ap (begins_piece (kind_view c.args.kind)) c.of.ensures)
+    let goes = sym (c.begins_piece.ensures ∙ ap (begins_piece c.args.kind) c.of.ensures)
     ∙ c.pieces-test.true in
     dead_from c.is_dead_piece.result
-    (λ never. c.pieces.invariant.0 (piece_dead (129 - c.args.inner) (kind_view c.args.kind) c.pieces.rest.now goes never))
+    (λ never. c.pieces.invariant.0 (piece_dead (129 - c.args.inner) c.args.kind c.pieces.rest.now goes never))
     c.is_dead_piece.ensures.dead
 
 pub is_dead_string-returns-in-Some-clause-dead : goal.is_dead_string-returns-in-Some-clause-dead
 is_dead_string-returns-in-Some-clause-dead t c is =
-    let read = was_given c.read_content.result c.in_ok-content.field-0 (c.in-Some.content, c.in-Some.rest)
-    (λ x. (x.0.items, x.1.now)) (read_content (read_item (129 - c.args.inner)) (kind_view c.args.kind) c.args.text.now)
-    c.in_ok-content.ensures.found c.in-Some.is c.read_content.ensures.gives in
-    string_content_dead (129 - c.args.inner) (kind_view c.args.kind) c.args.text.now c.in-Some.content.items
+    let read = was_given c.content_front.result c.in_ok-content.field-0 (c.in-Some.content, c.in-Some.rest)
+    (λ x. (x.0.items, x.1.now)) (read_content (read_item (129 - c.args.inner)) c.args.kind c.args.text.now)
+    c.in_ok-content.ensures.found c.in-Some.is c.content_front.ensures.gives in
+    string_content_dead (129 - c.args.inner) c.args.kind c.args.text.now c.in-Some.content.items
     c.in-Some.rest.now read (c.is_dead_content.ensures.ends is) (c.is_dead_content.ensures.content is)
 
 pub is_dead_core-returns-in-Digit-clause-cut : goal.is_dead_core-returns-in-Digit-clause-cut
@@ -236,7 +235,7 @@ is_dead_core-returns-in-Bracket-clause-cut t c =
     cut_from c.is_dead_list.result
     (λ cut. bracket_core (129 - c.args.inner) c.args.text.now c.split-start.result.1.now
     (sym c.in-Bracket.is ∙ c.split-start.ensures.start) c.split-start.ensures.rest c.requires.some (subst (λ (u : List ℕ). NotRead (read_members (read_item (129 - c.args.inner)) 93 u)
-    → IsCut (Members (Reads (129 - c.args.inner)) (93 ∷ [])) u) c.read_length.ensures.gives.1 cut))
+    → CutOf (Members (Reads (129 - c.args.inner)) (93 ∷ [])) u) c.read_length.ensures.gives.1 cut))
     c.is_dead_list.ensures.cut
 
 pub is_dead_core-returns-in-Brace-clause-cut : goal.is_dead_core-returns-in-Brace-clause-cut
@@ -244,7 +243,7 @@ is_dead_core-returns-in-Brace-clause-cut t c =
     cut_from c.is_dead_list-in-Brace.result
     (λ cut. brace_core (129 - c.args.inner) c.args.text.now c.split-start.result.1.now
     (sym c.in-Brace.is ∙ c.split-start.ensures.start) c.split-start.ensures.rest c.requires.some (subst (λ (u : List ℕ). NotRead (read_members (read_pair (read_item (129 - c.args.inner))) 125 u)
-    → IsCut (Members (PairOf (Reads (129 - c.args.inner))) (125 ∷ [])) u) c.read_length-in-Brace.ensures.gives.1 cut))
+    → CutOf (Members (PairOf (Reads (129 - c.args.inner))) (125 ∷ [])) u) c.read_length-in-Brace.ensures.gives.1 cut))
     c.is_dead_list-in-Brace.ensures.cut
 
 pub is_dead_core-returns-in-Parenthesis-clause-cut : goal.is_dead_core-returns-in-Parenthesis-clause-cut
@@ -312,26 +311,26 @@ pub is_dead_member-returns-in-Item-clause-cut : goal.is_dead_member-returns-in-I
 is_dead_member-returns-in-Item-clause-cut t c =
     subst (λ (m : Member). IfOk c.is_dead_item.result (λ dead. IsFalse dead
     → NotRead (read_member m (read_item (129 - c.args.level)) c.args.text.now)
-    → IsCut (MemberIs m (Reads (129 - c.args.level))) c.args.text.now)) (sym c.in-Item.is) c.is_dead_item.ensures.cut
+    → CutOf (MemberIs m (Reads (129 - c.args.level))) c.args.text.now)) (sym c.in-Item.is) c.is_dead_item.ensures.cut
 
 pub is_dead_member-returns-in-Pair-clause-cut : goal.is_dead_member-returns-in-Pair-clause-cut
 is_dead_member-returns-in-Pair-clause-cut t c =
     subst (λ (m : Member). IfOk c.is_dead_pair.result (λ dead. IsFalse dead
     → NotRead (read_member m (read_item (129 - c.args.level)) c.args.text.now)
-    → IsCut (MemberIs m (Reads (129 - c.args.level))) c.args.text.now)) (sym c.in-Pair.is) c.is_dead_pair.ensures.cut
+    → CutOf (MemberIs m (Reads (129 - c.args.level))) c.args.text.now)) (sym c.in-Pair.is) c.is_dead_pair.ensures.cut
 
 pub is_dead_member-returns-in-Chunk-clause-cut : goal.is_dead_member-returns-in-Chunk-clause-cut
 is_dead_member-returns-in-Chunk-clause-cut t c =
     subst (λ (m : Member). IfOk c.is_dead_chunk.result (λ dead. IsFalse dead
     → NotRead (read_member m (read_item (129 - c.args.level)) c.args.text.now)
-    → IsCut (MemberIs m (Reads (129 - c.args.level))) c.args.text.now)) (sym c.in-Chunk.is) c.is_dead_chunk.ensures.cut
+    → CutOf (MemberIs m (Reads (129 - c.args.level))) c.args.text.now)) (sym c.in-Chunk.is) c.is_dead_chunk.ensures.cut
 
 pub is_dead_item-returns-clause-cut : goal.is_dead_item-returns-clause-cut
 is_dead_item-returns-clause-cut t c =
     let one : suc (129 - (c.args.level + 1)) ≡ 129 - c.args.level =
     omega (arith, c.requires, c.if-level-gt-DEEPEST.false) in
     cut_from c.is_dead_core.result
-    (λ cut refused. subst (λ (n : ℕ). IsCut (Reads n) c.args.text.now) one
+    (λ cut refused. subst (λ (n : ℕ). CutOf (Reads n) c.args.text.now) one
     (item_core_cut (129 - (c.args.level + 1)) c.args.text.now c.after_blank-core.result.now
     c.after_blank-core.ensures.gives (cut (core_refused (129 - (c.args.level + 1)) c.args.text.now
     c.after_blank-core.result.now c.after_blank-core.ensures.gives
@@ -341,7 +340,7 @@ pub is_dead_item-returns-then-not-ends_blank-clause-cut : goal.is_dead_item-retu
 is_dead_item-returns-then-not-ends_blank-clause-cut t c is refused =
     let one : suc (129 - (c.args.level + 1)) ≡ 129 - c.args.level =
     omega (arith, c.requires, c.if-level-gt-DEEPEST.false) in
-    subst (λ (n : ℕ). IsCut (Reads n) c.args.text.now) one
+    subst (λ (n : ℕ). CutOf (Reads n) c.args.text.now) one
     (item_blank_cut (129 - (c.args.level + 1)) c.args.text.now
     (ap ends_blank (sym c.after_blank-core.ensures.gives) ∙ sym c.ends_blank.ensures ∙ c.if-not-ends_blank.true))
 
@@ -451,22 +450,21 @@ is_dead_pair-returns-in-Some-after_byte-clause-cut t c =
 
 pub is_dead_chunk-returns-then-not-ends_blank-clause-cut : goal.is_dead_chunk-returns-then-not-ends_blank-clause-cut
 is_dead_chunk-returns-then-not-ends_blank-clause-cut t c is refused =
-    chunk_blank_cut (129 - c.args.level) (kind_view c.args.kind) c.args.text.now
+    chunk_blank_cut (129 - c.args.level) c.args.kind c.args.text.now
     (ap ends_blank (sym c.after_blank-core.ensures.gives) ∙ sym c.ends_blank.ensures ∙ c.if-not-ends_blank.true)
 
 pub is_dead_chunk-returns-clause-cut : goal.is_dead_chunk-returns-clause-cut
 is_dead_chunk-returns-clause-cut t c =
-    cut_from c.is_dead_string.result
-    (λ cut refused. chunk_core_cut (129 - c.args.level) (kind_view c.args.kind) c.args.text.now
+    cut_from c.is_dead_string.result (λ cut refused. chunk_core_cut (129 - c.args.level) c.args.kind c.args.text.now
     c.after_blank-core.result.now c.after_blank-core.ensures.gives (cut
-    (subst (λ (u : List ℕ). NotRead (read_string (read_item (129 - c.args.level)) (kind_view c.args.kind) u))
+    (subst (λ (u : List ℕ). NotRead (read_string (read_item (129 - c.args.level)) c.args.kind u))
     (sym c.after_blank-core.ensures.gives) refused))) c.is_dead_string.ensures.cut
 
 pub is_dead_chunks-returns-clause-cut : goal.is_dead_chunks-returns-clause-cut
 is_dead_chunks-returns-clause-cut t c =
     cut_from c.is_dead_list.result
     (λ cut refused. chunks_cut (129 - c.args.inner) c.args.text.now c.in-Some.opened.now c.after_blank-first.result.now
-    (kind_view c.kind-kind.result) (sym c.in-Some.ensures.gives) c.after_blank-first.ensures.gives
+    c.kind-kind.result (sym c.in-Some.ensures.gives) c.after_blank-first.ensures.gives
     (c.kind-kind.ensures ∙ ap kind_from c.of.ensures) cut refused) c.is_dead_list.ensures.cut
 
 pub is_dead_chunks-returns-then-not-ends_blank-clause-cut :
@@ -477,113 +475,113 @@ is_dead_chunks-returns-then-not-ends_blank-clause-cut t c is refused =
 
 pub is_dead_pieces-pieces-preserved : goal.is_dead_pieces-pieces-preserved
 is_dead_pieces-pieces-preserved t c =
-    let goes = sym (c.begins_piece.ensures ∙ ap (begins_piece (kind_view c.args.kind)) c.of.ensures)
+    let goes = sym (c.begins_piece.ensures ∙ ap (begins_piece c.args.kind) c.of.ensures)
     ∙ c.pieces-test.true in
-    let read = was_given c.read_piece.result c.in_ok-after.field-0 (c.in-Some.field-0-0, c.in-Some.after)
+    let read = was_given c.piece_front.result c.in_ok-after.field-0 (c.in-Some.field-0-0, c.in-Some.after)
     (λ x. (x.0.items, x.1.now)) (read_piece (read_item (129 - c.args.inner)) c.pieces.rest.now)
-    c.in_ok-after.ensures.found c.in-Some.is c.read_piece.ensures.gives in
-    let shorter = was_read c.read_piece.result c.in_ok-after.field-0 (c.in-Some.field-0-0, c.in-Some.after)
+    c.in_ok-after.ensures.found c.in-Some.is c.piece_front.ensures.gives in
+    let shorter = was_read c.piece_front.result c.in_ok-after.field-0 (c.in-Some.field-0-0, c.in-Some.after)
     (λ x. length x.1.now < length c.pieces.rest.now) c.in_ok-after.ensures.found c.in-Some.is
-    c.read_piece.ensures.shorter in (
-      λ never. c.pieces.invariant.0 (pieces_next (129 - c.args.inner) (kind_view c.args.kind) c.pieces.rest.now
+    c.piece_front.ensures.shorter in (
+      λ never. c.pieces.invariant.0 (pieces_next (129 - c.args.inner) c.args.kind c.pieces.rest.now
           c.in-Some.field-0-0.items c.in-Some.after.now c.after_blank-rest.result.now goes read
           c.after_blank-rest.ensures.gives (sym c.ends_blank.ensures ∙ c.if-not-ends_blank.false) never),
-      pieces_go_on (129 - c.args.inner) (kind_view c.args.kind) c.args.text.now c.pieces.rest.now
+      pieces_go_on (129 - c.args.inner) c.args.kind c.args.text.now c.pieces.rest.now
           c.in-Some.field-0-0.items c.in-Some.after.now c.after_blank-rest.result.now c.pieces.invariant.1 goes read
           c.after_blank-rest.ensures.gives (omega (arith, shorter, c.after_blank-rest.ensures.shorter)),
     )
 
 pub is_dead_pieces-pieces-init : goal.is_dead_pieces-pieces-init
-is_dead_pieces-pieces-init t c = (λ never. never, pieces_begin (129 - c.args.inner) (kind_view c.args.kind) c.args.text.now)
+is_dead_pieces-pieces-init t c = (λ never. never, pieces_begin (129 - c.args.inner) c.args.kind c.args.text.now)
 
 pub is_dead_pieces-returns-in_default-clause-cut : goal.is_dead_pieces-returns-in_default-clause-cut
 is_dead_pieces-returns-in_default-clause-cut t c =
-    let goes = sym (c.begins_piece.ensures ∙ ap (begins_piece (kind_view c.args.kind)) c.of.ensures)
+    let goes = sym (c.begins_piece.ensures ∙ ap (begins_piece c.args.kind) c.of.ensures)
     ∙ c.pieces-test.true in
     cut_from c.is_dead_piece.result
-    (λ cut begins refused. pieces_cut (129 - c.args.inner) (kind_view c.args.kind) c.args.text.now c.pieces.rest.now
-    c.pieces.invariant.1 goes (cut (dead.refused (λ x. (x.0.items, x.1.now)) c.read_piece.result
-    (read_piece (read_item (129 - c.args.inner)) c.pieces.rest.now) c.read_piece.ensures.gives
-    (was_error c.read_piece.result c.in_ok-after.field-0 c.in_ok-after.ensures.none c.in_default.is))) begins
+    (λ cut begins refused. pieces_cut (129 - c.args.inner) c.args.kind c.args.text.now c.pieces.rest.now
+    c.pieces.invariant.1 goes (cut (dead.refused (λ x. (x.0.items, x.1.now)) c.piece_front.result
+    (read_piece (read_item (129 - c.args.inner)) c.pieces.rest.now) c.piece_front.ensures.gives
+    (was_error c.piece_front.result c.in_ok-after.field-0 c.in_ok-after.ensures.none c.in_default.is))) begins
     refused) c.is_dead_piece.ensures.cut
 
 pub is_dead_pieces-returns-then-not-ends_blank-clause-cut : goal.is_dead_pieces-returns-then-not-ends_blank-clause-cut
 is_dead_pieces-returns-then-not-ends_blank-clause-cut t c is begins refused =
-    let goes = sym (c.begins_piece.ensures ∙ ap (begins_piece (kind_view c.args.kind)) c.of.ensures)
+    let goes = sym (c.begins_piece.ensures ∙ ap (begins_piece c.args.kind) c.of.ensures)
     ∙ c.pieces-test.true in
-    let read = was_given c.read_piece.result c.in_ok-after.field-0 (c.in-Some.field-0-0, c.in-Some.after)
+    let read = was_given c.piece_front.result c.in_ok-after.field-0 (c.in-Some.field-0-0, c.in-Some.after)
     (λ x. (x.0.items, x.1.now)) (read_piece (read_item (129 - c.args.inner)) c.pieces.rest.now)
-    c.in_ok-after.ensures.found c.in-Some.is c.read_piece.ensures.gives in
-    let shorter = was_read c.read_piece.result c.in_ok-after.field-0 (c.in-Some.field-0-0, c.in-Some.after)
+    c.in_ok-after.ensures.found c.in-Some.is c.piece_front.ensures.gives in
+    let shorter = was_read c.piece_front.result c.in_ok-after.field-0 (c.in-Some.field-0-0, c.in-Some.after)
     (λ x. length x.1.now < length c.pieces.rest.now) c.in_ok-after.ensures.found c.in-Some.is
-    c.read_piece.ensures.shorter in
-    absurd (pieces_ended (129 - c.args.inner) (kind_view c.args.kind) c.args.text.now c.after_blank-rest.result.now
-    (pieces_go_on (129 - c.args.inner) (kind_view c.args.kind) c.args.text.now c.pieces.rest.now
+    c.piece_front.ensures.shorter in
+    absurd (pieces_ended (129 - c.args.inner) c.args.kind c.args.text.now c.after_blank-rest.result.now
+    (pieces_go_on (129 - c.args.inner) c.args.kind c.args.text.now c.pieces.rest.now
     c.in-Some.field-0-0.items c.in-Some.after.now c.after_blank-rest.result.now c.pieces.invariant.1 goes read
     c.after_blank-rest.ensures.gives (omega (arith, shorter, c.after_blank-rest.ensures.shorter)))
-    (no_piece (129 - c.args.inner) (kind_view c.args.kind) c.after_blank-rest.result.now
+    (no_piece (129 - c.args.inner) c.args.kind c.after_blank-rest.result.now
     (sym c.ends_blank.ensures ∙ c.if-not-ends_blank.true)) begins refused)
 
 pub is_dead_pieces-returns-clause-cut : goal.is_dead_pieces-returns-clause-cut
 is_dead_pieces-returns-clause-cut t c is begins refused =
-    absurd (pieces_ended (129 - c.args.inner) (kind_view c.args.kind) c.args.text.now c.pieces.rest.now
-    c.pieces.invariant.1 (sym (c.begins_piece.ensures ∙ ap (begins_piece (kind_view c.args.kind)) c.of.ensures)
+    absurd (pieces_ended (129 - c.args.inner) c.args.kind c.args.text.now c.pieces.rest.now
+    c.pieces.invariant.1 (sym (c.begins_piece.ensures ∙ ap (begins_piece c.args.kind) c.of.ensures)
     ∙ c.pieces-test.false) begins refused)
 
 pub is_dead_string-returns-in-Some-clause-cut : goal.is_dead_string-returns-in-Some-clause-cut
 is_dead_string-returns-in-Some-clause-cut t c is refused =
-    let read = was_given c.read_content.result c.in_ok-content.field-0 (c.in-Some.content, c.in-Some.rest)
-    (λ x. (x.0.items, x.1.now)) (read_content (read_item (129 - c.args.inner)) (kind_view c.args.kind) c.args.text.now)
-    c.in_ok-content.ensures.found c.in-Some.is c.read_content.ensures.gives in
-    content_ends (129 - c.args.inner) (kind_view c.args.kind) c.args.text.now c.in-Some.content.items
-    c.in-Some.rest.now (sym (c.begins_string.ensures ∙ ap (begins_string (kind_view c.args.kind)) c.of.ensures)
+    let read = was_given c.content_front.result c.in_ok-content.field-0 (c.in-Some.content, c.in-Some.rest)
+    (λ x. (x.0.items, x.1.now)) (read_content (read_item (129 - c.args.inner)) c.args.kind c.args.text.now)
+    c.in_ok-content.ensures.found c.in-Some.is c.content_front.ensures.gives in
+    content_ends (129 - c.args.inner) c.args.kind c.args.text.now c.in-Some.content.items
+    c.in-Some.rest.now (sym (c.begins_string.ensures ∙ ap (begins_string c.args.kind) c.of.ensures)
     ∙ c.if-not-begins_string.false) read (c.is_dead_content.ensures.cut is) refused
 
 pub is_dead_string-returns-in-None-clause-cut : goal.is_dead_string-returns-in-None-clause-cut
 is_dead_string-returns-in-None-clause-cut t c =
     cut_from c.is_dead_pieces.result
-    (λ cut not_read. cut (sym (c.begins_string.ensures ∙ ap (begins_string (kind_view c.args.kind)) c.of.ensures)
-    ∙ c.if-not-begins_string.false) (dead.refused (λ x. (x.0.items, x.1.now)) c.read_content.result
-    (read_content (read_item (129 - c.args.inner)) (kind_view c.args.kind) c.args.text.now) c.read_content.ensures.gives
-    (was_error c.read_content.result c.in_ok-content.field-0 c.in_ok-content.ensures.none c.in-None.is)))
+    (λ cut not_read. cut (sym (c.begins_string.ensures ∙ ap (begins_string c.args.kind) c.of.ensures)
+    ∙ c.if-not-begins_string.false) (dead.refused (λ x. (x.0.items, x.1.now)) c.content_front.result
+    (read_content (read_item (129 - c.args.inner)) c.args.kind c.args.text.now)
+    c.content_front.ensures.gives
+    (was_error c.content_front.result c.in_ok-content.field-0 c.in_ok-content.ensures.none c.in-None.is)))
     c.is_dead_pieces.ensures.cut
 
 pub is_dead_chunks-returns-in_default-clause-cut : goal.is_dead_chunks-returns-in_default-clause-cut
 is_dead_chunks-returns-in_default-clause-cut t c is not_read =
-    subst (λ (u : List ℕ). IsCut (Core (Reads (129 - c.args.inner))) (40 ∷ u))
+    subst (λ (u : List ℕ). CutOf (Core (Reads (129 - c.args.inner))) (40 ∷ u))
     (sym (no_length c.args.text.now c.is_empty.result c.is_empty.ensures is)) (chunks_empty (129 - c.args.inner))
 
 pub is_dead_embedded-returns-in_default-clause-cut : goal.is_dead_embedded-returns-in_default-clause-cut
 is_dead_embedded-returns-in_default-clause-cut t c is not_read =
-    subst (λ (u : List ℕ). IsCut (Notation (Reads (129 - c.args.inner))) (60 ∷ u))
+    subst (λ (u : List ℕ). CutOf (Notation (Reads (129 - c.args.inner))) (60 ∷ u))
     (sym (no_length c.args.text.now c.is_empty.result c.is_empty.ensures is)) (embedded_empty (129 - c.args.inner))
 
 pub is_dead_string-returns-then-not-begins_string-clause-cut :
     goal.is_dead_string-returns-then-not-begins_string-clause-cut
 is_dead_string-returns-then-not-begins_string-clause-cut t c is not_read =
-    subst (IsCut (StringOf (kind_view c.args.kind) (Reads (129 - c.args.inner))))
+    subst (CutOf (StringOf c.args.kind (Reads (129 - c.args.inner))))
     (sym (no_length c.args.text.now c.is_empty.result c.is_empty.ensures is))
-    (string_empty (129 - c.args.inner) (kind_view c.args.kind))
+    (string_empty (129 - c.args.inner) c.args.kind)
 
 pub is_dead_string_item-returns-then-not-is_apart_from_no_chunks-clause-cut :
     goal.is_dead_string_item-returns-then-not-is_apart_from_no_chunks-clause-cut
 is_dead_string_item-returns-then-not-is_apart_from_no_chunks-clause-cut t c is not_read =
-    near_cut (129 - c.args.inner) (kind_view c.args.kind) c.args.text.now
+    near_cut (129 - c.args.inner) c.args.kind c.args.text.now
     (c.is_apart_from_no_chunks.ensures.near c.if-not-is_apart_from_no_chunks.true) not_read
 
 pub is_dead_string_item-returns-clause-cut : goal.is_dead_string_item-returns-clause-cut
 is_dead_string_item-returns-clause-cut t c =
-    cut_from c.is_dead_string.result
-    (λ cut. apart_cut (129 - c.args.inner) (kind_view c.args.kind) c.args.text.now
+    cut_from c.is_dead_string.result (λ cut. apart_cut (129 - c.args.inner) c.args.kind c.args.text.now
     (c.is_apart_from_no_chunks.ensures.apart c.if-not-is_apart_from_no_chunks.false) cut) c.is_dead_string.ensures.cut
 
 pub is_dead_integer-returns-in_default-clause-cut : goal.is_dead_integer-returns-in_default-clause-cut
 is_dead_integer-returns-in_default-clause-cut t c is not_read =
     number_cut (129 - c.args.inner) c.args.text.now (c.is_dead_unsigned.ensures.cut is
-    (dead.refused (λ x. ((x.0.0, x.0.1), x.1.now)) c.read_unsigned_number.result
-    (read_unsigned_number c.args.text.now) c.read_unsigned_number.ensures.gives
-    (error_refused c.read_unsigned_number.result c.in_default.field-0 c.in_default.is
-    c.read_unsigned_number.ensures.memory)))
+    (dead.refused (λ x. ((x.0.0, x.0.1), x.1.now)) c.unsigned_front.result
+    (read_unsigned_number c.args.text.now) c.unsigned_front.ensures.gives
+    (error_refused c.unsigned_front.result c.in_default.field-0 c.in_default.is
+    c.unsigned_front.ensures.memory)))
 
 -- what a branch of a match answers
 by_branch : (P : Type 0) (r s : Result Bool Error) → r ≡ s → IfOk s (λ dead. IsFalse dead → P)
@@ -594,9 +592,9 @@ pub is_dead_embedded-returns-clause-cut : goal.is_dead_embedded-returns-clause-c
 is_dead_embedded-returns-clause-cut t c =
     elim c.match-branch-2.branch [
       | is_dead_embedded-in-Some-2 w ↦
-          let read = was_given c.read_items.result c.in_ok-rest.field-0 (w.in-Some-2.field-0-0, w.in-Some-2.rest)
+          let read = was_given c.items_front.result c.in_ok-rest.field-0 (w.in-Some-2.field-0-0, w.in-Some-2.rest)
           (λ x. (map view x.0.items, x.1.now)) (read_members (read_item (129 - c.args.inner)) 62 c.in-Some.first.now)
-          c.in_ok-rest.ensures.found w.in-Some-2.is c.read_items.ensures.gives in
+          c.in_ok-rest.ensures.found w.in-Some-2.is c.items_front.ensures.gives in
           by_branch _ c.match-branch-2.result (Ok w.has_no_close.result) w.result-is
           (λ is not_read. embedded_ends (129 - c.args.inner) c.args.text.now c.in-Some.first.now
           (map view w.in-Some-2.field-0-0.items) w.in-Some-2.rest.now (sym c.in-Some.ensures.gives) read
@@ -605,9 +603,9 @@ is_dead_embedded-returns-clause-cut t c =
           by_branch _ c.match-branch-2.result w.is_dead_list.result w.result-is
           (cut_from w.is_dead_list.result
           (λ cut not_read. embedded_list_cut (129 - c.args.inner) c.args.text.now c.in-Some.first.now
-          (sym c.in-Some.ensures.gives) (cut (dead.refused (λ x. (map view x.0.items, x.1.now)) c.read_items.result
-          (read_members (read_item (129 - c.args.inner)) 62 c.in-Some.first.now) c.read_items.ensures.gives
-          (was_error c.read_items.result c.in_ok-rest.field-0 c.in_ok-rest.ensures.none w.in-None.is))))
+          (sym c.in-Some.ensures.gives) (cut (dead.refused (λ x. (map view x.0.items, x.1.now)) c.items_front.result
+          (read_members (read_item (129 - c.args.inner)) 62 c.in-Some.first.now) c.items_front.ensures.gives
+          (was_error c.items_front.result c.in_ok-rest.field-0 c.in_ok-rest.ensures.none w.in-None.is))))
           w.is_dead_list.ensures.cut)
     ]
 

@@ -3,7 +3,6 @@ use Rattle.std.proofs.Common.{◌+◌, ◌-◌, ◌*◌, ℕ, length}
 use Rattle.cbor_diag.specs.declared.parse.notation.fault.Member.{Member}
 use Rattle.cbor_diag.specs.declared.parse.notation.fault.Member.TheVariants as member
 use Rattle.cbor_notation.specs.mirror.NotationReading.{read_item, read_members}
-use Rattle.cbor_grammar.specs.mirror.StringView.{kind_view}
 use Rattle.cbor_diag.specs.mirror.DeadEnds.{NeverReads, NeverMembers, NeverPieces, read_member, MemberIs}
 use Rattle.cbor_grammar.specs.Notation.{Reads}
 use Rattle.cbor_diag.proofs.notation.CutLists.{ListGoes}
@@ -71,5 +70,4 @@ decreases-is_dead_pieces-pieces l = length l.rest
 abbrev pub invariant-is_dead_pieces-pieces : goal.invariant-is_dead_pieces-pieces
 invariant-is_dead_pieces-pieces l =
     let read = read_item (129 - l.inner) in
-    (NeverPieces read (kind_view l.kind) l.rest → NeverPieces read (kind_view l.kind) l.text)
-    × PiecesGo (129 - l.inner) (kind_view l.kind) l.text l.rest
+    (NeverPieces read l.kind l.rest → NeverPieces read l.kind l.text) × PiecesGo (129 - l.inner) l.kind l.text l.rest

@@ -1,12 +1,11 @@
 use Rattle.std.proofs.Common.{[]}
-use Rattle.cbor_bytes.specs.mirror.HeadView.{head_view}
 use Rattle.cbor_dump.proofs.dump.NotedValues.{opens_one, sees_opened}
 use Rattle.cbor_dump.proofs.notes.value.Atom.behind.Goals as goal
 
 pub returns-in_default : goal.returns-in_default
 returns-in_default c = λ levels i rest e.
     let no = c.in_default in
-    sees_opened (head_view c.args.head) c.args.bytes.now [] rest levels i
+    sees_opened c.args.head c.args.bytes.now [] rest levels i
     (opens_one c.args.head no.not-Integer no.not-Negative no.not-Float no.not-Simple no.not-String) e
 
 pub returns-in-String : goal.returns-in-String

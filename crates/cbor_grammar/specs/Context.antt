@@ -1,0 +1,9 @@
+-- Where in a text an item is: what decides how it is written, beside the item itself.
+use Rattle.cbor_grammar.specs.declared.encoding.Encoding.{Encoding}
+use Rattle.cbor_grammar.specs.declared.layout.Content.{Content}
+use Rattle.cbor_grammar.specs.declared.layout.Layout.{Layout}
+
+pub record Context : Type 0 where
+  pub layout : Layout
+  pub encoding : Encoding
+  pub content : Content

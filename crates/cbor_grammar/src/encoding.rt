@@ -1,0 +1,12 @@
+//! How the bytes of a byte string are written.
+
+/// How bytes are written between quotes (RFC 4648).
+#[derive(Clone, Copy)]
+pub enum Encoding {
+    /// Base 16 in lower case, in `h'..'`.
+    Base16,
+    /// Base 64 in the standard alphabet, with padding, in `b64'..'`.
+    Base64,
+    /// Base 64 in the alphabet that is safe in URLs, without padding, in `b64'..'`.
+    Base64Url,
+}

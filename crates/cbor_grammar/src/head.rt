@@ -1,0 +1,25 @@
+//! What a head opens (RFC 7049 section 2.1).
+use crate::argument::Argument;
+use crate::strings::StringKind;
+use crate::width::{FloatWidth, IntegerWidth};
+
+/// What a head opens.
+#[derive(Clone, Copy)]
+pub enum ItemHead {
+    /// An unsigned integer.
+    Integer(u64, IntegerWidth),
+    /// A negative integer: -1 minus this number.
+    Negative(u64, IntegerWidth),
+    /// A string of that many bytes, or one in chunks.
+    String(StringKind, Argument),
+    /// An array of that many items, or one up to a break.
+    Array(Argument),
+    /// A map of that many pairs, or one up to a break.
+    Map(Argument),
+    /// A tag, before its item.
+    Tag(u64, IntegerWidth),
+    /// A float, by its bits.
+    Float(u64, FloatWidth),
+    /// A simple value.
+    Simple(u8),
+}
