@@ -39,8 +39,7 @@ fn dump_whole(alloc: Global, bytes: &[u8]) -> cbor_grammar::Result<String>
 /// Returns the one item that the bytes are as a dump: their hex digits, each line with a comment.
 ///
 /// It returns what [`parse_bytes`] and [`DataItem::to_hex`] return one after the other, the errors
-/// of [`parse_bytes`] included. It builds no item but the values of tags that may have a note, so
-/// it takes less time and less memory.
+/// of [`parse_bytes`] included. It builds no item, so it takes less time and less memory.
 ///
 /// ```rust
 /// use cbor_diag::{Error, bytes_to_hex};
@@ -170,8 +169,7 @@ pub fn push_bytes_to_hex_partial(
 /// Returns the item of hex with comments as a dump.
 ///
 /// It returns what [`parse_hex`] and [`DataItem::to_hex`] return one after the other, the errors of
-/// [`parse_hex`] included. It builds no item but the values of tags that may have a note, so it
-/// takes less time and less memory.
+/// [`parse_hex`] included. It builds no item, so it takes less time and less memory.
 ///
 /// ```rust
 /// use cbor_diag::hex_to_hex;
