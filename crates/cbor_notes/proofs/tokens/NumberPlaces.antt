@@ -2,7 +2,8 @@
 use Rattle.std.proofs.Common.{◌≡◌, ℕ, ◌+◌, ◌-◌, ◌<◌, List, ◌++◌, length, drop, slice_range, Option, Some, None, refl}
 use Rattle.std.proofs.Common.{sym, ap, ◌∙◌, inl, inr, subst, arith}
 use Rattle.std.proofs.Common.{◌≢◌, ◌≤◌, false, not, ◌==◌, ◌&&◌, [], ◌∷◌}
-use Rattle.std.proofs.lemmas.List.{length-append, drop-drop}
+use Rattle.std.specs.Option.{option_map}
+use Rattle.std.proofs.lemmas.List.{length-append, length-drop, drop-drop}
 use Rattle.std.proofs.lemmas.Bool.{cond-true, cond-false, cases_Bool, and_parts, cond_both, ne_eqb, false≢true}
 use Rattle.cbor_notes.specs.Token.{Base, decimal_base, hexadecimal_base, octal_base, binary_base}
 use Rattle.cbor_notes.specs.Token.{IsNumber, IsSomeNumber, IsLongest, prefix, radix}
@@ -51,29 +52,40 @@ number_of-is : (text digits : List ℕ) (bytes : ℕ) (base : Base) → base ≡
     → digits ≡ drop bytes text → number_of text ≡ number_in base digits
 number_of-is text digits bytes base base_is bytes_are digits_are = rw (digits_are, bytes_are, base_is) refl
 
-pub number_none : (text digits after : List ℕ) (bytes count value : ℕ) (base : Base) → base ≡ base_of text
+pub number_none : (text digits : List ℕ) (bytes count value : ℕ) (base : Base) → base ≡ base_of text
     → bytes ≡ length (prefix base) → count ≡ radix base → digits ≡ drop bytes text
-    → digit_run count 0 digits ≡ (value, after) → length after ≡ length digits → number_of text ≡ None
-number_none text digits after bytes count value base base_is bytes_are count_is digits_are run same =
+    → digit_run count 0 digits ≡ (value, digits) → number_of text ≡ None
+number_none text digits bytes count value base base_is bytes_are count_is digits_are run =
     number_of-is text digits bytes base base_is bytes_are digits_are
-    ∙ number_in-none base digits value after (rw count_is at run) same
+    ∙ number_in-none base digits value digits (rw count_is at run) refl
 
-pub number_some : (text digits after : List ℕ) (bytes count value : ℕ) (base : Base) → base ≡ base_of text
-    → bytes ≡ length (prefix base) → count ≡ radix base → digits ≡ drop bytes text
-    → digit_run count 0 digits ≡ (value, after) → length after < length digits → {next : Option (ℕ × List ℕ)}
-    → indicator_of after ≡ next → number_of text ≡ Some (with_indicator value after next)
-number_some text digits after bytes count value base base_is bytes_are count_is digits_are run shorter next =
+-- an indicator of this length, and what follows it
+abbrev pub followed : List ℕ → ℕ × ℕ → ℕ × List ℕ
+followed text next = (next.0, drop next.1 text)
+
+-- the same by its place in the whole text
+indicator_place : (text after : List ℕ) (start : ℕ) → after ≡ drop start text → (next : Option (ℕ × ℕ))
+    → option_map (followed after) next ≡ option_map (λ x. followed text (x.0, start + x.1)) next
+indicator_place text after start is None = refl
+indicator_place text after start is (Some next) =
+    ap (λ (t : List ℕ). Some (next.0, t)) (ap (drop next.1) is ∙ drop-drop next.1 start text)
+
+-- and the number with it or without
+pub number_some : (text digits after : List ℕ) (bytes count len value : ℕ) (base : Base) (next : Option (ℕ × ℕ))
+    → base ≡ base_of text → bytes ≡ length (prefix base) → count ≡ radix base → digits ≡ drop bytes text
+    → digit_run count 0 digits ≡ (value, drop len digits) → 0 < len → len ≤ length digits → after ≡ drop len digits
+    → option_map (followed after) next ≡ indicator_of after → number_of text ≡ Some (with_indicator value
+    (drop (bytes + len) text) (option_map (λ x. followed text (x.0, bytes + len + x.1)) next))
+number_some text digits after bytes count len value base next base_is bytes_are count_is digits_are run some within is
+    gives =
+    let place : after ≡ drop (bytes + len) text = is ∙ (ap (drop len) digits_are ∙ drop-drop len bytes text) in
     number_of-is text digits bytes base base_is bytes_are digits_are
-    ∙ (number_in-run base digits value after (rw count_is at run) shorter
-    ∙ ap (λ (o : Option (ℕ × List ℕ)). Some (with_indicator value after o)) next)
-
--- what follows the number, by its place
-pub number_place : (text : List ℕ) (value : ℕ) (indicator : Option ℕ) (rest : List ℕ)
-    → number_of text ≡ Some (value, indicator, rest)
-    → number_of text ≡ Some (value, indicator, drop (length text - length rest) text)
-number_place text value indicator rest read =
-    let found = IsNumber-number_of text (value, indicator, rest) read in
-    read ∙ ap (λ (t : List ℕ). Some (value, indicator, t)) (sym (rest_place text found.0 rest found.1))
+    ∙ (number_in-run base digits value after (rw (count_is, ← is) at run)
+    (omega (arith, ap length is, length-drop len digits, some, within))
+    ∙ ap (λ (o : Option (ℕ × List ℕ)). Some (with_indicator value after o))
+    (sym gives ∙ indicator_place text after (bytes + len) place next)
+    ∙ ap (λ (t : List ℕ). Some (with_indicator value t
+    (option_map (λ x. followed text (x.0, bytes + len + x.1)) next))) place)
 
 -- the number that is read, by its places
 pub record IsReadAt (text : List ℕ) (at end value : ℕ) (indicator : Option ℕ) : Type 0 where

@@ -1,6 +1,6 @@
 -- Digits that are read one after the other, and indicators.
 use Rattle.std.proofs.Common.{◌≡◌, ℕ, ◌+◌, ◌*◌, ◌<◌, ◌≤◌, true, false, ◌==◌, ◌&&◌, nat_lt, nat_le, List, []}
-use Rattle.std.proofs.Common.{◌∷◌, ◌++◌, length, Option, Some, None, refl, sym, ap, ◌∙◌, inl, inr, subst}
+use Rattle.std.proofs.Common.{◌∷◌, ◌++◌, length, drop, Option, Some, None, refl, sym, ap, ◌∙◌, inl, inr, subst}
 use Rattle.std.proofs.Common.{arith}
 use Rattle.std.specs.Char.{digit_value}
 use Rattle.std.specs.Str.Parse.{AllDigits, digits_value_after, digits_value}
@@ -170,7 +170,8 @@ none_small (d ∷ rest) run is same =
       | inr large ↦ large
     ]
 
-pub indicator_of-none : (text digits : List ℕ) (run : ℕ × List ℕ) → text ≡ 95 ∷ digits → small_run 0 digits ≡ run
-    → length run.1 ≡ length digits → indicator_of text ≡ None
-indicator_of-none text digits run is read same = ap indicator_of is
-    ∙ cond-false _ (Some (small_run 0 digits)) None (none_small digits run read same)
+pub indicator_of-none : (text digits : List ℕ) (value len : ℕ) → text ≡ 95 ∷ digits
+    → small_run 0 digits ≡ (value, drop len digits) → len ≡ 0 → indicator_of text ≡ None
+indicator_of-none text digits value len is read none = ap indicator_of is
+    ∙ cond-false _ (Some (small_run 0 digits)) None (none_small digits (value, drop len digits) read
+    (ap (λ (n : ℕ). length (drop n digits)) none))

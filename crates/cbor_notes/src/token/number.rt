@@ -75,14 +75,16 @@ pub fn number_front(text: &[u8]) -> Option<(u128, Option<u8>, usize)>
     ensures none { IfNone result (number_of text.now ≡ None) }
 {
     let base = Base::of(text);
-    let (_, digits) = text.split_at(base.prefix_len());
-    let (value, after) = read_digits(digits, base.radix());
-    if after.len() == digits.len() {
+    let start = base.prefix_len();
+    let (_, digits) = text.split_at(start);
+    let (value, len) = read_digits(digits, base.radix());
+    if len == 0 {
         return None;
     }
+    let (_, after) = digits.split_at(len);
     match read_indicator(after) {
-        Some((indicator, rest)) => Some((value, Some(indicator), text.len() - rest.len())),
-        None => Some((value, None, text.len() - after.len())),
+        Some((indicator, more)) => Some((value, Some(indicator), start + len + more)),
+        None => Some((value, None, start + len)),
     }
 }
 
@@ -131,12 +133,12 @@ impl Base {
     }
 }
 
-/// The number that the digits at the front write, past 2^64 as 2^64 + 1, and the text after them.
-fn read_digits(text: &[u8], radix: u32) -> (u128, &[u8])
+/// The number that the digits at the front write, past 2^64 as 2^64 + 1, and how many they are.
+fn read_digits(text: &[u8], radix: u32) -> (u128, usize)
     requires { (2 ≤ radix) × (radix ≤ 16) }
     ensures run { (value : ℕ) × (result.0 ≡ capped value)
-        × (digit_run radix 0 text.now ≡ (value, result.1.now)) }
-    ensures within { length result.1.now ≤ length text.now }
+        × (digit_run radix 0 text.now ≡ (value, drop result.1 text.now)) }
+    ensures within { result.1 ≤ length text.now }
 {
     // Most numbers are decimal, and a loop for a radix that is known has less to do for each digit.
     if radix == 10 {
@@ -149,79 +151,75 @@ fn read_digits(text: &[u8], radix: u32) -> (u128, &[u8])
 /// The same, inlined for the radix that is given. As far as a further digit is sure to fit 64 bits,
 /// the number is computed in these.
 #[inline(always)]
-fn read_digits_of(text: &[u8], radix: u32) -> (u128, &[u8])
+fn read_digits_of(text: &[u8], radix: u32) -> (u128, usize)
     requires { (2 ≤ radix) × (radix ≤ 16) }
     ensures run { (value : ℕ) × (result.0 ≡ capped value)
-        × (digit_run radix 0 text.now ≡ (value, result.1.now)) }
-    ensures within { length result.1.now ≤ length text.now }
+        × (digit_run radix 0 text.now ≡ (value, drop result.1 text.now)) }
+    ensures within { result.1 ≤ length text.now }
 {
-    let (short, mut rest) = read_short(text, radix);
+    let (short, mut len) = read_short(text, radix);
     let mut value = u128::from(short);
-    'digits: while let [byte, after @ ..] = rest {
-        let Some(digit) = char::from(*byte).to_digit(radix) else {
+    while len < text.len() {
+        let Some(digit) = char::from(text[len]).to_digit(radix) else {
             break;
         };
         value = (value * u128::from(radix) + u128::from(digit)).min(CAP);
-        rest = after;
+        len += 1;
     }
-    (value, rest)
+    (value, len)
 }
 
-/// The number that the digits at the front write as far as a further digit fits 64 bits, and the
-/// text after these digits.
+/// The number that the digits at the front write as far as a further digit fits 64 bits, and how
+/// many these are.
 #[inline(always)]
-fn read_short(text: &[u8], radix: u32) -> (u64, &[u8])
+fn read_short(text: &[u8], radix: u32) -> (u64, usize)
     requires { (2 ≤ radix) × (radix ≤ 16) }
-    ensures run { digit_run radix result.0 result.1.now ≡ digit_run radix 0 text.now }
-    ensures within { length result.1.now ≤ length text.now }
+    ensures run { digit_run radix result.0 (drop result.1 text.now) ≡ digit_run radix 0 text.now }
+    ensures within { result.1 ≤ length text.now }
 {
     let mut value = 0;
-    let mut rest = text;
-    'digits: while let [byte, after @ ..] = rest
-        && value < FITS_ONE_MORE
-    {
-        let Some(digit) = char::from(*byte).to_digit(radix) else {
+    let mut len = 0;
+    while len < text.len() && value < FITS_ONE_MORE {
+        let Some(digit) = char::from(text[len]).to_digit(radix) else {
             break;
         };
         value = value * u64::from(radix) + u64::from(digit);
-        rest = after;
+        len += 1;
     }
-    (value, rest)
+    (value, len)
 }
 
-/// The longest indicator at the front, which begins with `_`, and the text after it.
-fn read_indicator(text: &[u8]) -> Option<(u8, &[u8])>
-    ensures gives { option_map (λ x. (x.0, x.1.now)) result ≡ indicator_of text.now }
-    ensures shorter { IfSome result (λ x. length x.1.now < length text.now) }
+/// The longest indicator at the front, which begins with `_`, and its length.
+fn read_indicator(text: &[u8]) -> Option<(u8, usize)>
+    ensures gives { option_map (λ x. (x.0, drop x.1 text.now)) result ≡ indicator_of text.now }
+    ensures within { IfSome result (λ x. x.1 ≤ length text.now) }
 {
     let [b'_', digits @ ..] = text else {
         return None;
     };
-    let (indicator, rest) = read_small(digits);
-    if rest.len() == digits.len() {
+    let (indicator, len) = read_small(digits);
+    if len == 0 {
         None
     } else {
-        Some((indicator, rest))
+        Some((indicator, 1 + len))
     }
 }
 
-/// The number that the decimal digits at the front write as far as it is at most 3, and the text
-/// after these digits.
-fn read_small(text: &[u8]) -> (u8, &[u8])
-    ensures run { small_run 0 text.now ≡ (result.0, result.1.now) }
-    ensures within { length result.1.now ≤ length text.now }
+/// The number that the decimal digits at the front write as far as it is at most 3, and how many
+/// these are.
+fn read_small(text: &[u8]) -> (u8, usize)
+    ensures run { small_run 0 text.now ≡ (result.0, drop result.1 text.now) }
+    ensures within { result.1 ≤ length text.now }
 {
     let mut value = 0;
-    let mut rest = text;
-    'digits: while let [byte, after @ ..] = rest
-        && byte.is_ascii_digit()
-    {
-        let next = value * 10 + (*byte - b'0');
+    let mut len = 0;
+    while len < text.len() && text[len].is_ascii_digit() {
+        let next = value * 10 + (text[len] - b'0');
         if next > 3 {
             break;
         }
         value = next;
-        rest = after;
+        len += 1;
     }
-    (value, rest)
+    (value, len)
 }

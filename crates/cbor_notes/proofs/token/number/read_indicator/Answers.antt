@@ -4,8 +4,8 @@ use Rattle.cbor_notes.proofs.tokens.NumberRuns.{indicator_of-none}
 use Rattle.cbor_notes.proofs.tokens.TextPlaces.{front_byte}
 use Rattle.cbor_notes.proofs.token.number.read_indicator.Goals as goal
 
-pub returns-then-rest-digits-clause-gives : goal.returns-then-rest-digits-clause-gives
-returns-then-rest-digits-clause-gives c =
+pub returns-then-len-eq0-clause-gives : goal.returns-then-len-eq0-clause-gives
+returns-then-len-eq0-clause-gives c =
     let run = c.read_small-indicator in
-    sym (indicator_of-none c.args.text.now _ (run.result.0, run.result.1.now)
-    (front_byte c.args.text.now 95 c.in-95.len_at_least (omega arith)) run.ensures.run c.if-rest-digits.true)
+    sym (indicator_of-none c.args.text.now _ run.result.0 run.result.1
+    (front_byte c.args.text.now 95 c.in-95.len_at_least (omega arith)) run.ensures.run c.if-len-eq0.true)
