@@ -64,8 +64,8 @@ inside (b ∷ opening) = if (b == quote) || (b == apostrophe) then 50 ∷ [] els
 
 -- With other text in place of an unfinished end, it is such.
 abbrev pub CutOf : {X : Type 0} → (List ℕ → X → Type 0) → List ℕ → Type 0
-CutOf Is text = (front opening back : List ℕ) × (text ≡ front ++ (opening ++ back)) × GoesOn Is (front ++ (opening ++ inside opening))
-    × IsUnfinished opening back
+CutOf Is text = (front opening back : List ℕ) × (text ≡ front ++ (opening ++ back))
+    × GoesOn Is (front ++ (opening ++ inside opening)) × IsUnfinished opening back
 
 -- What an error and a number of first bytes say of a text that is no notation. It is cut short, all of it;
 -- or the error says why it is none, and these first bytes are a dead end.

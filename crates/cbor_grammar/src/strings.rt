@@ -64,7 +64,7 @@ impl StringKind {
     }
 
     /// The content of a string of this kind, where it may have it.
-    #[tactic(auto, using(crate::proofs::shared::Utf8::utf8_fails, crate::proofs::shared::Utf8::utf8_passes))]
+    #[tactic(auto, using(crate::proofs::shared::Utf8::utf8_tests))]
     pub fn content(self, content: &[u8]) -> Result<StringContent<'_>>
         ensures gives { (w : IntegerWidth) → Gives (borrowed_chunk w) result
             (checked_chunk self w content.now) }
@@ -230,7 +230,7 @@ impl DefiniteString for TextString {
         StringKind::Text
     }
 
-    #[tactic(auto, using(crate::proofs::shared::Utf8::utf8_fails, crate::proofs::shared::Utf8::utf8_passes))]
+    #[tactic(auto, using(crate::proofs::shared::Utf8::utf8_tests))]
     fn new(content: Vec<u8>, bitwidth: IntegerWidth) -> Result<TextString> {
         let Ok(content) = String::from_utf8(content) else {
             return Err(Error::Utf8);

@@ -146,3 +146,5 @@ pub after_key : (form : Form) (wanted : DataItem) (steps : List Step) (i next : 
 after_key form wanted steps i next p here h =
     after_step form (step.Key wanted) steps i next p here
     (λ other is. one_member (view wanted) (untagged i) other next is here) h
+
+pub ruleset part_steps = (after_step, after_key, no_step)

@@ -133,7 +133,7 @@ fn inside(alloc: Global, item: &DataItem) -> Result<Option<DataItem>, Error>
 }
 
 /// Writes the part of an item that the steps lead to.
-#[tactic(auto, using(crate::proofs::PathLemmas::after_step, crate::proofs::PathLemmas::after_key, crate::proofs::PathLemmas::no_step))]
+#[tactic(auto, using(crate::proofs::PathLemmas::part_steps))]
 pub(crate) fn part_written(
     alloc: Global,
     style: Style,

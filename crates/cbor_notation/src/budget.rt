@@ -27,7 +27,7 @@ pub fn pretty_style(indent: usize, left: usize) -> ContainerStyle
 }
 
 /// How many decimal digits a number has.
-#[tactic(auto, using(std::proofs::lemmas::Fmt::decimal_digit, cbor_grammar::proofs::text::DigitCounts::power_below))]
+#[tactic(auto, using(crate::proofs::text::Scalars::digit_laws))]
 pub fn digit_count(number: u64) -> usize
     ensures count { result ≡ digit_count number }
     ensures small { result ≤ 2 ^ 32 }

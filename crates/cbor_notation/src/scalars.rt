@@ -37,7 +37,7 @@ fn push_indicator(out: &mut String, width: IntegerWidth) -> Result<(), AllocErro
 }
 
 /// Writes a number in decimal digits.
-#[tactic(auto, using(std::proofs::lemmas::Fmt::decimal_digit, cbor_grammar::proofs::shared::Appending::appending_steps))]
+#[tactic(auto, using(crate::proofs::text::Scalars::decimal_steps))]
 fn push_decimal(out: &mut String, value: u64) -> Result<(), AllocError>
     ensures { AppendsText result out.old out.new (decimal value) }
 {
@@ -167,7 +167,7 @@ fn is_escaped(byte: u8) -> bool
 
 /// Writes a text with a backslash before each quote and each backslash. Most texts have none of
 /// these.
-#[tactic(auto, using(crate::proofs::text::Scalars::plain_text, cbor_grammar::proofs::shared::Appending::appending_steps))]
+#[tactic(auto, using(crate::proofs::text::Scalars::escaped_steps))]
 fn push_escaped(out: &mut String, content: &str) -> Result<(), AllocError>
     ensures { AppendsText result out.old out.new (in_quotes quote content.now) }
 {

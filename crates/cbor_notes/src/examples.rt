@@ -56,8 +56,9 @@ pub(crate) fn base58_digits()
 /// Seventeen zero bytes are two lines, and blanks fill the second one's digits.
 pub(crate) fn lines_of_decoded()
     ensures { decoded_lines (replicate 17 0)
-        ≡ codes
-        "00000000000000000000000000000000 # \"\\x00\\x00\\x00\\x00\\x00\\x00\\x00\\x00\\x00\\x00\\x00\\x00\\x00\\x00\\x00\\x00\""
+        ≡ (codes "00000000000000000000000000000000 # \""
+        ++ codes "\\x00\\x00\\x00\\x00\\x00\\x00\\x00\\x00"
+        ++ codes "\\x00\\x00\\x00\\x00\\x00\\x00\\x00\\x00\"")
         ∷ codes "00                               # \"\\x00\"" ∷ [] }
 {}
 

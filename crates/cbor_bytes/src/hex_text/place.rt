@@ -44,7 +44,7 @@ fn after_dropped(text: &[u8]) -> Option<&[u8]>
 }
 
 /// What follows the bytes at the front that are not kept.
-#[tactic(auto, using(cbor_grammar::proofs::hex::Kept::keeps_here, cbor_grammar::proofs::hex::Kept::still_none))]
+#[tactic(auto, using(cbor_grammar::proofs::hex::Kept::kept_steps))]
 fn at_kept(text: &[u8]) -> &[u8]
     ensures over { Keeps text.now result.now [] }
     ensures kept { 0 < length result.now

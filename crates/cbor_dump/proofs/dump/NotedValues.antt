@@ -270,7 +270,8 @@ not_ended show (Some x) end ends e = absurd cc
 not_ended show None end ends e = e
 
 pub next_seen : (a : declared_atom.Atom) (levels : ℕ) (count : Argument) (held : ℕ)
-    (b behind after : List ℕ) (h : ItemHead) (is : Items) → None ≡ after_members (left_of count held) b → read_head b ≡ Ok (h, behind)
+    (b behind after : List ℕ) (h : ItemHead) (is : Items) → None ≡ after_members (left_of count held) b
+    → read_head b ≡ Ok (h, behind)
     → ((n : ℕ) (i : Item) (rest : List ℕ) → body_read h behind n ≡ Ok (i, rest) → Sees a after i rest)
     → AreMembers levels (left_of count held) b is → IsNextMember levels (left_of count (held + 1)) is (Some a) after
 next_seen a levels count held b behind after h no_items goes_on head sees are =

@@ -52,7 +52,7 @@ pub(crate) enum Value<'a> {
 
 impl<'a> Atom<'a> {
     /// The string of that kind with this content.
-    #[tactic(auto, using(cbor_grammar::proofs::shared::Utf8::utf8_fails, cbor_grammar::proofs::shared::Utf8::utf8_passes))]
+    #[tactic(auto, using(cbor_grammar::proofs::shared::Utf8::utf8_tests))]
     fn with_content(kind: StringKind, content: &'a [u8]) -> Atom<'a>
         ensures { (w : IntegerWidth) (c : Chunk) → checked_chunk kind w content.now ≡ Ok c
             → atom_view result ≡ seen (atom (string kind c)) }

@@ -131,6 +131,8 @@ keeps_then text mid rest xs ys a b = record {
 pub still_none : (text mid rest : List ℕ) → Keeps text mid [] → Keeps mid rest [] → Keeps text rest []
 still_none text mid rest a b = keeps_then text mid rest [] [] a b
 
+pub ruleset kept_steps = (keeps_here, still_none)
+
 -- a space, a line feed and a carriage return before one
 space_goes : (rest : List ℕ) → Keeps (32 ∷ rest) rest []
 space_goes rest = record {

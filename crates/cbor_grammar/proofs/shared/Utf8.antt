@@ -12,3 +12,6 @@ utf8_fails b h = test_fails (is_utf8 b) (λ e. h (IsUtf8-from_is_utf8 b e))
 
 pub utf8_passes : (b : List ℕ) → IsUtf8 b → is_utf8 b ≡ true
 utf8_passes b h = is_utf8-from_IsUtf8 b h
+
+-- both outcomes of the test
+pub ruleset utf8_tests = (utf8_fails, utf8_passes)

@@ -3,6 +3,7 @@ use Rattle.std.proofs.Common.{◌≡◌, ℕ, ◌+◌, ◌<◌, ◌≤◌, Bool,
 use Rattle.std.proofs.Common.{None, get_or, take, drop, refl, sym, ap, ◌∙◌, append_assoc, arith}
 use Rattle.std.specs.List.{flat_map, list_any}
 use Rattle.std.proofs.lemmas.List.{length-take, take_more, drop_more, drop-append-le, drop_at, append-nil}
+use Rattle.std.proofs.lemmas.Fmt.{decimal_digit}
 use Rattle.std.proofs.lemmas.Grind.{flat_map-append}
 use Rattle.std.proofs.lemmas.Bool.Decides.{nat_tests}
 use Rattle.cbor_notes.specs.Ascii.{quote}
@@ -11,6 +12,8 @@ use Rattle.cbor_grammar.specs.NotationText.{members, bracketed, opened, chunks_l
 use Rattle.cbor_grammar.specs.declared.layout.ContainerStyle.TheVariants as style
 use Rattle.cbor_grammar.specs.declared.layout.ContainerStyle.{ContainerStyle}
 use Rattle.cbor_grammar.specs.declared.layout.ContainerStyle.TheVariants.{OneLine, MultiLine}
+use Rattle.cbor_grammar.proofs.shared.Appending.{appending_steps}
+use Rattle.cbor_grammar.proofs.text.DigitCounts.{power_below}
 use Rattle.cbor_notation.specs.mirror.LayoutView.{before_member, after_member}
 
 -- a byte that is escaped is a character
@@ -60,6 +63,14 @@ plain_text (b ∷ bs) h =
     let there : list_any (is_special quote) bs ≡ false = grind arith in
     let first : escaped_byte quote b ≡ b ∷ [] = rw here refl in
     ap (λ x. x ++ in_quotes quote bs) first ∙ ap (λ x. b ∷ x) (plain_text bs there)
+
+pub ruleset escaped_steps = (plain_text, appending_steps)
+
+-- ---- decimal digits
+
+pub ruleset digit_laws = (decimal_digit, power_below)
+
+pub ruleset decimal_steps = (decimal_digit, appending_steps)
 
 -- ---- members
 

@@ -202,7 +202,8 @@ after_blank-again comments text =
 
 -- a `/` that opens a comment, and one that opens none
 pub comment_left : (comments : Bool) (text rest : List ℕ) (place : ℕ) → IsTrue comments → text ≡ 47 ∷ rest
-    → position (λ b. b == 47) rest ≡ Some place → after_blank comments (drop (place + 1) rest) ≡ after_blank comments text
+    → position (λ b. b == 47) rest ≡ Some place
+    → after_blank comments (drop (place + 1) rest) ≡ after_blank comments text
 comment_left true text rest place allowed is found =
     let first = first_at (λ b. b == 47) rest (Some place) place (sym found) refl in
     sym (ap (after_blank true) is ∙ after_comment true (47 ∷ rest) rest place first.0 first.1)

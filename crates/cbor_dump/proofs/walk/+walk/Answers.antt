@@ -435,8 +435,8 @@ embedded_note-returns-clause-wrote t c = λ i rest e wide.
       width = c.embedded.new.self.width;
       prefix = c.embedded.new.self.prefix;
     } in
-    subst (λ j. Wrote c.args.walk.now.writer written (note_lines context.depth (embedded_note (embedded_lines context j))))
-    (sym same)
+    subst (λ j. Wrote c.args.walk.now.writer written
+    (note_lines context.depth (embedded_note (embedded_lines context j)))) (sym same)
     (embedded_dump c.top-top.result level context.depth d.item c.note_line.new.self c.in_ok-writer.writer
     c.dump_front.new.walk.writer c.args.walk.now.writer written 0 top.level top.context
     (level_read level bytes after d.item read) refl inner.out inner.prefix width d.wrote c.in_ok-note_line.ensures refl

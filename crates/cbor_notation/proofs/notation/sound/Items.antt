@@ -64,7 +64,8 @@ quote_closes : (end z : List ℕ) → Closes (41 ∷ []) end → end ≡ 34 ∷ 
 quote_closes end z (inl here) e = omega (arith, head_is 41 34 [] z (sym here ∙ e))
 quote_closes end z (inr last) e = omega (arith, head_is 44 34 (last.0 ++ 41 ∷ []) z (sym last.1 ∙ e))
 
-pub quote_blank : {blank : List ℕ} → Blank true blank → (end z : List ℕ) → Closes (41 ∷ []) end → blank ++ end ≡ 34 ∷ z → ⊥
+pub quote_blank : {blank : List ℕ} → Blank true blank → (end z : List ℕ) → Closes (41 ∷ []) end
+    → blank ++ end ≡ 34 ∷ z → ⊥
 quote_blank nothing end z closes e = quote_closes end z closes e
 quote_blank (whitespace {byte = byte} {rest = rest} white more) end z closes e =
     at_whitespace (λ b. b ≡ 34 → ⊥) (λ is. omega arith) (λ is. omega arith) (λ is. omega arith) (λ is. omega arith) byte
@@ -122,7 +123,8 @@ module _ (left : ℕ) (R : List ℕ → Item → Type 0) (read : List ℕ → Re
       (sound_map left R (λ g p. PairOf R (front ++ 58 ∷ g) p) inner (read inner) (λ v. (k, v)) (sound inner)
       (λ g v value. (front, g, refl, key, value)))))
 
-  pub pair_blank : (before text : List ℕ) (p : Item × Item) → IsBlank before → PairOf R text p → PairOf R (before ++ text) p
+  pub pair_blank : (before text : List ℕ) (p : Item × Item) → IsBlank before → PairOf R text p
+      → PairOf R (before ++ text) p
   pair_blank before text p is h = (
     before ++ h.0,
     h.1,

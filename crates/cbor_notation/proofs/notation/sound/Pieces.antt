@@ -75,7 +75,8 @@ module _ (left : ℕ) (R : List ℕ → Item → Type 0) (read : List ℕ → Re
     → Sound left R text (read text)) (blank_more : (before text : List ℕ) (i : Item) → IsBlank before → R text i
     → R (before ++ text) i) where
   -- after the first `<`
-  pub embedded_sound : (text : List ℕ) → Sound left (λ g bytes. Notation R (60 ∷ g) bytes) text (read_embedded read text)
+  pub embedded_sound : (text : List ℕ)
+      → Sound left (λ g bytes. Notation R (60 ∷ g) bytes) text (read_embedded read text)
   embedded_sound text =
       sound_option left (λ g bytes. Notation R (60 ∷ g) bytes) text (after_byte 60 text)
       (λ first. read_members read 62 first >>= λ is. or_refused (after_byte 62 is.1)

@@ -14,8 +14,8 @@ returns-in_err-rest-clause-refused c =
     let p = err_from_is_err_and c.from_residual.result c.from_residual.ensures.1 in
     let b = c.args.bytes.now in
     let e = c.in_err-rest.field-0.0 in
-    rw (p.1, p.2) (unless_memory (IsRefused 1 b) e (whole_refusal 1 128 b e refl (λ i. omega (arith, c.type_inv.bytes i))
-    c.in_err-rest.ensures.refused))
+    rw (p.1, p.2) (unless_memory (IsRefused 1 b) e
+    (whole_refusal 1 128 b e refl (λ i. omega (arith, c.type_inv.bytes i)) c.in_err-rest.ensures.refused))
 
 pub returns-then-is_empty-clause-ok : goal.returns-then-is_empty-clause-ok
 returns-then-is_empty-clause-ok c =

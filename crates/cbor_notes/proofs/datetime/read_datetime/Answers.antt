@@ -7,7 +7,9 @@ use Rattle.cbor_notes.specs.Date.{clock_text, date_text}
 use Rattle.cbor_notes.proofs.dates.DateTimeTexts.{datetime_pieces, five_parts, time_parts, zone_fits}
 use Rattle.cbor_notes.proofs.datetime.read_datetime.Goals as goal
 use Rattle.cbor_notes.proofs.datetime.read_datetime.Goals.{}
-use Rattle.cbor_notes.proofs.datetime.read_datetime.Goals.{else-separator-ne84-via-then-separator-ne84+else-separator-ne116}
+use Rattle.cbor_notes.proofs.datetime.read_datetime.Goals.{
+  else-separator-ne84-via-then-separator-ne84+else-separator-ne116,
+}
 use Rattle.cbor_notes.proofs.datetime.read_datetime.Goals.{else-separator-ne84-via-else-separator-ne84}
 
 pub returns-in_err-date-clause-only : goal.returns-in_err-date-clause-only
