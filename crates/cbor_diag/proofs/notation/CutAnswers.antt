@@ -37,8 +37,9 @@ was_read {T} answer found x P h is p =
     let a : answer ≡ Ok x = subst (λ (o : Option T). IfSome o (λ y. answer ≡ Ok y)) is h in
     subst (λ (r : Result T Error). IfOk r P) a p
 
-pub was_given : {T Y : Type 0} (answer : Result T Error) (found : Option T) (x : T) (view : T → Y) (read : Result Y Error)
-    → IfSome found (λ y. answer ≡ Ok y) → found ≡ Some x → Gives view answer read → read ≡ Ok (view x)
+pub was_given : {T Y : Type 0} (answer : Result T Error) (found : Option T) (x : T) (view : T → Y)
+    (read : Result Y Error) → IfSome found (λ y. answer ≡ Ok y) → found ≡ Some x → Gives view answer read
+    → read ≡ Ok (view x)
 was_given {T} answer found x view read h is g =
     let a : answer ≡ Ok x = subst (λ (o : Option T). IfSome o (λ y. answer ≡ Ok y)) is h in
     subst (λ (r : Result T Error). Gives view r read) a g

@@ -161,8 +161,8 @@ unsigned_finds text after x e =
     by n is w sized same (Some z) of is_n =
         let same_n : ◌≡◌ {A = (ℕ × Option ℕ) × List ℕ} ((z.0, z.1), z.2) n = ok_is _ n is_n in
         let here = IsNumber-number_of text z of in
-        subst (λ (y : (ℕ × IntegerWidth) × List ℕ). (front : List ℕ) × (text ≡ front ++ y.1) × NumberOf front y.0.0 y.0.1)
-        same (
+        subst (λ (y : (ℕ × IntegerWidth) × List ℕ). (front : List ℕ) × (text ≡ front ++ y.1)
+        × NumberOf front y.0.0 y.0.1) same (
           here.0,
           subst (λ (m : (ℕ × Option ℕ) × List ℕ). text ≡ here.0 ++ m.1) same_n here.1,
           subst (λ (m : (ℕ × Option ℕ) × List ℕ). NumberOf here.0 w.0 w.1) same_n

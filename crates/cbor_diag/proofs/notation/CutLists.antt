@@ -78,7 +78,8 @@ soft_cut Is more front after x is soft =
           cut_by Is (front ++ after) (
             goes.0,
             x,
-            subst (λ (t : List ℕ). Is t x) (sym (append_assoc front after goes.0)) (more front (after ++ goes.0) x is goes.1),
+            subst (λ (t : List ℕ). Is t x) (sym (append_assoc front after goes.0))
+                (more front (after ++ goes.0) x is goes.1),
           )
       | inl ends ↦
           let settled : is_settled (skip_blank after) ≡ false =

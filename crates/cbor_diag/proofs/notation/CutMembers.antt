@@ -23,7 +23,8 @@ module _ (m : Member) (left close : ℕ) where
 
   -- what follows the opening
   pub start_cut : (text first : List ℕ) → first ≡ skip_blank text → (ends_blank first ≡ false)
-      ⊎ ((rest : List ℕ) × (after_end close first ≡ Some rest)) ⊎ ((more : List ℕ) × Closes (close ∷ []) (first ++ more))
+      ⊎ ((rest : List ℕ) × (after_end close first ≡ Some rest))
+      ⊎ ((more : List ℕ) × Closes (close ∷ []) (first ++ more))
       → NotRead (read_members reader close text) → CutOf (Members IsOne (close ∷ [])) text
   start_cut text first is (inl unended) refused =
       list_blank reader IsOne close (member_finds m left) (member_before m left) (member_behind m left) text

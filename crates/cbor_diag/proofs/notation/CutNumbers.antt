@@ -199,8 +199,9 @@ prefix_cut (a ∷ b ∷ []) e =
     both : (a b c d : ℕ) → a ≡ c → b ≡ d → a ∷ b ∷ [] ≡ c ∷ d ∷ []
     both a b c d e f = rw (e, f) refl
 
-negative_by : (text : List ℕ) (n : ℕ) (indicator : Option ℕ) (rest : List ℕ) → read_number text ≡ Ok ((n, indicator), rest)
-    → may_be_negative text n indicator rest ≡ true → CutOf IsNegative (45 ∷ text)
+negative_by : (text : List ℕ) (n : ℕ) (indicator : Option ℕ) (rest : List ℕ)
+    → read_number text ≡ Ok ((n, indicator), rest) → may_be_negative text n indicator rest ≡ true
+    → CutOf IsNegative (45 ∷ text)
 negative_by text zero None rest e may =
     elim (or_cases (is_end rest) (is_prefix text) may) [
       | inl is ↦
@@ -333,8 +334,9 @@ float_word text rest at none not =
       plain_digits (inr refl) (none (subst (λ (t : List ℕ). NotRead (read_word t)) is not)),
     )
 
-named_near : (word text : List ℕ) (n : ℕ) → NamedSimple word n → ((rest : List ℕ) → NotRead (read_word (word ++ rest)) → ⊥)
-    → NotRead (read_word text) → Near word text → CutOf IsWord text
+named_near : (word text : List ℕ) (n : ℕ) → NamedSimple word n
+    → ((rest : List ℕ) → NotRead (read_word (word ++ rest)) → ⊥) → NotRead (read_word text) → Near word text
+    → CutOf IsWord text
 named_near word text n named read not (inl at) =
     absurd (read at.0 (subst (λ (t : List ℕ). NotRead (read_word t)) (after_word_is word text at.0 at.1) not))
 named_near word text n named read not (inr near) =

@@ -33,7 +33,8 @@ use Rattle.cbor_notation.proofs.notation.sound.Steps.{a_test, none_some, after_w
 
 -- what goes on is cut short
 pub cut_by : {X : Type 0} (Is : List ℕ → X → Type 0) (text : List ℕ) → GoesOn Is text → CutOf Is text
-cut_by Is text goes = (text, [], [], sym (append-nil text), subst (GoesOn Is) (sym (append-nil text)) goes, unfinished.nothing)
+cut_by Is text goes =
+    (text, [], [], sym (append-nil text), subst (GoesOn Is) (sym (append-nil text)) goes, unfinished.nothing)
 
 -- ---- blanks
 

@@ -166,8 +166,8 @@ float_dead text count at not more =
 
 -- ---- words
 
-pub word_simple_dead : (text rest : List ℕ) → after_word (codes "simple(") text ≡ Some rest → NeverReads read_simple rest
-    → NeverReads read_word text
+pub word_simple_dead : (text rest : List ℕ) → after_word (codes "simple(") text ≡ Some rest
+    → NeverReads read_simple rest → NeverReads read_word text
 word_simple_dead text rest e never more =
     not_by (read_simple (rest ++ more)) (read_word (text ++ more))
     (ap read_word (word_grown (codes "simple(") text more rest e)) (never more)
@@ -322,3 +322,13 @@ float_closed text more y e = by (position (λ b. b == 39) text) refl e
         (take-append-le count text more (omega (arith, place.0)))
         ∙ ap (float_after count (take count text)) (drop-append-le (count + 1) text more (omega (arith, place.0)))
         ∙ float_more (float_of count) (numeral 16 (take count text)) (drop (count + 1) text) more y is
+
+-- ---- what the functions of `fault/tokens.rt` name
+
+pub ruleset open_laws = (comma_open, other_open)
+
+pub ruleset word_laws = (word_simple_dead, word_float_dead)
+
+pub ruleset b_laws = (b32_dead, b64_dead, b_dead)
+
+pub ruleset h_laws = (h16_dead, h32_dead, h_dead)

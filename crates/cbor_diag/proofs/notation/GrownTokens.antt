@@ -89,7 +89,8 @@ blank_grown text more ends =
           | inr other ↦ other
         ]
 
-    passed : (rest : List ℕ) → skip_blank rest ≡ rest → ends_blank rest ≡ true → skip_blank (rest ++ more) ≡ rest ++ more
+    passed : (rest : List ℕ) → skip_blank rest ≡ rest → ends_blank rest ≡ true
+        → skip_blank (rest ++ more) ≡ rest ++ more
     passed [] e ends = cc ends
     passed (b ∷ rest) e ends =
         after_blank-ends true (b ∷ (rest ++ more)) (white b rest e, eqb-false b 47 (not-true (b == 47) ends))

@@ -90,8 +90,8 @@ impl Stack {
 
     /// Adds an item to the innermost container, or returns it if none is open.
     pub(super) fn put(&mut self, item: DataItem) -> Result<Option<DataItem>>
-        ensures put { IfOk result (λ whole.
-            (frames self.new, option_map view whole) ≡ put_innermost (frames self.old) (view item)) }
+        ensures put { IfOk result (λ whole. (frames self.new, option_map view whole)
+            ≡ put_innermost (frames self.old) (view item)) }
         ensures memory { IfErr result (λ e. (e ≡ Error.Memory) × (0 < length self.old)) }
     {
         let count = self.open.len();

@@ -15,8 +15,9 @@ use Rattle.cbor_diag.proofs.parse.binary.turn.Goals as goal
 
 pub returns-in-Some-clause-gives : goal.returns-in-Some-clause-gives
 returns-in-Some-clause-gives c =
-    let is = closes (129 - c.args.level) (frames c.args.stack.now) (frames c.close.new.self) c.args.bytes.now c.in-Some.rest.now
-    (view c.in_ok-close.field-0) c.in-Some.ensures c.in_ok-close.ensures.item c.close.ensures.outer in
+    let is = closes (129 - c.args.level) (frames c.args.stack.now) (frames c.close.new.self) c.args.bytes.now
+    c.in-Some.rest.now (view c.in_ok-close.field-0) c.in-Some.ensures c.in_ok-close.ensures.item
+    c.close.ensures.outer in
     rw c.rise.ensures (ap (later c.args.turns.now) is ∙ later_later c.args.turns.now 1 _)
 
 pub returns-in_err-close-clause-stops : goal.returns-in_err-close-clause-stops
@@ -42,7 +43,8 @@ pub returns-in_err-head-clause-stops : goal.returns-in_err-head-clause-stops
 returns-in_err-head-clause-stops c =
     let p = err_from_is_err_and c.from_residual-in_err-head.result c.from_residual-in_err-head.ensures.1 in
     rw (p.1, p.2, c.rise.ensures) (wanted_stops c.in_err-head.field-0.0 (129 - c.args.level) c.args.turns.now _
-    (frames c.args.stack.now) c.args.bytes.now (omega (arith, length-map c.args.stack.now frame)) c.in_default.ensures c.in_err-head.ensures.gives)
+    (frames c.args.stack.now) c.args.bytes.now (omega (arith, length-map c.args.stack.now frame)) c.in_default.ensures
+    c.in_err-head.ensures.gives)
 
 pub returns-in_err-container-clause-memory : goal.returns-in_err-container-clause-memory
 returns-in_err-container-clause-memory c = λ e none.
@@ -79,8 +81,8 @@ returns-in_ok-open-in-Some-2-clause-gives c =
     let is = sym c.in_ok-container.ensures.opens ∙ ap (option_map frame) c.in-Some-2.is in
     rw (c.rise.ensures, c.in_ok-open-in-Some-2.ensures.opened)
     (opens (129 - c.args.level) c.args.turns.now _ (frames c.args.stack.now) c.args.bytes.now c.in_ok-head.head
-    (frame c.in-Some-2.container) c.in_ok-head.rest.now (omega (arith, length-map c.args.stack.now frame)) c.in_default.ensures c.in_ok-head.ensures.gives
-    is)
+    (frame c.in-Some-2.container) c.in_ok-head.rest.now (omega (arith, length-map c.args.stack.now frame))
+    c.in_default.ensures c.in_ok-head.ensures.gives is)
 
 pub returns-in_ok-open-in-Some-2-clause-level : goal.returns-in_ok-open-in-Some-2-clause-level
 returns-in_ok-open-in-Some-2-clause-level c =

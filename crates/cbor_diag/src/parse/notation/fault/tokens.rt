@@ -85,7 +85,7 @@ pub(super) fn but_memory<T: Drop>(answer: Result<T>) -> Result<Option<T>>
 }
 
 /// Whether no list ends here, whatever follows the text.
-#[tactic(auto, using(crate::proofs::notation::DeadTokens::comma_open, crate::proofs::notation::DeadTokens::other_open))]
+#[tactic(auto, using(crate::proofs::notation::DeadTokens::open_laws))]
 pub(super) fn is_open(text: &[u8], close: u8) -> bool
     ensures unended { IsTrue result → (more : List ℕ) → after_end close (text.now ++ more) ≡ None }
     // Otherwise a list ends here, or more text ends it.
@@ -102,7 +102,8 @@ pub(super) fn is_open(text: &[u8], close: u8) -> bool
 /// Whether whitespace and the closing byte are not next, whatever follows the text.
 #[tactic(auto, using(crate::proofs::notation::DeadTokens::space_grown))]
 fn has_no_end(text: &[u8], close: u8) -> bool
-    ensures unended { IsTrue result → (more : List ℕ) → after_space close (text.now ++ more) ≡ None }
+    ensures unended { IsTrue result → (more : List ℕ)
+        → after_space close (text.now ++ more) ≡ None }
     ensures closes { IsFalse result → ((rest : List ℕ) × (after_space close text.now ≡ Some rest))
         ⊎ Blank false text.now }
 {
@@ -115,7 +116,8 @@ fn has_no_end(text: &[u8], close: u8) -> bool
 /// Whether the text and the word differ before either ends.
 #[tactic(auto, using(crate::proofs::notation::GrownTokens::word_apart))]
 pub(super) fn is_apart(text: &[u8], word: &[u8]) -> bool
-    ensures apart { IsTrue result → (more : List ℕ) → after_word word.now (text.now ++ more) ≡ None }
+    ensures apart { IsTrue result → (more : List ℕ)
+        → after_word word.now (text.now ++ more) ≡ None }
     // Otherwise the text begins with the word, or more text makes it the word.
     ensures near { IsFalse result → Near word.now text.now }
 {
@@ -246,7 +248,7 @@ fn is_dead_float(text: &[u8]) -> bool
 }
 
 /// Whether no word is at the front, whatever follows.
-#[tactic(auto, using(crate::proofs::notation::DeadTokens::word_simple_dead, crate::proofs::notation::DeadTokens::word_float_dead))]
+#[tactic(auto, using(crate::proofs::notation::DeadTokens::word_laws))]
 pub(super) fn is_dead_word(text: &[u8]) -> bool
     ensures dead { IsTrue result → NeverReads read_word text.now }
     ensures cut { IsFalse result → NotRead (read_word text.now)
@@ -327,7 +329,7 @@ fn are_closed(text: &[u8], comments: bool) -> bool
 
 /// Whether no other bytes behind the text change that it is no `b32'..'` or `b64'..'` after the
 /// `b`.
-#[tactic(auto, using(crate::proofs::notation::DeadTokens::b32_dead, crate::proofs::notation::DeadTokens::b64_dead, crate::proofs::notation::DeadTokens::b_dead))]
+#[tactic(auto, using(crate::proofs::notation::DeadTokens::b_laws))]
 fn is_dead_b(text: &[u8]) -> bool
     ensures dead { IsTrue result → NotRead (b_notation text.now) → NeverReads b_notation text.now }
     ensures cut { IsFalse result → NotRead (b_notation text.now)
@@ -343,7 +345,7 @@ fn is_dead_b(text: &[u8]) -> bool
 }
 
 /// Whether no other bytes behind the text change that it is no `h'..'` or `h32'..'` after the `h`.
-#[tactic(auto, using(crate::proofs::notation::DeadTokens::h16_dead, crate::proofs::notation::DeadTokens::h32_dead, crate::proofs::notation::DeadTokens::h_dead))]
+#[tactic(auto, using(crate::proofs::notation::DeadTokens::h_laws))]
 fn is_dead_h(text: &[u8]) -> bool
     ensures dead { IsTrue result → NotRead (h_notation text.now) → NeverReads h_notation text.now }
     ensures cut { IsFalse result → NotRead (h_notation text.now)

@@ -11,7 +11,8 @@ returns-then-not-may_be_negative-clause-dead c is =
     let g = c.in-Ok.ensures.gives in
     negative_dead c.args.text.now ((g.0, c.in-Ok.indicator), c.in-Ok.rest.now) g.1
     (sym (negative_capped c.args.text.now g.0 c.in-Ok.indicator c.in-Ok.rest.now)
-    ∙ ap (λ (v : ℕ). may_be_negative c.args.text.now v c.in-Ok.indicator c.in-Ok.rest.now) (sym g.2) ∙ sym c.may_be_negative.ensures ∙ c.if-not-may_be_negative.true)
+    ∙ ap (λ (v : ℕ). may_be_negative c.args.text.now v c.in-Ok.indicator c.in-Ok.rest.now) (sym g.2)
+    ∙ sym c.may_be_negative.ensures ∙ c.if-not-may_be_negative.true)
     (refused (λ x. ((x.0.0, x.0.1), x.1.now)) c.negative_front.result (read_negative_number c.args.text.now)
     c.negative_front.ensures.gives
     (c.is_refused.ensures.refused is))
@@ -21,7 +22,8 @@ returns-else-not-may_be_negative-clause-cut c is not =
     let g = c.in-Ok.ensures.gives in
     negative_cut c.args.text.now ((g.0, c.in-Ok.indicator), c.in-Ok.rest.now) g.1
     (sym (negative_capped c.args.text.now g.0 c.in-Ok.indicator c.in-Ok.rest.now)
-    ∙ ap (λ (v : ℕ). may_be_negative c.args.text.now v c.in-Ok.indicator c.in-Ok.rest.now) (sym g.2) ∙ sym c.may_be_negative.ensures ∙ c.if-not-may_be_negative.false)
+    ∙ ap (λ (v : ℕ). may_be_negative c.args.text.now v c.in-Ok.indicator c.in-Ok.rest.now) (sym g.2)
+    ∙ sym c.may_be_negative.ensures ∙ c.if-not-may_be_negative.false)
 
 pub returns-in-Err-clause-dead : goal.returns-in-Err-clause-dead
 returns-in-Err-clause-dead c is =

@@ -11,7 +11,8 @@ returns-then-not-widens-clause-dead c is =
     let g = c.in-Ok.ensures.gives in
     unsigned_dead c.args.text.now ((g.0, c.in-Ok.indicator), c.in-Ok.rest.now) g.1
     (sym (widens_capped g.0 c.in-Ok.indicator c.in-Ok.rest.now)
-    ∙ ap (λ (v : ℕ). widens v c.in-Ok.indicator c.in-Ok.rest.now) (sym g.2) ∙ sym c.widens.ensures ∙ c.if-not-widens.true)
+    ∙ ap (λ (v : ℕ). widens v c.in-Ok.indicator c.in-Ok.rest.now) (sym g.2) ∙ sym c.widens.ensures
+    ∙ c.if-not-widens.true)
     (refused (λ x. ((x.0.0, x.0.1), x.1.now)) c.unsigned_front.result (read_unsigned_number c.args.text.now)
     c.unsigned_front.ensures.gives
     (c.is_refused.ensures.refused is))
@@ -21,7 +22,8 @@ returns-else-not-widens-clause-cut c is not =
     let g = c.in-Ok.ensures.gives in
     unsigned_cut c.args.text.now ((g.0, c.in-Ok.indicator), c.in-Ok.rest.now) g.1
     (sym (widens_capped g.0 c.in-Ok.indicator c.in-Ok.rest.now)
-    ∙ ap (λ (v : ℕ). widens v c.in-Ok.indicator c.in-Ok.rest.now) (sym g.2) ∙ sym c.widens.ensures ∙ c.if-not-widens.false)
+    ∙ ap (λ (v : ℕ). widens v c.in-Ok.indicator c.in-Ok.rest.now) (sym g.2) ∙ sym c.widens.ensures
+    ∙ c.if-not-widens.false)
 
 pub returns-in-Err-clause-dead : goal.returns-in-Err-clause-dead
 returns-in-Err-clause-dead c is =
