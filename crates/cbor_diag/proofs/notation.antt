@@ -9,6 +9,9 @@ pub mod DeadNumbers
 pub mod DeadWords
 pub mod CutTokens
 pub mod CutNumbers
+pub mod GrownReads
+pub mod GrownLists
+pub mod GrownStrings
 pub mod GrownItems
 pub mod DeadItems
 pub mod DeadCores
@@ -16,5 +19,7 @@ pub mod CutLists
 pub mod CutAnswers
 pub mod CutItems
 pub mod CutMembers
+pub mod CutPieces
 pub mod CutStrings
+pub mod CutChunks
 pub mod CutCores

@@ -30,9 +30,10 @@ use Rattle.cbor_notation.proofs.notation.Ends.{passed_twice}
 use Rattle.cbor_notation.proofs.notation.Pieces.{pieces_go}
 use Rattle.cbor_diag.proofs.notation.GrownTokens.{blank_grown, byte_grown, no_byte_grown}
 use Rattle.cbor_diag.proofs.notation.DeadTokens.{not_bind, not_by}
-use Rattle.cbor_diag.proofs.notation.GrownItems.{firm_blank, Grows, item_grows, item_begins, pair_grows}
-use Rattle.cbor_diag.proofs.notation.GrownItems.{chunk_grows, no_byte_firm, content_grows}
-use Rattle.cbor_diag.proofs.notation.GrownItems.{piece_closed, members_grown, first_grown, unsigned_grows}
+use Rattle.cbor_diag.proofs.notation.GrownReads.{firm_blank, Grows}
+use Rattle.cbor_diag.proofs.notation.GrownLists.{members_grown, pair_grows}
+use Rattle.cbor_diag.proofs.notation.GrownStrings.{chunk_grows, content_grows, piece_closed, first_grown}
+use Rattle.cbor_diag.proofs.notation.GrownItems.{item_grows, item_begins, no_byte_firm, unsigned_grows}
 use Rattle.cbor_notation.proofs.notation.sound.Steps.{a_test, after_byte_is}
 use Rattle.cbor_notation.proofs.notation.ItemsFound.{notation_again}
 use Rattle.cbor_grammar.specs.WellFormed.{deepest}
@@ -60,7 +61,8 @@ module _ {X : Type 0} (read : List ℕ → Read X) (close : ℕ) where
       let blank : skip_blank (text ++ more) ≡ rest ++ more =
       blank_grown text more ends
       ∙ ap (λ (t : List ℕ). t ++ more) (sym is) in
-      not_by (members_from read close (suc (length (rest ++ more))) (rest ++ more)) (read_members read close (text ++ more))
+      not_by (members_from read close (suc (length (rest ++ more))) (rest ++ more))
+      (read_members read close (text ++ more))
       (ap (λ (f : List ℕ). members_or_end read close f (after_end close f)) blank
       ∙ ap (members_or_end read close (rest ++ more)) (open_here more))
       (never (suc (length (rest ++ more))) more)
@@ -108,8 +110,8 @@ module _ (left : ℕ) where
       → NeverReads (read_string (read_item left) kind) core → NeverReads (read_chunk (read_item left) kind) text
   chunk_dead kind text core is ends never more =
       not_by (read_string (read_item left) kind (core ++ more)) (read_chunk (read_item left) kind (text ++ more))
-      (ap (read_string (read_item left) kind) (blank_grown text more (subst (λ (t : List ℕ). ends_blank t ≡ true) is ends)
-      ∙ ap (λ (t : List ℕ). t ++ more) (sym is))) (never more)
+      (ap (read_string (read_item left) kind) (blank_grown text more
+      (subst (λ (t : List ℕ). ends_blank t ≡ true) is ends) ∙ ap (λ (t : List ℕ). t ++ more) (sym is))) (never more)
 
   -- ---- strings
 
@@ -123,8 +125,9 @@ module _ (left : ℕ) where
       no_first Bytes e = false≢true e
       no_first Text e = false≢true e
   piece_dead kind (b ∷ text) goes never (suc n) more =
-      not_by (read_piece (read_item left) (b ∷ (text ++ more)) >>= λ x. read_pieces (read_item left) kind n (skip_blank x.1)
-      >>= λ xs. Ok (x.0 ++ xs.0, xs.1)) _ (pieces_go (read_item left) kind n (b ∷ (text ++ more)) goes)
+      not_by (read_piece (read_item left) (b ∷ (text ++ more))
+      >>= λ x. read_pieces (read_item left) kind n (skip_blank x.1) >>= λ xs. Ok (x.0 ++ xs.0, xs.1)) _
+      (pieces_go (read_item left) kind n (b ∷ (text ++ more)) goes)
       (not_bind (read_piece (read_item left) (b ∷ (text ++ more))) _ (never more))
 
   pub pieces_next : (kind : StringKind) (text : List ℕ) (bytes after rest : List ℕ)
@@ -230,7 +233,8 @@ module _ (left : ℕ) where
       ∙ ap (λ (k : StringKind). chunks_of read k (first ++ more)) (sym kind_is))
       (not_bind (read_members (read_chunk read kind) 41 (first ++ more)) _ (never more))
 
-  length_later : (text more : List ℕ) → (later : List ℕ) × ((read_length (text ++ more)).1 ≡ (read_length text).1 ++ later)
+  length_later : (text more : List ℕ)
+      → (later : List ℕ) × ((read_length (text ++ more)).1 ≡ (read_length text).1 ++ later)
   length_later [] more = ((read_length more).1, refl)
   length_later (b ∷ text) more =
       elim (a_test (b == 95)) [
@@ -380,3 +384,21 @@ refused_by text none = by (notation_of deepest text) (notation_sound deepest tex
     by : (r : Result Item Error) → IsAnswered deepest text r → NotRead r
     by (Ok i) answered = none i answered
     by (Err e) answered = tt
+
+-- ---- what the functions of `fault.rt` name
+
+pub ruleset item_laws = (item_dead, too_deep)
+
+pub ruleset integer_laws = (number_dead, tag_item_dead, tag_close_dead)
+
+pub ruleset pair_laws = (pair_key_dead, pair_colon_dead, pair_value_dead)
+
+pub ruleset chunks_laws = (chunks_open_dead, chunks_list_dead)
+
+pub ruleset embedded_laws = (embedded_open_dead, embedded_close_dead, embedded_list_dead)
+
+pub ruleset string_laws = (string_start_dead, string_pieces_dead, string_content_dead)
+
+pub ruleset end_laws = (item_end_dead, rest_dead)
+
+pub ruleset fault_laws = (fault_is, cut_is, refused_by)

@@ -27,7 +27,7 @@ use Rattle.cbor_diag.proofs.notation.GrownTokens.{some_is}
 use Rattle.cbor_diag.proofs.notation.DeadTokens.{not_by, read_is, numbered, simple_after, closing, in_front, at_place}
 use Rattle.cbor_diag.proofs.notation.DeadTokens.{float_end}
 use Rattle.cbor_diag.proofs.notation.DeadTokens.{float_after}
-use Rattle.cbor_diag.proofs.notation.GrownItems.{of_some}
+use Rattle.cbor_diag.proofs.notation.GrownReads.{of_some}
 use Rattle.cbor_diag.proofs.notation.LaterNumbers.{number_later}
 use Rattle.cbor_diag.proofs.notation.DeadNumbers.{no_number}
 use Rattle.cbor_diag.proofs.notation.CutNumbers.{all_decimal}

@@ -59,7 +59,7 @@ enum Member {
 
 /// Whether no item is at the front, whatever follows the text.
 #[cycle(fault)]
-#[tactic(auto, using(crate::proofs::notation::DeadItems::item_dead, crate::proofs::notation::DeadItems::too_deep))]
+#[tactic(auto, using(crate::proofs::notation::DeadItems::item_laws))]
 fn is_dead_item(alloc: Global, text: &[u8], level: u8) -> Result<bool>
     requires { level ≤ 129 }
     ensures dead { IfOk result (λ dead. IsTrue dead
@@ -115,7 +115,7 @@ fn is_dead_core(alloc: Global, text: &[u8], inner: u8) -> Result<bool>
 
 /// Whether neither an integer nor a tag is at the front, whatever follows.
 #[cycle(fault)]
-#[tactic(auto, using(crate::proofs::notation::DeadItems::number_dead, crate::proofs::notation::DeadItems::tag_item_dead, crate::proofs::notation::DeadItems::tag_close_dead))]
+#[tactic(auto, using(crate::proofs::notation::DeadItems::integer_laws))]
 fn is_dead_integer(alloc: Global, text: &[u8], inner: u8) -> Result<bool>
     requires { inner ≤ 129 }
     ensures dead { IfOk result (λ dead. IsTrue dead
@@ -139,7 +139,7 @@ fn is_dead_integer(alloc: Global, text: &[u8], inner: u8) -> Result<bool>
 
 /// Whether no pair is at the front, whatever follows.
 #[cycle(fault)]
-#[tactic(auto, using(crate::proofs::notation::DeadItems::pair_key_dead, crate::proofs::notation::DeadItems::pair_colon_dead, crate::proofs::notation::DeadItems::pair_value_dead))]
+#[tactic(auto, using(crate::proofs::notation::DeadItems::pair_laws))]
 fn is_dead_pair(alloc: Global, text: &[u8], level: u8) -> Result<bool>
     requires { level ≤ 129 }
     ensures dead { IfOk result (λ dead. IsTrue dead
@@ -230,7 +230,7 @@ fn is_dead_list(alloc: Global, member: Member, close: u8, text: &[u8], level: u8
 
 /// Whether no indefinite string is after its `(`, whatever follows.
 #[cycle(fault)]
-#[tactic(auto, using(crate::proofs::notation::DeadItems::chunks_open_dead, crate::proofs::notation::DeadItems::chunks_list_dead))]
+#[tactic(auto, using(crate::proofs::notation::DeadItems::chunks_laws))]
 fn is_dead_chunks(alloc: Global, text: &[u8], inner: u8) -> Result<bool>
     requires { inner ≤ 129 }
     ensures dead { IfOk result (λ dead. IsTrue dead
@@ -253,7 +253,7 @@ fn is_dead_chunks(alloc: Global, text: &[u8], inner: u8) -> Result<bool>
 
 /// Whether no items are after the first `<` of `<<`, up to their `>>`, whatever follows.
 #[cycle(fault)]
-#[tactic(auto, using(crate::proofs::notation::DeadItems::embedded_open_dead, crate::proofs::notation::DeadItems::embedded_close_dead, crate::proofs::notation::DeadItems::embedded_list_dead))]
+#[tactic(auto, using(crate::proofs::notation::DeadItems::embedded_laws))]
 fn is_dead_embedded(alloc: Global, text: &[u8], inner: u8) -> Result<bool>
     requires { inner ≤ 129 }
     ensures dead { IfOk result (λ dead. IsTrue dead
@@ -321,7 +321,7 @@ fn is_dead_pieces(alloc: Global, kind: StringKind, text: &[u8], inner: u8) -> Re
 
 /// Whether no string of this kind and of definite length is at the front, whatever follows.
 #[cycle(fault)]
-#[tactic(auto, using(crate::proofs::notation::DeadItems::string_start_dead, crate::proofs::notation::DeadItems::string_pieces_dead, crate::proofs::notation::DeadItems::string_content_dead))]
+#[tactic(auto, using(crate::proofs::notation::DeadItems::string_laws))]
 fn is_dead_string(alloc: Global, kind: StringKind, text: &[u8], inner: u8) -> Result<bool>
     requires { inner ≤ 129 }
     ensures dead { IfOk result (λ dead. IsTrue dead
@@ -359,7 +359,7 @@ fn is_dead_string_item(alloc: Global, kind: StringKind, text: &[u8], inner: u8) 
 }
 
 /// Whether no text that begins so is notation of an item.
-#[tactic(auto, using(crate::proofs::notation::DeadItems::item_end_dead, crate::proofs::notation::DeadItems::rest_dead))]
+#[tactic(auto, using(crate::proofs::notation::DeadItems::end_laws))]
 fn is_dead_end(alloc: Global, text: &[u8]) -> Result<bool>
     ensures dead { IfOk result (λ dead. IsTrue dead → IsDeadEnd text.now) }
     ensures cut { IfOk result (λ dead. IsFalse dead → NotRead (notation_of deepest text.now)
@@ -438,7 +438,7 @@ pub fn diag_fault(alloc: Global, text: &str) -> Result<Option<(Error, usize)>>
 }
 
 /// What is wrong with a text that has this error, and where.
-#[tactic(auto, using(crate::proofs::notation::DeadItems::fault_is, crate::proofs::notation::DeadItems::cut_is, crate::proofs::notation::DeadItems::refused_by))]
+#[tactic(auto, using(crate::proofs::notation::DeadItems::fault_laws))]
 fn fault_of(alloc: Global, text: &[u8], error: Error) -> Result<(Error, usize)>
     requires { IsNoNotation text.now error }
     ensures fault { IfOk result (λ x. IsDiagFault text.now x.0 x.1) }

@@ -23,11 +23,11 @@ use Rattle.cbor_diag.proofs.notation.CutAnswers.{error_refused}
 use Rattle.cbor_diag.proofs.notation.CutItems.{item_core_cut, core_refused, item_blank_cut, tag_cut, tag_ends}
 use Rattle.cbor_diag.proofs.notation.CutItems.{integer_read, number_cut, key_cut, item_soft, value_cut, value_refused}
 use Rattle.cbor_diag.proofs.notation.CutMembers.{start_goes, start_cut, one_cut, behind_cut, next_goes}
-use Rattle.cbor_diag.proofs.notation.CutStrings.{chunk_blank_cut, chunk_core_cut, chunks_cut, chunks_opened}
-use Rattle.cbor_diag.proofs.notation.CutStrings.{embedded_list_cut, pieces_go_on, pieces_begin, pieces_cut}
-use Rattle.cbor_diag.proofs.notation.CutStrings.{pieces_ended}
-use Rattle.cbor_diag.proofs.notation.CutStrings.{no_piece, content_ends, chunks_empty, embedded_empty, string_empty}
-use Rattle.cbor_diag.proofs.notation.CutStrings.{near_cut, apart_cut, embedded_ends}
+use Rattle.cbor_diag.proofs.notation.CutChunks.{chunk_blank_cut, chunk_core_cut, chunks_cut, chunks_opened}
+use Rattle.cbor_diag.proofs.notation.CutChunks.{chunks_empty}
+use Rattle.cbor_diag.proofs.notation.CutPieces.{embedded_empty, embedded_list_cut, embedded_ends, no_piece}
+use Rattle.cbor_diag.proofs.notation.CutPieces.{pieces_go_on, pieces_begin, pieces_cut, pieces_ended}
+use Rattle.cbor_diag.proofs.notation.CutStrings.{content_ends, string_empty, near_cut, apart_cut}
 use Rattle.cbor_diag.proofs.notation.CutNumbers.{no_length, some_length}
 use Rattle.cbor_diag.proofs.notation.CutCores.{other_start, no_piece_dead, no_piece_cut}
 use Rattle.cbor_diag.proofs.parse.notation.fault.+fault.Goals.{is_dead_embedded-in-Some-2, is_dead_embedded-in-None}

@@ -6,7 +6,7 @@ use Rattle.cbor_notation.specs.mirror.NotationReading.{read_item, read_members}
 use Rattle.cbor_diag.specs.mirror.DeadEnds.{NeverReads, NeverMembers, NeverPieces, read_member, MemberIs}
 use Rattle.cbor_grammar.specs.Notation.{Reads}
 use Rattle.cbor_diag.proofs.notation.CutLists.{ListGoes}
-use Rattle.cbor_diag.proofs.notation.CutStrings.{PiecesGo}
+use Rattle.cbor_diag.proofs.notation.CutPieces.{PiecesGo}
 use Rattle.cbor_diag.proofs.parse.notation.fault.+fault.Given as goal
 
 -- Each level is deeper than the one before. At one level a call is for less than the one that it is made by; a chunk

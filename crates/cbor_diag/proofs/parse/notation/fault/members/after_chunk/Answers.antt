@@ -3,7 +3,7 @@ use Rattle.std.proofs.lemmas.Bool.{false≢true}
 use Rattle.cbor_grammar.specs.StringKind.{IsContent}
 use Rattle.std.proofs.lemmas.Result.{err_from_is_err_and}
 use Rattle.cbor_notation.specs.mirror.NotationReading.{read_item, read_content}
-use Rattle.cbor_diag.proofs.notation.CutStrings.{chunk_refused, chunk_content_refused}
+use Rattle.cbor_diag.proofs.notation.CutChunks.{chunk_refused, chunk_content_refused}
 use Rattle.cbor_diag.proofs.notation.DeadItems.{no_content}
 use Rattle.cbor_diag.proofs.notation.DeadTokens.{failed}
 use Rattle.cbor_diag.proofs.parse.notation.fault.members.after_chunk.Goals as goal
