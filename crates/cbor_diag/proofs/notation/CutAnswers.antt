@@ -1,11 +1,17 @@
 -- What the answers of callees say of what they are part of.
 use Rattle.std.proofs.Common.{◌≡◌, ◌≢◌, Bool, Option, Some, None, IfSome, IfNone, IfOk, IfErr, IsTrue, Result, Ok, Err}
-use Rattle.std.proofs.Common.{subst, sym, ap, ◌∙◌}
+use Rattle.std.proofs.Common.{subst, sym, ap, ◌∙◌, ℕ, suc, ◌-◌, ◌+◌, ◌≤◌, List, arith}
 use Rattle.std.specs.Bool.{IsFalse}
 use Rattle.cbor_grammar.specs.declared.error.Error.{Error}
 use Rattle.cbor_grammar.specs.declared.error.Error.TheVariants as refusal
+use Rattle.cbor_grammar.specs.DeadEnd.{CutOf}
+use Rattle.cbor_grammar.specs.Notation.{Reads}
 use Rattle.cbor_grammar.specs.Reading.{Gives}
-use Rattle.cbor_diag.specs.mirror.DeadEnds.{IsRealError}
+use Rattle.cbor_notation.specs.declared.start.Start.{Start}
+use Rattle.cbor_notation.specs.mirror.NotationReading.{read_item}
+use Rattle.cbor_diag.specs.declared.parse.notation.fault.Member.{Member}
+use Rattle.cbor_diag.specs.mirror.DeadEnds.{IsRealError, NeverReads, NotRead, MemberIs, read_member}
+use Rattle.cbor_diag.proofs.notation.DeadTokens.{refused}
 
 -- what a callee's answer says, said of what it is part of
 pub dead_from : {P Q : Type 0} (r : Result Bool Error) → (P → Q) → IfOk r (λ dead. IsTrue dead → P)
@@ -18,6 +24,50 @@ pub cut_from : {P Q : Type 0} (r : Result Bool Error) → (P → Q) → IfOk r (
     → IfOk r (λ dead. IsFalse dead → Q)
 cut_from (Ok b) f h = λ is. f (h is)
 cut_from (Err e) f h = tt
+
+-- what a branch of a match answers
+pub by_branch : (P : Type 0) (r s : Result Bool Error) → r ≡ s → IfOk s (λ dead. IsFalse dead → P)
+    → IfOk r (λ dead. IsFalse dead → P)
+by_branch P r s e h = subst (λ (q : Result Bool Error). IfOk q (λ dead. IsFalse dead → P)) (sym e) h
+
+-- ---- by the start that a text is taken apart with
+
+pub dead_core_at : {P Q B E : Type 0} {at s first : Start} (r : Result Bool Error) → IfOk r (λ dead. IsTrue dead → P)
+    → at ≡ s → at ≡ first → B → E → (s ≡ first → B → E → P → Q) → IfOk r (λ dead. IsTrue dead → Q)
+dead_core_at r h is starts behind some f = dead_from r (f (sym is ∙ starts) behind some) h
+
+pub cut_core_at : {P Q B E : Type 0} {at s first : Start} (r : Result Bool Error) → IfOk r (λ dead. IsFalse dead → P)
+    → at ≡ s → at ≡ first → B → E → (s ≡ first → B → E → P → Q) → IfOk r (λ dead. IsFalse dead → Q)
+cut_core_at r h is starts behind some f = cut_from r (f (sym is ∙ starts) behind some) h
+
+pub dead_piece_at : {P Q B : Type 0} {at s first : Start} (r : Result Bool Error) → IfOk r (λ dead. IsTrue dead → P)
+    → at ≡ s → at ≡ first → B → (s ≡ first → B → P → Q) → IfOk r (λ dead. IsTrue dead → Q)
+dead_piece_at r h is starts behind f = dead_from r (f (sym is ∙ starts) behind) h
+
+pub cut_piece_at : {P Q B : Type 0} {at s first : Start} (r : Result Bool Error) → IfOk r (λ dead. IsFalse dead → P)
+    → at ≡ s → at ≡ first → B → (s ≡ first → B → P → Q) → IfOk r (λ dead. IsFalse dead → Q)
+cut_piece_at r h is starts behind f = cut_from r (f (sym is ∙ starts) behind) h
+
+-- ---- by the kind of a member
+
+pub dead_member_at : {m k : Member} (r : Result Bool Error) (left : ℕ) (text : List ℕ) → m ≡ k
+    → IfOk r (λ dead. IsTrue dead → NeverReads (read_member k (read_item left)) text)
+    → IfOk r (λ dead. IsTrue dead → NeverReads (read_member m (read_item left)) text)
+dead_member_at r left text is h =
+    subst (λ (m : Member). IfOk r (λ dead. IsTrue dead → NeverReads (read_member m (read_item left)) text)) (sym is) h
+
+pub cut_member_at : {m k : Member} (r : Result Bool Error) (left : ℕ) (text : List ℕ) → m ≡ k
+    → IfOk r (λ dead. IsFalse dead → NotRead (read_member k (read_item left) text) → CutOf (MemberIs k (Reads left)) text)
+    → IfOk r (λ dead. IsFalse dead → NotRead (read_member m (read_item left) text) → CutOf (MemberIs m (Reads left)) text)
+cut_member_at r left text is h =
+    subst (λ (m : Member). IfOk r (λ dead. IsFalse dead → NotRead (read_member m (read_item left) text)
+    → CutOf (MemberIs m (Reads left)) text)) (sym is) h
+
+-- a level less is left one level deeper
+pub one_less : (level : ℕ) → level ≤ 128 → suc (129 - (level + 1)) ≡ 129 - level
+one_less level le = omega (arith, le)
+
+-- ---- what was read, and what was not
 
 -- what was not read
 pub refused_of : {T P : Type 0} (answer : Result T Error) → IsRealError answer
@@ -53,3 +103,8 @@ pub error_refused : {T : Type 0} (answer : Result T Error) (e : Error) → answe
 error_refused {T} answer e is other =
     subst (λ (r : Result T Error). IsRealError r) (sym is)
     (λ memory. other (is ∙ ap (λ (f : Error). let r : Result T Error = Err f in r) memory))
+
+-- what an error of a callee's mirrors
+pub not_given : {T Y : Type 0} (answer : Result T Error) (found : Option T) (view : T → Y) (read : Result Y Error)
+    → IfNone found (IsRealError answer) → found ≡ None → Gives view answer read → NotRead read
+not_given answer found view read h is g = refused view answer read g (was_error answer found h is)

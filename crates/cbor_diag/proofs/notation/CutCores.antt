@@ -59,20 +59,25 @@ module _ (left : ℕ) where
       (not_made (read_negative_number rest) (λ n. (atom (negative n.0.0 n.0.1), n.1))
       (core_refused_at start.Minus text rest at behind some refused))))
 
-  pub bracket_core : (text rest : List ℕ) → start.Bracket ≡ first_start text → rest ≡ rest_of text → 0 < length text
-      → (NotRead (read_members (read_item left) 93 (read_length rest).1)
-      → CutOf (Members (Reads left) (93 ∷ [])) (read_length rest).1)
+  pub bracket_core : (text rest opened : List ℕ) → opened ≡ (read_length rest).1 → start.Bracket ≡ first_start text
+      → rest ≡ rest_of text → 0 < length text
+      → (NotRead (read_members (read_item left) 93 opened) → CutOf (Members (Reads left) (93 ∷ [])) opened)
       → NotRead (read_core (read_item left) text) → CutOf (Core (Reads left)) text
-  bracket_core text rest at behind some cut refused =
+  bracket_core text rest opened is at behind some cut_opened refused =
+      let cut = subst (λ (t : List ℕ). NotRead (read_members (read_item left) 93 t)
+      → CutOf (Members (Reads left) (93 ∷ [])) t) is cut_opened in
       let b = starts_as start.Bracket text rest at behind some in
       behind_byte b.0 91 text rest b.1 b.2 (array_cut left rest (cut
       (array_refused left rest (core_refused_at start.Bracket text rest at behind some refused))))
 
-  pub brace_core : (text rest : List ℕ) → start.Brace ≡ first_start text → rest ≡ rest_of text → 0 < length text
-      → (NotRead (read_members (read_pair (read_item left)) 125 (read_length rest).1)
-      → CutOf (Members (PairOf (Reads left)) (125 ∷ [])) (read_length rest).1)
+  pub brace_core : (text rest opened : List ℕ) → opened ≡ (read_length rest).1 → start.Brace ≡ first_start text
+      → rest ≡ rest_of text → 0 < length text
+      → (NotRead (read_members (read_pair (read_item left)) 125 opened)
+      → CutOf (Members (PairOf (Reads left)) (125 ∷ [])) opened)
       → NotRead (read_core (read_item left) text) → CutOf (Core (Reads left)) text
-  brace_core text rest at behind some cut refused =
+  brace_core text rest opened is at behind some cut_opened refused =
+      let cut = subst (λ (t : List ℕ). NotRead (read_members (read_pair (read_item left)) 125 t)
+      → CutOf (Members (PairOf (Reads left)) (125 ∷ [])) t) is cut_opened in
       let b = starts_as start.Brace text rest at behind some in
       behind_byte b.0 123 text rest b.1 b.2 (map_cut left rest (cut
       (map_refused left rest (core_refused_at start.Brace text rest at behind some refused))))

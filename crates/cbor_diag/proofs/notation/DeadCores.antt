@@ -1,14 +1,45 @@
 -- What is not read whatever follows the text, by what the text begins with.
-use Rattle.std.proofs.Common.{◌≡◌, ℕ, false, List, [], ◌∷◌, ◌++◌, None, sym, ap, ◌∙◌}
+use Rattle.std.proofs.Common.{◌≡◌, ℕ, ◌<◌, false, List, [], ◌∷◌, ◌++◌, length, None, ◌⊎◌, sym, ap, ◌∙◌, subst}
 use Rattle.cbor_notes.specs.TokenReading.{unquoted}
 use Rattle.cbor_notation.specs.declared.start.Start.{Start}
 use Rattle.cbor_notation.specs.declared.start.Start.TheVariants as start
+use Rattle.cbor_grammar.specs.declared.strings.StringKind.TheVariants.{Bytes}
 use Rattle.cbor_notation.specs.mirror.NotationReading.{first_start, rest_of, read_item, piece_of, read_piece}
-use Rattle.cbor_notation.specs.mirror.NotationReading.{read_embedded, b_notation, h_notation}
+use Rattle.cbor_notation.specs.mirror.NotationReading.{read_embedded, b_notation, h_notation, read_core, read_length}
+use Rattle.cbor_notation.specs.mirror.NotationReading.{read_members, read_pair, read_string_item}
 use Rattle.cbor_diag.specs.mirror.DeadEnds.{NeverReads}
+use Rattle.cbor_diag.proofs.notation.Cores.{bytes_core}
 use Rattle.cbor_diag.proofs.notation.DeadTokens.{not_by}
+use Rattle.cbor_diag.proofs.notation.DeadItems.{core_dead, array_dead, map_dead}
 
 module _ (left : ℕ) where
+  -- ---- cores
+
+  pub bracket_dead : (text rest opened : List ℕ) → opened ≡ (read_length rest).1 → start.Bracket ≡ first_start text
+      → rest ≡ rest_of text → 0 < length text → NeverReads (read_members (read_item left) 93) opened
+      → NeverReads (read_core (read_item left)) text
+  bracket_dead text rest opened is at behind some never =
+      core_dead left start.Bracket text rest at behind some
+      (array_dead left rest (subst (NeverReads (read_members (read_item left) 93)) is never))
+
+  pub brace_dead : (text rest opened : List ℕ) → opened ≡ (read_length rest).1 → start.Brace ≡ first_start text
+      → rest ≡ rest_of text → 0 < length text → NeverReads (read_members (read_pair (read_item left)) 125) opened
+      → NeverReads (read_core (read_item left)) text
+  brace_dead text rest opened is at behind some never =
+      core_dead left start.Brace text rest at behind some
+      (map_dead left rest (subst (NeverReads (read_members (read_pair (read_item left)) 125)) is never))
+
+  pub bytes_dead : (s : Start) (text rest : List ℕ)
+      → ((s ≡ start.Apostrophe) ⊎ (s ≡ start.Angle) ⊎ (s ≡ start.LetterB) ⊎ (s ≡ start.LetterH))
+      → s ≡ first_start text → rest ≡ rest_of text → 0 < length text
+      → NeverReads (read_string_item (read_item left) Bytes) text → NeverReads (read_core (read_item left)) text
+  bytes_dead s text rest which at behind some never =
+      core_dead left s text rest at behind some
+      (λ more. not_by (read_string_item (read_item left) Bytes (text ++ more)) _
+      (bytes_core (read_item left) (text ++ more) (rest ++ more) s which) (never more))
+
+  -- ---- pieces
+
   piece_at : (s : Start) (text rest : List ℕ) → (s ≡ start.Other → ⊥) → s ≡ first_start text → rest ≡ rest_of text
       → NeverReads (piece_of (read_item left) s) rest → NeverReads (read_piece (read_item left)) text
   unfolding read_piece
