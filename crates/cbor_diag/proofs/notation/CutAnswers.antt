@@ -57,8 +57,10 @@ dead_member_at r left text is h =
     subst (λ (m : Member). IfOk r (λ dead. IsTrue dead → NeverReads (read_member m (read_item left)) text)) (sym is) h
 
 pub cut_member_at : {m k : Member} (r : Result Bool Error) (left : ℕ) (text : List ℕ) → m ≡ k
-    → IfOk r (λ dead. IsFalse dead → NotRead (read_member k (read_item left) text) → CutOf (MemberIs k (Reads left)) text)
-    → IfOk r (λ dead. IsFalse dead → NotRead (read_member m (read_item left) text) → CutOf (MemberIs m (Reads left)) text)
+    → IfOk r (λ dead. IsFalse dead → NotRead (read_member k (read_item left) text)
+    → CutOf (MemberIs k (Reads left)) text)
+    → IfOk r (λ dead. IsFalse dead → NotRead (read_member m (read_item left) text)
+    → CutOf (MemberIs m (Reads left)) text)
 cut_member_at r left text is h =
     subst (λ (m : Member). IfOk r (λ dead. IsFalse dead → NotRead (read_member m (read_item left) text)
     → CutOf (MemberIs m (Reads left)) text)) (sym is) h

@@ -1,17 +1,15 @@
 -- Cores and pieces that are cut short, by what the text begins with.
-use Rattle.std.proofs.Common.{◌≡◌, ℕ, zero, suc, ◌<◌, true, false, List, [], ◌∷◌, ◌++◌, length, codes, Option, Some}
+use Rattle.std.proofs.Common.{◌≡◌, ℕ, ◌<◌, false, List, [], ◌∷◌, ◌++◌, length, Option, Some}
 use Rattle.std.proofs.Common.{None}
-use Rattle.std.proofs.Common.{Result, Ok, Err, ◌⊎◌, inl, inr, refl, sym, ap, ◌∙◌, subst, arith}
+use Rattle.std.proofs.Common.{◌⊎◌, inl, inr, refl, sym, ap, ◌∙◌, subst, arith}
 use Rattle.cbor_notes.specs.TokenReading.{unquoted}
-use Rattle.cbor_grammar.specs.declared.error.Error.{Error}
 use Rattle.cbor_notation.specs.declared.start.Start.{Start}
 use Rattle.cbor_notation.specs.declared.start.Start.TheVariants as start
 use Rattle.cbor_grammar.specs.declared.width.IntegerWidth.{IntegerWidth}
 use Rattle.cbor_grammar.specs.Item.{Item, atom, negative}
 use Rattle.cbor_grammar.specs.declared.strings.StringKind.TheVariants.{Bytes, Text}
-use Rattle.cbor_grammar.specs.Reading.{Read, ◌>>=◌}
 use Rattle.cbor_grammar.specs.Notation.{Members, PairOf, NegativeOf, Notation, as_text, Core, Reads}
-use Rattle.cbor_grammar.specs.DeadEnd.{GoesOn, CutOf, closes_text, content}
+use Rattle.cbor_grammar.specs.DeadEnd.{CutOf, closes_text, content}
 use Rattle.cbor_notation.specs.mirror.NotationReading.{or_refused, first_start, start_of, rest_of, read_item, read_core}
 use Rattle.cbor_notation.specs.mirror.NotationReading.{core_of, piece_of, read_piece, read_members, read_length}
 use Rattle.cbor_notation.specs.mirror.NotationReading.{read_pair}

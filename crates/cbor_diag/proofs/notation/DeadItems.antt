@@ -26,11 +26,10 @@ use Rattle.cbor_notation.specs.mirror.NotationReading.{notation_of, whole}
 use Rattle.cbor_diag.specs.mirror.DeadEnds.{NotRead, NeverReads, NeverMembers, NeverPieces, read_member, is_firm}
 use Rattle.cbor_diag.specs.mirror.DeadEnds.{ends_blank}
 use Rattle.cbor_grammar.proofs.shared.Utf8.{utf8_passes, utf8_fails}
-use Rattle.cbor_notation.proofs.notation.Ends.{passed_twice}
 use Rattle.cbor_notation.proofs.notation.Pieces.{pieces_go}
 use Rattle.cbor_diag.proofs.notation.GrownTokens.{blank_grown, byte_grown, no_byte_grown}
 use Rattle.cbor_diag.proofs.notation.DeadTokens.{not_bind, not_by}
-use Rattle.cbor_diag.proofs.notation.GrownReads.{firm_blank, Grows}
+use Rattle.cbor_diag.proofs.notation.GrownReads.{Grows}
 use Rattle.cbor_diag.proofs.notation.GrownLists.{members_grown, pair_grows}
 use Rattle.cbor_diag.proofs.notation.GrownStrings.{chunk_grows, content_grows, piece_closed, first_grown}
 use Rattle.cbor_diag.proofs.notation.GrownItems.{item_grows, item_begins, no_byte_firm, unsigned_grows}
