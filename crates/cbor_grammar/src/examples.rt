@@ -141,7 +141,8 @@ pub(crate) fn pretty_text()
     ensures row { pretty Base16 1 0 (ones 11) ≡ codes "[1, 1, 1, 1, 1, 1, 1, 1, 1, 1, 1]" }
     ensures lines { pretty Base16 1 0 (array (item (ones 12) no_items) (Some Zero))
         ≡ codes "[\n    [\n        1,\n        1,\n        1,\n        1,\n        1,\n        1,\n"
-        ++ codes "        1,\n        1,\n        1,\n        1,\n        1,\n        1,\n    ],\n]" }
+        ++ codes "        1,\n        1,\n        1,\n        1,\n        1,\n        1,\n"
+        ++ codes "    ],\n]" }
     ensures open { pretty Base16 1 0 open_map ≡ codes "{_ 1: 2}" }
     ensures empty { pretty Base16 1 0 (atom (chunked_string Bytes [])) ≡ codes "''_" }
 {}
