@@ -172,7 +172,8 @@ const ITEMS: &[(&str, &str)] = &[
     ),
     (
         "24(<<[1, 2]>>)",
-        "encoded cbor data item\n  82    # array(2)\n     01 #   unsigned(1)\n     02 #   unsigned(2)",
+        "encoded cbor data item\n  82    # array(2)\n     01 #   \
+         unsigned(1)\n     02 #   unsigned(2)",
     ),
     (
         "24(<<''>>)",

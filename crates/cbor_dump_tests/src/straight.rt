@@ -11,7 +11,8 @@ const ITEMS: &[(&str, &str)] = &[
     // a head
     (
         "82 1b0000000000000001 20",
-        "82                     # array(2)\n   1b 0000000000000001 #   unsigned(1)\n   20                  #   negative(-1)\n",
+        "82                     # array(2)\n   1b 0000000000000001 #   \
+         unsigned(1)\n   20                  #   negative(-1)\n",
     ),
     // a break, one deeper than what it ends
     ("9f ff", "9f    # array(*)\n   ff #   break\n"),
@@ -37,12 +38,15 @@ const ITEMS: &[(&str, &str)] = &[
     // nine characters of three bytes: five on a line, since sixteen bytes are no whole characters
     (
         "78 1b e282ace282ace282ace282ace282ace282ace282ace282ace282ac",
-        "78 1b                             # text(27)\n   e282ace282ace282ace282ace282ac #   \"€€€€€\"\n   e282ace282ace282ace282ac       #   \"€€€€\"\n",
+        "78 1b                             # text(27)\n   \
+         e282ace282ace282ace282ace282ac #   \"€€€€€\"\n   \
+         e282ace282ace282ace282ac       #   \"€€€€\"\n",
     ),
     // eight of them are on one line
     (
         "78 18 e282ace282ace282ace282ace282ace282ace282ace282ac",
-        "78 18                                               # text(24)\n   e282ace282ace282ace282ace282ace282ace282ace282ac #   \"€€€€€€€€\"\n",
+        "78 18                                               # text(24)\n   \
+         e282ace282ace282ace282ace282ace282ace282ace282ac #   \"€€€€€€€€\"\n",
     ),
     // a simple value in a byte too many is shown in one
     ("f8 14", "f4 # false, simple(20)\n"),

@@ -15,7 +15,8 @@ pub(crate) const COMMENTED: &[u8] = b"\
 d8 20                                        # uri, tag(32)
    73                                        #   text(19)
       68747470733a2f2f6578616d706c652e636f6d #     \"https://example.com\"
-                                             #   valid URL (checked against URL Standard, not RFC 3986)
+                                             #   valid URL (checked against URL \
+Standard, not RFC 3986)
 ";
 
 /// Reads by one byte a call, and fails at one of its calls, counted from 1.
