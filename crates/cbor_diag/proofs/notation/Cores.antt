@@ -23,7 +23,7 @@ use Rattle.cbor_notation.specs.mirror.NotationReading.{core_of, read_core, read_
 use Rattle.cbor_notation.specs.mirror.NotationReading.{begins_piece}
 use Rattle.cbor_notation.specs.mirror.NotationReading.{begins_string, read_pieces, content_of, read_content, kind_from}
 use Rattle.cbor_notation.specs.mirror.NotationReading.{checked, with_chunk, read_string, read_chunk, chunks_of}
-use Rattle.cbor_notation.specs.mirror.NotationReading.{read_members, read_chunks, read_string_item}
+use Rattle.cbor_notation.specs.mirror.NotationReading.{read_members, read_chunks, read_string_item, read_length}
 use Rattle.cbor_grammar.proofs.bytes.Heads.{bind_ok, ok_is}
 use Rattle.cbor_diag.proofs.notation.ChunkLoops.{Fails-bind, onto, onto_fails}
 use Rattle.cbor_diag.proofs.shared.Views.{view-Array, view-Map, item_count_view, pair_count_view}
@@ -34,6 +34,28 @@ unfolding read_core
 core_by read [] rest s is behind = sym (ap (λ s. core_of read s [] rest) is)
 core_by read (b ∷ text) rest s is behind = ap (λ s. core_of read s (b ∷ text) text) (sym is)
     ∙ ap (core_of read s (b ∷ text)) (sym behind)
+
+-- by the start that a match found it to be
+pub core_at : {at s : Start} (read : List ℕ → Read Item) (text : List ℕ) {rest : List ℕ} → at ≡ s
+    → at ≡ first_start text → rest ≡ rest_of text → read_core read text ≡ core_of read s text rest
+core_at {at} {s} read text {rest} is starts behind = core_by read text rest s (sym is ∙ starts) behind
+
+-- an array or a map, from what its length and its members are
+module _ {X : Type 0} (member : List ℕ → Read X) (close : ℕ) (make : List X → Option IntegerWidth → Item)
+    (behind : List ℕ) {opened : List ℕ} {core : Read Item}
+    (is : core ≡ (read_members member close (read_length behind).1
+    >>= λ xs. Ok (make xs.0 (read_length behind).0, xs.1))) (opens : opened ≡ (read_length behind).1) where
+  pub list_fails : (e : Error) → Fails e (read_members member close opened) → Fails e core
+  list_fails e h = subst (λ r. Fails e r) (sym is) (Fails-bind e (read_members member close (read_length behind).1)
+      (λ xs. Ok (make xs.0 (read_length behind).0, xs.1))
+      (subst (λ b. Fails e (read_members member close b)) opens h))
+
+  pub list_read : {xs : List X} {after : List ℕ} {i : Item} (w : Option IntegerWidth) → w ≡ (read_length behind).0
+      → read_members member close opened ≡ Ok (xs, after) → i ≡ make xs w → core ≡ Ok (i, after)
+  list_read {xs} {after} w width found made =
+      is ∙ ap (λ r. r >>= λ xs. Ok (make xs.0 (read_length behind).0, xs.1))
+      (ap (read_members member close) (sym opens) ∙ found)
+      ∙ ap (λ w. Ok (make xs w, after)) (sym width) ∙ ap (λ i. Ok (i, after)) (sym made)
 
 -- what bytes begin with
 pub bytes_core : (read : List ℕ → Read Item) (text rest : List ℕ) (s : Start)
@@ -62,7 +84,8 @@ no_chunk made cs rest refusal.Memory h = tt
 no_chunk (Err d) cs rest e h = let same : d ≡ e = cc in ap (λ x. Err x) same
 no_chunk (Ok c) cs rest e h = absurd cc
 
-module _ (read : List ℕ → Read Item) (kind : StringKind) (text first : List ℕ) (blank : first ≡ skip_blank text) where
+module _ (read : List ℕ → Read Item) (kind : StringKind) (text : List ℕ) {first : List ℕ}
+    (blank : first ≡ skip_blank text) where
   by_content : read_chunk read kind text
       ≡ (read_content read kind first >>= λ x. checked kind x.0 >>= λ c. Ok (c, x.1))
   unfolding read_string
@@ -72,7 +95,7 @@ module _ (read : List ℕ → Read Item) (kind : StringKind) (text first : List 
   no_content e h = subst (λ r. Fails e r) (sym by_content) (Fails-bind e (read_content read kind first)
       (λ x. checked kind x.0 >>= λ c. Ok (c, x.1)) h)
 
-  module _ (content rest : List ℕ) (found : read_content read kind first ≡ Ok (content, rest)) (held : StringKind)
+  module _ {content rest : List ℕ} (found : read_content read kind first ≡ Ok (content, rest)) {held : StringKind}
       (cs : List Chunk) (same : held ≡ kind) where
     from_content : read_chunk read kind text ≡ (checked held content >>= λ c. Ok (c, rest))
     from_content = by_content ∙ ap (λ r. r >>= λ x. checked kind x.0 >>= λ c. Ok (c, x.1)) found
@@ -83,9 +106,9 @@ module _ (read : List ℕ → Read Item) (kind : StringKind) (text first : List 
     no_string e h = subst (λ r. Fails e r) (sym from_content) (no_chunk (checked held content) cs rest e h)
 
     -- a chunk of this content was added
-    pub string_read : (after : List Chunk) → with_chunk held cs content ≡ Ok after
+    pub string_read : {after : List Chunk} → with_chunk held cs content ≡ Ok after
         → (c : Chunk) × (after ≡ cs ++ c ∷ []) × (read_chunk read kind text ≡ Ok (c, rest))
-    string_read after e =
+    string_read {after} e =
         let made = bind_ok (checked held content) (λ c. Ok (cs ++ c ∷ [])) after e in (
           made.0,
           sym (ok_is (cs ++ made.0 ∷ []) after made.2),
@@ -95,7 +118,7 @@ module _ (read : List ℕ → Read Item) (kind : StringKind) (text first : List 
 
 -- an indefinite string, from its chunks
 
-module _ (read : List ℕ → Read Item) (text opened first : List ℕ) (kind : StringKind)
+module _ (read : List ℕ → Read Item) (text : List ℕ) {opened first : List ℕ} {kind : StringKind}
     (opens : or_refused (after_byte 95 text) ≡ Ok opened) (blank : first ≡ skip_blank opened)
     (begins : kind ≡ kind_from (first_start first)) where
   by_chunks : read_chunks read text ≡ chunks_of read kind first
@@ -107,10 +130,10 @@ module _ (read : List ℕ → Read Item) (text opened first : List ℕ) (kind : 
   no_chunks e h = subst (λ r. Fails e r) (sym by_chunks) (Fails-bind e (read_members (read_chunk read kind) 41 first)
       (λ cs. Ok (atom (chunked_string kind cs.0), cs.1)) h)
 
-  pub chunks_read : (cs : List Chunk) (rest : List ℕ) (i : Item)
+  pub chunks_read : {cs : List Chunk} {rest : List ℕ} {i : Item}
       → read_members (read_chunk read kind) 41 first ≡ Ok (cs, rest)
       → i ≡ atom (chunked_string kind cs) → read_chunks read text ≡ Ok (i, rest)
-  chunks_read cs rest i e made = by_chunks ∙ ap (λ r. r >>= λ cs. Ok (atom (chunked_string kind cs.0), cs.1)) e
+  chunks_read {cs} {rest} {i} e made = by_chunks ∙ ap (λ r. r >>= λ cs. Ok (atom (chunked_string kind cs.0), cs.1)) e
       ∙ ap (λ i. Ok (i, rest)) (sym made)
 
 pub chunks_well : (level : ℕ) (kind : StringKind) (cs : List Chunk) (i : Item) → level ≤ 128
@@ -172,11 +195,11 @@ module _ (read : List ℕ → Read Item) (kind : StringKind) (front : List ℕ) 
   joined piece (Ok r) = ap (λ xs. Ok (xs, r.1)) (sym (append_assoc front piece r.0))
   joined piece (Err e) = refl
 
-  pub piece_more : (piece after rest : List ℕ) → begins_piece kind (first_start text) ≡ true
+  pub piece_more : {piece after rest : List ℕ} → begins_piece kind (first_start text) ≡ true
       → read_piece read text ≡ Ok (piece, after) → rest ≡ skip_blank after → length after < length text
       → length rest ≤ length after
       → (m : ℕ) × (length rest < m) × (onto (λ xs. (front ++ piece) ++ xs) (read_pieces read kind m rest) ≡ total)
-  piece_more piece after rest begins r blank less shorter =
+  piece_more {piece} {after} {rest} begins r blank less shorter =
       let left = room_left n room in
       let fewer : length rest < left.0 = omega (arith, left.1) in
       let many = λ (x : List ℕ × List ℕ). read_pieces read kind left.0 (skip_blank x.1)
@@ -198,7 +221,7 @@ module _ (read : List ℕ → Read Item) (text : List ℕ) where
   no_key e h = Fails-bind e (read text) (λ k. or_refused (after_byte 58 k.1) >>= λ rest. read rest
       >>= λ v. Ok ((k.0, v.0), v.1)) h
 
-  module _ (key : Item) (behind : List ℕ) (read_key : read text ≡ Ok (key, behind)) where
+  module _ {key : Item} {behind : List ℕ} (read_key : read text ≡ Ok (key, behind)) where
     behind_key : read_pair read text ≡ (or_refused (after_byte 58 behind) >>= λ rest. read rest
         >>= λ v. Ok ((key, v.0), v.1))
     behind_key = ap (λ r. r >>= λ k. or_refused (after_byte 58 k.1) >>= λ rest. read rest >>= λ v. Ok ((k.0, v.0), v.1))
@@ -208,16 +231,16 @@ module _ (read : List ℕ → Read Item) (text : List ℕ) where
     no_colon e h = subst (λ r. Fails e r) (sym behind_key)
         (Fails-bind e (or_refused (after_byte 58 behind)) (λ rest. read rest >>= λ v. Ok ((key, v.0), v.1)) h)
 
-    module _ (next : List ℕ) (colon : or_refused (after_byte 58 behind) ≡ Ok next) where
+    module _ {next : List ℕ} (colon : or_refused (after_byte 58 behind) ≡ Ok next) where
       behind_colon : read_pair read text ≡ (read next >>= λ v. Ok ((key, v.0), v.1))
       behind_colon = behind_key ∙ ap (λ r. r >>= λ rest. read rest >>= λ v. Ok ((key, v.0), v.1)) colon
 
       pub no_value : (e : Error) → Fails e (read next) → Fails e (read_pair read text)
       no_value e h = subst (λ r. Fails e r) (sym behind_colon) (Fails-bind e (read next) (λ v. Ok ((key, v.0), v.1)) h)
 
-      pub pair_read : (value : Item) (after : List ℕ) → read next ≡ Ok (value, after)
+      pub pair_read : {value : Item} {after : List ℕ} → read next ≡ Ok (value, after)
           → read_pair read text ≡ Ok ((key, value), after)
-      pair_read value after e = behind_colon ∙ ap (λ r. r >>= λ v. Ok ((key, v.0), v.1)) e
+      pair_read {value} {after} e = behind_colon ∙ ap (λ r. r >>= λ v. Ok ((key, v.0), v.1)) e
 
 abbrev pub pair_view : DataItem × DataItem → Item × Item
 pair_view p = (view p.0, view p.1)

@@ -3,6 +3,7 @@ use Rattle.std.proofs.Common.{◌≡◌, ℕ, zero, suc, ◌<◌, ◌≤◌, Lis
 use Rattle.std.proofs.Common.{ap, subst, ◌∙◌, append_assoc, arith}
 use Rattle.std.proofs.lemmas.List.{append-nil}
 use Rattle.cbor_grammar.specs.declared.error.Error.{Error}
+use Rattle.cbor_grammar.specs.declared.error.Error.TheVariants as refusal
 use Rattle.cbor_grammar.specs.Reading.{Read, ◌>>=◌, Fails}
 use Rattle.cbor_notation.specs.mirror.NotationReading.{or_refused, after_byte, after_end, skip_blank, more_members}
 use Rattle.cbor_notation.specs.mirror.NotationReading.{members_from, members_or_end, read_members}
@@ -72,10 +73,10 @@ module _ {X : Type 0} (read : List ℕ → Read X) (close : ℕ) (front : List X
       ∙ sym (ap (λ y. onto (λ xs. front ++ xs) (y >>= λ x. behind r.0 x.0 x.1 >>= λ xs. Ok (x.0 ∷ xs.0, xs.1))) e)
       ∙ turned r
 
-  pub member_last : (x : X) (after end : List ℕ) → read text ≡ Ok (x, after) → after_end close after ≡ Some end
+  pub member_last : {x : X} {after end : List ℕ} → read text ≡ Ok (x, after) → after_end close after ≡ Some end
       → total ≡ Ok (front ++ x ∷ [], end)
   unfolding behind
-  member_last x after end r e =
+  member_last {x} {after} {end} r e =
       let left = room_left n (length text) room in
       sym (one_read left x after r) ∙ ap (λ o. onto (λ xs. (front ++ x ∷ []) ++ xs)
       (more_members (members_from read close left.0) after o)) e
@@ -86,18 +87,20 @@ module _ {X : Type 0} (read : List ℕ → Read X) (close : ℕ) (front : List X
   unfolding behind
   comma m x after ended = ap (more_members (members_from read close m) after) ended
 
-  pub no_comma : (x : X) (after : List ℕ) (e : Error) → read text ≡ Ok (x, after) → after_end close after ≡ None
-      → Fails e (or_refused (after_byte 44 after)) → Fails e total
-  no_comma x after e r ended h =
+  pub no_comma : {x : X} {after : List ℕ} (e : Error) → read text ≡ Ok (x, after)
+      → (after_end close after ≡ None) × (e ≡ refusal.Notation)
+      × (or_refused (after_byte 44 after) ≡ Err refusal.Notation) → Fails e total
+  no_comma {x} {after} e r none =
       let left = room_left n (length text) room in
-      let failed = Fails-bind e (or_refused (after_byte 44 after)) (members_from read close left.0) h in
+      let missing = subst (λ d. Fails d (or_refused (after_byte 44 after))) (sym none.1) none.2 in
+      let failed = Fails-bind e (or_refused (after_byte 44 after)) (members_from read close left.0) missing in
       onto_fails e (λ xs. (front ++ x ∷ []) ++ xs) (behind left.0 x after) total
-      (subst (λ b. Fails e b) (sym (comma left.0 x after ended)) failed) (one_read left x after r)
+      (subst (λ b. Fails e b) (sym (comma left.0 x after none.0)) failed) (one_read left x after r)
 
-  pub member_more : (x : X) (after next : List ℕ) → read text ≡ Ok (x, after) → after_end close after ≡ None
+  pub member_more : {x : X} {after next : List ℕ} → read text ≡ Ok (x, after) → after_end close after ≡ None
       → or_refused (after_byte 44 after) ≡ Ok next → length after ≤ length text → length next < length after
       → (m : ℕ) × (length next < m) × (onto (λ xs. (front ++ x ∷ []) ++ xs) (members_from read close m next) ≡ total)
-  member_more x after next r ended found shorter less =
+  member_more {x} {after} {next} r ended found shorter less =
       let left = room_left n (length text) room in
       let more = comma left.0 x after ended ∙ ap (λ o. o >>= members_from read close left.0) found in
       (left.0, omega (arith, left.1), sym (ap (onto (λ xs. (front ++ x ∷ []) ++ xs)) more) ∙ one_read left x after r)
