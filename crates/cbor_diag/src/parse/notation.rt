@@ -19,17 +19,19 @@ ghost use Rattle.cbor_diag.specs.View.{view, items_view, pairs_view};
 ghost use Rattle.cbor_grammar.specs.WellFormed.{deepest, levels_left, WellFormed, WellFormedItems};
 ghost use Rattle.cbor_grammar.specs.WellFormed.{WellFormedPairs};
 ghost use Rattle.cbor_grammar.specs.Facts.{IsWellFormed};
+ghost use Rattle.cbor_grammar.specs.Head.{FitsWidth};
 ghost use Rattle.cbor_grammar.specs.Item.{Item};
 ghost use Rattle.cbor_grammar.specs.Notation.{IsNotation, ReadsUnder};
 ghost use Rattle.cbor_grammar.specs.NotationRefused.{IsNoNotation};
 ghost use Rattle.cbor_diag.specs.ItemAnswer.{GaveOrTooDeep};
 ghost use Rattle.cbor_grammar.specs.Reading.{Gives};
 ghost use Rattle.cbor_notation.specs.mirror.NotationReading.{read_core, read_integer, read_item};
+ghost use Rattle.cbor_notation.specs.mirror.NotationReading.{read_tagged};
 ghost use Rattle.cbor_notation.specs.mirror.NotationReading.{read_members, notation_of, read_pair};
 
 use crate::syntax::DataItem;
 use cbor_grammar::level::DEEPEST;
-use cbor_grammar::{Error, Result, Tag};
+use cbor_grammar::{Error, IntegerWidth, Result, Tag};
 use cbor_notation::cursor::Cursor;
 use cbor_notation::number::{read_negative_number, read_unsigned_number};
 use cbor_notation::start::Start;
@@ -111,17 +113,38 @@ fn integer_or_tag(alloc: Global, text: &mut Cursor<'_>, inner: u8) -> Result<Dat
     ensures shorter { IfOk result (λ _. length text.new ≤ length text.old) }
     ensures well { IfOk result (λ x. WellFormed (inner - 1) (view x)) }
 {
-    let (number, bitwidth) = read_unsigned_number(text)?;
-    if !text.take_byte(b'(') {
-        let value = number;
-        return Ok(DataItem::Integer { value, bitwidth });
+    let (value, bitwidth) = read_unsigned_number(text)?;
+    if text.take_byte(b'(') {
+        read_tagged(alloc, (value, bitwidth), text, inner)
+    } else {
+        Ok(DataItem::Integer { value, bitwidth })
     }
-    let value = read_item(alloc, text, inner)?;
+}
+
+/// A tag of this number and width, after its opening parenthesis. It is not inlined, so that an
+/// integer clears no space for it.
+#[cycle(diag)]
+#[inline(never)]
+fn read_tagged(
+    alloc: Global,
+    number: (u64, IntegerWidth),
+    text: &mut Cursor<'_>,
+    inner: u8,
+) -> Result<DataItem>
+    requires low { 1 ≤ inner }
+    requires high { inner ≤ 129 }
+    requires fits { FitsWidth number.1 number.0 }
+    ensures gives { Gives (λ x. (view x, text.new)) result
+        (read_tagged (read_item (levels_left inner)) number.0 number.1 text.old) }
+    ensures shorter { IfOk result (λ _. length text.new ≤ length text.old) }
+    ensures well { IfOk result (λ x. WellFormed (inner - 1) (view x)) }
+{
+    let item = read_item(alloc, text, inner)?;
     text.expect_byte(b')')?;
-    let (tag, value) = (Tag(number), Box::new(alloc, value)?);
+    let (tag, value) = (Tag(number.0), Box::new(alloc, item)?);
     Ok(DataItem::Tag {
         tag,
-        bitwidth,
+        bitwidth: number.1,
         value,
     })
 }
@@ -143,8 +166,8 @@ fn read_items(alloc: Global, close: u8, text: &mut Cursor<'_>, level: u8) -> Res
     let mut items = Vec::with_capacity(alloc, 2)?;
     'items: loop {
         let item = read_item(alloc, text, level)?;
-        items.push(item)?;
         let more = text.take_comma(close)?;
+        items.push(item)?;
         if !more {
             return Ok(items);
         }
@@ -170,8 +193,8 @@ fn read_pairs(alloc: Global, text: &mut Cursor<'_>, level: u8) -> Result<Vec<(Da
         let key = read_item(alloc, text, level)?;
         text.expect_byte(b':')?;
         let value = read_item(alloc, text, level)?;
-        pairs.push((key, value))?;
         let more = text.take_comma(b'}')?;
+        pairs.push((key, value))?;
         if !more {
             return Ok(pairs);
         }

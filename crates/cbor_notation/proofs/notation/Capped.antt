@@ -1,7 +1,7 @@
 -- A negative number whose value was capped is the one that the definition reads.
-use Rattle.std.proofs.Common.{◌≡◌, ℕ, suc, zero, ◌+◌, ◌-◌, ◌≤◌, ◌<◌, ◌≢◌, ◌^◌, min, Option, Some, None, Result, Ok}
-use Rattle.std.proofs.Common.{Err, List}
-use Rattle.std.proofs.Common.{ap, subst, ◌∙◌, sym, arith, refl}
+use Rattle.std.proofs.Common.{◌≡◌, ℕ, suc, zero, ◌-◌, ◌≢◌, Option, Ok}
+use Rattle.std.proofs.Common.{List}
+use Rattle.std.proofs.Common.{ap, subst, ◌∙◌, sym, arith}
 use Rattle.std.proofs.lemmas.Grind.{common_steps}
 use Rattle.cbor_grammar.specs.declared.width.IntegerWidth.{IntegerWidth}
 use Rattle.cbor_grammar.specs.declared.error.Error.{Error}

@@ -1,5 +1,5 @@
 -- The number at the front of a text and at a place in it, as its digits are read there.
-use Rattle.std.proofs.Common.{◌≡◌, ℕ, ◌+◌, ◌-◌, ◌<◌, List, ◌++◌, length, drop, slice_range, Option, Some, None, refl}
+use Rattle.std.proofs.Common.{◌≡◌, ℕ, ◌+◌, ◌<◌, List, ◌++◌, length, drop, slice_range, Option, Some, None, refl}
 use Rattle.std.proofs.Common.{sym, ap, ◌∙◌, inl, inr, subst, arith}
 use Rattle.std.proofs.Common.{◌≢◌, ◌≤◌, false, not, ◌==◌, ◌&&◌, [], ◌∷◌}
 use Rattle.std.specs.Option.{option_map}
@@ -10,7 +10,7 @@ use Rattle.cbor_notes.specs.Token.{IsNumber, IsSomeNumber, IsLongest, prefix, ra
 use Rattle.cbor_notes.specs.TokenReading.{starts_with_digit, base_of, digit_run, indicator_of, with_indicator}
 use Rattle.cbor_notes.specs.TokenReading.{after_run, number_in, number_of}
 use Rattle.cbor_notes.proofs.tokens.NumberRuns.{digit_run-stops, is_run}
-use Rattle.cbor_notes.proofs.tokens.TextPlaces.{part_and_rest, part_is, rest_place}
+use Rattle.cbor_notes.proofs.tokens.TextPlaces.{part_and_rest, part_is}
 use Rattle.cbor_notes.proofs.tokens.Numbers.{IsNumber-number_of, some_digits, number_of-reaches, longest_number}
 use Rattle.cbor_notes.proofs.tokens.Numbers.{one_number}
 

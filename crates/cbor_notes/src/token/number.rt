@@ -157,36 +157,38 @@ fn read_digits_of(text: &[u8], radix: u32) -> (u128, usize)
         × (digit_run radix 0 text.now ≡ (value, drop result.1 text.now)) }
     ensures within { result.1 ≤ length text.now }
 {
-    let (short, mut len) = read_short(text, radix);
-    let mut value = u128::from(short);
-    while len < text.len() {
-        let Some(digit) = char::from(text[len]).to_digit(radix) else {
-            break;
-        };
-        value = (value * u128::from(radix) + u128::from(digit)).min(CAP);
-        len += 1;
-    }
-    (value, len)
-}
-
-/// The number that the digits at the front write as far as a further digit fits 64 bits, and how
-/// many these are.
-#[inline(always)]
-fn read_short(text: &[u8], radix: u32) -> (u64, usize)
-    requires { (2 ≤ radix) × (radix ≤ 16) }
-    ensures run { digit_run radix result.0 (drop result.1 text.now) ≡ digit_run radix 0 text.now }
-    ensures within { result.1 ≤ length text.now }
-{
     let mut value = 0;
     let mut len = 0;
     while len < text.len() && value < FITS_ONE_MORE {
         let Some(digit) = char::from(text[len]).to_digit(radix) else {
-            break;
+            return (u128::from(value), len);
         };
         value = value * u64::from(radix) + u64::from(digit);
         len += 1;
     }
-    (value, len)
+    read_further(text, radix, value, len)
+}
+
+/// The number whose first `start` digits write `value`, past 2^64 as 2^64 + 1, and how many digits
+/// it has.
+#[inline(never)]
+fn read_further(text: &[u8], radix: u32, value: u64, start: usize) -> (u128, usize)
+    requires radix { (2 ≤ radix) × (radix ≤ 16) }
+    requires start { start ≤ length text.now }
+    ensures run { (number : ℕ) × (result.0 ≡ capped number)
+        × (digit_run radix value (drop start text.now) ≡ (number, drop result.1 text.now)) }
+    ensures within { result.1 ≤ length text.now }
+{
+    let mut number = u128::from(value);
+    let mut len = start;
+    while len < text.len() {
+        let Some(digit) = char::from(text[len]).to_digit(radix) else {
+            break;
+        };
+        number = (number * u128::from(radix) + u128::from(digit)).min(CAP);
+        len += 1;
+    }
+    (number, len)
 }
 
 /// The longest indicator at the front, which begins with `_`, and its length.

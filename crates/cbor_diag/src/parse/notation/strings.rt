@@ -33,6 +33,7 @@ use memchr::memchr;
 use std::alloc::{AllocError, Global};
 
 /// The string with this content and of unstated width. A text string has to be UTF-8.
+#[inline(always)]
 fn unstated<S: DefiniteString>(content: Vec<u8>) -> cbor_grammar::Result<S>
     ensures gives { Gives S.chunk result (checked S.kind content.items) }
     ensures well { IfOk result (λ x. IsChunk S.kind (S.chunk x)) }

@@ -14,7 +14,10 @@ abbrev pub decreases-read_item : goal.decreases-read_item
 decreases-read_item l = (130 - l.level) * 9
 
 abbrev pub decreases-integer_or_tag : goal.decreases-integer_or_tag
-decreases-integer_or_tag l = (130 - l.inner) * 9 + 1
+decreases-integer_or_tag l = (130 - l.inner) * 9 + 2
+
+abbrev pub decreases-read_tagged : goal.decreases-read_tagged
+decreases-read_tagged l = (130 - l.inner) * 9 + 1
 
 abbrev pub decreases-read_items : goal.decreases-read_items
 decreases-read_items l = (130 - l.level) * 9 + 1
