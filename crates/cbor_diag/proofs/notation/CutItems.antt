@@ -1,34 +1,27 @@
 -- Items that are cut short: where a part of an item is, the item is.
-use Rattle.std.proofs.Common.{◌≡◌, ℕ, zero, suc, ◌<◌, ◌≤◌, Bool, true, false, not, ◌==◌, ◌&&◌, List, [], ◌∷◌, ◌++◌}
-use Rattle.std.proofs.Common.{length}
-use Rattle.std.proofs.Common.{codes, Option, Some, None, Result, Ok, Err, ◌⊎◌, inl, inr, refl, sym, ap, ◌∙◌, subst}
+use Rattle.std.proofs.Common.{◌≡◌, ℕ, zero, suc, true, false, List, [], ◌∷◌, ◌++◌}
+use Rattle.std.proofs.Common.{codes, Option, Some, None, Ok, ◌⊎◌, inl, inr, refl, sym, ap, ◌∙◌, subst}
 use Rattle.std.proofs.Common.{arith}
 use Rattle.std.proofs.Common.{append_assoc, append-nil}
-use Rattle.std.proofs.lemmas.Bool.{false≢true}
-use Rattle.cbor_notes.specs.Token.{Blank, nothing, IsNumber, decimal_base}
+use Rattle.cbor_notes.specs.Token.{nothing, IsNumber, decimal_base}
 use Rattle.cbor_notes.specs.TokenReading.{number_of}
 use Rattle.cbor_notes.proofs.tokens.Blanks.{blank_left, Blank-append}
 use Rattle.cbor_notes.proofs.tokens.Numbers.{IsNumber-number_of}
-use Rattle.cbor_grammar.specs.declared.error.Error.{Error}
 use Rattle.cbor_diag.specs.declared.parse.notation.fault.Member.{Member}
 use Rattle.cbor_diag.specs.declared.parse.notation.fault.Member.TheVariants as member
-use Rattle.cbor_notation.specs.declared.start.Start.{Start}
 use Rattle.cbor_grammar.specs.declared.width.IntegerWidth.{IntegerWidth}
 use Rattle.cbor_grammar.specs.declared.width.IntegerWidth.TheVariants.{Unknown, Zero}
 use Rattle.cbor_grammar.specs.Item as spec
 use Rattle.cbor_grammar.specs.Item.{Chunk, Item, integer, negative, atom, array, tagged}
 use Rattle.cbor_grammar.specs.Item.{items_of, pairs_of}
-use Rattle.cbor_grammar.specs.declared.strings.StringKind.{StringKind}
 use Rattle.cbor_grammar.specs.Reading.{Read, ◌>>=◌}
 use Rattle.cbor_grammar.specs.Notation.{IsBlank, Blanked, NumberOf, NegativeOf, Members, PairOf, StringOf, Core, Reads}
-use Rattle.cbor_grammar.specs.Notation.{IsNotation}
-use Rattle.cbor_grammar.specs.WellFormed.{deepest}
-use Rattle.cbor_grammar.specs.DeadEnd.{GoesOn, CutOf}
+use Rattle.cbor_grammar.specs.DeadEnd.{CutOf}
 use Rattle.cbor_notation.specs.mirror.NotationReading.{or_refused, skip_blank, after_byte, read_pair, read_chunk}
 use Rattle.cbor_notation.specs.mirror.NotationReading.{read_item}
-use Rattle.cbor_notation.specs.mirror.NotationReading.{read_core, read_integer, integer_or_tag, read_unsigned_number}
+use Rattle.cbor_notation.specs.mirror.NotationReading.{read_core, read_integer, read_unsigned_number}
 use Rattle.cbor_notation.specs.mirror.NotationReading.{read_number, with_width, read_members, read_length, length_of}
-use Rattle.cbor_notation.specs.mirror.NotationReading.{read_array, read_map, notation_of}
+use Rattle.cbor_notation.specs.mirror.NotationReading.{read_array, read_map}
 use Rattle.cbor_diag.specs.mirror.DeadEnds.{NotRead, ends_blank, is_firm, Value, read_member, MemberIs, ChunkIs}
 use Rattle.cbor_grammar.proofs.bytes.Heads.{bind_ok, ok_is}
 use Rattle.cbor_diag.proofs.notation.CutTokens.{blank_goes_on, cut_by}
@@ -37,7 +30,7 @@ use Rattle.cbor_diag.proofs.notation.CutLists.{soft_cut}
 use Rattle.cbor_notation.proofs.notation.sound.Items.{item_sound, reads_blank, pair_sound, pair_blank}
 use Rattle.cbor_notation.proofs.notation.sound.Items.{pairs_list-pairs_of}
 use Rattle.cbor_notation.proofs.notation.sound.Pieces.{chunk_sound, blanked_more}
-use Rattle.cbor_notation.proofs.notation.sound.Steps.{after_byte_is, a_test}
+use Rattle.cbor_notation.proofs.notation.sound.Steps.{after_byte_is}
 use Rattle.cbor_notation.proofs.notation.sound.Strings.{list_of-items_of}
 use Rattle.cbor_notation.proofs.notation.sound.Words.{sized_ok, number_here}
 

@@ -1,18 +1,17 @@
 -- Lists that are cut short: where a member of a list is, the list is.
-use Rattle.std.proofs.Common.{◌≡◌, ℕ, zero, suc, ◌<◌, ◌≤◌, Bool, true, false, not, ◌==◌, ◌&&◌, ◌||◌, List, [], ◌∷◌}
-use Rattle.std.proofs.Common.{◌++◌, length, Option, Some, None, Result, Ok, Err, ◌⊎◌, inl, inr, refl, sym, ap, ◌∙◌}
+use Rattle.std.proofs.Common.{◌≡◌, ℕ, zero, suc, ◌≤◌, Bool, true, false, not, ◌&&◌, List, [], ◌∷◌}
+use Rattle.std.proofs.Common.{◌++◌, length, Some, None, Result, Ok, Err, inl, inr, refl, sym, ap, ◌∙◌}
 use Rattle.std.proofs.Common.{subst, arith, append_assoc, append-nil}
-use Rattle.std.proofs.lemmas.Bool.{false≢true, and_parts}
+use Rattle.std.proofs.lemmas.Bool.{false≢true}
 use Rattle.cbor_notes.proofs.tokens.Blanks.{blank_left}
 use Rattle.cbor_grammar.specs.declared.error.Error.{Error}
 use Rattle.cbor_grammar.specs.Reading.{Read, ◌>>=◌}
 use Rattle.cbor_grammar.specs.Notation.{IsBlank, Closes, Members}
-use Rattle.cbor_grammar.specs.DeadEnd.{inside as within, GoesOn, CutOf, IsUnfinished, nothing, number, is_in_number}
-use Rattle.cbor_notation.specs.mirror.NotationReading.{skip_blank, after_byte, after_end, more_members, members_from}
+use Rattle.cbor_grammar.specs.DeadEnd.{inside as within, CutOf, number, is_in_number}
+use Rattle.cbor_notation.specs.mirror.NotationReading.{skip_blank, after_byte, after_end, members_from}
 use Rattle.cbor_notation.specs.mirror.NotationReading.{members_or_end, read_members}
 use Rattle.cbor_diag.specs.mirror.DeadEnds.{NotRead, ends_blank, is_settled, is_firm}
 use Rattle.cbor_diag.proofs.notation.CutTokens.{blank_goes_on, cut_by}
-use Rattle.cbor_diag.proofs.notation.DeadTokens.{not_by}
 use Rattle.cbor_notation.proofs.notation.sound.Lists.{FromFirst, behind_comma, blank_first}
 use Rattle.cbor_notation.proofs.notation.sound.Steps.{a_test, Sound, after_byte_is}
 

@@ -1,5 +1,5 @@
 -- Lists of members of each kind that are cut short.
-use Rattle.std.proofs.Common.{◌≡◌, ℕ, ◌≤◌, true, false, List, [], ◌∷◌, ◌++◌, length, Option, Some, None, Ok, ◌⊎◌, inl}
+use Rattle.std.proofs.Common.{◌≡◌, ℕ, ◌≤◌, false, List, [], ◌∷◌, ◌++◌, length, Some, None, Ok, ◌⊎◌, inl}
 use Rattle.std.proofs.Common.{inr, sym, ◌∙◌, subst, append-nil}
 use Rattle.cbor_diag.specs.declared.parse.notation.fault.Member.{Member}
 use Rattle.cbor_grammar.specs.Reading.{Read}

@@ -1,11 +1,11 @@
 -- Numbers and words that are cut short: how they may go on.
-use Rattle.std.proofs.Common.{◌≡◌, ◌≢◌, ℕ, zero, suc, ◌+◌, ◌*◌, ◌^◌, ◌<◌, ◌≤◌, Bool, true, false, not, nat_lt, ◌==◌}
-use Rattle.std.proofs.Common.{◌&&◌, ◌||◌, ◌-◌, List, [], ◌∷◌, ◌++◌, length, take, codes, Option, Some, None, Ok, Err}
+use Rattle.std.proofs.Common.{◌≡◌, ℕ, zero, suc, ◌+◌, ◌*◌, ◌^◌, ◌<◌, ◌≤◌, Bool, true, false, not, nat_lt, ◌==◌}
+use Rattle.std.proofs.Common.{◌&&◌, ◌||◌, ◌-◌, List, [], ◌∷◌, ◌++◌, length, take, codes, Option, Some, None, Ok}
 use Rattle.std.proofs.Common.{◌⊎◌, inl, inr}
 use Rattle.std.proofs.Common.{refl, sym, ap, ◌∙◌, subst, arith, append_assoc, append-nil}
 use Rattle.std.specs.List.{list_all, position_or_len, position}
 use Rattle.std.specs.Char.{digit_value}
-use Rattle.std.specs.Str.Parse.{AllDigits, digits_value, digits_value_after}
+use Rattle.std.specs.Str.Parse.{AllDigits, digits_value_after}
 use Rattle.std.proofs.Math.Numerals.{add-one}
 use Rattle.std.proofs.lemmas.List.{length-append, take_all}
 use Rattle.std.proofs.lemmas.Bool.{false≢true, ne_eqb, and_parts, or_cases, eqb-true, ltb-true}
@@ -25,7 +25,7 @@ use Rattle.cbor_grammar.specs.Notation.{NumberOf, NegativeOf, NamedSimple, Simpl
 use Rattle.cbor_grammar.specs.DeadEnd.{GoesOn, CutOf, closes, plain_digits}
 use Rattle.cbor_notation.specs.mirror.NotationReading.{read_number, after_word, read_word, read_simple, read_float}
 use Rattle.cbor_diag.specs.mirror.DeadEnds.{NotRead}
-use Rattle.cbor_notation.specs.mirror.OpenTokens.{is_end, widens, is_prefix, leaves_zero, may_be_negative, may_close}
+use Rattle.cbor_notation.specs.mirror.OpenTokens.{is_end, widens, is_prefix, may_be_negative, may_close}
 use Rattle.cbor_notation.specs.mirror.OpenTokens.{is_small, Near}
 use Rattle.cbor_diag.proofs.notation.DeadTokens.{read_is, in_front}
 use Rattle.cbor_notation.proofs.notation.Words.{simple_digits}

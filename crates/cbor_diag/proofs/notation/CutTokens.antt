@@ -1,15 +1,14 @@
 -- Tokens that are cut short: how they may go on.
-use Rattle.std.proofs.Common.{◌≡◌, ◌≢◌, ℕ, suc, ◌+◌, ◌*◌, ◌^◌, ◌<◌, ◌≤◌, Bool, true, false, not, nat_lt, nat_eq, ◌==◌}
-use Rattle.std.proofs.Common.{◌&&◌, List, [], ◌∷◌, ◌++◌, length, get_or, drop, codes, Option, Some, None, Result, Ok}
+use Rattle.std.proofs.Common.{◌≡◌, ◌≢◌, ℕ, suc, ◌<◌, ◌≤◌, Bool, true, false, not, nat_eq, ◌==◌}
+use Rattle.std.proofs.Common.{List, [], ◌∷◌, ◌++◌, length, get_or, drop, codes, Option, Some, None, Result, Ok}
 use Rattle.std.proofs.Common.{Err, IfOk, ◌⊎◌}
-use Rattle.std.proofs.Common.{inl, inr, refl, sym, ap, ◌∙◌, subst, arith, append_assoc, append-nil, IsTrue}
+use Rattle.std.proofs.Common.{inl, inr, refl, sym, ap, ◌∙◌, subst, arith, append_assoc, append-nil}
 use Rattle.std.specs.Bool.{IsFalse}
 use Rattle.std.specs.Prelude.{position}
 use Rattle.std.specs.List.{AllByRecursion, starts_with, position_or_len}
 use Rattle.std.proofs.lemmas.List.{length-append}
-use Rattle.std.proofs.lemmas.Bool.{false≢true, ne_eqb, cases_eq, cases_Bool, eq-eqb, eqb-true, eqb-false, not-true}
-use Rattle.std.proofs.lemmas.Bool.{not-false, or_cases}
-use Rattle.std.proofs.lemmas.Slice.Eq.{bytes_eq-Decides}
+use Rattle.std.proofs.lemmas.Bool.{ne_eqb, eq-eqb, eqb-true, eqb-false}
+use Rattle.std.proofs.lemmas.Bool.{not-false}
 use Rattle.base64.specs.Rfc4648.{encode_symbols}
 use Rattle.hex.specs.Hex.{decode_pairs}
 use Rattle.cbor_notes.specs.Base32.{encode}
@@ -22,10 +21,10 @@ use Rattle.cbor_grammar.specs.declared.error.Error.{Error}
 use Rattle.cbor_grammar.specs.Reading.{Read}
 use Rattle.cbor_grammar.specs.DeadEnd as unfinished
 use Rattle.cbor_grammar.specs.DeadEnd.{inside as within, GoesOn, CutOf, IsUnfinished, closes, digits, plain_digits}
-use Rattle.cbor_grammar.specs.Notation.{IsBlank, IsSpace, Closes, Notation, in_base16, in_base32, in_base32hex}
+use Rattle.cbor_grammar.specs.Notation.{IsBlank, Closes, Notation, in_base16, in_base32, in_base32hex}
 use Rattle.cbor_grammar.specs.Notation.{in_base64}
 use Rattle.cbor_grammar.specs.Notation.{DigitsIn, Reads}
-use Rattle.cbor_notation.specs.mirror.NotationReading.{skip_blank, after_byte, after_word, after_space, after_end}
+use Rattle.cbor_notation.specs.mirror.NotationReading.{skip_blank, after_word, after_space, after_end}
 use Rattle.cbor_diag.specs.mirror.DeadEnds.{ends_blank, NotRead}
 use Rattle.cbor_notation.specs.mirror.OpenTokens.{Near}
 use Rattle.cbor_notation.proofs.notation.Ends.{passed_twice}

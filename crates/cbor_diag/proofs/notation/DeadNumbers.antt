@@ -1,27 +1,24 @@
 -- Numbers, simple values and floats that are wrong, whatever follows the text.
-use Rattle.std.proofs.Common.{◌≡◌, ◌≢◌, ℕ, zero, suc, ◌+◌, ◌-◌, ◌^◌, ◌<◌, ◌≤◌, min, Bool, true, false, nat_lt, ◌==◌}
-use Rattle.std.proofs.Common.{◌&&◌, List, [], ◌∷◌, ◌++◌, length, take, drop, Option, Some, None, Ok, Err, Result, ◌⊎◌}
-use Rattle.std.proofs.Common.{inl, inr, refl, sym, ap, ◌∙◌, subst, arith, append_assoc, append-nil}
-use Rattle.std.specs.List.{list_all, position}
-use Rattle.std.specs.Char.{digit_value}
-use Rattle.std.specs.Str.Parse.{AllDigits, digits_value, digits_value_after}
-use Rattle.std.proofs.lemmas.Bool.{false≢true, and_parts, and_right, or_parts, cases_lt, lt-ltb, le-ltb, ltb-false}
-use Rattle.cbor_notes.specs.Token.{AreDigits, IsNumber, capped}
+use Rattle.std.proofs.Common.{◌≡◌, ◌≢◌, ℕ, zero, suc, ◌^◌, ◌<◌, ◌≤◌, Bool, false, nat_lt, ◌==◌}
+use Rattle.std.proofs.Common.{◌&&◌, List, [], ◌∷◌, ◌++◌, length, Option, Some, None, Ok, Err, Result}
+use Rattle.std.proofs.Common.{inl, inr, refl, sym, ap, ◌∙◌, subst, arith}
+use Rattle.std.proofs.lemmas.Bool.{false≢true, and_right, or_parts, cases_lt, le-ltb, ltb-false}
+use Rattle.cbor_notes.specs.Token.{capped}
 use Rattle.cbor_notes.specs.TokenReading.{number_of}
 use Rattle.cbor_grammar.specs.declared.width.IntegerWidth.{IntegerWidth}
 use Rattle.cbor_grammar.specs.declared.width.IntegerWidth.TheVariants.{Unknown, Zero, Eight, Sixteen, ThirtyTwo}
 use Rattle.cbor_grammar.specs.declared.width.IntegerWidth.TheVariants.{SixtyFour}
 use Rattle.cbor_grammar.specs.declared.error.Error.{Error}
 use Rattle.cbor_grammar.specs.declared.error.Error.TheVariants as refusal
-use Rattle.cbor_grammar.specs.Reading.{Read, ◌>>=◌, Gives}
+use Rattle.cbor_grammar.specs.Reading.{Read, ◌>>=◌}
 use Rattle.cbor_grammar.specs.Notation.{width_of}
-use Rattle.cbor_notation.specs.mirror.NotationReading.{or_refused, read_number, past_width, with_width, negative_number}
+use Rattle.cbor_notation.specs.mirror.NotationReading.{read_number, past_width, with_width, negative_number}
 use Rattle.cbor_notation.specs.mirror.NotationReading.{read_unsigned_number, read_negative_number}
 use Rattle.cbor_diag.specs.mirror.DeadEnds.{NotRead, NeverReads}
-use Rattle.cbor_notation.specs.mirror.OpenTokens.{is_end, widens, is_prefix, leaves_zero, may_be_negative}
-use Rattle.cbor_diag.proofs.notation.GrownTokens.{no_number_grown, is_list}
+use Rattle.cbor_notation.specs.mirror.OpenTokens.{is_end, widens, is_prefix, may_be_negative}
+use Rattle.cbor_diag.proofs.notation.GrownTokens.{no_number_grown}
 use Rattle.cbor_diag.proofs.notation.DeadTokens.{not_by, not_bind, read_is, none_is, numbered}
-use Rattle.cbor_diag.proofs.notation.LaterNumbers.{Later, LaterIndicator, number_later}
+use Rattle.cbor_diag.proofs.notation.LaterNumbers.{LaterIndicator, number_later}
 use Rattle.cbor_notation.proofs.notation.sound.Steps.{a_test}
 
 -- ---- widths

@@ -4,7 +4,7 @@ use Rattle.std.proofs.Common.{◌==◌, cond, List, [], ◌∷◌, ◌++◌, len
 use Rattle.std.proofs.Common.{Err, Result, inl, inr, refl, sym, ap, ◌∙◌, subst, arith, append_assoc, ◌≢◌}
 use Rattle.std.proofs.Common.{length-append, length-drop, option_and_then}
 use Rattle.std.specs.List.{position, prefix_len}
-use Rattle.std.proofs.lemmas.Bool.{ne_eqb, false≢true, ltb-true, lt-ltb}
+use Rattle.std.proofs.lemmas.Bool.{ne_eqb, ltb-true, lt-ltb}
 use Rattle.std.proofs.lemmas.List.{take_at, take-append-le, drop-append-le}
 use Rattle.std.proofs.lemmas.List.Folds.{prefix_len-append}
 use Rattle.cbor_notes.specs.Base32.{standard, extended_hex}
@@ -17,15 +17,15 @@ use Rattle.cbor_grammar.specs.declared.error.Error.TheVariants as refusal
 use Rattle.cbor_grammar.specs.Item.{Item, atom, simple, float}
 use Rattle.cbor_grammar.specs.Reading.{Read, ◌>>=◌, Fails, Gives}
 use Rattle.cbor_notation.specs.mirror.NotationReading.{or_refused, after_byte, after_word, after_space, after_end}
-use Rattle.cbor_notation.specs.mirror.NotationReading.{read_number, with_width, negative_number, read_unsigned_number}
-use Rattle.cbor_notation.specs.mirror.NotationReading.{read_negative_number, read_simple, simple_value, read_float}
+use Rattle.cbor_notation.specs.mirror.NotationReading.{read_number}
+use Rattle.cbor_notation.specs.mirror.NotationReading.{read_simple, simple_value, read_float}
 use Rattle.cbor_notation.specs.mirror.NotationReading.{float_of}
 use Rattle.cbor_notation.specs.mirror.NotationReading.{numeral, read_word, b_notation, h_notation, read_decoded}
 use Rattle.cbor_notation.specs.mirror.NotationReading.{base16_of}
 use Rattle.cbor_notation.specs.mirror.NotationReading.{base32_of, base64_of}
 use Rattle.cbor_grammar.specs.DeadEnd.{closes}
 use Rattle.cbor_diag.specs.mirror.DeadEnds.{NotRead, IsRealError, NeverReads, HasEnd, grown, is_settled}
-use Rattle.cbor_diag.proofs.notation.GrownTokens.{byte_grown, no_byte_grown, word_grown, number_grown, no_number_grown}
+use Rattle.cbor_diag.proofs.notation.GrownTokens.{byte_grown, no_byte_grown, word_grown, number_grown}
 use Rattle.cbor_diag.proofs.notation.GrownTokens.{decoded_grown}
 use Rattle.cbor_grammar.proofs.bytes.Heads.{bind_ok, ok_is}
 use Rattle.cbor_notation.proofs.notation.sound.Steps.{a_test, none_some, after_word_is, after_byte_is}

@@ -1,6 +1,6 @@
 -- Texts that nothing can continue so that they are read, as the code of `parse/notation/fault.rt` finds them. No
 -- public clause names these.
-use Rattle.std.specs.Prelude.{◌≡◌, ◌≢◌, ℕ, Bool, true, false, not, ◌==◌, ◌||◌, ◌&&◌, if◌then◌else◌, List, [], ◌∷◌, ◌++◌}
+use Rattle.std.specs.Prelude.{◌≡◌, ◌≢◌, ℕ, Bool, true, false, not, ◌==◌, ◌||◌, ◌&&◌, List, [], ◌∷◌, ◌++◌}
 use Rattle.std.specs.Prelude.{Option, Result, Ok, Err}
 use Rattle.cbor_notes.specs.Ascii.{quote}
 use Rattle.cbor_grammar.specs.declared.error.Error.{Error}
@@ -10,7 +10,7 @@ use Rattle.cbor_diag.specs.declared.parse.notation.fault.Member.TheVariants as m
 use Rattle.cbor_grammar.specs.Item.{Chunk, Item}
 use Rattle.cbor_grammar.specs.declared.strings.StringKind.{StringKind}
 use Rattle.cbor_grammar.specs.Reading.{Read}
-use Rattle.cbor_grammar.specs.Notation.{Blanked, Members, Notation, PairOf, StringOf}
+use Rattle.cbor_grammar.specs.Notation.{Blanked, Notation, PairOf, StringOf}
 use Rattle.cbor_grammar.specs.DeadEnd.{CutOf, closes_text}
 use Rattle.cbor_notation.specs.mirror.NotationReading.{skip_blank, read_number, read_pair, read_chunk, members_from}
 use Rattle.cbor_notation.specs.mirror.NotationReading.{read_pieces, first_start}

@@ -1,5 +1,4 @@
-use Rattle.std.proofs.Common.{◌≡◌, Option, Some, None, IfSome, IfNone, IfOk, IfErr, Result, Ok, Err, ◌≢◌, sym, ◌∙◌}
-use Rattle.std.proofs.Common.{subst}
+use Rattle.std.proofs.Common.{◌≡◌, Ok, sym, ◌∙◌}
 use Rattle.cbor_grammar.specs.Item.{Item}
 use Rattle.cbor_notation.specs.mirror.NotationReading.{read_item}
 use Rattle.cbor_diag.proofs.notation.CutItems.{item_soft}

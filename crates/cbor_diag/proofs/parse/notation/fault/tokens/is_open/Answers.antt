@@ -1,4 +1,4 @@
-use Rattle.std.proofs.Common.{rules, arith, sym}
+use Rattle.std.proofs.Common.{rules, arith}
 use Rattle.std.proofs.lemmas.Bool.{eqb-true, not-false}
 use Rattle.std.proofs.lemmas.Grind.{common_steps}
 use Rattle.cbor_diag.proofs.notation.CutTokens.{nothing_closes, comma_closes, other_closes}
