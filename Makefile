@@ -7,7 +7,8 @@ LIBDIR = lib
 DESTDIR =
 
 # The programs that are built, installed and packed. Each is the crate of its name, with the manual page of that name in
-# man/ and the completion in completions/. RUN_name has the arguments of the run that the kit makes to build it.
+# share/man and the completion in share/completions. RUN_name has the arguments of the run that the kit makes to build
+# it.
 PROGRAMS = cborcat cbor_view
 RUN_cborcat = --from=bytes
 RUN_cbor_view = seq bytes
@@ -19,7 +20,7 @@ PYTHON = python3
 CARGO = cargo
 
 # Says what a command of the kit is at.
-PROGRESS = $(CURDIR)/scripts/progress
+PROGRESS = $(CURDIR)/checks/progress
 
 # The C side of the kit's heap, which the static library takes in.
 KIT = $(shell dirname "$$(rt doc)")
@@ -75,11 +76,11 @@ $(PKGCONFIG): bindings/c/cbor_diag.pc.in VERSION Makefile
 	mkdir -p $(@D)
 	sed 's|@VERSION@|$(VERSION)|; s|@LIBDIR@|lib|; s|@UP@|../..|' $< > $@
 
-$(MANUALS): $(DIST)/share/man/man1/%: man/% VERSION
+$(MANUALS): $(DIST)/share/man/man1/%: share/man/% VERSION
 	mkdir -p $(@D)
 	sed 's|@VERSION@|$(VERSION)|' $< > $@
 
-$(COMPLETIONS): $(DIST)/share/bash-completion/completions/%: completions/%
+$(COMPLETIONS): $(DIST)/share/bash-completion/completions/%: share/completions/%
 	install -D -m 644 $< $@
 
 # The pkg-config file finds the rest from where it is itself.
@@ -120,18 +121,18 @@ test:
 
 # The wrong bodies that the gate does not try.
 planted:
-	planted/run
+	checks/planted
 
 # The program for people, as they run it: in pipes and terminals, with closed outputs and full disks.
 check-cat: $(DIST)/bin/cborcat
-	cborcat/check $<
+	checks/cborcat $<
 
 # The links, names, commands and Rust examples of all pages, and the examples of doc comments. The tests run the latter.
 check-docs: program
-	docs/check_links
-	docs/check_names
-	docs/check_examples
-	docs/check_commands
+	checks/links
+	checks/names
+	checks/examples
+	checks/commands
 
 check-bindings: library
 	packages/version
@@ -160,11 +161,11 @@ release: check-packages
 	cd $(PACKAGES) && sha256sum *$(VERSION)* > SHA256SUMS && cat SHA256SUMS
 
 compare: $(PROGRAM)
-	compare/run
+	checks/compare/run
 
 bench: $(PROGRAM) library
-	benches/bench.py $(PROGRAM)
-	benches/calls $(DIST)
+	checks/benches/bench.py $(PROGRAM)
+	checks/benches/calls $(DIST)
 
 clean:
 	rm -rf $(DIST)

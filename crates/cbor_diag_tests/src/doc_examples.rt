@@ -1,4 +1,4 @@
-// The examples of the doc comments of `cbor_diag`, line for line: `docs/check_examples` compares.
+// The examples of the doc comments of `cbor_diag`, line for line: `checks/examples` compares.
 // Items and their notation are examples of RFC 7049, appendix A; the dump was written by hand from
 // docs/DUMP.md.
 

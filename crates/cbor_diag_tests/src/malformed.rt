@@ -87,7 +87,7 @@ fn inputs_that_end_too_soon_are_cut(rt: HostRuntime) {
     }
 }
 
-// `compare/failing_calls` sees that no request for memory is made here.
+// `checks/allocations/failing_calls` sees that no request for memory is made here.
 #[test]
 fn a_claimed_length_takes_no_memory(rt: HostRuntime) {
     for bytes in CLAIMED {

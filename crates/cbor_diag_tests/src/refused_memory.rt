@@ -321,10 +321,10 @@ fn print_calls(
     Ok(())
 }
 
-// `compare/failing_calls` runs this while it makes allocations fail, and reads the lines: a call
-// in which one failed has to print `memory`, and any other `ok`. If none fails, as in the gate,
-// this shows no more than the test above. The dumps of the deepest item are
-// left out: each has 800 kilobytes.
+// `checks/allocations/failing_calls` runs this while it makes allocations fail, and reads the
+// lines: a call in which one failed has to print `memory`, and any other `ok`. If none fails, as in
+// the gate, this shows no more than the test above. The dumps of the deepest item are left out:
+// each has 800 kilobytes.
 #[test]
 fn a_call_answers_or_memory_is_refused(rt: HostRuntime) -> std::result::Result<(), Fail> {
     for sample in &SAMPLES {

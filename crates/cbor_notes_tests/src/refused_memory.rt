@@ -266,9 +266,9 @@ fn calls_answer_where_memory_is_found(rt: HostRuntime) -> Result<(), Fail> {
     Ok(())
 }
 
-// `compare/failing_calls` runs this while it makes allocations fail, and reads the lines: a call
-// in which one failed has to print `memory`, and any other `ok`. If none fails, as in the gate,
-// this shows no more than the test above.
+// `checks/allocations/failing_calls` runs this while it makes allocations fail, and reads the
+// lines: a call in which one failed has to print `memory`, and any other `ok`. If none fails, as in
+// the gate, this shows no more than the test above.
 #[test]
 fn calls_answer_or_memory_is_refused(rt: HostRuntime) -> Result<(), Fail> {
     for &(call, want) in ROWS {

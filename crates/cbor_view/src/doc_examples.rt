@@ -1,4 +1,4 @@
-//! The example of the doc comment of `cbor_convert`, line for line: `docs/check_examples` compares.
+//! The example of the doc comment of `cbor_convert`, line for line: `checks/examples` compares.
 
 use cbor_convert::{Source, To, convert};
 use std::test::Fail;

@@ -1,4 +1,4 @@
-//! Runs in which `compare/failing_calls` makes allocations fail, one after the other.
+//! Runs in which `checks/allocations/failing_calls` makes allocations fail, one after the other.
 use crate::counted::Counted;
 use crate::error::ViewError;
 use crate::fakes::{COMMENTED, ITEM};
@@ -128,9 +128,9 @@ fn check(rt: &impl Abort, alloc: Global, case: &Case, number: usize) -> Result<b
     Ok(refused)
 }
 
-// `compare/failing_calls` runs this while it makes allocations fail, and reads the lines: a run in
-// which one failed has to print `memory`, and any other `ok`. If none fails, as in the gate, this
-// shows no more than the tests of conversions and sequences.
+// `checks/allocations/failing_calls` runs this while it makes allocations fail, and reads the
+// lines: a run in which one failed has to print `memory`, and any other `ok`. If none fails, as in
+// the gate, this shows no more than the tests of conversions and sequences.
 #[test]
 fn a_call_answers_or_memory_is_refused(rt: HostRuntime) -> Result<(), Fail> {
     for (number, case) in cases().iter().enumerate() {

@@ -1,4 +1,4 @@
-//! The examples of the doc comments of `cbor_inspect`, line for line: `docs/check_examples`
+//! The examples of the doc comments of `cbor_inspect`, line for line: `checks/examples`
 //! compares.
 
 use cbor_diag::{Error, parse_hex};

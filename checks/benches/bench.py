@@ -1,7 +1,7 @@
 #!/usr/bin/env python3
 """Times the program on inputs that it makes itself, and another program with the same arguments.
 
-    benches/bench.py PROGRAM [OTHER] [--rounds N] [--size PERCENT] [--only KIND] [--folder FOLDER] [--status]
+    checks/benches/bench.py PROGRAM [OTHER] [--rounds N] [--size PERCENT] [--only KIND] [--folder FOLDER] [--status]
 
 PROGRAM is `crates/cbor_view/out/cbor_view`, which `rt run` builds. For each kind of input and each
 conversion that PROGRAM has, the two programs run in turn, N times each. A line shows, for each of them, the
