@@ -28,6 +28,7 @@ HEAP = $(KIT)/c/liblibc_c.a
 
 DIST = dist
 PROGRAM = $(DIST)/bin/cbor_view
+ARCHIVE = $(DIST)/libcbor_diag_c.a
 STATIC = $(DIST)/lib/libcbor_diag.a
 SHARED = $(DIST)/lib/libcbor_diag.so.0
 HEADER = $(DIST)/include/cbor_diag.h
@@ -37,9 +38,10 @@ MANUALS = $(PROGRAMS:%=$(DIST)/share/man/man1/%.1)
 COMPLETIONS = $(PROGRAMS:%=$(DIST)/share/bash-completion/completions/%)
 
 sources = $(shell find $(wildcard $(1:%=crates/%/src) $(1:%=crates/%/specs) $(1:%=crates/%/proofs)) -type f) crates.txt
-BELOW = cbor_notes cbor_grammar cbor_bytes cbor_notation cbor_dump cbor_diag cbor_convert cbor_inspect
+# The crates that a program or the library for C may stand on.
+BELOW = $(filter-out %_tests cbor_extent cbor_diag_c $(PROGRAMS),$(shell sed -n 's/^\(cbor[a-z_]*\).*:.*/\1/p' crates.txt))
 
-.PHONY: all program library install demo try quick test planted check-cat check-docs check-bindings check-packages tarball \
+.PHONY: all program library install try quick gate test planted check-cat check-docs check-bindings check-packages tarball \
     deb wheel release compare bench clean
 
 all: program library $(MANUALS) $(COMPLETIONS)
@@ -48,26 +50,30 @@ program: $(PROGRAM_FILES)
 
 library: $(STATIC) $(SHARED) $(HEADER) $(PKGCONFIG)
 
-# The kit builds a program and runs it. A sequence of no items has no output.
+# Without a gate that passed: the kit proves a program, builds it and runs it. A sequence of no items has no output.
 .SECONDEXPANSION:
 $(PROGRAM_FILES): $(DIST)/bin/%: $$(call sources,$$(BELOW) $$*)
 	cd crates/$* && $(PROGRESS) rt run -- $(RUN_$*) < /dev/null
 	install -D -m 755 crates/$*/out/$* $@
 
-# One object, which exports the calls of the header alone.
-$(STATIC): $(call sources,$(BELOW) cbor_diag_c)
+$(ARCHIVE): $(call sources,$(BELOW) cbor_diag_c)
 	cd crates/cbor_diag_c && $(PROGRESS) rt lib
+	install -D -m 644 crates/cbor_diag_c/out/libcbor_diag_c.a $@
+
+# One object, which exports the calls of the header alone.
+$(STATIC): $(ARCHIVE)
 	mkdir -p $(@D)
 	rm -f $@
-	$(LD) -r -o $(DIST)/cbor_diag.o --whole-archive crates/cbor_diag_c/out/libcbor_diag_c.a $(HEAP)
+	$(LD) -r -o $(DIST)/cbor_diag.o --whole-archive $(ARCHIVE) $(HEAP)
 	$(OBJCOPY) --wildcard --keep-global-symbol='cbor_diag_*' --strip-debug $(DIST)/cbor_diag.o
 	$(AR) rcs $@ $(DIST)/cbor_diag.o
 	rm $(DIST)/cbor_diag.o
 
+# Its second name is a hard link, because the gate takes no symbolic link in the repository.
 $(SHARED): $(STATIC) bindings/c/cbor_diag.map
 	$(CC) -shared -o $@ -Wl,--whole-archive $(STATIC) -Wl,--no-whole-archive \
 	    -Wl,--version-script=bindings/c/cbor_diag.map -Wl,-soname,$(@F) -Wl,--gc-sections -Wl,-z,defs -Wl,-z,now -Wl,-s
-	ln -sf $(@F) $(DIST)/lib/libcbor_diag.so
+	ln -f $@ $(DIST)/lib/libcbor_diag.so
 
 $(HEADER): bindings/c/cbor_diag.h
 	install -D -m 644 $< $@
@@ -96,14 +102,13 @@ install: all
 	install -D -m 644 -t $(DESTDIR)$(PREFIX)/share/man/man1 $(MANUALS)
 	install -D -m 644 -t $(DESTDIR)$(PREFIX)/share/bash-completion/completions $(COMPLETIONS)
 
-# The main job: the dump of an example.
-demo: $(PROGRAM)
-	$(PROGRAM) hex hex < examples/cose-sign1.hex
-
-# The same before any proof, to see the program without the wait. It shows nothing of what is proved.
+# The main job before any proof: cborcat, on these arguments. The kit gives it a copy of each file that they name.
+ARGS = examples/log.cbor
 try:
-	@echo "Not proved: the kit runs the code as it stands, and checks it only while it runs. make demo proves it first."
-	cd crates/cbor_view && rt try -- hex hex < ../../examples/cose-sign1.hex
+	@echo "Nothing is proved yet: the kit runs the code as it stands, and checks it only while it runs. make test proves it."
+	@files=; for word in $(ARGS); do \
+	    if test -f "$$word"; then files="$$files --data $$word=$(CURDIR)/$$word"; fi; \
+	done; cd crates/cborcat && rt try $$files -- $(ARGS)
 
 # Checks all crates and runs their tests, without the must-fail edits.
 quick:
@@ -116,16 +121,16 @@ quick:
 # are 4 GB of free memory for; without the number rt counts on more memory for a large crate, and runs fewer at a time.
 JOBS = $(shell awk -v most="$$(nproc)" '/^MemAvailable/ { n = int($$2 / 4000000); print n < 1 ? 1 : n < most ? n : most }' \
     /proc/meminfo)
-test:
+gate:
 	@RT_JOBS=$${RT_JOBS:-$(JOBS)} $(PROGRESS) rt ci
+
+# The gate, and then what it built in dist/, so that make has little left to do.
+test:
+	@RT_JOBS=$${RT_JOBS:-$(JOBS)} checks/gate $(PROGRAMS)
 
 # The wrong bodies that the gate does not try.
 planted:
 	checks/planted
-
-# The program for people, as they run it: in pipes and terminals, with closed outputs and full disks.
-check-cat: $(DIST)/bin/cborcat
-	checks/cborcat $<
 
 # The links, names, commands and Rust examples of all pages, and the examples of doc comments. The tests run the latter.
 check-docs: program
@@ -133,6 +138,10 @@ check-docs: program
 	checks/names
 	checks/examples
 	checks/commands
+
+# The program for people, as they run it: in pipes and terminals, with closed outputs and full disks.
+check-cat: $(DIST)/bin/cborcat
+	checks/cborcat $<
 
 check-bindings: library
 	packages/version
