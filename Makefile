@@ -37,12 +37,14 @@ PROGRAM_FILES = $(PROGRAMS:%=$(DIST)/bin/%)
 MANUALS = $(PROGRAMS:%=$(DIST)/share/man/man1/%.1)
 COMPLETIONS = $(PROGRAMS:%=$(DIST)/share/bash-completion/completions/%)
 
-sources = $(shell find $(wildcard $(1:%=crates/%/src) $(1:%=crates/%/specs) $(1:%=crates/%/proofs)) -type f) crates.txt
+# The files that a proof of these crates reads. With AS_BUILT=1 what is in dist/ is taken as it is, whatever its age.
+sources = $(if $(AS_BUILT),,crates.txt \
+    $(shell find $(wildcard $(1:%=crates/%/src) $(1:%=crates/%/specs) $(1:%=crates/%/proofs)) -type f))
 # The crates that a program or the library for C may stand on.
-BELOW = $(filter-out %_tests cbor_extent cbor_diag_c $(PROGRAMS),$(shell sed -n 's/^\(cbor[a-z_]*\).*:.*/\1/p' crates.txt))
+BELOW := $(filter-out %_tests cbor_extent cbor_diag_c $(PROGRAMS),$(shell sed -n 's/^\(cbor[a-z0-9_]*\).*:.*/\1/p' crates.txt))
 
-.PHONY: all program library install try quick gate test planted check-cat check-docs check-bindings check-packages tarball \
-    deb wheel release compare bench clean
+.PHONY: all program library install try quick gate test planted check check-pages check-docs check-cat check-allocations \
+    check-bindings check-packages tarball deb wheel release compare bench clean
 
 all: program library $(MANUALS) $(COMPLETIONS)
 
@@ -132,19 +134,38 @@ test:
 planted:
 	checks/planted
 
-# The links, names, commands and Rust examples of all pages, and the examples of doc comments. The tests run the latter.
-check-docs: program
+# All that needs no proof. It takes what is in dist/ as it is.
+check: check-pages
+	@for file in $(PROGRAM_FILES) $(ARCHIVE); do \
+	    test -e $$file || { echo "$$file is not there: make test builds it, or make"; exit 1; }; \
+	done
+	@$(MAKE) -q $(PROGRAM_FILES) $(ARCHIVE) || echo "note: files of the crates are newer than dist/: make builds it again"
+	@$(MAKE) --no-print-directory AS_BUILT=1 check-docs check-cat check-allocations check-bindings check-packages
+
+# The links, names and Rust examples of all pages, and the examples of doc comments, which the tests run; the second
+# implementation, alone.
+check-pages:
 	checks/links
 	checks/names
 	checks/examples
+	packages/version
+	checks/compare/run --self-test
+
+# Also the commands of all pages.
+check-docs: check-pages program
 	checks/commands
 
 # The program for people, as they run it: in pipes and terminals, with closed outputs and full disks.
 check-cat: $(DIST)/bin/cborcat
 	checks/cborcat $<
 
+# Failing allocations in the program, and in single calls, which tests make that the gate builds.
+check-allocations: $(PROGRAM)
+	checks/allocations/faults $(PROGRAM)
+	@if test -x crates/cbor_diag_tests/out/cbor_diag_tests_tests; then checks/allocations/failing_calls; \
+	    else echo "no single call was tried, because the tests are not built: make test builds them"; fi
+
 check-bindings: library
-	packages/version
 	CC='$(CC)' PYTHON='$(PYTHON)' CARGO='$(CARGO)' bindings/check
 
 # Packages, for whoever has no kit. Their files have the date of the last commit, so they are the same byte for byte.
