@@ -1,5 +1,5 @@
 //! How long a container would be on one line, roughly, from its bytes: the estimate that
-//! `estimate.rt` makes from items, before they are read.
+//! `encode/notation/estimate.rt` of `cbor_diag` makes from items, before they are read.
 //!
 //! Each function takes a budget of characters and returns what its part leaves of it, and the bytes
 //! after that part; or `None` where the part takes all of the budget, or where the bytes are cut or

@@ -1,5 +1,5 @@
 //! Writes the text of an item at the outermost level straight from bytes and hex, in any layout.
-//! The public calls of `straight.rt` are these functions in their layouts.
+//! The public calls of `convert.rt` are these functions in their layouts.
 #![tactic(auto, using(cbor_grammar::proofs::shared::Appending::appending_steps))]
 
 ghost use Rattle.std.specs.Prelude.{◌≡◌, ◌≤◌, ◌++◌, IfOk, IfErr, IfSome, OnOk, OnErr};

@@ -1,5 +1,5 @@
--- What is still to be skipped after the bytes that came, as the code of `parse/binary/skip/progress.rt` keeps it. No
--- public clause names it.
+-- What is still to be skipped after the bytes that came, as the code of `skip/progress.rt` keeps it. No public clause
+-- names it.
 use Rattle.std.specs.Prelude.{◌≡◌, ℕ, ◌-◌, List, length, Result, Ok, Err}
 use Rattle.cbor_bytes.specs.declared.skip.answer.Extent.{Extent}
 use Rattle.cbor_bytes.specs.declared.skip.answer.Extent.TheVariants as extent

@@ -1,5 +1,5 @@
--- Skipping over an item whose bytes come in pieces, as the code of `parse/binary/skip/scanner.rt` does, in the words of
--- `Skipping`: after some bytes, what is due. No public clause names it.
+-- Skipping over an item whose bytes come in pieces, as the code of `skip/scanner.rt` does, in the words of `Skipping`:
+-- after some bytes, what is due. No public clause names it.
 use Rattle.std.specs.Prelude.{◌≡◌, ℕ, ◌<◌, ◌≤◌, Bool, true, false, if◌then◌else◌, nat_lt, List, length, take, Err}
 use Rattle.std.specs.Prelude.{IsUtf8}
 use Rattle.cbor_grammar.specs.declared.width.IntegerWidth.TheVariants.{Zero}

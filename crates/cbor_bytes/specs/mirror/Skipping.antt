@@ -1,6 +1,5 @@
--- Skipping over an item, as the code of `parse/binary/skip.rt` does, in the words of `specs/Reading.antt`:
--- what reading gives, its value forgotten, and what is still to come in containers that are open. No
--- public clause names it.
+-- Skipping over an item, as the code of `skip.rt` does, in the words of `specs/Reading.antt` of `cbor_grammar`: what
+-- reading gives, its value forgotten, and what is still to come in containers that are open. No public clause names it.
 use Rattle.std.specs.Prelude.{◌≡◌, ◌≢◌, ℕ, ◌-◌, List, [], ◌∷◌, ◌++◌, length, Option, Some, None, Result, Ok, Err}
 use Rattle.cbor_grammar.specs.declared.width.IntegerWidth.{IntegerWidth}
 use Rattle.cbor_grammar.specs.declared.width.IntegerWidth.TheVariants.{Zero}

@@ -1,4 +1,4 @@
--- Reading as in `specs/Reading.antt` over a stack of open containers, as the code of `parse/binary.rt` goes: what is
+-- Reading as in `specs/Reading.antt` over a stack of open containers, as `parse/binary.rt` of `cbor_diag` goes: what is
 -- open is what is left to do with the next item. No public clause names it.
 use Rattle.std.specs.Prelude.{◌≡◌, ℕ, zero, suc, ◌-◌, ◌≤◌, List, [], ◌∷◌, length, Option, Some, None, Result, Ok, Err}
 use Rattle.cbor_grammar.specs.declared.error.Error.{Error}

@@ -1,4 +1,4 @@
--- Walking over a text, as the code of `parse/hex_text/place.rt` does: what is kept from one byte to another. No public
+-- Walking over a text, as `hex_text/place.rt` of `cbor_bytes` does: what is kept from one byte to another. No public
 -- clause names it.
 use Rattle.std.specs.Prelude.{◌≡◌, ℕ, List, [], ◌++◌, slice_index}
 use Rattle.cbor_notes.specs.Columns.{uncommented}

@@ -1,4 +1,4 @@
--- Tokens that are not read, but with more text behind them, as the code of `parse/notation/fault/tokens.rt` finds
+-- Tokens that are not read, but with more text behind them, as `parse/notation/fault/tokens.rt` of `cbor_diag` finds
 -- them. No public clause names these.
 use Rattle.std.specs.Prelude.{ℕ, zero, suc, ◌^◌, Bool, true, false, ◌==◌, ◌&&◌, ◌||◌, nat_lt, List, [], ◌∷◌, Option}
 use Rattle.std.specs.Prelude.{Some, None, ◌≡◌, ◌⊎◌, ◌++◌, length}
