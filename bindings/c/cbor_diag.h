@@ -166,8 +166,9 @@ static inline int64_t cbor_diag_extent_checked(const void *input, size_t input_l
  *   cbor_diag_extent. It is the end of bytes that are cut, and the first byte after an item that is not the last.
  * - In hex it is the first digit of that byte; or the digit that is wrong, which is the last of an odd number; or the
  *   end of a text whose bytes are cut.
- * - In notation it is the last of the first bytes after which no notation can follow; or the end of a text that may only
- *   be cut short. It may be inside a character.
+ * - In notation it is the last of the first bytes after which no notation can follow; or the end of a text that may
+ *   only be cut short. It may be inside a character. It is proved that no notation begins with the bytes up to it, or
+ *   that it is the end of the text; the rest is tested.
  * - In hex or notation that is not UTF-8 it is the first byte that is not.
  *
  * `input` may be null if its length is 0, and `place` may be null.
@@ -187,7 +188,8 @@ static inline int64_t cbor_diag_fault_checked(uint32_t from, const void *input, 
 
 /*
  * Reports how bytes begin that come in pieces, without memory: feed each piece as it comes, for example from a socket.
- * The time grows with the new bytes alone: each byte is looked at once.
+ * The time grows with the new bytes alone: of those before, at most eight are looked at again, which are those of a
+ * head or a character that is cut.
  *
  * Returns, and sets `*end` to, what cbor_diag_extent does for all bytes that the scanner was fed since
  * cbor_diag_scanner_init, counts included: minus CBOR_DIAG_ERROR_CUT_SHORT as long as more are needed. Once it returns

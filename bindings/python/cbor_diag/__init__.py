@@ -92,9 +92,10 @@ class CborDiagError(ValueError):
     characters if `convert` was given a `str`. It is `None` where there is no place: out of memory, and for no form.
 
     The fault is the byte that no item can have there; the last byte of a text that is not UTF-8; the end of what is cut
-    short; or the first byte after the item. In hex it is the first digit of that byte, or the digit that is wrong, which
-    is the last of an odd number. In notation it is where no notation can go on so, or the end of a text that may only
-    be cut short. In hex or notation that is not UTF-8 it is the first byte that is not.
+    short; or the first byte after the item. In hex it is the first digit of that byte, or the digit that is wrong,
+    which is the last of an odd number. In notation it is where no notation can go on so, or the end of a text that may
+    only be cut short; it is proved that no notation begins with the bytes up to it, or that it is the end of the text.
+    In hex or notation that is not UTF-8 it is the first byte that is not.
 
     If `extent`, `Scanner.feed` or `items` raised it, `end` is the number of first bytes that have the error.
     """
@@ -297,7 +298,8 @@ class Scanner:
     >>> scanner.feed(b"\xe8\x02\xff")
     5
 
-    It looks at each byte once, and takes two kilobytes.
+    The time of `feed` grows with the new bytes alone: of those before, at most eight are looked at again. It takes two
+    kilobytes.
     """
 
     __slots__ = ("_end", "_room")
@@ -354,8 +356,8 @@ def items(stream: BinaryIO) -> Iterator[bytes]:
     """Yields the bytes of each item of a binary stream, as soon as it is complete: of a file, a pipe or the file of a
     socket.
 
-    It calls `read1`, `read` or `readinto` of the stream, the first that it has, and looks at each byte once. It keeps
-    the bytes of one item, and of one read.
+    It calls `read1`, `read` or `readinto` of the stream, the first that it has. The time grows with the bytes that
+    come, as that of `Scanner.feed` does. It keeps the bytes of one item, and of one read.
 
     Raises `CborDiagError` after the last whole item if the stream goes on with bytes that are no item, or if it ends
     inside of an item (`CUT_SHORT`). Its `end` and `offset` count from where the stream was.

@@ -4,8 +4,9 @@ use crate::library::{cbor_diag_scanner_feed, cbor_diag_scanner_init, ScannerRoom
 use crate::Extent;
 use std::fmt;
 
-/// Reports how bytes begin that come in pieces, as [`extent`](crate::extent) does for all of them at once. It looks at
-/// each byte once, takes two kilobytes, and allocates nothing.
+/// Reports how bytes begin that come in pieces, as [`extent`](crate::extent) does for all of them at once. The time of
+/// [`feed`](Scanner::feed) grows with the new bytes alone: of those before, at most eight are looked at again. It takes
+/// two kilobytes, and allocates nothing.
 ///
 /// ```rust
 /// use semphluk::{Extent, Scanner};

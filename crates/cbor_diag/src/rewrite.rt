@@ -51,8 +51,9 @@ fn encoding_of(alloc: Global, bytes: Vec<u8>) -> Result<Vec<u8>>
 /// Reads one item from all of the bytes, and returns its encoding: what [`parse_bytes`] and
 /// [`DataItem::to_bytes`] return one after the other, the errors of [`parse_bytes`] included.
 ///
-/// The result is the bytes themselves, in their memory, unless a simple value below 24 takes two
-/// bytes in them. It takes one in the encoding. Only then is an item built, and memory allocated.
+/// The result is the same bytes, unless a simple value below 24 takes two of them: it takes one in
+/// the encoding. No clause says where the result is: without such a value it is the memory that was
+/// given, and no item is built.
 ///
 /// ```rust
 /// use cbor_diag::bytes_to_bytes;

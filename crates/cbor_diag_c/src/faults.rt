@@ -131,8 +131,9 @@ fn fault(alloc: Global, from: Source, input: &[u8]) -> Result<Fault, Error>
 /// them; their end if they are cut; or the end of the item if more follow. In hex it is the first
 /// digit of that byte; or the digit that is wrong, which is the last one of an odd number. In
 /// notation it is the last of the first bytes after which no notation can follow, or the end of a
-/// text that may only be cut short. In a text that is not UTF-8 it is the end of the longest front
-/// that is.
+/// text that may only be cut short. That these bytes are the fewest, and that the end is told of no
+/// other text, is in no clause. In a text that is not UTF-8 it is the end of the longest front that
+/// is.
 #[unsafe(no_mangle)]
 pub extern "C" fn cbor_diag_fault(alloc: Global, from: u32, input: &[u8], place: &mut usize) -> i64
     ensures none { IfLength result (λ n. (n ≡ 0) × IsItemIn from input.now

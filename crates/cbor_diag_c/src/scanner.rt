@@ -94,7 +94,7 @@ pub unsafe extern "C" fn cbor_diag_scanner_init(scanner: *mut ScannerRoom)
 }
 
 /// Feeds the bytes that come next to a scanner, and reports how all bytes that it was fed begin. It
-/// allocates nothing, and looks at each byte once.
+/// allocates nothing. Of the bytes before, it looks at no more than eight again.
 ///
 /// Returns and sets `end` to what `cbor_diag_extent` does for all of the bytes, counts included:
 /// once that is an item or a fault, it stays. The counts are right as long as fewer than 2^63 bytes

@@ -35,7 +35,7 @@ pub struct Show {
     pub style: Style,
     /// The path to the part that is written. Nothing is written of an item without that part.
     pub steps: Vec<Step>,
-    /// Whether a call writes one item at most.
+    /// Whether a call stops after one item, with `Full`. No clause says so: it is tested.
     pub one: bool,
 }
 
@@ -62,7 +62,8 @@ impl Show {
 /// Why no further item is written.
 #[derive(Clone, Copy, PartialEq, Eq, Debug)]
 pub enum End {
-    /// The output is a block, or one item was written: write it, and go on.
+    /// The call stopped without a look at what remains, which may be nothing: a block of output was
+    /// appended, or one item was to be written or skipped, and was. Write the output, and go on.
     Full,
     /// No bytes remain.
     Done,
@@ -74,7 +75,9 @@ pub enum End {
     Remaining,
     /// The item that follows, of this many bytes, does not have the part.
     Lost { len: usize },
-    /// Memory ran out, or notation that was made is not read back.
+    /// Nothing was made of what remains: memory ran out (`Memory`), or no notation of the next item
+    /// was made that is read back and has no hidden character (`Notation`). No clause says when
+    /// this is returned, nor what remains.
     Failed(Error),
 }
 

@@ -15,7 +15,8 @@ use std::alloc::{AllocError, Global};
 use std::marker::Model;
 
 /// Items one after the other that come in pieces, as from a pipe. It keeps the bytes of the item
-/// that is not whole yet, and scans each of them once, in however many pieces they come.
+/// that is not whole yet, and scans them as they come: of the pieces before, at most eight bytes
+/// are looked at again.
 #[derive(Drop)]
 pub struct Stream {
     /// The bytes that came, but for some that were passed.

@@ -9,7 +9,8 @@ use super::answer::Extent;
 use super::progress::Progress;
 
 /// Reports how bytes begin, as [`extent`] does, where they come in pieces, as from a socket. It
-/// looks at each piece once and allocates nothing.
+/// allocates nothing. It looks again at no more than eight of the bytes before a piece: those of a
+/// head or a character that is cut.
 ///
 /// ```rust
 /// use cbor_diag::{Extent, Scanner};
