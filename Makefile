@@ -43,8 +43,8 @@ sources = $(if $(AS_BUILT),,crates.txt \
 # The crates that a program or the library for C may stand on.
 BELOW := $(filter-out %_tests cbor_extent cbor_diag_c $(PROGRAMS),$(shell sed -n 's/^\(cbor[a-z0-9_]*\).*:.*/\1/p' crates.txt))
 
-.PHONY: all program library install try quick gate test planted check check-pages check-docs check-cat check-allocations \
-    check-bindings check-packages tarball deb wheel release compare bench clean
+.PHONY: all program library install try quick gate test planted check check-pages check-commands check-docs check-cat \
+    check-allocations check-bindings check-packages tarball deb wheel release compare bench clean
 
 all: program library $(MANUALS) $(COMPLETIONS)
 
@@ -139,8 +139,9 @@ check: check-pages
 	@for file in $(PROGRAM_FILES) $(ARCHIVE); do \
 	    test -e $$file || { echo "$$file is not there: make test builds it, or make"; exit 1; }; \
 	done
-	@$(MAKE) -q $(PROGRAM_FILES) $(ARCHIVE) || echo "note: files of the crates are newer than dist/: make builds it again"
-	@$(MAKE) --no-print-directory AS_BUILT=1 check-docs check-cat check-allocations check-bindings check-packages
+	@$(MAKE) --no-print-directory -q $(PROGRAM_FILES) $(ARCHIVE) || \
+	    echo "note: files of the crates are newer than dist/: make builds it again"
+	@$(MAKE) --no-print-directory AS_BUILT=1 check-commands check-cat check-allocations check-bindings check-packages
 
 # The links, names and Rust examples of all pages, and the examples of doc comments, which the tests run; the second
 # implementation, alone.
@@ -151,9 +152,11 @@ check-pages:
 	packages/version
 	checks/compare/run --self-test
 
-# Also the commands of all pages.
-check-docs: check-pages program
-	checks/commands
+# The commands of all pages, and both.
+check-commands: program
+	checks/commands $(DIST)/bin
+
+check-docs: check-pages check-commands
 
 # The program for people, as they run it: in pipes and terminals, with closed outputs and full disks.
 check-cat: $(DIST)/bin/cborcat
