@@ -218,6 +218,9 @@ def _on_bytes(data: Data, call: Callable[..., _Result], *arguments: Any) -> _Res
     return call(_releasing, data, len(data), *arguments)
 
 
+_BYTES, _HEX, _DIAG, _PRETTY = map(int, Form)  # plain numbers, which ctypes takes in less time
+
+
 def _form_number(form: Form) -> int:
     """The number of a form. Raises `CborDiagError` for a number that the library cannot be given."""
     number = operator.index(form)
@@ -236,18 +239,70 @@ def _place(library: _Library, given: Any, length: int, source: int) -> Optional[
 _NO_PLACE = ctypes.c_size_t(-1).value
 
 
-def _converted(library: _Library, given: Any, length: int, source: int, target: int) -> bytes:
-    # Enough for most outputs. If it is not, the first call returns the length.
-    room = (8 if target == Form.HEX else 3) * length + 64
-    for _ in range(2):
-        output = ctypes.create_string_buffer(room)
-        wanted = library.convert(source, target, given, length, output, room)
-        if wanted < 0:
-            raise CborDiagError(Error(-wanted), offset=_place(library, given, length, source))
-        if wanted <= room:
-            return ctypes.string_at(output, wanted)
-        room = wanted
-    raise AssertionError("the length of an output changed")
+class _Room:
+    """Memory for an output. Most outputs fit, so that one call of the library is enough."""
+
+    SIZE = 65536
+
+    __slots__ = ("address", "view")
+
+    def __init__(self) -> None:
+        buffer = ctypes.create_string_buffer(self.SIZE)
+        self.address = ctypes.addressof(buffer)
+        self.view = memoryview(buffer)
+
+
+# The rooms that no call uses. A call takes one away for as long as it needs it, so that neither another thread nor a
+# signal's handler writes to it.
+_rooms: list[_Room] = []
+
+
+def _room() -> _Room:
+    try:
+        return _rooms.pop()
+    except IndexError:
+        return _Room()
+
+
+def _text(output: memoryview) -> str:
+    """The text of an output in notation, without the line feed that ends it."""
+    return str(output[:-1], "utf-8")
+
+
+def _dump(output: memoryview) -> str:
+    return str(output, "utf-8")
+
+
+def _converted(
+    library: _Library, given: Any, length: int, source: int, target: int, kept: Callable[[memoryview], _Result]
+) -> _Result:
+    """What `kept` makes of the output for the bytes that are given."""
+    room = _room()
+    try:
+        wanted = library.convert(source, target, given, length, room.address, room.SIZE)
+        if 0 <= wanted <= room.SIZE:
+            return kept(room.view[:wanted])
+    finally:
+        _rooms.append(room)
+    if wanted < 0:
+        raise CborDiagError(Error(-wanted), offset=_place(library, given, length, source))
+    output = ctypes.create_string_buffer(wanted)
+    if library.convert(source, target, given, length, output, wanted) != wanted:
+        raise AssertionError("the length of an output changed")
+    return kept(memoryview(output))
+
+
+def _convert(source: int, target: int, data: Data, kept: Callable[[memoryview], _Result]) -> _Result:
+    """The same for data of any kind. An error's place in a `str` counts its characters."""
+    if type(data) is bytes:
+        return _converted(_releasing, data, len(data), source, target, kept)
+    try:
+        return _on_bytes(data, _converted, source, target, kept)
+    except CborDiagError as failure:
+        if isinstance(data, str) and failure.offset is not None:
+            before = data.encode("utf-8", "surrogatepass")[: failure.offset]
+            failure.offset = len(before.decode("utf-8", "ignore"))
+        raise
 
 
 def convert(source: Form, target: Form, data: Data) -> bytes:
@@ -256,14 +311,7 @@ def convert(source: Form, target: Form, data: Data) -> bytes:
     A `str` is taken as its UTF-8. An output in notation ends with a line feed. Raises `CborDiagError` if the input is
     not an item in its form, and `TypeError` if it has no bytes.
     """
-    numbers = _form_number(source), _form_number(target)
-    try:
-        return _on_bytes(data, _converted, *numbers)
-    except CborDiagError as failure:
-        if isinstance(data, str) and failure.offset is not None:
-            before = data.encode("utf-8", "surrogatepass")[: failure.offset]
-            failure.offset = len(before.decode("utf-8", "ignore"))
-        raise
+    return _convert(_form_number(source), _form_number(target), data, bytes)
 
 
 def _beginning(found: int, end: int, before: int = 0) -> int:
@@ -389,42 +437,42 @@ def items(stream: BinaryIO) -> Iterator[bytes]:
 
 def bytes_to_hex(data: Data) -> str:
     """The dump of an item: its bytes in hex, a line for each head, with comments."""
-    return convert(Form.BYTES, Form.HEX, data).decode()
+    return _convert(_BYTES, _HEX, data, _dump)
 
 
 def bytes_to_diag(data: Data) -> str:
     """An item in diagnostic notation, without a line feed but those in its texts."""
-    return convert(Form.BYTES, Form.DIAG, data).decode().removesuffix("\n")
+    return _convert(_BYTES, _DIAG, data, _text)
 
 
 def bytes_to_diag_pretty(data: Data) -> str:
     """An item in diagnostic notation over several lines, without a line feed at the end."""
-    return convert(Form.BYTES, Form.PRETTY, data).decode().removesuffix("\n")
+    return _convert(_BYTES, _PRETTY, data, _text)
 
 
 def hex_to_bytes(text: Data) -> bytes:
     """The bytes of an item from hex, with or without comments."""
-    return convert(Form.HEX, Form.BYTES, text)
+    return _convert(_HEX, _BYTES, text, bytes)
 
 
 def hex_to_diag(text: Data) -> str:
     """An item in hex in diagnostic notation, without a line feed but those in its texts."""
-    return convert(Form.HEX, Form.DIAG, text).decode().removesuffix("\n")
+    return _convert(_HEX, _DIAG, text, _text)
 
 
 def hex_to_diag_pretty(text: Data) -> str:
     """An item in hex in diagnostic notation over several lines, without a line feed at the end."""
-    return convert(Form.HEX, Form.PRETTY, text).decode().removesuffix("\n")
+    return _convert(_HEX, _PRETTY, text, _text)
 
 
 def diag_to_bytes(text: Data) -> bytes:
     """The bytes of an item from diagnostic notation."""
-    return convert(Form.DIAG, Form.BYTES, text)
+    return _convert(_DIAG, _BYTES, text, bytes)
 
 
 def diag_to_hex(text: Data) -> str:
     """The dump of an item from diagnostic notation."""
-    return convert(Form.DIAG, Form.HEX, text).decode()
+    return _convert(_DIAG, _HEX, text, _dump)
 
 
 def library_version() -> tuple[int, int, int]:
