@@ -1,3 +1,4 @@
 pub mod bytes
 pub mod skipping
 pub mod hex
+pub mod reading

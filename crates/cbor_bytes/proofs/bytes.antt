@@ -1,3 +1,4 @@
 pub mod NoLongSimple
 pub mod StrictHeads
 pub mod Remaining
+pub mod WellFormed

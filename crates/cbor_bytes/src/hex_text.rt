@@ -10,7 +10,7 @@ ghost use Rattle.std.specs.List.{AllPass, after_first};
 ghost use Rattle.std.specs.Str.Lines.{strip_carriage_return};
 ghost use Rattle.hex.specs.Hex.{decode_of, is_hex_digit};
 ghost use Rattle.cbor_grammar.specs.Answer.{RefusedSo};
-ghost use Rattle.cbor_notes.specs.Columns.{unspaced, uncommented};
+ghost use Rattle.cbor_tokens.specs.Uncommented.{unspaced, uncommented};
 ghost use Rattle.cbor_grammar.specs.HexText.{IsHexRefused};
 
 use cbor_grammar::Error;

@@ -8,6 +8,7 @@
 pub mod borrowed;
 pub mod head;
 pub mod hex_text;
+pub mod quoted;
 pub mod skip;
 pub mod strict;
 pub mod strings;

@@ -2,7 +2,7 @@
 //! place.
 #![tactic(auto, using(cbor_grammar::proofs::shared::Appending::appending_steps))]
 
-ghost use Rattle.cbor_notes.specs.Appends.{Appends};
+ghost use Rattle.cbor_tokens.specs.Appends.{Appends};
 ghost use Rattle.cbor_grammar.specs.Head.{FitsWidth};
 ghost use Rattle.cbor_grammar.specs.mirror.MajorNumber.{major_number};
 ghost use Rattle.cbor_grammar.specs.WellFormed.{FitsFloat, FitsCount};

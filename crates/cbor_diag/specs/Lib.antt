@@ -4,11 +4,11 @@ pub mod ItemAnswer
 -- what the crates below define, for callers
 pub use Rattle.cbor_grammar.specs.Answer
 pub use Rattle.cbor_grammar.specs.Bytes
-pub use Rattle.cbor_grammar.specs.Comments
+pub use Rattle.cbor_dump.specs.Comments
 pub use Rattle.cbor_grammar.specs.Compact
 pub use Rattle.cbor_grammar.specs.Context
 pub use Rattle.cbor_grammar.specs.DeadEnd
-pub use Rattle.cbor_grammar.specs.Dump
+pub use Rattle.cbor_dump.specs.Dump
 pub use Rattle.cbor_grammar.specs.Embedded
 pub use Rattle.cbor_grammar.specs.Estimate
 pub use Rattle.cbor_grammar.specs.Examples
@@ -21,8 +21,8 @@ pub use Rattle.cbor_grammar.specs.Normal
 pub use Rattle.cbor_grammar.specs.Notation
 pub use Rattle.cbor_grammar.specs.NotationRefused
 pub use Rattle.cbor_grammar.specs.NotationText
-pub use Rattle.cbor_grammar.specs.Notes
-pub use Rattle.cbor_grammar.specs.Pieces
+pub use Rattle.cbor_dump.specs.Notes
+pub use Rattle.cbor_dump.specs.Pieces
 pub use Rattle.cbor_grammar.specs.Pretty
 pub use Rattle.cbor_grammar.specs.Reading
 pub use Rattle.cbor_grammar.specs.Refusals

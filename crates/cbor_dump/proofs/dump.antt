@@ -10,3 +10,11 @@ pub mod NotesFit
 pub mod ItemsFit
 pub mod Fronts
 pub mod NotedValues
+pub mod Pieces
+pub mod ResolvedDumps
+pub mod Digits
+pub mod Elements
+pub mod NoteTexts
+pub mod CommentLines
+pub mod Fits
+pub mod AllDigits

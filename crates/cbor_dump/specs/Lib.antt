@@ -1,1 +1,5 @@
+pub mod Comments
+pub mod Pieces
+pub mod Dump
+pub mod Notes
 pub mod mirror

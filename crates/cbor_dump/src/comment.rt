@@ -2,18 +2,17 @@
 ghost use Rattle.std.specs.Prelude.{◌≡◌, ◌++◌, OnOk, decimal};
 ghost use Rattle.std.specs.String.{string_bytes};
 ghost use Rattle.cbor_notes.specs.TagNames.{tag_name};
-ghost use Rattle.cbor_grammar.specs.Comments as spec;
+ghost use Rattle.cbor_dump.specs.Comments as spec;
 ghost use Rattle.cbor_dump.specs.mirror.Dumped.{IsHead, head_said};
 ghost use Rattle.cbor_dump.specs.mirror.ShownLines.{comment_text, head_comment, major_word};
 
+use cbor_bytes::quoted::push_quoted;
 use cbor_grammar::Tag;
 use cbor_grammar::encoding::Encoding;
 use cbor_grammar::head::ItemHead;
 use cbor_grammar::major::Major;
-use cbor_notation::scalars::push_quoted;
-use cbor_notes::{
-    push_element_text, push_escaped_text, push_grouped, push_hex, push_quoted_bytes, tag_name,
-};
+use cbor_notes::{push_element_text, push_escaped_text, push_grouped, push_quoted_bytes, tag_name};
+use cbor_tokens::push_hex;
 use std::alloc::AllocError;
 
 /// What a line of a dump says of its digits.

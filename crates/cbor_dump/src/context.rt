@@ -1,7 +1,7 @@
 //! Where in a dump an item is.
 ghost use Rattle.std.specs.Prelude.{◌≡◌, ◌+◌};
-ghost use Rattle.cbor_grammar.specs.Comments.{encoding_below};
-ghost use Rattle.cbor_grammar.specs.Dump as spec;
+ghost use Rattle.cbor_dump.specs.Comments.{encoding_below};
+ghost use Rattle.cbor_dump.specs.Dump as spec;
 ghost use Rattle.cbor_dump.specs.mirror.Dumped.{context_view, IsContext};
 
 use cbor_grammar::Tag;

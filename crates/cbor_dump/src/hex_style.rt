@@ -1,10 +1,11 @@
 //! The digits of a line.
 ghost use Rattle.std.specs.Prelude.{◌≡◌, ◌≤◌, ◌++◌, OnOk, length};
 ghost use Rattle.std.specs.String.{string_bytes};
-ghost use Rattle.cbor_grammar.specs.Dump.{head_hex};
+ghost use Rattle.cbor_dump.specs.Dump.{head_hex};
 ghost use Rattle.cbor_dump.specs.mirror.ShownLines.{style_hex};
 
-use cbor_notes::{push_hex, push_spaced_hex};
+use cbor_notes::push_spaced_hex;
+use cbor_tokens::push_hex;
 use std::alloc::AllocError;
 
 /// How the bytes of a line are shown in digits.

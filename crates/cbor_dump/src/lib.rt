@@ -4,9 +4,11 @@
 //! it is read.
 #![tactic(auto)]
 
+pub mod addresses;
 pub mod comment;
 pub mod context;
 pub mod convert;
+mod examples;
 pub mod hex_style;
 pub mod lines;
 pub mod note_lines;

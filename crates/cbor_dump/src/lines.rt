@@ -2,9 +2,9 @@
 ghost use Rattle.std.specs.Prelude.{◌≡◌, ◌<◌, ◌≤◌, ◌+◌, ◌*◌, ◌==◌, ◌++◌, ◌∷◌, [], length, OnOk};
 ghost use Rattle.std.specs.Prelude.{if◌then◌else◌, replicate};
 ghost use Rattle.std.specs.String.{string_bytes};
-ghost use Rattle.cbor_grammar.specs.Comments.{simple_comment, text_comment};
-ghost use Rattle.cbor_grammar.specs.Dump as spec;
-ghost use Rattle.cbor_grammar.specs.Pieces.{text_pieces};
+ghost use Rattle.cbor_dump.specs.Comments.{simple_comment, text_comment};
+ghost use Rattle.cbor_dump.specs.Dump as spec;
+ghost use Rattle.cbor_dump.specs.Pieces.{text_pieces};
 ghost use Rattle.cbor_grammar.specs.Reading.{count_width};
 ghost use Rattle.cbor_grammar.specs.WellFormed.{deepest};
 ghost use Rattle.cbor_grammar.specs.Written.{encoded_head, encoded_simple};

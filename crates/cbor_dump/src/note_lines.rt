@@ -1,6 +1,6 @@
 //! Notes, which are lines without digits.
 ghost use Rattle.std.specs.Prelude.{◌<◌, ◌∷◌, [], OnOk};
-ghost use Rattle.cbor_grammar.specs.Dump as spec;
+ghost use Rattle.cbor_dump.specs.Dump as spec;
 ghost use Rattle.cbor_dump.specs.mirror.NotesView.{note_view};
 ghost use Rattle.cbor_dump.specs.mirror.Dumped.{Wrote};
 

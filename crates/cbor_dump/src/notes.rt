@@ -1,9 +1,9 @@
 //! The notes of a dump: what is said of the value of a tag, by the value alone.
 ghost use Rattle.std.specs.Prelude.{◌≡◌, ◌<◌, ℕ, false, option_map, Some, None, IfOk};
 ghost use Rattle.std.specs.String.{string_bytes};
-ghost use Rattle.cbor_grammar.specs.Comments as comments;
+ghost use Rattle.cbor_dump.specs.Comments as comments;
 ghost use Rattle.cbor_grammar.specs.Item.{Item};
-ghost use Rattle.cbor_grammar.specs.Notes as spec;
+ghost use Rattle.cbor_dump.specs.Notes as spec;
 ghost use Rattle.cbor_dump.specs.mirror.NotesView.{note_view, value_view};
 
 mod addresses;
@@ -12,9 +12,9 @@ mod encoded;
 mod shared;
 mod value;
 
+use crate::addresses::Family;
 use addresses::{address_note, network_note};
 use cbor_grammar::Tag;
-use cbor_grammar::addresses::Family;
 use cbor_notes::element_size;
 use dates::{date_note, datetime_note, epoch_date_note, epoch_datetime_note};
 use encoded::{base64_note, url_note, uuid_note};
@@ -52,7 +52,7 @@ impl Note {
 }
 
 /// Whether `value_note` may have a note on a value right below this tag.
-#[tactic(auto, unfolding(cbor_grammar::specs::Notes::value_note))]
+#[tactic(auto, unfolding(crate::specs::Notes::value_note))]
 pub(super) fn may_have_note(tag: Tag) -> bool
     ensures { result ≡ false → (known : ℕ) (i : Item) → spec.value_note known tag.0 i ≡ None }
 {
@@ -76,7 +76,7 @@ pub(super) fn may_have_note(tag: Tag) -> bool
 
 /// The note on a value right below a tag, where `known` values were shared before the tag, if there
 /// is one. Tags 24 and 63 have theirs in the walk.
-#[tactic(auto, unfolding(cbor_grammar::specs::Notes::value_note))]
+#[tactic(auto, unfolding(crate::specs::Notes::value_note))]
 pub(super) fn value_note(
     alloc: Global,
     known: u64,

@@ -6,7 +6,7 @@ ghost use Rattle.std.specs.Prelude.{◌≡◌, ◌≤◌, ◌+◌, ℕ, List, Ok
 ghost use Rattle.std.specs.String.{string_bytes};
 ghost use Rattle.cbor_notes.specs.Layout.{width_of};
 ghost use Rattle.cbor_grammar.specs.declared.width.IntegerWidth.{IntegerWidth};
-ghost use Rattle.cbor_grammar.specs.Dump as spec;
+ghost use Rattle.cbor_dump.specs.Dump as spec;
 ghost use Rattle.cbor_grammar.specs.Item.{Item};
 ghost use Rattle.cbor_grammar.specs.Reading.{Fails};
 ghost use Rattle.cbor_grammar.specs.WellFormed.{deepest};

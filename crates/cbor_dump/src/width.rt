@@ -5,8 +5,8 @@
 ghost use Rattle.std.specs.Prelude.{◌≡◌, ◌<◌, ◌≤◌, ◌+◌, ◌-◌, length, max, IfOk, IfErr};
 ghost use Rattle.std.specs.Str.{IsCharBoundary};
 ghost use Rattle.cbor_notes.specs.Layout.{width_of};
-ghost use Rattle.cbor_grammar.specs.Dump.{lines_at_level, top};
-ghost use Rattle.cbor_grammar.specs.Pieces.{text_cut as cut_of, text_pieces};
+ghost use Rattle.cbor_dump.specs.Dump.{lines_at_level, top};
+ghost use Rattle.cbor_dump.specs.Pieces.{text_cut as cut_of, text_pieces};
 ghost use Rattle.cbor_grammar.specs.Reading.{Fails, count_width};
 ghost use Rattle.cbor_grammar.specs.WellFormed.{deepest};
 ghost use Rattle.cbor_grammar.specs.mirror.AtLevel.{read_at, read_behind};

@@ -1,5 +1,4 @@
 pub mod bytes
-pub mod dump
 pub mod hex
 pub mod normal
 pub mod shared

@@ -1,8 +1,8 @@
 -- Where notation is wrong, in the words of the clauses of `diag_fault`.
 use Rattle.std.specs.Prelude.{◌≡◌, ◌≤◌, ◌⊎◌, ◌==◌, ◌||◌, ◌&&◌, not, ℕ, Bool, true, false, if◌then◌else◌}
 use Rattle.std.specs.Prelude.{List, [], ◌∷◌, ◌++◌, length, take, codes}
-use Rattle.cbor_notes.specs.Ascii.{quote, apostrophe, backslash, slash}
-use Rattle.cbor_notes.specs.Token.{in_quotes}
+use Rattle.cbor_tokens.specs.Ascii.{quote, apostrophe, backslash, slash}
+use Rattle.cbor_tokens.specs.Token.{in_quotes}
 use Rattle.cbor_grammar.specs.declared.error.Error.{Error}
 use Rattle.cbor_grammar.specs.declared.error.Error.TheVariants as refusal
 use Rattle.cbor_grammar.specs.Item.{Item}

@@ -13,14 +13,10 @@ pub mod Answer
 pub mod HexText
 pub mod Notation
 pub mod Examples
-pub mod Comments
-pub mod Pieces
-pub mod Dump
 pub mod Embedded
 pub mod Estimate
 pub mod Context
 pub mod NotationText
-pub mod Notes
 pub mod Compact
 pub mod Pretty
 pub mod Normal

@@ -3,11 +3,11 @@
 use Rattle.std.specs.Prelude.{◌≡◌, ℕ, zero, suc, ◌+◌, ◌<◌, List, [], ◌∷◌, ◌++◌, length, codes, Option, Some, None, Ok}
 use Rattle.std.specs.Prelude.{Bool, true, false, nat_lt, ◌==◌, if◌then◌else◌, ◌⊎◌}
 use Rattle.hex.specs.Hex.{decode_of}
-use Rattle.cbor_notes.specs.AreBytes.{AreBytes}
-use Rattle.cbor_notes.specs.Ascii.{quote, apostrophe}
-use Rattle.cbor_notes.specs.Base32.{base32, base32hex}
-use Rattle.cbor_notes.specs.Base64.{standard, url_safe}
-use Rattle.cbor_notes.specs.Token.{Blank, IsNumber, AreDigits, in_quotes, DigitsBetween}
+use Rattle.cbor_tokens.specs.AreBytes.{AreBytes}
+use Rattle.cbor_tokens.specs.Ascii.{quote, apostrophe}
+use Rattle.cbor_tokens.specs.Base32.{base32, base32hex}
+use Rattle.cbor_tokens.specs.Base64.{standard, url_safe}
+use Rattle.cbor_tokens.specs.Token.{Blank, IsNumber, AreDigits, in_quotes, DigitsBetween}
 use Rattle.cbor_grammar.specs.declared.width.IntegerWidth.{IntegerWidth}
 use Rattle.cbor_grammar.specs.declared.width.IntegerWidth.TheVariants.{Unknown, Zero, Eight, Sixteen, ThirtyTwo}
 use Rattle.cbor_grammar.specs.declared.width.IntegerWidth.TheVariants.{SixtyFour}

@@ -1,7 +1,7 @@
 -- Why a text that no limit of levels reads may be refused: what each refusal says of the text.
 use Rattle.std.specs.Prelude.{◌≡◌, ℕ, ◌<◌, ◌≤◌, ◌==◌, ◌||◌, Bool, List, Result, Ok, Err}
 use Rattle.std.specs.List.{count_by}
-use Rattle.cbor_notes.specs.Ascii.{quote, parenthesis, less_than, bracket, underscore, brace}
+use Rattle.cbor_tokens.specs.Ascii.{quote, parenthesis, less_than, bracket, underscore, brace}
 use Rattle.cbor_grammar.specs.declared.error.Error.{Error}
 use Rattle.cbor_grammar.specs.declared.error.Error.TheVariants as refusal
 use Rattle.cbor_grammar.specs.Item.{Item}

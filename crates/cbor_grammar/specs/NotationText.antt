@@ -6,9 +6,9 @@ use Rattle.std.specs.List.{flat_map}
 use Rattle.std.specs.Fmt.{decimal}
 use Rattle.std.specs.Int.{w16, w32, w64, to_be_bytes}
 use Rattle.hex.specs.Hex.{encode_lower}
-use Rattle.cbor_notes.specs.Ascii.{line_feed, space, quote}
-use Rattle.cbor_notes.specs.Base64.{standard, url_safe}
-use Rattle.cbor_notes.specs.Token.{in_quotes}
+use Rattle.cbor_tokens.specs.Ascii.{line_feed, space, quote}
+use Rattle.cbor_tokens.specs.Base64.{standard, url_safe}
+use Rattle.cbor_tokens.specs.Token.{in_quotes}
 use Rattle.cbor_grammar.specs.declared.width.IntegerWidth.{IntegerWidth}
 use Rattle.cbor_grammar.specs.declared.width.IntegerWidth.TheVariants as width
 use Rattle.cbor_grammar.specs.declared.width.FloatWidth.{FloatWidth}

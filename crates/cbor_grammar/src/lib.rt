@@ -6,7 +6,6 @@
 //! in `cbor_diag`.
 #![tactic(auto)]
 
-pub mod addresses;
 pub mod argument;
 pub mod encoding;
 pub mod error;

@@ -1,8 +1,8 @@
 -- Which bytes an input stands for in each form.
 use Rattle.std.specs.Prelude.{◌≡◌, ◌⊎◌, ℕ, ◌==◌, ◌||◌, Bool, not, List, filter, IsUtf8, Ok}
 use Rattle.hex.specs.Hex.{decode_of}
-use Rattle.cbor_notes.specs.AreBytes.{AreBytes}
-use Rattle.cbor_notes.specs.Base64.{standard, url_safe}
+use Rattle.cbor_tokens.specs.AreBytes.{AreBytes}
+use Rattle.cbor_tokens.specs.Base64.{standard, url_safe}
 use Rattle.cbor_diag.specs.Item.{Item}
 use Rattle.cbor_diag.specs.Notation.{IsNotation}
 use Rattle.cbor_diag.specs.Written.{encoded}

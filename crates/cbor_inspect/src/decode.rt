@@ -9,7 +9,7 @@ use crate::items::{End, Shown, skip_items};
 use crate::loose::{HexFault, bytes_of_hex};
 use crate::scan::notation_fault;
 use cbor_diag::{Error, parse_diag};
-use cbor_notes::base64_any_decode;
+use cbor_tokens::base64_any_decode;
 use std::alloc::{AllocError, Global};
 
 /// A form of an input.

@@ -13,7 +13,7 @@ ghost use Rattle.cbor_inspect.specs.Strings.{strings_in};
 use crate::notation::notation_of;
 use cbor_convert::{To, write_item};
 use cbor_diag::{DataItem, Error};
-use cbor_notes::push_hex;
+use cbor_tokens::push_hex;
 use std::alloc::Global;
 
 /// The form in which an item is written.

@@ -19,7 +19,8 @@ ghost use Rattle.cbor_grammar.specs.NotationText.{container_style, indent_of, st
 ghost use Rattle.cbor_grammar.specs.Reading.{read_content};
 ghost use Rattle.cbor_grammar.specs.WellFormed.{deepest, levels_left};
 ghost use Rattle.cbor_grammar.specs.declared.width.IntegerWidth.{IntegerWidth};
-ghost use Rattle.cbor_notation.specs.mirror.Ahead.{Leaves, Estimates, front_read, body_read};
+ghost use Rattle.cbor_notation.specs.mirror.Ahead.{Leaves, Estimates, front_read};
+ghost use Rattle.cbor_grammar.specs.mirror.AtLevel.{body_read};
 
 use crate::budget::{BUDGET, digit_count, float_len, left_after_content, pretty_style};
 use cbor_bytes::head::read_head;

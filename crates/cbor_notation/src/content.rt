@@ -2,9 +2,9 @@
 ghost use Rattle.std.specs.Prelude.{◌≡◌, ◌⊎◌, ◌<◌, length, true, false, option_map, IfOk, IfErr};
 ghost use Rattle.std.specs.Prelude.{IfSome, Some, None, Err, position};
 ghost use Rattle.cbor_grammar.specs.Reading.{Gives};
-ghost use Rattle.cbor_notes.specs.Base32.{standard, extended_hex};
-ghost use Rattle.cbor_notes.specs.Token.{is_special};
-ghost use Rattle.cbor_notes.specs.TokenReading.{unquoted, digits_of};
+ghost use Rattle.cbor_tokens.specs.Base32.{standard, extended_hex};
+ghost use Rattle.cbor_tokens.specs.Token.{is_special};
+ghost use Rattle.cbor_tokens.specs.TokenReading.{unquoted, digits_of};
 ghost use Rattle.cbor_notation.specs.mirror.NotationReading.{or_refused, base16_of, base32_of};
 ghost use Rattle.cbor_notation.specs.mirror.NotationReading.{base64_of, read_decoded};
 ghost use Rattle.cbor_notation.specs.mirror.NotationReading.{h_notation, b_notation};
@@ -24,7 +24,7 @@ pub fn read_quoted(alloc: Global, text: &mut Cursor<'_>, quote: u8) -> Result<Ve
     ensures shorter { IfOk result (λ _. length text.new < length text.old) }
 {
     let rest = text.rest();
-    match cbor_notes::quoted_front(alloc, rest, quote)? {
+    match cbor_tokens::quoted_front(alloc, rest, quote)? {
         Some((content, end)) => {
             *text = Cursor::new(&rest[end..]);
             Ok(content)
@@ -59,7 +59,7 @@ fn read_digits(alloc: Global, text: &mut Cursor<'_>, comments: bool) -> Result<V
     ensures shorter { IfOk result (λ _. length text.new < length text.old) }
 {
     let rest = text.rest();
-    match cbor_notes::digits_front(alloc, rest, comments)? {
+    match cbor_tokens::digits_front(alloc, rest, comments)? {
         Some((digits, end)) => {
             *text = Cursor::new(&rest[end..]);
             Ok(digits)
@@ -107,7 +107,7 @@ fn read_base16(alloc: Global, text: &mut Cursor<'_>) -> Result<Vec<u8>>
 fn base32(alloc: Global, digits: &[u8]) -> Result<Vec<u8>>
     ensures { Gives (λ x. x.items) result (or_refused (base32_of standard digits.now)) }
 {
-    let found = cbor_notes::base32_decode(alloc, digits)?;
+    let found = cbor_tokens::base32_decode(alloc, digits)?;
     found.ok_or(Error::Notation)
 }
 
@@ -115,7 +115,7 @@ fn base32(alloc: Global, digits: &[u8]) -> Result<Vec<u8>>
 fn base32hex(alloc: Global, digits: &[u8]) -> Result<Vec<u8>>
     ensures { Gives (λ x. x.items) result (or_refused (base32_of extended_hex digits.now)) }
 {
-    let found = cbor_notes::base32hex_decode(alloc, digits)?;
+    let found = cbor_tokens::base32hex_decode(alloc, digits)?;
     found.ok_or(Error::Notation)
 }
 
@@ -124,7 +124,7 @@ fn base32hex(alloc: Global, digits: &[u8]) -> Result<Vec<u8>>
 fn base64(alloc: Global, digits: &[u8]) -> Result<Vec<u8>>
     ensures { Gives (λ x. x.items) result (or_refused (base64_of digits.now)) }
 {
-    let found = cbor_notes::base64_any_decode(alloc, digits)?;
+    let found = cbor_tokens::base64_any_decode(alloc, digits)?;
     found.ok_or(Error::Notation)
 }
 

@@ -13,7 +13,7 @@ ghost use Rattle.cbor_grammar.specs.declared.layout.Content.TheVariants as shown
 ghost use Rattle.cbor_grammar.specs.NotationText.{last_line, rest_text, style_indent};
 ghost use Rattle.cbor_grammar.specs.Reading.{Fails};
 ghost use Rattle.cbor_grammar.specs.WellFormed.{deepest};
-ghost use Rattle.cbor_notes.specs.Appends.{AppendsText};
+ghost use Rattle.cbor_tokens.specs.Appends.{AppendsText};
 ghost use Rattle.cbor_notation.specs.mirror.LayoutView.{context_view, item_text};
 ghost use Rattle.cbor_notation.specs.mirror.LayoutView.{IsIndented, content_there};
 ghost use Rattle.cbor_notation.specs.mirror.Straight.{Printed, read_there, read_after};
@@ -24,11 +24,10 @@ use crate::context::NotationContext;
 use crate::members::{
     push_closing, push_colon, push_end, push_no_chunks, push_opening, push_rest, push_start,
 };
-use crate::scalars::{
-    push_float, push_negative, push_number, push_quoted, push_simple, push_string, push_text,
-};
+use crate::scalars::{push_float, push_negative, push_number, push_simple, push_string, push_text};
 use cbor_bytes::borrowed::{next_chunk, read_borrowed};
 use cbor_bytes::head::{no_level_left, read_head};
+use cbor_bytes::quoted::push_quoted;
 use cbor_grammar::argument::Argument;
 use cbor_grammar::head::ItemHead;
 use cbor_grammar::layout::{ContainerStyle, Content};

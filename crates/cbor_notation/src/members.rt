@@ -3,7 +3,7 @@
 #![tactic(auto, using(cbor_grammar::proofs::shared::Appending::appending_steps))]
 
 ghost use Rattle.std.specs.Prelude.{◌≡◌, ◌∷◌, [], ◌++◌, ◌<◌, ◌≤◌, ◌^◌, map};
-ghost use Rattle.cbor_notes.specs.Appends.{AppendsText};
+ghost use Rattle.cbor_tokens.specs.Appends.{AppendsText};
 ghost use Rattle.cbor_grammar.specs.StringKind.{no_chunks};
 ghost use Rattle.cbor_grammar.specs.WellFormed.{deepest};
 ghost use Rattle.cbor_notation.specs.mirror.LayoutView.{context_view, chunks_there};
@@ -13,7 +13,8 @@ ghost use Rattle.cbor_grammar.specs.NotationText.{rest_text};
 
 use crate::budget::chunks_style;
 use crate::context::NotationContext;
-use crate::scalars::{push_quoted, push_string};
+use crate::scalars::push_string;
+use cbor_bytes::quoted::push_quoted;
 use cbor_grammar::IntegerWidth;
 use cbor_grammar::layout::{ContainerStyle, Layout};
 use cbor_grammar::strings::{DefiniteString, StringKind};

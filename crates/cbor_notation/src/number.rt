@@ -1,6 +1,6 @@
 //! Numbers, and the widths that they state.
 ghost use Rattle.std.specs.Prelude.{◌≡◌, ◌≢◌, ◌<◌, ℕ, length, IfOk, Ok, Err, MatchResult};
-ghost use Rattle.cbor_notes.specs.Token.{capped};
+ghost use Rattle.cbor_tokens.specs.Token.{capped};
 ghost use Rattle.cbor_grammar.specs.Head.{FitsWidth};
 ghost use Rattle.cbor_grammar.specs.Reading.{Gives};
 ghost use Rattle.cbor_notation.specs.mirror.NotationReading.{read_number, with_width};
@@ -19,7 +19,7 @@ pub fn read_number(text: &mut Cursor<'_>) -> Result<(u128, Option<u8>)>
     ensures shorter { IfOk result (λ _. length text.new < length text.old) }
 {
     let rest = text.rest();
-    match cbor_notes::number_front(rest) {
+    match cbor_tokens::number_front(rest) {
         Some((value, indicator, end)) => {
             *text = Cursor::new(&rest[end..]);
             Ok((value, indicator))

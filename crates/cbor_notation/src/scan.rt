@@ -1,7 +1,7 @@
 //! What separates the items of a text: blanks, commas, and what closes a list.
 ghost use Rattle.std.specs.Prelude.{◌≡◌, ◌⊎◌, ◌<◌, ◌≤◌, length, position, not, IfOk, IfSome};
 ghost use Rattle.std.specs.Prelude.{option_map};
-ghost use Rattle.cbor_notes.specs.Token.{is_whitespace};
+ghost use Rattle.cbor_tokens.specs.Token.{is_whitespace};
 ghost use Rattle.cbor_grammar.specs.Reading.{Gives};
 ghost use Rattle.cbor_notation.specs.mirror.NotationReading.{or_refused, skip_blank, after_byte};
 ghost use Rattle.cbor_notation.specs.mirror.NotationReading.{after_word, after_space, after_end};
@@ -22,7 +22,7 @@ pub fn after_blank(text: &[u8]) -> &[u8]
     ensures gives { result.now ≡ skip_blank text.now }
     ensures shorter { length result.now ≤ length text.now }
 {
-    &text[cbor_notes::blank_len(text)..]
+    &text[cbor_tokens::blank_len(text)..]
 }
 
 /// The text after this byte, if it begins with it.

@@ -2,4 +2,3 @@ pub mod bases
 pub mod texts
 pub mod dates
 pub mod columns
-pub mod tokens

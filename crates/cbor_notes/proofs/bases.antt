@@ -1,10 +1,3 @@
-pub mod Base32Alphabet
-pub mod Base32Encode
-pub mod Base32Groups
-pub mod Base32Numbers
-pub mod Base32Padding
-pub mod Fives
 pub mod Base58Digits
 pub mod Base58Lemmas
-pub mod Base64Digits
 pub mod DecodedLineLemmas

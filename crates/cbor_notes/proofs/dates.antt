@@ -1,6 +1,5 @@
 pub mod DateTexts
 pub mod DateTimeTexts
-pub mod Places
 pub mod Moments
 pub mod CalendarDays
 pub mod Searches

@@ -5,7 +5,7 @@ use Rattle.std.specs.Fmt.{digits}
 use Rattle.std.specs.List.{join_with_byte, prefix_len}
 use Rattle.std.specs.Net.Addr.{segments_of}
 use Rattle.hex.specs.Hex.{encode_lower}
-use Rattle.cbor_notes.specs.Ascii.{dot, colon}
+use Rattle.cbor_tokens.specs.Ascii.{dot, colon}
 
 -- the four octets in decimal, with dots between them
 abbrev pub ipv4_text : List ℕ → List ℕ

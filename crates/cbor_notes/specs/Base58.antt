@@ -1,7 +1,7 @@
 -- Base 58, in the alphabet of Bitcoin's addresses, which has no `0`, `I`, `O` and `l`.
 use Rattle.std.specs.Prelude.{ℕ, ◌==◌, ◌<◌, List, [], ◌∷◌, ◌++◌, map, replicate, length, take_while, slice_index, codes}
 use Rattle.std.specs.Int.Digits.{digits_of, number_from_digits}
-use Rattle.cbor_notes.specs.Ascii.{digit_one}
+use Rattle.cbor_tokens.specs.Ascii.{digit_one}
 
 -- the 58 characters, at their values
 abbrev pub characters : List ℕ

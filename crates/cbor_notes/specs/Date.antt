@@ -4,7 +4,7 @@ use Rattle.std.specs.Prelude.{◌≡◌, ℕ, ◌+◌, ◌*◌, ◌/◌, ◌%◌
 use Rattle.std.specs.Prelude.{unsigned_abs, Bool, true, false, ◌&&◌, if◌then◌else◌, Option, Some, None, option_map}
 use Rattle.std.specs.Prelude.{List, [], ◌∷◌, ◌++◌, codes, bytes_eq}
 use Rattle.std.specs.Int.{int_div_euclid, int_rem_euclid}
-use Rattle.cbor_notes.specs.Ascii.{digit_zero}
+use Rattle.cbor_tokens.specs.Ascii.{digit_zero}
 use Rattle.jiff.specs.Types.{Date}
 use Rattle.jiff.specs.Words.{epoch_day}
 use Rattle.cbor_notes.specs.Days.{CalendarDay, calendar_day, day_at, day_count, day_number, is_day_number}

@@ -7,7 +7,7 @@ use Rattle.std.specs.Char.{is_ascii_digit}
 use Rattle.std.specs.Fmt.{signed_decimal}
 use Rattle.std.specs.List.{ends_with, list_all}
 use Rattle.std.specs.Option.{option_or}
-use Rattle.cbor_notes.specs.Ascii.{dot, digit_zero}
+use Rattle.cbor_tokens.specs.Ascii.{dot, digit_zero}
 use Rattle.jiff.specs.Types.{Date}
 use Rattle.cbor_notes.specs.Date.{civil_seconds, clock_text, date_text, day_seconds, day_text, two_digits}
 use Rattle.cbor_notes.specs.Days.{CalendarDay, calendar_day, day_count, day_number}

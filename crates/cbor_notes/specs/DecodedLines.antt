@@ -4,8 +4,8 @@ use Rattle.std.specs.Int.{div_ceil}
 use Rattle.std.specs.List.{range_with_len}
 use Rattle.std.specs.Fork.{slice_chunk}
 use Rattle.hex.specs.Hex.{encode_lower}
-use Rattle.cbor_notes.specs.Ascii.{space}
-use Rattle.cbor_notes.specs.Base64.{decoded}
+use Rattle.cbor_tokens.specs.Ascii.{space}
+use Rattle.cbor_tokens.specs.Base64.{decoded}
 use Rattle.cbor_notes.specs.Text.{quoted_bytes}
 
 -- the line of a piece of bytes: its hex digits, filled up with blanks to the width, and after ` # `

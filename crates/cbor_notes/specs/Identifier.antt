@@ -8,9 +8,9 @@ use Rattle.uuid.specs.declared.Variant.{Variant}
 use Rattle.uuid.specs.declared.Variant.TheVariants.{NCS, RFC4122, Microsoft, Future}
 use Rattle.uuid.specs.declared.Version.{Version}
 use Rattle.uuid.specs.declared.Version.TheVariants.{Nil, Mac, Dce, Md5, Random, Sha1, SortMac, SortRand, Custom, Max}
-use Rattle.cbor_notes.specs.Ascii.{equals_sign}
+use Rattle.cbor_tokens.specs.Ascii.{equals_sign}
 use Rattle.cbor_notes.specs.Base58.{base58_of}
-use Rattle.cbor_notes.specs.Base64.{standard_alphabet}
+use Rattle.cbor_tokens.specs.Base64.{standard_alphabet}
 
 -- the name of a variant
 abbrev pub variant_name : Variant → List ℕ

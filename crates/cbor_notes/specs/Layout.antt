@@ -1,7 +1,7 @@
 -- How the lines of a dump are laid out in columns: hex digits on the left, comments on the right.
 use Rattle.std.specs.Prelude.{ℕ, ◌+◌, ◌-◌, ◌*◌, ◌==◌, List, [], ◌∷◌, ◌++◌, length, max, replicate, codes, flat_map}
 use Rattle.std.specs.Prelude.{if◌then◌else◌}
-use Rattle.cbor_notes.specs.Ascii.{space}
+use Rattle.cbor_tokens.specs.Ascii.{space}
 
 -- a line: its depth, its hex digits, of which there may be none, and its comment
 pub record DumpLine : Type 0 where

@@ -1,10 +1,5 @@
 pub mod Address
-pub mod Appends
-pub mod AreBytes
-pub mod Ascii
-pub mod Base32
 pub mod Base58
-pub mod Base64
 pub mod Columns
 pub mod Date
 pub mod DateTime
@@ -18,7 +13,5 @@ pub mod LineTree
 pub mod Search
 pub mod TagNames
 pub mod Text
-pub mod Token
-pub mod TokenReading
 pub mod Url
 pub mod Views

@@ -5,7 +5,7 @@ use Rattle.std.specs.List.{AllByRecursion, concat}
 use Rattle.std.specs.Fmt.{digits}
 use Rattle.std.specs.Str.{chars}
 use Rattle.hex.specs.Hex.{encode_lower}
-use Rattle.cbor_notes.specs.Ascii.{tab, line_feed, carriage_return, space, quote, apostrophe, comma, backslash}
+use Rattle.cbor_tokens.specs.Ascii.{tab, line_feed, carriage_return, space, quote, apostrophe, comma, backslash}
 
 -- a tab, a carriage return or a line feed by its letter, `\t`, `\r` or `\n`, and any other
 -- character as `otherwise` says

@@ -6,11 +6,12 @@ ghost use Rattle.std.specs.Prelude.{IfNone, IfOk, OnOk, OnErr, false, true};
 ghost use Rattle.std.specs.Int.{IsInRange};
 ghost use Rattle.std.specs.Int.Digits.{number_from_digits};
 ghost use Rattle.std.specs.String.{string_bytes};
-ghost use Rattle.cbor_notes.specs.Appends.{AppendsText};
+ghost use Rattle.cbor_tokens.specs.Appends.{AppendsText};
 ghost use Rattle.cbor_notes.specs.Element as spec;
 ghost use Rattle.cbor_notes.specs.Views.{kind_view};
 
-use crate::text::{cut_after_error, push_grouped, push_hex};
+use crate::text::{cut_after_error, push_grouped};
+use cbor_tokens::push_hex;
 use std::alloc::{AllocError, Global};
 
 /// What the elements of a typed array are.

@@ -1,51 +1,23 @@
 //! What the definitions of `specs/` say of a few inputs: each is computed when the crate is
 //! checked, so that a wrong definition does not pass. Nothing calls these functions.
 ghost use Rattle.std.specs.Prelude.{◌≡◌, [], ◌∷◌, ◌++◌, map, replicate, codes, true, false, Some};
-ghost use Rattle.std.specs.Prelude.{None, ◌+◌, ◌^◌, List, ℕ, pos, negsuc, neg_ℤ};
+ghost use Rattle.std.specs.Prelude.{None, pos, negsuc, neg_ℤ};
 ghost use Rattle.cbor_notes.specs.Address.{ipv4_text, ipv6_text, mac_text};
-ghost use Rattle.cbor_notes.specs.Base32.{base32, base32hex};
 ghost use Rattle.cbor_notes.specs.Base58.{base58_of};
-ghost use Rattle.cbor_notes.specs.Base64.{standard, url_safe};
-ghost use Rattle.cbor_notes.specs.Columns.{digits_of, uncommented};
+ghost use Rattle.cbor_notes.specs.Columns.{digits_of};
+ghost use Rattle.cbor_tokens.specs.Uncommented.{uncommented};
 ghost use Rattle.cbor_notes.specs.DecodedLines.{base64_lines, decoded_lines};
 ghost use Rattle.cbor_notes.specs.Identifier.{fields_line, base16_line, base64_line, uuid_lines};
 ghost use Rattle.cbor_notes.specs.Layout.{layout, line_text, reach, width_of};
 ghost use Rattle.cbor_notes.specs.LayoutExamples.{bare, deep, head, number};
 ghost use Rattle.cbor_notes.specs.TagNames.{tag_name};
 ghost use Rattle.cbor_notes.specs.Text.{escaped_text, grouped, quoted_bytes};
-ghost use Rattle.cbor_notes.specs.Token.{Blank, DigitsBetween, IsLongest, IsNumber, IsSomeNumber};
-ghost use Rattle.cbor_notes.specs.Token.{capped, in_quotes};
 ghost use Rattle.jiff.specs.Types.{Date};
 ghost use Rattle.jiff.specs.Words.{IsYmd, epoch_day};
 ghost use Rattle.cbor_notes.specs.Date.{civil_seconds, clock_text, date_text, grouped_signed};
 ghost use Rattle.cbor_notes.specs.DateTime.{IsZone, epoch_text, fraction_text};
 ghost use Rattle.cbor_notes.specs.Element.{element_size, element_text};
 ghost use Rattle.cbor_notes.specs.Url.{is_url};
-
-/// The test vectors of RFC 4648, section 10.
-pub(crate) fn base32_vectors()
-    ensures upper { map base32 (codes "" ∷ codes "f" ∷ codes "fo" ∷ codes "foo" ∷ codes "foob"
-        ∷ codes "fooba"
-        ∷ codes "foobar" ∷ []) ≡ codes "" ∷ codes "MY======" ∷ codes "MZXQ====" ∷ codes "MZXW6==="
-        ∷ codes "MZXW6YQ="
-        ∷ codes "MZXW6YTB" ∷ codes "MZXW6YTBOI======" ∷ [] }
-    ensures hex { map base32hex (codes "" ∷ codes "f" ∷ codes "fo" ∷ codes "foo" ∷ codes "foob"
-        ∷ codes "fooba"
-        ∷ codes "foobar" ∷ []) ≡ codes "" ∷ codes "CO======" ∷ codes "CPNG====" ∷ codes "CPNMU==="
-        ∷ codes "CPNMUOG="
-        ∷ codes "CPNMUOJ1" ∷ codes "CPNMUOJ1E8======" ∷ [] }
-{}
-
-/// The test vectors of RFC 4648, section 10, and the last two digits of each alphabet.
-pub(crate) fn base64_vectors()
-    ensures vectors { map standard (codes "" ∷ codes "f" ∷ codes "fo" ∷ codes "foo" ∷ codes "foob"
-        ∷ codes "fooba"
-        ∷ codes "foobar" ∷ []) ≡ codes "" ∷ codes "Zg==" ∷ codes "Zm8=" ∷ codes "Zm9v"
-        ∷ codes "Zm9vYg=="
-        ∷ codes "Zm9vYmE=" ∷ codes "Zm9vYmFy" ∷ [] }
-    ensures standard { standard (0xfb ∷ 0xff ∷ []) ≡ codes "+/8=" }
-    ensures url_safe { url_safe (0xfb ∷ 0xff ∷ []) ≡ codes "-_8" }
-{}
 
 /// A zero byte in front is a `1`, and the number that the bytes are follows without leading zeros.
 pub(crate) fn base58_digits()
@@ -160,47 +132,6 @@ pub(crate) fn tag_names()
     ensures after_arrays { tag_name 88 ≡ None }
     ensures last { tag_name 55799 ≡ Some (codes "self describe cbor") }
     ensures beyond { tag_name 55800 ≡ None }
-{}
-
-/// Blanks are whitespace and closed comments, comments only where they are allowed.
-pub(crate) fn blanks()
-    ensures pieces { Blank true (codes " /x 'y/\n//") }
-    ensures empty { Blank false [] }
-    ensures open_comment { ¬ (Blank true (codes " /x")) }
-    ensures no_comments { ¬ (Blank false (codes "//")) }
-{}
-
-/// Numbers in their bases, with leading zeros, with indicators of 0 to 3 alone, and the longest of
-/// a text.
-pub(crate) fn numbers()
-    ensures zeros { IsNumber (codes "007") 7 None }
-    ensures hexadecimal { IsNumber (codes "0x1aF_1") 431 (Some 1) }
-    ensures zeros_of_the_indicator { IsNumber (codes "0b11_002") 3 (Some 2) }
-    ensures indicator_past_three { ¬ (IsSomeNumber (codes "1_4")) }
-    ensures prefix_alone { ¬ (IsSomeNumber (codes "0x")) }
-    ensures upper_case_prefix { ¬ (IsSomeNumber (codes "0X1")) }
-    ensures digit_of_another_base { ¬ (IsSomeNumber (codes "0o8")) }
-    ensures no_indicator { ¬ (IsSomeNumber (codes "1_")) }
-    ensures longest { IsLongest IsSomeNumber (codes "1_0") (codes "4") }
-    ensures two_to_the_64 { capped (2 ^ 64) ≡ 2 ^ 64 }
-    ensures past { capped (2 ^ 64 + 2) ≡ 2 ^ 64 + 1 }
-{}
-
-/// Between quotes, only the quote and the backslash are escaped.
-pub(crate) fn quoted()
-    ensures single { in_quotes 39 (codes "it's \"\\") ≡ codes "it\\'s \"\\\\" }
-    ensures double { in_quotes 34 (codes "it's \"\\") ≡ codes "it's \\\"\\\\" }
-{}
-
-/// Digits with blanks: a comment may hold a quote; blanks alone are no content, nor is a `/` that
-/// opens no comment; without comments a `/` is a digit.
-pub(crate) fn spaced()
-    ensures around { DigitsBetween true (codes " 0/'/1 ") (codes "01") }
-    ensures empty { DigitsBetween true [] [] }
-    ensures slashes { DigitsBetween false (codes "/x/ 0") (codes "/x/0") }
-    ensures blanks_alone { (digits : List ℕ) → ¬ (DigitsBetween true (codes " //") digits) }
-    ensures open_comment { (digits : List ℕ) → ¬ (DigitsBetween true (codes "0/1") digits) }
-    ensures quote { (digits : List ℕ) → ¬ (DigitsBetween false (codes "0'1") digits) }
 {}
 
 /// Dates as texts and as days, the first of them the example of RFC 8943, section 1.1, and a time

@@ -17,11 +17,10 @@
 
 mod address;
 mod ascii_buffer;
-mod base32;
 mod base58_text;
-mod base64_text;
 mod date;
 mod datetime;
+mod decoded;
 mod element;
 mod examples;
 mod identifier;
@@ -29,24 +28,23 @@ mod laws;
 mod line;
 mod tags;
 mod text;
-mod token;
 mod url_text;
 
 pub use address::{ipv4_text, ipv6_text, mac_text};
-pub use base32::{base32_decode, base32hex_decode};
 pub use base58_text::base58;
-pub use base64_text::{base64_any_decode, base64_lines};
+pub use cbor_tokens::{
+    base32_decode, base32hex_decode, base64_any_decode, blank_end, blank_len, digits_at,
+    digits_front, number_at, number_front, push_hex, quoted_at, quoted_front,
+};
 pub use date::{date_of_epoch, epoch_of_date};
 pub use datetime::{datetime_of_epoch, epoch_of_datetime};
+pub use decoded::base64_lines;
 pub use element::{element_size, element_text, push_element_text};
 pub use identifier::uuid_lines;
 pub use line::{Line, merge, push_blanks, push_gap, put_line};
 pub use tags::tag_name;
 pub use text::{
-    escaped_text, grouped, push_escaped_text, push_grouped, push_hex, push_quoted_bytes,
-    push_spaced_hex, quoted_bytes,
-};
-pub use token::{
-    blank_end, blank_len, digits_at, digits_front, number_at, number_front, quoted_at, quoted_front,
+    escaped_text, grouped, push_escaped_text, push_grouped, push_quoted_bytes, push_spaced_hex,
+    quoted_bytes,
 };
 pub use url_text::url_verdict;

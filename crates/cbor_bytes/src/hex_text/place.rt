@@ -5,7 +5,7 @@ ghost use Rattle.std.specs.Prelude.{slice_index};
 ghost use Rattle.std.specs.Prelude.{false, None, IfSome, ◌↔◌};
 ghost use Rattle.std.specs.List.{AllPass};
 ghost use Rattle.hex.specs.Hex.{is_hex_digit};
-ghost use Rattle.cbor_notes.specs.Columns.{uncommented};
+ghost use Rattle.cbor_tokens.specs.Uncommented.{uncommented};
 ghost use Rattle.cbor_grammar.specs.HexText.{IsKeptAt, IsKeptByte, AreHexDigits, IsHexFault};
 ghost use Rattle.cbor_grammar.specs.mirror.HexPlaces.{Keeps};
 

@@ -2,8 +2,8 @@
 use Rattle.std.proofs.Common.{◌≡◌, ℕ, true, false, List, [], ◌∷◌, ◌++◌, codes, Some, Ok, ◌⊎◌, inl, inr, refl, sym, ap}
 use Rattle.std.proofs.Common.{◌∙◌, subst, append_assoc, append-nil}
 use Rattle.std.proofs.lemmas.Bool.{false≢true}
-use Rattle.cbor_notes.specs.Token.{nothing}
-use Rattle.cbor_notes.proofs.tokens.Blanks.{blank_left}
+use Rattle.cbor_tokens.specs.Token.{nothing}
+use Rattle.cbor_tokens.proofs.tokens.Blanks.{blank_left}
 use Rattle.cbor_notation.specs.declared.start.Start.{Start}
 use Rattle.cbor_notation.specs.declared.start.Start.TheVariants as start
 use Rattle.cbor_grammar.specs.Item.{Chunk, chunked_string, atom}

@@ -3,10 +3,10 @@ use Rattle.std.proofs.Common.{◌≡◌, ℕ, zero, suc, true, false, List, [], 
 use Rattle.std.proofs.Common.{codes, Option, Some, None, Ok, ◌⊎◌, inl, inr, refl, sym, ap, ◌∙◌, subst}
 use Rattle.std.proofs.Common.{arith}
 use Rattle.std.proofs.Common.{append_assoc, append-nil}
-use Rattle.cbor_notes.specs.Token.{nothing, IsNumber, decimal_base}
-use Rattle.cbor_notes.specs.TokenReading.{number_of}
-use Rattle.cbor_notes.proofs.tokens.Blanks.{blank_left, Blank-append}
-use Rattle.cbor_notes.proofs.tokens.Numbers.{IsNumber-number_of}
+use Rattle.cbor_tokens.specs.Token.{nothing, IsNumber, decimal_base}
+use Rattle.cbor_tokens.specs.TokenReading.{number_of}
+use Rattle.cbor_tokens.proofs.tokens.Blanks.{blank_left, Blank-append}
+use Rattle.cbor_tokens.proofs.tokens.Numbers.{IsNumber-number_of}
 use Rattle.cbor_diag.specs.declared.parse.notation.fault.Member.{Member}
 use Rattle.cbor_diag.specs.declared.parse.notation.fault.Member.TheVariants as member
 use Rattle.cbor_grammar.specs.declared.width.IntegerWidth.{IntegerWidth}

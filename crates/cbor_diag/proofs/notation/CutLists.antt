@@ -3,7 +3,7 @@ use Rattle.std.proofs.Common.{◌≡◌, ℕ, zero, suc, ◌≤◌, Bool, true, 
 use Rattle.std.proofs.Common.{◌++◌, length, Some, None, Result, Ok, Err, inl, inr, refl, sym, ap, ◌∙◌}
 use Rattle.std.proofs.Common.{subst, arith, append_assoc, append-nil}
 use Rattle.std.proofs.lemmas.Bool.{false≢true}
-use Rattle.cbor_notes.proofs.tokens.Blanks.{blank_left}
+use Rattle.cbor_tokens.proofs.tokens.Blanks.{blank_left}
 use Rattle.cbor_grammar.specs.declared.error.Error.{Error}
 use Rattle.cbor_grammar.specs.Reading.{Read, ◌>>=◌}
 use Rattle.cbor_grammar.specs.Notation.{IsBlank, Closes, Members}

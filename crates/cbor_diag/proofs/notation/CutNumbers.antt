@@ -9,13 +9,13 @@ use Rattle.std.specs.Str.Parse.{AllDigits, digits_value_after}
 use Rattle.std.proofs.Math.Numerals.{add-one}
 use Rattle.std.proofs.lemmas.List.{length-append, take_all}
 use Rattle.std.proofs.lemmas.Bool.{false≢true, ne_eqb, and_parts, or_cases, eqb-true, ltb-true}
-use Rattle.cbor_notes.specs.Token.{AreDigits, Indicates, IsNumber, Base, decimal_base, hexadecimal_base, octal_base}
-use Rattle.cbor_notes.specs.Token.{binary_base, prefix, radix}
-use Rattle.cbor_notes.specs.TokenReading.{number_of}
-use Rattle.cbor_notes.proofs.tokens.NumberFronts.{decimal_number}
-use Rattle.cbor_notes.proofs.tokens.NumberParts.{decimal_number as of_digits}
-use Rattle.cbor_notes.proofs.tokens.Numbers.{IsNumber-number_of}
-use Rattle.cbor_notes.proofs.tokens.TextPlaces.{first_nowhere}
+use Rattle.cbor_tokens.specs.Token.{AreDigits, Indicates, IsNumber, Base, decimal_base, hexadecimal_base, octal_base}
+use Rattle.cbor_tokens.specs.Token.{binary_base, prefix, radix}
+use Rattle.cbor_tokens.specs.TokenReading.{number_of}
+use Rattle.cbor_tokens.proofs.tokens.NumberFronts.{decimal_number}
+use Rattle.cbor_tokens.proofs.tokens.NumberParts.{decimal_number as of_digits}
+use Rattle.cbor_tokens.proofs.tokens.Numbers.{IsNumber-number_of}
+use Rattle.cbor_tokens.proofs.tokens.TextPlaces.{first_nowhere}
 use Rattle.cbor_grammar.specs.declared.width.IntegerWidth.{IntegerWidth}
 use Rattle.cbor_grammar.specs.declared.width.IntegerWidth.TheVariants.{Zero, SixtyFour}
 use Rattle.cbor_grammar.specs.declared.width.FloatWidth.TheVariants as float_width

@@ -3,10 +3,10 @@ use Rattle.std.proofs.Common.{◌≡◌, ℕ, zero, suc, ◌<◌, ◌≤◌, Boo
 use Rattle.std.proofs.Common.{Some, Ok, Err, ◌⊎◌, inl, inr, refl, sym, ap, ◌∙◌, subst, arith, append_assoc, append-nil}
 use Rattle.std.proofs.lemmas.Bool.{false≢true, eqb-true}
 use Rattle.std.proofs.lemmas.Str.{IsUtf8-encode}
-use Rattle.cbor_notes.specs.Token.{nothing, in_quotes}
-use Rattle.cbor_notes.specs.TokenReading.{unquoted}
-use Rattle.cbor_notes.proofs.tokens.Blanks.{blank_left, Blank-append}
-use Rattle.cbor_notes.proofs.tokens.Quoted.{in_quotes-unquoted}
+use Rattle.cbor_tokens.specs.Token.{nothing, in_quotes}
+use Rattle.cbor_tokens.specs.TokenReading.{unquoted}
+use Rattle.cbor_tokens.proofs.tokens.Blanks.{blank_left, Blank-append}
+use Rattle.cbor_tokens.proofs.tokens.Quoted.{in_quotes-unquoted}
 use Rattle.cbor_notation.specs.declared.start.Start.{Start}
 use Rattle.cbor_notation.specs.declared.start.Start.TheVariants as start
 use Rattle.cbor_grammar.specs.declared.width.IntegerWidth.TheVariants.{Unknown}

@@ -2,8 +2,8 @@
 use Rattle.std.proofs.Common.{◌≡◌, ℕ, zero, suc, true, false, List, [], ◌∷◌, ◌++◌, length, codes, Option, Some, None}
 use Rattle.std.proofs.Common.{Ok, ◌⊎◌, inl, inr, refl, sym, ap, ◌∙◌, subst, append-nil}
 use Rattle.std.proofs.lemmas.Str.{IsUtf8-nil}
-use Rattle.cbor_notes.specs.Token.{nothing, in_quotes}
-use Rattle.cbor_notes.proofs.tokens.Blanks.{blank_left}
+use Rattle.cbor_tokens.specs.Token.{nothing, in_quotes}
+use Rattle.cbor_tokens.proofs.tokens.Blanks.{blank_left}
 use Rattle.cbor_notation.specs.declared.start.Start.{Start}
 use Rattle.cbor_notation.specs.declared.start.Start.TheVariants as start
 use Rattle.cbor_grammar.specs.declared.width.IntegerWidth.TheVariants.{Unknown}

@@ -11,12 +11,12 @@ use Rattle.std.proofs.lemmas.Bool.{ne_eqb, eq-eqb, eqb-true, eqb-false}
 use Rattle.std.proofs.lemmas.Bool.{not-false}
 use Rattle.base64.specs.Rfc4648.{encode_symbols}
 use Rattle.hex.specs.Hex.{decode_pairs}
-use Rattle.cbor_notes.specs.Base32.{encode}
-use Rattle.cbor_notes.specs.Token.{Blank, nothing, whitespace, comment, is_whitespace}
-use Rattle.cbor_notes.specs.Token as token
-use Rattle.cbor_notes.specs.TokenReading.{after_blank_in, after_blank}
-use Rattle.cbor_notes.proofs.tokens.TextPlaces.{first_nowhere}
-use Rattle.cbor_notes.proofs.tokens.Blanks.{Blank-append, blank_left, length-after_blank}
+use Rattle.cbor_tokens.specs.Base32.{encode}
+use Rattle.cbor_tokens.specs.Token.{Blank, nothing, whitespace, comment, is_whitespace}
+use Rattle.cbor_tokens.specs.Token as token
+use Rattle.cbor_tokens.specs.TokenReading.{after_blank_in, after_blank}
+use Rattle.cbor_tokens.proofs.tokens.TextPlaces.{first_nowhere}
+use Rattle.cbor_tokens.proofs.tokens.Blanks.{Blank-append, blank_left, length-after_blank}
 use Rattle.cbor_grammar.specs.declared.error.Error.{Error}
 use Rattle.cbor_grammar.specs.Reading.{Read}
 use Rattle.cbor_grammar.specs.DeadEnd as unfinished

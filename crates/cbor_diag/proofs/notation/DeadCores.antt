@@ -1,6 +1,6 @@
 -- What is not read whatever follows the text, by what the text begins with.
 use Rattle.std.proofs.Common.{◌≡◌, ℕ, ◌<◌, false, List, [], ◌∷◌, ◌++◌, length, None, ◌⊎◌, sym, ap, ◌∙◌, subst}
-use Rattle.cbor_notes.specs.TokenReading.{unquoted}
+use Rattle.cbor_tokens.specs.TokenReading.{unquoted}
 use Rattle.cbor_notation.specs.declared.start.Start.{Start}
 use Rattle.cbor_notation.specs.declared.start.Start.TheVariants as start
 use Rattle.cbor_grammar.specs.declared.strings.StringKind.TheVariants.{Bytes}

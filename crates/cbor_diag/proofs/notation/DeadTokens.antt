@@ -7,10 +7,10 @@ use Rattle.std.specs.List.{position, prefix_len}
 use Rattle.std.proofs.lemmas.Bool.{ne_eqb, ltb-true, lt-ltb}
 use Rattle.std.proofs.lemmas.List.{take_at, take-append-le, drop-append-le}
 use Rattle.std.proofs.lemmas.List.Folds.{prefix_len-append}
-use Rattle.cbor_notes.specs.Base32.{standard, extended_hex}
-use Rattle.cbor_notes.specs.Token.{is_whitespace}
-use Rattle.cbor_notes.specs.TokenReading.{number_of}
-use Rattle.cbor_notes.proofs.tokens.Numbers.{IsNumber-number_of}
+use Rattle.cbor_tokens.specs.Base32.{standard, extended_hex}
+use Rattle.cbor_tokens.specs.Token.{is_whitespace}
+use Rattle.cbor_tokens.specs.TokenReading.{number_of}
+use Rattle.cbor_tokens.proofs.tokens.Numbers.{IsNumber-number_of}
 use Rattle.cbor_grammar.specs.declared.width.FloatWidth.{FloatWidth}
 use Rattle.cbor_grammar.specs.declared.error.Error.{Error}
 use Rattle.cbor_grammar.specs.declared.error.Error.TheVariants as refusal

@@ -9,10 +9,10 @@ use Rattle.std.specs.Str.Parse.{digits_value}
 use Rattle.std.proofs.lemmas.List.{length-append, length-take}
 use Rattle.std.proofs.lemmas.Bool.{false≢true, and_parts, and_cases, and_from, or_parts, or_cases, lt-ltb, ltb-true}
 use Rattle.std.proofs.lemmas.Bool.{eq-eqb, eqb-true, cases_lt, le-ltb}
-use Rattle.cbor_notes.specs.Token.{IsNumber, capped}
-use Rattle.cbor_notes.specs.TokenReading.{number_of}
-use Rattle.cbor_notes.proofs.tokens.NumberFronts.{decimal_number}
-use Rattle.cbor_notes.proofs.tokens.Numbers.{IsNumber-number_of, number_of-reaches}
+use Rattle.cbor_tokens.specs.Token.{IsNumber, capped}
+use Rattle.cbor_tokens.specs.TokenReading.{number_of}
+use Rattle.cbor_tokens.proofs.tokens.NumberFronts.{decimal_number}
+use Rattle.cbor_tokens.proofs.tokens.Numbers.{IsNumber-number_of, number_of-reaches}
 use Rattle.cbor_grammar.specs.declared.width.FloatWidth.{FloatWidth}
 use Rattle.cbor_grammar.specs.declared.error.Error.{Error}
 use Rattle.cbor_grammar.specs.declared.error.Error.TheVariants as refusal

@@ -3,7 +3,7 @@ use Rattle.std.proofs.Common.{◌≡◌, ℕ, zero, suc, ◌<◌, ◌≤◌, tru
 use Rattle.std.proofs.Common.{Some, None, Ok, inl, inr, refl, sym, ap, ◌∙◌, subst, arith, length-append, append_assoc}
 use Rattle.std.specs.List.{position, prefix_len}
 use Rattle.std.proofs.lemmas.Bool.{and_parts, not-true, false≢true, lt-ltb}
-use Rattle.cbor_notes.specs.Token.{is_whitespace}
+use Rattle.cbor_tokens.specs.Token.{is_whitespace}
 use Rattle.cbor_grammar.specs.Item.{Item, items_of, pairs_of, array}
 use Rattle.cbor_grammar.specs.Notation.{Closes}
 use Rattle.cbor_grammar.specs.Reading.{Read, ◌>>=◌}

@@ -5,8 +5,8 @@ use Rattle.std.proofs.Common.{◌∙◌, subst, arith, length-append}
 use Rattle.std.specs.List.{starts_with}
 use Rattle.std.proofs.lemmas.Bool.{or_parts, eqb-true, not-true, false≢true}
 use Rattle.std.proofs.lemmas.Slice.Eq.{bytes_eq-Decides}
-use Rattle.cbor_notes.specs.Token.{is_whitespace, is_digit}
-use Rattle.cbor_notes.specs.TokenReading.{digits_in, digits_of, some_digits, with_front, unquoted}
+use Rattle.cbor_tokens.specs.Token.{is_whitespace, is_digit}
+use Rattle.cbor_tokens.specs.TokenReading.{digits_in, digits_of, some_digits, with_front, unquoted}
 use Rattle.cbor_notation.specs.declared.start.Start.{Start}
 use Rattle.cbor_notation.specs.declared.start.Start.TheVariants as start
 use Rattle.cbor_grammar.specs.Item.{Chunk, Item, items_of, atom, chunked_string, string}
@@ -21,7 +21,7 @@ use Rattle.cbor_notation.specs.mirror.NotationReading.{first_start, start_of, co
 use Rattle.cbor_notation.specs.mirror.NotationReading.{read_string, read_chunk, chunks_of, read_chunks, kind_from}
 use Rattle.cbor_notation.specs.mirror.NotationReading.{string_of, read_string_item, either_word, base16_of, base32_of}
 use Rattle.cbor_notation.specs.mirror.NotationReading.{base64_of}
-use Rattle.cbor_notes.specs.Base32.{standard, extended_hex}
+use Rattle.cbor_tokens.specs.Base32.{standard, extended_hex}
 use Rattle.cbor_grammar.specs.Written.{encoded_items}
 use Rattle.cbor_grammar.specs.declared.width.IntegerWidth.TheVariants.{Unknown}
 use Rattle.cbor_grammar.specs.DeadEnd.{closes}

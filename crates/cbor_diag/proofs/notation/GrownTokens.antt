@@ -6,16 +6,16 @@ use Rattle.std.specs.Char.{digit_value}
 use Rattle.std.specs.List.{starts_with}
 use Rattle.std.proofs.lemmas.Bool.{or_parts, eq-eqb, ne_eqb, eqb-false, cases_eq, not-true}
 use Rattle.std.proofs.lemmas.Bool.{false≢true, ltb-true}
-use Rattle.cbor_notes.specs.Token.{is_whitespace, AreDigits, Base, decimal_base, hexadecimal_base, octal_base}
-use Rattle.cbor_notes.specs.Token.{binary_base, prefix, radix, is_digit}
-use Rattle.cbor_notes.specs.TokenReading.{digit_run, small_run, after_run, number_in}
-use Rattle.cbor_notes.specs.TokenReading.{number_of, base_of, starts_with_digit, unquoted, with_front, digits_in}
-use Rattle.cbor_notes.specs.TokenReading.{digits_of}
-use Rattle.cbor_notes.specs.TokenReading.{some_digits}
-use Rattle.cbor_notes.proofs.tokens.Blanks.{blank_left, length-after_blank, after_blank-append, after_blank-ends}
-use Rattle.cbor_notes.proofs.tokens.NumberFronts.{decimal_number}
-use Rattle.cbor_notes.proofs.tokens.NumberPlaces.{base_of-other, base_of-short}
-use Rattle.cbor_notes.proofs.tokens.Numbers.{number_of-reaches}
+use Rattle.cbor_tokens.specs.Token.{is_whitespace, AreDigits, Base, decimal_base, hexadecimal_base, octal_base}
+use Rattle.cbor_tokens.specs.Token.{binary_base, prefix, radix, is_digit}
+use Rattle.cbor_tokens.specs.TokenReading.{digit_run, small_run, after_run, number_in}
+use Rattle.cbor_tokens.specs.TokenReading.{number_of, base_of, starts_with_digit, unquoted, with_front, digits_in}
+use Rattle.cbor_tokens.specs.TokenReading.{digits_of}
+use Rattle.cbor_tokens.specs.TokenReading.{some_digits}
+use Rattle.cbor_tokens.proofs.tokens.Blanks.{blank_left, length-after_blank, after_blank-append, after_blank-ends}
+use Rattle.cbor_tokens.proofs.tokens.NumberFronts.{decimal_number}
+use Rattle.cbor_tokens.proofs.tokens.NumberPlaces.{base_of-other, base_of-short}
+use Rattle.cbor_tokens.proofs.tokens.Numbers.{number_of-reaches}
 use Rattle.cbor_notation.specs.mirror.NotationReading.{skip_blank, after_byte, after_word}
 use Rattle.cbor_notation.specs.mirror.NotationReading.{or_refused, read_decoded}
 use Rattle.cbor_grammar.specs.Reading.{◌>>=◌}

@@ -5,13 +5,13 @@ use Rattle.std.proofs.Common.{◌∙◌, subst, arith}
 use Rattle.std.specs.Char.{digit_value}
 use Rattle.std.proofs.Math.Nat.{mul-le-mul_left}
 use Rattle.std.proofs.lemmas.Bool.{cases_eq, eqb-true, eqb-false, ne_eqb, false≢true, lt-leb}
-use Rattle.cbor_notes.specs.Token.{AreDigits, Base, decimal_base, hexadecimal_base, octal_base, binary_base, prefix}
-use Rattle.cbor_notes.specs.Token.{radix}
-use Rattle.cbor_notes.specs.TokenReading.{digit_run, small_run, indicator_of, with_indicator, after_run, number_in}
-use Rattle.cbor_notes.specs.TokenReading.{number_of, base_of, starts_with_digit}
-use Rattle.cbor_notes.proofs.tokens.NumberFronts.{decimal_number}
-use Rattle.cbor_notes.proofs.tokens.NumberPlaces.{base_of-other}
-use Rattle.cbor_notes.proofs.tokens.Numbers.{number_of-reaches}
+use Rattle.cbor_tokens.specs.Token.{AreDigits, Base, decimal_base, hexadecimal_base, octal_base, binary_base, prefix}
+use Rattle.cbor_tokens.specs.Token.{radix}
+use Rattle.cbor_tokens.specs.TokenReading.{digit_run, small_run, indicator_of, with_indicator, after_run, number_in}
+use Rattle.cbor_tokens.specs.TokenReading.{number_of, base_of, starts_with_digit}
+use Rattle.cbor_tokens.proofs.tokens.NumberFronts.{decimal_number}
+use Rattle.cbor_tokens.proofs.tokens.NumberPlaces.{base_of-other}
+use Rattle.cbor_tokens.proofs.tokens.Numbers.{number_of-reaches}
 use Rattle.cbor_notation.specs.mirror.OpenTokens.{is_prefix}
 use Rattle.cbor_diag.proofs.notation.GrownTokens.{some_is, is_list, run_grown, small_grown, short_number, long_base}
 use Rattle.cbor_notation.proofs.notation.sound.Steps.{a_test, none_some}

@@ -2,7 +2,7 @@
 -- public clause names these.
 use Rattle.std.specs.Prelude.{◌≡◌, ◌≢◌, ℕ, Bool, true, false, not, ◌==◌, ◌||◌, ◌&&◌, List, [], ◌∷◌, ◌++◌}
 use Rattle.std.specs.Prelude.{Option, Result, Ok, Err}
-use Rattle.cbor_notes.specs.Ascii.{quote}
+use Rattle.cbor_tokens.specs.Ascii.{quote}
 use Rattle.cbor_grammar.specs.declared.error.Error.{Error}
 use Rattle.cbor_grammar.specs.declared.error.Error.TheVariants as refusal
 use Rattle.cbor_diag.specs.declared.parse.notation.fault.Member.{Member}

@@ -9,7 +9,7 @@ ghost use Rattle.std.specs.Prelude.{OnErr, IfOk, IfErr};
 ghost use Rattle.std.specs.List.{AllByRecursion};
 ghost use Rattle.cbor_grammar.specs.Head.{FitsWidth};
 ghost use Rattle.cbor_grammar.specs.mirror.MajorNumber.{major_number};
-ghost use Rattle.cbor_notes.specs.Appends.{Appends};
+ghost use Rattle.cbor_tokens.specs.Appends.{Appends};
 ghost use Rattle.cbor_grammar.specs.StringKind.{major_of};
 ghost use Rattle.cbor_diag.specs.View.{view, items_view, pairs_view};
 ghost use Rattle.cbor_grammar.specs.WellFormed.{WellFormed, WellFormedItems, WellFormedPairs};

@@ -9,7 +9,7 @@ mod estimate;
 ghost use Rattle.std.specs.Prelude.{◌≡◌, ◌↔◌, ◌+◌, ◌*◌, ◌<◌, ◌≤◌, ◌++◌, ℕ, OnOk, OnErr, IfOk};
 ghost use Rattle.std.specs.Prelude.{IfErr};
 ghost use Rattle.std.specs.String.{string_bytes};
-ghost use Rattle.cbor_notes.specs.Appends.{AppendsText};
+ghost use Rattle.cbor_tokens.specs.Appends.{AppendsText};
 ghost use Rattle.cbor_diag.specs.View.{view, items_view, pairs_view};
 ghost use Rattle.cbor_grammar.specs.Notation.{IsNotation};
 ghost use Rattle.cbor_grammar.specs.declared.encoding.Encoding.{Encoding};

@@ -6,7 +6,7 @@ ghost use Rattle.cbor_diag.specs.View.{view};
 ghost use Rattle.cbor_grammar.specs.Facts.{IsWellFormed};
 ghost use Rattle.cbor_diag.specs.ItemAnswer.{GaveItem};
 ghost use Rattle.cbor_grammar.specs.Answer.{GaveRefusal, RefusedSo};
-ghost use Rattle.cbor_notes.specs.Columns.{uncommented};
+ghost use Rattle.cbor_tokens.specs.Uncommented.{uncommented};
 ghost use Rattle.cbor_grammar.specs.HexText.{IsHexOf, IsHexRefused};
 
 use super::binary::parse_bytes;

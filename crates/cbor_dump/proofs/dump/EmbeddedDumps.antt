@@ -9,9 +9,9 @@ use Rattle.cbor_dump.specs.declared.writer.Writer.{Writer}
 use Rattle.cbor_grammar.specs.Item.{Item}
 use Rattle.cbor_grammar.specs.Embedded.{and_then, sequence_of, before as item_before}
 use Rattle.cbor_grammar.specs.WellFormed.{levels_left}
-use Rattle.cbor_grammar.specs.Notes.{Note}
-use Rattle.cbor_grammar.specs.Dump.{note_lines, sequence_notes, failed_note, embedded_note, lines_at}
-use Rattle.cbor_grammar.specs.Dump.{lines_at_level, top, whole_note}
+use Rattle.cbor_dump.specs.Notes.{Note}
+use Rattle.cbor_dump.specs.Dump.{note_lines, sequence_notes, failed_note, embedded_note, lines_at}
+use Rattle.cbor_dump.specs.Dump.{lines_at_level, top, whole_note}
 use Rattle.cbor_grammar.specs.Reading.{Read, read_item}
 use Rattle.cbor_dump.specs.mirror.Dumped.{Wrote}
 use Rattle.cbor_grammar.proofs.bytes.Found.{item_takes}

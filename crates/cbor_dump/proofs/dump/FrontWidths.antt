@@ -33,8 +33,8 @@ use Rattle.cbor_dump.specs.mirror.Widths.{width_there, inner_there, Measured, Me
 use Rattle.cbor_dump.specs.mirror.Widths.{HasHead, shown_length}
 use Rattle.cbor_grammar.proofs.bytes.Chunks.{chunk_takes}
 use Rattle.cbor_grammar.proofs.bytes.Heads.{IsBytes, ArgumentThen, HeadIs, head_takes}
-use Rattle.cbor_notation.proofs.straight.Levels.{head_reads}
-use Rattle.cbor_notation.proofs.straight.Readings.{one_more, part_fails, tag_read}
+use Rattle.cbor_bytes.proofs.reading.Levels.{head_reads}
+use Rattle.cbor_bytes.proofs.reading.Readings.{one_more, part_fails, tag_read}
 
 -- ---- the bytes of a head
 

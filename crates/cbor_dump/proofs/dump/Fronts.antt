@@ -22,11 +22,11 @@ use Rattle.cbor_grammar.specs.declared.argument.Argument.TheVariants.{Number, In
 use Rattle.cbor_grammar.specs.declared.head.ItemHead.{ItemHead}
 use Rattle.cbor_grammar.specs.declared.strings.StringKind.{StringKind}
 use Rattle.cbor_grammar.specs.declared.strings.StringKind.TheVariants.{Bytes, Text}
-use Rattle.cbor_grammar.specs.Dump.{below, inside, break_line, close_lines, items_lines, pairs_lines, lines_at_level}
-use Rattle.cbor_grammar.specs.Dump.{shared_from, shared_in, shared_in_items, shared_in_pairs, string_content_lines}
-use Rattle.cbor_grammar.specs.Dump.{string_lines}
-use Rattle.cbor_grammar.specs.Dump.{bytes_in, note_line, note_lines, encoded_item_note, encoded_sequence_notes}
-use Rattle.cbor_grammar.specs.Dump.{parts_lines, embedded_note, top}
+use Rattle.cbor_dump.specs.Dump.{below, inside, break_line, close_lines, items_lines, pairs_lines, lines_at_level}
+use Rattle.cbor_dump.specs.Dump.{shared_from, shared_in, shared_in_items, shared_in_pairs, string_content_lines}
+use Rattle.cbor_dump.specs.Dump.{string_lines}
+use Rattle.cbor_dump.specs.Dump.{bytes_in, note_line, note_lines, encoded_item_note, encoded_sequence_notes}
+use Rattle.cbor_dump.specs.Dump.{parts_lines, embedded_note, top}
 use Rattle.cbor_grammar.specs.Head.{head}
 use Rattle.cbor_grammar.specs.Item as spec
 use Rattle.cbor_grammar.specs.Item.{Chunk, Item, atom, integer, negative, float, simple, string, chunked_string, array}
@@ -35,7 +35,7 @@ use Rattle.cbor_grammar.specs.Item.{item_count, pair_count}
 use Rattle.cbor_grammar.specs.declared.head.ItemHead.TheVariants as item_head
 use Rattle.cbor_grammar.specs.Reading.{head_of, read_head, read_content, read_chunks, after_members, items_in, pairs_in}
 use Rattle.cbor_grammar.specs.Reading.{count_width, Read, Fails}
-use Rattle.cbor_grammar.specs.Notes.{Note, value_note}
+use Rattle.cbor_dump.specs.Notes.{Note, value_note}
 use Rattle.cbor_grammar.specs.WellFormed.{levels_left}
 use Rattle.cbor_grammar.specs.mirror.AtLevel.{read_at, read_behind}
 use Rattle.cbor_dump.specs.mirror.Dumped.{context_view, item_lines, items_there, pairs_there, notes_there, line_of_head}
@@ -47,8 +47,8 @@ use Rattle.cbor_grammar.specs.mirror.StringView.{kind_of, bytes_of, borrowed_chu
 use Rattle.cbor_grammar.proofs.bytes.Chunks.{content_takes}
 use Rattle.cbor_grammar.proofs.bytes.Found.{item_takes}
 use Rattle.cbor_grammar.proofs.bytes.Heads.{IsBytes, head_again, ok_is}
-use Rattle.cbor_notation.proofs.straight.Levels.{head_reads, level_read}
-use Rattle.cbor_notation.proofs.straight.Readings.{parts_read, parts_ended, tag_read, content_read, ok_then}
+use Rattle.cbor_bytes.proofs.reading.Levels.{head_reads, level_read}
+use Rattle.cbor_bytes.proofs.reading.Readings.{parts_read, parts_ended, tag_read, content_read, ok_then}
 use Rattle.cbor_dump.proofs.dump.Members.{written_in, untagged, below_opens, tag_shared, Announced, count_line}
 use Rattle.cbor_dump.proofs.dump.Members.{width_held}
 use Rattle.cbor_dump.proofs.dump.Walks.{rows_are, wrote_none, wrote_then}

@@ -19,7 +19,7 @@ use Rattle.cbor_grammar.specs.Written.{encoded_head}
 use Rattle.cbor_dump.specs.mirror.Dumped.{argument_bytes, head_bytes, IsHead}
 use Rattle.cbor_grammar.proofs.bytes.Chunks.{chunk_takes}
 use Rattle.cbor_grammar.proofs.bytes.Heads.{IsBytes, ArgumentThen, HeadIs, head_takes}
-use Rattle.cbor_grammar.proofs.dump.Fits.{head_length, float_length}
+use Rattle.cbor_dump.proofs.dump.Fits.{head_length, float_length}
 
 -- a number that fits a stated width is written in that
 stated_is : (w : IntegerWidth) (n : ℕ) → FitsStated w n → stated w n ≡ w

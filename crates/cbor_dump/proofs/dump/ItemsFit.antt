@@ -3,7 +3,7 @@ use Rattle.std.proofs.Common.{◌≡◌, ℕ, zero, suc, ◌+◌, ◌<◌, List,
 use Rattle.std.specs.List.{AllByRecursion}
 use Rattle.cbor_notes.specs.Layout.{DumpLine}
 use Rattle.cbor_notes.proofs.columns.OneLine.{from_test}
-use Rattle.cbor_grammar.proofs.dump.CommentLines.{tag_line}
+use Rattle.cbor_dump.proofs.dump.CommentLines.{tag_line}
 use Rattle.cbor_notes.proofs.columns.Trees.{all_both}
 use Rattle.cbor_grammar.specs.Item as spec
 use Rattle.cbor_grammar.specs.Item.{Chunk, Atom, integer, negative, string, chunked_string, float, simple, Item, atom}
@@ -11,12 +11,12 @@ use Rattle.cbor_grammar.specs.Item.{array, tagged, Items, no_items, item, Pairs,
 use Rattle.cbor_grammar.specs.Head.{stated}
 use Rattle.cbor_grammar.specs.WellFormed.{WellFormed, WellFormedItems, WellFormedPairs}
 use Rattle.cbor_grammar.specs.Written.{encoded_head}
-use Rattle.cbor_grammar.specs.Dump.{Context, notes_lines, close_lines, inside, below, shared_in, shared_from}
-use Rattle.cbor_grammar.specs.Dump.{items_lines}
-use Rattle.cbor_grammar.specs.Dump.{pairs_lines, parts_lines, lines_at, top}
+use Rattle.cbor_dump.specs.Dump.{Context, notes_lines, close_lines, inside, below, shared_in, shared_from}
+use Rattle.cbor_dump.specs.Dump.{items_lines}
+use Rattle.cbor_dump.specs.Dump.{pairs_lines, parts_lines, lines_at, top}
 use Rattle.cbor_grammar.proofs.text.Parts.{well_level}
-use Rattle.cbor_grammar.proofs.dump.Fits.{IsGood, fit_head, head_length, open_fits, close_fits, atom_fits, low_here}
-use Rattle.cbor_grammar.proofs.dump.Fits.{low_below, low_end, low_first}
+use Rattle.cbor_dump.proofs.dump.Fits.{IsGood, fit_head, head_length, open_fits, close_fits, atom_fits, low_here}
+use Rattle.cbor_dump.proofs.dump.Fits.{low_below, low_end, low_first}
 use Rattle.cbor_dump.proofs.dump.NotesFit.{notes_fit}
 
 module _ (write : ℕ → Item → List DumpLine) (level : ℕ) (each : (known : ℕ) (i : Item) → WellFormed level i

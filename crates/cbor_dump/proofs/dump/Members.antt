@@ -9,14 +9,14 @@ use Rattle.cbor_dump.specs.declared.walk.Walk.{Walk}
 use Rattle.cbor_grammar.specs.declared.argument.Argument.{Argument}
 use Rattle.cbor_grammar.specs.declared.argument.Argument.TheVariants.{Number, Indefinite}
 use Rattle.cbor_grammar.specs.declared.argument.Argument.TheVariants.{Number}
-use Rattle.cbor_grammar.specs.Comments.{counted_comment}
+use Rattle.cbor_dump.specs.Comments.{counted_comment}
 use Rattle.cbor_grammar.specs.Item.{Item, Items, no_items, item, Pairs, no_pairs, pair}
 use Rattle.cbor_grammar.specs.Reading.{joined, joined_pairs, after_members, count_width}
 use Rattle.cbor_grammar.specs.WellFormed.{levels_left}
 use Rattle.cbor_grammar.specs.Written.{encoded_head}
-use Rattle.cbor_grammar.specs.Dump.{Context, below, head_line, container_line, lines_at, lines_at_level, notes_lines}
-use Rattle.cbor_grammar.specs.Dump.{items_lines, pairs_lines, parts_lines, shared_from, shared_in, shared_in_items}
-use Rattle.cbor_grammar.specs.Dump.{shared_in_pairs, top}
+use Rattle.cbor_dump.specs.Dump.{Context, below, head_line, container_line, lines_at, lines_at_level, notes_lines}
+use Rattle.cbor_dump.specs.Dump.{items_lines, pairs_lines, parts_lines, shared_from, shared_in, shared_in_items}
+use Rattle.cbor_dump.specs.Dump.{shared_in_pairs, top}
 use Rattle.cbor_dump.specs.mirror.Dumped.{context_view, tag_number, item_lines, items_there, pairs_there}
 use Rattle.cbor_dump.specs.mirror.Dumped.{embedded_lines}
 use Rattle.cbor_dump.specs.mirror.Dumped.{notes_there, argument_bytes, Wrote}

@@ -17,10 +17,10 @@ use Rattle.cbor_grammar.specs.declared.strings.StringKind.TheVariants.{Bytes, Te
 use Rattle.cbor_grammar.specs.Item as spec
 use Rattle.cbor_grammar.specs.Item.{Chunk, Atom, Item, atom, array, tagged, Items, no_items, item}
 use Rattle.cbor_grammar.specs.declared.head.ItemHead.TheVariants as item_head
-use Rattle.cbor_grammar.specs.Notes.{zone_at, interface_note, members_note, typed_array_note}
-use Rattle.cbor_grammar.specs.declared.addresses.Family.{Family}
-use Rattle.cbor_grammar.specs.declared.addresses.Family.TheVariants.{IPv4, IPv6}
-use Rattle.cbor_grammar.specs.Notes.{value_note}
+use Rattle.cbor_dump.specs.Notes.{zone_at, interface_note, members_note, typed_array_note}
+use Rattle.cbor_dump.specs.declared.addresses.Family.{Family}
+use Rattle.cbor_dump.specs.declared.addresses.Family.TheVariants.{IPv4, IPv6}
+use Rattle.cbor_dump.specs.Notes.{value_note}
 use Rattle.cbor_grammar.specs.Reading.{Counted, Frame, items_in, pairs_in, value_of, tag_of, tagged_with, opened}
 use Rattle.cbor_grammar.specs.Reading.{joined}
 use Rattle.cbor_grammar.specs.Reading.{put}
@@ -28,14 +28,14 @@ use Rattle.cbor_grammar.specs.Reading.{after_members, after_end, closed, close_o
 use Rattle.cbor_grammar.specs.Reading.{parts_from, read_atom, read_chunks, read_content, read_head, split_at}
 use Rattle.cbor_grammar.specs.Reading.{checked_chunk, counted_item}
 use Rattle.cbor_grammar.specs.WellFormed.{levels_left}
-use Rattle.cbor_notation.specs.mirror.Ahead.{body_read}
+use Rattle.cbor_grammar.specs.mirror.AtLevel.{body_read}
 use Rattle.cbor_grammar.specs.mirror.AtLevel.{read_at}
 use Rattle.cbor_dump.specs.mirror.NotesView.{AreMembers, IsLookedInto, IsNextMember, Sees, atom_view, first_seen, other}
 use Rattle.cbor_dump.specs.mirror.NotesView.{seen, seen_atom, then_seen, then_view}
 use Rattle.cbor_grammar.specs.mirror.Lengths.{left_of}
 use Rattle.cbor_grammar.proofs.bytes.FoundAgain.{joined-none, joined_one}
 use Rattle.cbor_grammar.proofs.bytes.Heads.{bind_ok, done, ok_is, then_ok}
-use Rattle.cbor_notation.proofs.straight.Ahead.{item_after, no_item}
+use Rattle.cbor_bytes.proofs.reading.Readings.{item_after, no_item}
 use Rattle.cbor_bytes.proofs.bytes.Remaining.{left_less}
 
 -- ---- values that notes do not look into

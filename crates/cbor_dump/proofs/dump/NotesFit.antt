@@ -4,28 +4,29 @@ use Rattle.std.proofs.Common.{◌++◌, map, length, codes, Option, Some, None, 
 use Rattle.std.specs.List.{AllByRecursion, flat_map}
 use Rattle.std.specs.Option.{option_to_list}
 use Rattle.cbor_notes.specs.Layout.{DumpLine, blanks, left_column, reach, row, width_of}
-use Rattle.cbor_notes.specs.Columns.{IsPlain, Lacks}
+use Rattle.cbor_notes.specs.Columns.{IsPlain}
+use Rattle.cbor_tokens.specs.Uncommented.{Lacks}
 use Rattle.cbor_notes.proofs.columns.OneLine.{Free, from_test, free_both, free_cond, free_same, lacks_of}
-use Rattle.cbor_notes.proofs.texts.HexLemmas.{IsAscii-from_test}
+use Rattle.cbor_tokens.proofs.texts.HexLemmas.{IsAscii-from_test}
 use Rattle.cbor_notes.proofs.columns.Trees.{all_both}
 use Rattle.cbor_grammar.specs.declared.error.Error.{Error}
 use Rattle.cbor_grammar.specs.declared.error.Error.TheVariants as refusal
 use Rattle.cbor_grammar.specs.Item.{string, Item, atom, Items, no_items, item}
 use Rattle.cbor_grammar.specs.declared.strings.StringKind.TheVariants.{Bytes}
 use Rattle.cbor_grammar.specs.WellFormed.{WellFormed, WellFormedItems}
-use Rattle.cbor_grammar.specs.Dump.{note_line, note_lines, notes, notes_lines, embedded_note, failed_note, whole_note}
-use Rattle.cbor_grammar.specs.Dump.{items_notes, rest_note, sequence_notes, bytes_in, encoded_item_note}
-use Rattle.cbor_grammar.specs.Dump.{encoded_sequence_notes}
+use Rattle.cbor_dump.specs.Dump.{note_line, note_lines, notes, notes_lines, embedded_note, failed_note, whole_note}
+use Rattle.cbor_dump.specs.Dump.{items_notes, rest_note, sequence_notes, bytes_in, encoded_item_note}
+use Rattle.cbor_dump.specs.Dump.{encoded_sequence_notes}
 use Rattle.cbor_grammar.specs.Embedded.{if_whole, sequence_at}
-use Rattle.cbor_grammar.specs.Notes.{Note, value_note}
+use Rattle.cbor_dump.specs.Notes.{Note, value_note}
 use Rattle.cbor_grammar.specs.Reading.{Read, read_item}
 use Rattle.cbor_grammar.specs.Refusals.{text_of}
 use Rattle.cbor_grammar.proofs.shared.EmbeddedItems.{embedded_spells, sequence_spells}
 use Rattle.cbor_grammar.proofs.bytes.Laws.{AllBytes, bytes_at}
-use Rattle.cbor_notation.proofs.normal.WellFormed.{items_well}
+use Rattle.cbor_bytes.proofs.bytes.WellFormed.{items_well}
 use Rattle.cbor_grammar.proofs.bytes.Resolved.{spells_well}
-use Rattle.cbor_grammar.proofs.dump.NoteTexts.{FreeNote, value_note_line}
-use Rattle.cbor_grammar.proofs.dump.Fits.{IsGood, blank_feed}
+use Rattle.cbor_dump.proofs.dump.NoteTexts.{FreeNote, value_note_line}
+use Rattle.cbor_dump.proofs.dump.Fits.{IsGood, blank_feed}
 
 note_fits : (depth : ℕ) (text : List ℕ) → depth < 140 → Free 10 text → IsGood (note_line depth text)
 note_fits depth text low said = record {

@@ -6,11 +6,12 @@ use Rattle.std.specs.Prelude.{IfOk}
 use Rattle.std.proofs.lemmas.Result.{IfOk-weaker}
 use Rattle.hex.specs.Hex.{decode_of, encode_lower}
 use Rattle.hex.proofs.HexLemmas.{decode_of-encode_lower}
-use Rattle.cbor_notes.specs.Columns.{IsColumn, IsPlain, Lacks, uncommented}
+use Rattle.cbor_notes.specs.Columns.{IsColumn, IsPlain}
+use Rattle.cbor_tokens.specs.Uncommented.{Lacks, uncommented}
 use Rattle.cbor_notes.specs.Layout.{width_of}
 use Rattle.cbor_notes.proofs.columns.OneColumn.{digits_left, one_column}
 use Rattle.cbor_grammar.specs.declared.error.Error.{Error}
-use Rattle.cbor_grammar.specs.Dump.{dump, lines, top}
+use Rattle.cbor_dump.specs.Dump.{dump, lines, top}
 use Rattle.cbor_grammar.specs.Facts.{IsItem, IsWellFormed}
 use Rattle.cbor_grammar.specs.HexText.{IsHexOf}
 use Rattle.cbor_grammar.specs.Item.{Item}
@@ -19,8 +20,8 @@ use Rattle.cbor_grammar.proofs.bytes.Heads.{IsBytes}
 use Rattle.cbor_grammar.proofs.bytes.Laws.{bytes_at, item_bytes}
 use Rattle.cbor_grammar.proofs.bytes.Resolved.{resolved, spells_well}
 use Rattle.cbor_grammar.proofs.bytes.Strict.{strict_any, strict_encoded}
-use Rattle.cbor_grammar.proofs.dump.AllDigits.{item_are}
-use Rattle.cbor_grammar.proofs.dump.Fits.{one_line_of}
+use Rattle.cbor_dump.proofs.dump.AllDigits.{item_are}
+use Rattle.cbor_dump.proofs.dump.Fits.{one_line_of}
 use Rattle.cbor_dump.proofs.dump.WholeDumps.{plain}
 
 -- ---- the laws of a dump

@@ -7,10 +7,10 @@ use Rattle.std.proofs.lemmas.Grind.{flat_map-append}
 use Rattle.std.proofs.lemmas.List.{length-take}
 use Rattle.cbor_notes.specs.Layout.{DumpLine, gap, line_text, row}
 use Rattle.cbor_dump.specs.declared.writer.Writer.{Writer}
-use Rattle.cbor_grammar.specs.Dump.{content_lines, note_line, piece_line}
-use Rattle.cbor_grammar.specs.Pieces.{pieces_of}
+use Rattle.cbor_dump.specs.Dump.{content_lines, note_line, piece_line}
+use Rattle.cbor_dump.specs.Pieces.{pieces_of}
 use Rattle.cbor_dump.specs.mirror.Dumped.{Wrote, line_after, own_line}
-use Rattle.cbor_grammar.proofs.dump.Pieces.{Cuts, pieces_more}
+use Rattle.cbor_dump.proofs.dump.Pieces.{Cuts, pieces_more}
 
 -- ---- lines
 

@@ -4,9 +4,9 @@ use Rattle.std.specs.List.{AllByRecursion}
 use Rattle.cbor_notes.specs.Columns.{IsPlain}
 use Rattle.cbor_notes.specs.Layout.{DumpLine}
 use Rattle.cbor_grammar.specs.Item.{Item}
-use Rattle.cbor_grammar.specs.Dump.{lines_at_level, top}
+use Rattle.cbor_dump.specs.Dump.{lines_at_level, top}
 use Rattle.cbor_grammar.specs.WellFormed.{levels_left, WellFormed}
-use Rattle.cbor_grammar.proofs.dump.Fits.{IsGood, plain_of}
+use Rattle.cbor_dump.proofs.dump.Fits.{IsGood, plain_of}
 use Rattle.cbor_dump.proofs.dump.ItemsFit.{item_fits}
 use Rattle.cbor_grammar.proofs.text.Parts.{well_level}
 

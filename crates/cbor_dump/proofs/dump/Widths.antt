@@ -14,28 +14,28 @@ use Rattle.cbor_grammar.specs.declared.encoding.Encoding.{Encoding}
 use Rattle.cbor_grammar.specs.Item as spec
 use Rattle.cbor_grammar.specs.Item.{Chunk, Atom, integer, negative, string, chunked_string, float, simple, Item, atom}
 use Rattle.cbor_grammar.specs.Item.{array, tagged, Items, no_items, item, Pairs, no_pairs, pair, item_count, pair_count}
-use Rattle.cbor_grammar.specs.Comments.{bytes_comment, text_comment}
+use Rattle.cbor_dump.specs.Comments.{bytes_comment, text_comment}
 use Rattle.cbor_grammar.specs.Head.{opening, break_byte}
-use Rattle.cbor_grammar.specs.Notes.{Note}
-use Rattle.cbor_grammar.specs.Pieces.{pieces_of, byte_pieces, text_cut, text_pieces, piece_size}
+use Rattle.cbor_dump.specs.Notes.{Note}
+use Rattle.cbor_dump.specs.Pieces.{pieces_of, byte_pieces, text_cut, text_pieces, piece_size}
 use Rattle.cbor_grammar.specs.declared.strings.StringKind.{StringKind}
 use Rattle.cbor_grammar.specs.declared.strings.StringKind.TheVariants.{Bytes, Text}
 use Rattle.cbor_grammar.specs.StringKind.{major_of}
 use Rattle.cbor_grammar.specs.Written.{encoded_head, encoded_open, encoded_float, encoded_simple}
-use Rattle.cbor_grammar.specs.Dump.{Context, head_hex, head_line, piece_line, content_lines, string_lines}
-use Rattle.cbor_grammar.specs.Dump.{string_content_lines, bytes_lines, element_lines, sized_lines, tagged_lines}
-use Rattle.cbor_grammar.specs.Dump.{atom_lines}
-use Rattle.cbor_grammar.specs.Dump.{break_line, close_lines, inside, below, shared_in, shared_from, note_line}
-use Rattle.cbor_grammar.specs.Dump.{note_lines}
-use Rattle.cbor_grammar.specs.Dump.{notes, notes_lines, items_lines, pairs_lines, parts_lines, lines_at, top}
+use Rattle.cbor_dump.specs.Dump.{Context, head_hex, head_line, piece_line, content_lines, string_lines}
+use Rattle.cbor_dump.specs.Dump.{string_content_lines, bytes_lines, element_lines, sized_lines, tagged_lines}
+use Rattle.cbor_dump.specs.Dump.{atom_lines}
+use Rattle.cbor_dump.specs.Dump.{break_line, close_lines, inside, below, shared_in, shared_from, note_line}
+use Rattle.cbor_dump.specs.Dump.{note_lines}
+use Rattle.cbor_dump.specs.Dump.{notes, notes_lines, items_lines, pairs_lines, parts_lines, lines_at, top}
 use Rattle.cbor_dump.specs.mirror.Widths.{reached, head_digits, head_reach, piece_reach, longest, sized_piece}
 use Rattle.cbor_dump.specs.mirror.Widths.{tagged_piece, content_width, string_width, chunks_width}
 use Rattle.cbor_dump.specs.mirror.Widths.{head_length, close_width, items_width, pairs_width, atom_inner, inner_width}
 use Rattle.cbor_dump.specs.mirror.Widths.{width_at}
-use Rattle.cbor_grammar.proofs.dump.Digits.{length-hex, length-head_short, length-head_long}
-use Rattle.cbor_grammar.proofs.dump.Elements.{Small, element_small, element_cut}
-use Rattle.cbor_grammar.proofs.dump.Fits.{text_cut_low}
-use Rattle.cbor_grammar.proofs.dump.Pieces.{pieces_more, text_cuts}
+use Rattle.cbor_dump.proofs.dump.Digits.{length-hex, length-head_short, length-head_long}
+use Rattle.cbor_dump.proofs.dump.Elements.{Small, element_small, element_cut}
+use Rattle.cbor_dump.proofs.dump.Fits.{text_cut_low}
+use Rattle.cbor_dump.proofs.dump.Pieces.{pieces_more, text_cuts}
 
 -- ---- lines
 

@@ -10,18 +10,18 @@ use Rattle.cbor_dump.specs.declared.walk.Walk.{Walk}
 use Rattle.cbor_dump.specs.declared.writer.Writer.{Writer}
 use Rattle.cbor_grammar.specs.declared.argument.Argument.{Argument}
 use Rattle.cbor_grammar.specs.declared.argument.Argument.TheVariants.{Number, Indefinite}
-use Rattle.cbor_grammar.specs.Comments.{unsigned_comment, negative_comment, float_comment, simple_comment}
-use Rattle.cbor_grammar.specs.Comments.{counted_comment, tag_comment}
-use Rattle.cbor_grammar.specs.Dump.{Context, head_line, string_word, lines_at_level, parts_lines, items_lines}
-use Rattle.cbor_grammar.specs.Dump.{pairs_lines}
-use Rattle.cbor_grammar.specs.Dump.{notes, note_lines, top, whole_note, sequence_notes, shared_in}
+use Rattle.cbor_dump.specs.Comments.{unsigned_comment, negative_comment, float_comment, simple_comment}
+use Rattle.cbor_dump.specs.Comments.{counted_comment, tag_comment}
+use Rattle.cbor_dump.specs.Dump.{Context, head_line, string_word, lines_at_level, parts_lines, items_lines}
+use Rattle.cbor_dump.specs.Dump.{pairs_lines}
+use Rattle.cbor_dump.specs.Dump.{notes, note_lines, top, whole_note, sequence_notes, shared_in}
 use Rattle.cbor_grammar.specs.Embedded.{sequence}
 use Rattle.cbor_grammar.specs.Head.{opening}
 use Rattle.cbor_grammar.specs.Item.{Item, Items, Pairs}
 use Rattle.cbor_grammar.specs.declared.head.ItemHead.TheVariants as item_head
 use Rattle.cbor_grammar.specs.declared.head.ItemHead.{ItemHead}
 use Rattle.cbor_grammar.specs.Reading.{Read, read_item}
-use Rattle.cbor_grammar.specs.Notes.{value_note}
+use Rattle.cbor_dump.specs.Notes.{value_note}
 use Rattle.cbor_grammar.specs.StringKind.{major_of}
 use Rattle.cbor_grammar.specs.WellFormed.{deepest, levels_left}
 use Rattle.cbor_grammar.specs.Written.{encoded_head, encoded_float, encoded_simple}

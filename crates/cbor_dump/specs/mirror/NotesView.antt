@@ -14,7 +14,7 @@ use Rattle.cbor_grammar.specs.declared.width.IntegerWidth.TheVariants.{Unknown}
 use Rattle.cbor_grammar.specs.declared.argument.Argument.{Argument}
 use Rattle.cbor_grammar.specs.Item as spec
 use Rattle.cbor_grammar.specs.Item.{Chunk, Atom, Item, atom, array, Items, no_items, item, no_pairs}
-use Rattle.cbor_grammar.specs.Notes.{Note, Zone, no_zone, zone_text, not_zone}
+use Rattle.cbor_dump.specs.Notes.{Note, Zone, no_zone, zone_text, not_zone}
 use Rattle.cbor_grammar.specs.Reading.{after_members, one_less, read_item}
 use Rattle.cbor_grammar.specs.declared.strings.StringKind.TheVariants.{Bytes, Text}
 

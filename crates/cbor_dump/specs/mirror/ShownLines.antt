@@ -9,10 +9,10 @@ use Rattle.cbor_dump.specs.declared.comment.Comment.{Comment}
 use Rattle.cbor_dump.specs.declared.comment.Comment.TheVariants as comment
 use Rattle.cbor_dump.specs.declared.hex_style.HexStyle.{HexStyle}
 use Rattle.cbor_dump.specs.declared.hex_style.HexStyle.TheVariants.{Head, Content}
-use Rattle.cbor_grammar.specs.Comments.{unsigned_comment, negative_comment, float_comment, simple_comment}
-use Rattle.cbor_grammar.specs.Comments.{counted_comment}
-use Rattle.cbor_grammar.specs.Comments.{tag_comment, bytes_comment, text_comment, empty_comment, break_comment}
-use Rattle.cbor_grammar.specs.Dump.{head_hex}
+use Rattle.cbor_dump.specs.Comments.{unsigned_comment, negative_comment, float_comment, simple_comment}
+use Rattle.cbor_dump.specs.Comments.{counted_comment}
+use Rattle.cbor_dump.specs.Comments.{tag_comment, bytes_comment, text_comment, empty_comment, break_comment}
+use Rattle.cbor_dump.specs.Dump.{head_hex}
 
 -- the word of a string or a container
 abbrev pub major_word : Major → List ℕ

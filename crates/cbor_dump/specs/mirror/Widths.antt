@@ -10,7 +10,7 @@ use Rattle.cbor_grammar.specs.Item.{Chunk, Atom, integer, negative, string, chun
 use Rattle.cbor_grammar.specs.Item.{array, tagged, Items, no_items, item, Pairs, no_pairs, pair, item_count, pair_count}
 use Rattle.cbor_grammar.specs.declared.head.ItemHead.TheVariants as item_head
 use Rattle.cbor_grammar.specs.declared.head.ItemHead.{ItemHead}
-use Rattle.cbor_grammar.specs.Pieces.{piece_size, text_pieces}
+use Rattle.cbor_dump.specs.Pieces.{piece_size, text_pieces}
 use Rattle.cbor_grammar.specs.Reading.{Read, count_width}
 use Rattle.cbor_grammar.specs.declared.strings.StringKind.{StringKind}
 use Rattle.cbor_grammar.specs.declared.strings.StringKind.TheVariants.{Bytes, Text}

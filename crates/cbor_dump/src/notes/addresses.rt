@@ -3,14 +3,14 @@ ghost use Rattle.std.specs.Prelude.{ℕ, ◌≡◌, ◌≢◌, ◌++◌, List, c
 ghost use Rattle.std.specs.Prelude.{IfSome, IfNone};
 ghost use Rattle.std.specs.String.{string_bytes};
 ghost use Rattle.cbor_grammar.specs.Item.{no_items};
-ghost use Rattle.cbor_grammar.specs.Notes as spec;
+ghost use Rattle.cbor_dump.specs.Notes as spec;
 ghost use Rattle.cbor_dump.specs.mirror.NotesView.{zone_view};
 ghost use Rattle.cbor_dump.specs.mirror.NotesView.{members_view, then_view, value_view};
 
 use super::in_brackets;
 use super::value::{Atom, Members, Value};
+use crate::addresses::Family;
 use cbor_grammar::Simple;
-use cbor_grammar::addresses::Family;
 use cbor_notes::{escaped_text, ipv4_text, ipv6_text, mac_text};
 use std::alloc::{AllocError, Global};
 

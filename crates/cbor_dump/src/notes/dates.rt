@@ -2,7 +2,7 @@
 ghost use Rattle.std.specs.Prelude.{◌≡◌, codes, option_map, IfOk};
 ghost use Rattle.std.specs.String.{string_bytes};
 ghost use Rattle.cbor_notes.specs.Date as dates;
-ghost use Rattle.cbor_grammar.specs.Notes as spec;
+ghost use Rattle.cbor_dump.specs.Notes as spec;
 ghost use Rattle.cbor_dump.specs.mirror.NotesView.{value_view};
 
 use super::in_brackets;

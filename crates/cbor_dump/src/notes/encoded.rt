@@ -1,7 +1,7 @@
 //! Texts and bytes that encode something: URLs, base 64 and UUIDs.
 ghost use Rattle.std.specs.Prelude.{◌≡◌, ◌++◌, IfOk};
 ghost use Rattle.std.specs.String.{string_bytes};
-ghost use Rattle.cbor_grammar.specs.Notes as spec;
+ghost use Rattle.cbor_dump.specs.Notes as spec;
 ghost use Rattle.cbor_dump.specs.mirror.NotesView.{note_view, value_view};
 
 use super::Note;

@@ -1,7 +1,7 @@
 //! Values that are shared, and references to them (the IANA registry of CBOR tags).
 ghost use Rattle.std.specs.Prelude.{◌≡◌, IfOk};
 ghost use Rattle.std.specs.String.{string_bytes};
-ghost use Rattle.cbor_grammar.specs.Notes as spec;
+ghost use Rattle.cbor_dump.specs.Notes as spec;
 ghost use Rattle.cbor_dump.specs.mirror.NotesView.{value_view};
 
 use super::in_brackets;

@@ -2,9 +2,9 @@
 ghost use Rattle.std.specs.Prelude.{◌≡◌, ◌+◌, ℕ, List, Ok};
 ghost use Rattle.cbor_grammar.specs.declared.width.IntegerWidth.{IntegerWidth};
 ghost use Rattle.cbor_grammar.specs.Item.{Chunk, string, Item, atom, Items};
-ghost use Rattle.cbor_grammar.specs.Notes.{value_note};
+ghost use Rattle.cbor_dump.specs.Notes.{value_note};
 ghost use Rattle.cbor_grammar.specs.Reading.{checked_chunk};
-ghost use Rattle.cbor_notation.specs.mirror.Ahead.{body_read};
+ghost use Rattle.cbor_grammar.specs.mirror.AtLevel.{body_read};
 ghost use Rattle.cbor_grammar.specs.mirror.AtLevel.{read_at};
 ghost use Rattle.cbor_dump.specs.mirror.NotesView.{AreMembers, IsNextMember, Sees};
 ghost use Rattle.cbor_dump.specs.mirror.NotesView.{atom_view, first_seen, members_view, seen};

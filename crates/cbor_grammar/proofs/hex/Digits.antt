@@ -10,7 +10,7 @@ use Rattle.hex.proofs.HexLemmas.{decode_of-err, decode_of-odd, decode_of-ok, dec
 use Rattle.cbor_grammar.specs.declared.error.Error.{Error}
 use Rattle.cbor_grammar.specs.declared.error.Error.TheVariants as refusal
 use Rattle.cbor_grammar.specs.Answer.{GaveRefusal, IsRefused}
-use Rattle.cbor_notes.specs.Columns.{uncommented}
+use Rattle.cbor_tokens.specs.Uncommented.{uncommented}
 use Rattle.cbor_grammar.specs.HexText.{IsHexRefused}
 
 -- a decoder returns this error, out of memory aside

@@ -12,7 +12,7 @@ use Rattle.std.proofs.lemmas.List.{length-append, append-nil, drop_all, length-t
 use Rattle.std.proofs.lemmas.List.{length-drop, drop_more, take_at}
 use Rattle.std.proofs.lemmas.List.Elements.{filter-append}
 use Rattle.std.proofs.lemmas.List.Sums.{fails_before_first, passes_at_first, position_or_len_is}
-use Rattle.cbor_notes.specs.Columns.{unspaced, uncommented}
+use Rattle.cbor_tokens.specs.Uncommented.{unspaced, uncommented}
 use Rattle.cbor_grammar.specs.declared.error.Error.TheVariants as refusal
 use Rattle.cbor_grammar.specs.HexText.{IsKeptAt, IsKeptByte, IsHexFault}
 use Rattle.cbor_grammar.specs.mirror.HexPlaces.{Replaces, Keeps}

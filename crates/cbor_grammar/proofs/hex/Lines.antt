@@ -10,7 +10,7 @@ use Rattle.std.proofs.lemmas.List.{take-append-drop, drop_more, drop_all, take_a
 use Rattle.std.proofs.lemmas.List.Elements.{All-from_get_or, filter-append}
 use Rattle.std.proofs.lemmas.List.Splits.{length-slice_split, slice_split_first, slice_split_none}
 use Rattle.std.proofs.lemmas.List.Sums.{position_or_len_is, fails_before_first, passes_at_first}
-use Rattle.cbor_notes.specs.Columns.{unspaced, kept, uncommented}
+use Rattle.cbor_tokens.specs.Uncommented.{unspaced, kept, uncommented}
 
 -- ---- spaces
 

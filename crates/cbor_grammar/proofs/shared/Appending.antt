@@ -9,8 +9,8 @@ use Rattle.std.proofs.Common.{arith}
 use Rattle.std.proofs.Math.Seq.{take-length}
 use Rattle.std.proofs.Transfers.{starts_with_of_append, starts_with_trans}
 use Rattle.std.proofs.lemmas.List.{take-append-drop}
-use Rattle.cbor_notes.proofs.texts.Fronts.{split_after}
-use Rattle.cbor_notes.specs.Appends.{Appends}
+use Rattle.cbor_tokens.proofs.texts.Fronts.{split_after}
+use Rattle.cbor_tokens.specs.Appends.{Appends}
 
 begins : (old text new : List ℕ) → new ≡ old ++ text → StartsWith new old
 begins old text new is = starts_with_of_append new old text is

@@ -3,7 +3,7 @@ use Rattle.std.specs.Prelude.{Result}
 use Rattle.std.proofs.Common.{◌≡◌, ℕ, suc, ◌+◌, ◌≤◌, List, ◌++◌, codes, Option, Some}
 use Rattle.std.proofs.Common.{None, sym, ap, subst, ◌∙◌, append_assoc, arith}
 use Rattle.cbor_grammar.specs.declared.width.IntegerWidth.{IntegerWidth}
-use Rattle.cbor_notes.specs.Appends.{Appends}
+use Rattle.cbor_tokens.specs.Appends.{Appends}
 use Rattle.cbor_grammar.specs.Context.{Context}
 use Rattle.cbor_grammar.specs.declared.layout.Content.{Content}
 use Rattle.cbor_grammar.specs.declared.layout.Content.TheVariants.{Bytes}

@@ -11,3 +11,6 @@ read_at level b = read_item (levels_left level) b
 -- the same behind a head
 abbrev pub read_behind : ℕ → ItemHead → List ℕ → Read Item
 read_behind level h b = (read_body (counted_item (levels_left (level + 1))) (opened h) h b).1
+
+abbrev pub body_read : ItemHead → List ℕ → ℕ → Read Item
+body_read h b levels = (read_body (counted_item levels) (opened h) h b).1

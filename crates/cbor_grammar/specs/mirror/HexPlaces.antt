@@ -1,7 +1,7 @@
 -- Walking over a text, as `hex_text/place.rt` of `cbor_bytes` does: what is kept from one byte to another. No public
 -- clause names it.
 use Rattle.std.specs.Prelude.{◌≡◌, ℕ, List, [], ◌++◌, slice_index}
-use Rattle.cbor_notes.specs.Columns.{uncommented}
+use Rattle.cbor_tokens.specs.Uncommented.{uncommented}
 
 -- Bytes that may come in the place of others: they begin with no line feed, which drops a carriage return before it,
 -- unless those do, and they are empty if those are.

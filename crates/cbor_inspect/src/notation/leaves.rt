@@ -2,7 +2,7 @@
 use crate::notation::notes::push_float_value;
 use base64::engine::general_purpose::{STANDARD, URL_SAFE_NO_PAD};
 use cbor_diag::{FloatWidth, IntegerWidth, Simple};
-use cbor_notes::push_hex;
+use cbor_tokens::push_hex;
 use std::alloc::AllocError;
 
 /// The encoding of bytes that the tags above ask for.

@@ -3,7 +3,7 @@ use Rattle.std.proofs.Common.{◌≡◌, ℕ, zero, suc, ◌+◌, List, [], ◌�
 use Rattle.std.proofs.Common.{inr, refl, sym, ap, subst, ◌∙◌, append_assoc, arith}
 use Rattle.std.specs.List.{AllByRecursion}
 use Rattle.std.proofs.lemmas.List.{append-nil}
-use Rattle.cbor_notes.specs.Token.{nothing}
+use Rattle.cbor_tokens.specs.Token.{nothing}
 use Rattle.cbor_grammar.specs.declared.width.IntegerWidth.TheVariants.{Unknown}
 use Rattle.cbor_grammar.specs.declared.encoding.Encoding.{Encoding}
 use Rattle.cbor_grammar.specs.Context.{Context}
@@ -36,7 +36,8 @@ use Rattle.cbor_grammar.proofs.bytes.Resolved.{spells_well}
 use Rattle.cbor_grammar.proofs.text.Parts.{content_of, well_level}
 use Rattle.cbor_grammar.proofs.shared.EmbeddedItems.{embedded_spells, sequence_spells}
 use Rattle.cbor_grammar.proofs.bytes.Laws.{AllBytes, bytes_at}
-use Rattle.cbor_notation.proofs.normal.WellFormed.{tag_kind, items_well}
+use Rattle.cbor_notation.proofs.normal.WellFormed.{tag_kind}
+use Rattle.cbor_bytes.proofs.bytes.WellFormed.{items_well}
 use Rattle.cbor_notation.proofs.notation.sound.Items.{reads_blank}
 use Rattle.cbor_notation.proofs.notation.sound.Pieces.{blanked_more}
 use Rattle.cbor_notation.proofs.normal.ReadTokens.{one_space, number_read, negative_read, quoted_read}

@@ -2,8 +2,8 @@
 use Rattle.std.proofs.Common.{◌≡◌, ℕ, ◌+◌, List, [], ◌∷◌, ◌++◌, codes, Option, Some, None, inl, inr, refl, sym}
 use Rattle.std.proofs.Common.{subst, ◌∙◌, append_assoc, arith}
 use Rattle.std.specs.List.{flat_map}
-use Rattle.cbor_notes.specs.Token.{nothing}
-use Rattle.cbor_notes.proofs.tokens.Blanks.{Blank-append}
+use Rattle.cbor_tokens.specs.Token.{nothing}
+use Rattle.cbor_tokens.proofs.tokens.Blanks.{Blank-append}
 use Rattle.cbor_grammar.specs.declared.width.IntegerWidth.{IntegerWidth}
 use Rattle.cbor_grammar.specs.declared.layout.ContainerStyle.{ContainerStyle}
 use Rattle.cbor_grammar.specs.declared.layout.ContainerStyle.TheVariants as style

@@ -13,10 +13,10 @@ use Rattle.std.specs.Int.{w16, w32, w64, to_be_bytes}
 use Rattle.hex.specs.Hex.{encode_lower, encode_with, lower_digits}
 use Rattle.hex.proofs.HexLemmas.{decode_of-encode_lower}
 use Rattle.base64.specs.Rfc4648.{encode_group, encode_symbols, padding_len}
-use Rattle.cbor_notes.specs.Base64.{standard, url_safe}
-use Rattle.cbor_notes.specs.Token.{Blank, nothing, whitespace, IsNumber, AreDigits, Indicates, is_digit, Spaced, blank}
-use Rattle.cbor_notes.specs.Token.{digit, DigitsBetween, in_quotes}
-use Rattle.cbor_notes.proofs.tokens.WrittenNumbers.{decimal_IsNumber}
+use Rattle.cbor_tokens.specs.Base64.{standard, url_safe}
+use Rattle.cbor_tokens.specs.Token.{Blank, nothing, whitespace, IsNumber, AreDigits, Indicates, is_digit, Spaced, blank}
+use Rattle.cbor_tokens.specs.Token.{digit, DigitsBetween, in_quotes}
+use Rattle.cbor_tokens.proofs.tokens.WrittenNumbers.{decimal_IsNumber}
 use Rattle.cbor_grammar.specs.declared.width.IntegerWidth.{IntegerWidth}
 use Rattle.cbor_grammar.specs.declared.width.IntegerWidth.TheVariants.{Unknown, Zero, Eight, Sixteen, ThirtyTwo}
 use Rattle.cbor_grammar.specs.declared.width.IntegerWidth.TheVariants.{SixtyFour}

@@ -32,7 +32,8 @@ use Rattle.cbor_grammar.proofs.bytes.Sizes.{one_byte}
 use Rattle.cbor_grammar.proofs.text.Parts.{content_of}
 use Rattle.cbor_grammar.proofs.shared.EmbeddedItems.{embedded_spells, spells_embedded, sequence_spells, sequence_again}
 use Rattle.cbor_grammar.proofs.bytes.Laws.{AllBytes, bytes_at}
-use Rattle.cbor_notation.proofs.normal.WellFormed.{tag_kind, items_serve, items_well, normal_serves}
+use Rattle.cbor_notation.proofs.normal.WellFormed.{tag_kind, items_serve, normal_serves}
+use Rattle.cbor_bytes.proofs.bytes.WellFormed.{items_well}
 use Rattle.cbor_grammar.proofs.normal.Stated.{map_kept, Stated, StatedItems, spelled_stated, items_stated}
 use Rattle.cbor_grammar.proofs.normal.Stated.{normal_items_stated, normal_stated, at, Writer, text_resolved}
 use Rattle.cbor_grammar.proofs.normal.Stated.{normal_items_resolved, normal_resolved, items_resolved}

@@ -1,6 +1,6 @@
 -- The normal form of a well-formed item is well formed, and its encoding is no longer.
 use Rattle.std.proofs.Common.{◌≡◌, ℕ, zero, suc, ◌+◌, ◌≤◌, List, [], ◌∷◌, ◌++◌, length, map, Option, Some, None, ◌⊎◌}
-use Rattle.std.proofs.Common.{inl, inr, eqb, false, refl, ap, subst, arith, nat_lt}
+use Rattle.std.proofs.Common.{inl, inr, eqb, false, refl, ap, arith, nat_lt}
 use Rattle.std.specs.List.{AllByRecursion, flat_map}
 use Rattle.std.proofs.lemmas.Bool.{cond_both, lt-ltb, cases_eq, ne_eqb}
 use Rattle.std.proofs.lemmas.List.{length-append}
@@ -28,9 +28,10 @@ use Rattle.cbor_grammar.specs.Normal.{normal_at}
 use Rattle.cbor_grammar.proofs.bytes.Strict.{float-resolve, stated_is}
 use Rattle.cbor_grammar.proofs.bytes.Resolved.{spells_well}
 use Rattle.cbor_grammar.proofs.shared.EmbeddedItems.{embedded_spells, sequence_spells}
-use Rattle.cbor_grammar.proofs.bytes.Laws.{AllBytes, all_bytes-append, all_bytes-front, all_bytes-rest, bytes_at}
+use Rattle.cbor_grammar.proofs.bytes.Laws.{AllBytes, all_bytes-append, bytes_at}
 use Rattle.cbor_grammar.proofs.bytes.Laws.{item_bytes, items_bytes}
 use Rattle.cbor_notation.proofs.normal.Form.{open_fits, head_no_longer, normal_fits, normal_head, float_fits}
+use Rattle.cbor_bytes.proofs.bytes.WellFormed.{items_well}
 
 -- ---- the encoding of a spelled item is no longer than its spelling
 
@@ -161,15 +162,6 @@ pub record Serves (level : ℕ) (i j : Item) : Type 0 where
 pub record ServesBytes (b x : List ℕ) : Type 0 where
   pub bytes : AllBytes x
   pub no_longer : length x ≤ length b
-
--- items that are spelled one after the other are well formed, and what follows them is bytes
-pub items_well : (level : ℕ) (is : Items) (b end : List ℕ) → AllBytes b → SpellsItems any level b is end
-    → WellFormedItems level is × AllBytes end
-items_well level no_items b end all h = (tt, subst AllBytes h all)
-items_well level (item i is) b end all h =
-    let parts : AllBytes (h.0 ++ h.1) = subst AllBytes h.2 all in
-    let others = items_well level is h.1 end (all_bytes-rest h.0 h.1 parts) h.4 in
-    ((spells_well level h.0 i (bytes_at h.0 (all_bytes-front h.0 h.1 parts)) h.3, others.0), others.1)
 
 -- the bytes of items that are spelled are replaced by those of items that serve in their place
 module _ (level left : ℕ) (levels : level + left ≡ 129) (into : Item → Item) (serves : (i : Item) → WellFormed level i

@@ -6,9 +6,9 @@ use Rattle.std.proofs.lemmas.Grind.{common_steps}
 use Rattle.cbor_grammar.specs.declared.width.IntegerWidth.{IntegerWidth}
 use Rattle.cbor_grammar.specs.declared.error.Error.{Error}
 use Rattle.cbor_grammar.specs.Reading.{◌>>=◌, Fails}
-use Rattle.cbor_notes.specs.Token.{capped}
+use Rattle.cbor_tokens.specs.Token.{capped}
 use Rattle.cbor_notation.specs.mirror.NotationReading.{read_number, with_width, negative_number, read_negative_number}
-use Rattle.cbor_notation.proofs.straight.Readings.{fails_bind}
+use Rattle.cbor_bytes.proofs.reading.Readings.{fails_bind}
 
 -- one less than a capped number has the width of one less than the number, or none
 less_capped : (m : ℕ) (indicator : Option ℕ) → with_width (capped (suc m) - 1) indicator ≡ with_width m indicator

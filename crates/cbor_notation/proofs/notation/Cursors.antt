@@ -2,7 +2,7 @@
 use Rattle.std.proofs.Common.{◌≡◌, ◌≢◌, ◌==◌, ℕ, ◌<◌, List, ◌∷◌, None, true, false, nat_le}
 use Rattle.std.proofs.Common.{suc, length, refl, arith}
 use Rattle.std.proofs.lemmas.Bool.Decides.{nat_tests}
-use Rattle.cbor_notes.specs.Token.{is_whitespace}
+use Rattle.cbor_tokens.specs.Token.{is_whitespace}
 use Rattle.cbor_notation.specs.mirror.NotationReading.{skip_blank, after_space}
 
 not_white : (b : ℕ) → 32 < b → is_whitespace b ≡ false

@@ -9,11 +9,11 @@ use Rattle.std.proofs.lemmas.Bool.{agree_below, agree_below_at, or_parts, or_fro
 use Rattle.std.proofs.lemmas.List.{append-nil, take_at, take_all}
 use Rattle.std.proofs.lemmas.Slice.Eq.{bytes_eq-Decides}
 use Rattle.base64.specs.Rfc4648.{encode_symbols, padding_len}
-use Rattle.cbor_notes.specs.AreBytes.{AreBytes}
-use Rattle.cbor_notes.specs.Base32 as base32
-use Rattle.cbor_notes.specs.Base32.{Alphabet, extended_hex, characters, encode}
-use Rattle.cbor_notes.specs.Base64.{standard, url_safe}
-use Rattle.cbor_notes.proofs.bases.Fives.{fives, padding, values_below, group_again, base32_values, base32hex_values}
+use Rattle.cbor_tokens.specs.AreBytes.{AreBytes}
+use Rattle.cbor_tokens.specs.Base32 as base32
+use Rattle.cbor_tokens.specs.Base32.{Alphabet, extended_hex, characters, encode}
+use Rattle.cbor_tokens.specs.Base64.{standard, url_safe}
+use Rattle.cbor_tokens.proofs.bases.Fives.{fives, padding, values_below, group_again, base32_values, base32hex_values}
 use Rattle.cbor_notation.specs.mirror.NotationReading.{if_encoded, either, value_in, from_fives, from_sixes, six_bits}
 use Rattle.cbor_notation.specs.mirror.NotationReading.{unpadded, base32_of, base64_of}
 use Rattle.cbor_notation.proofs.notation.Lists.{position_at}

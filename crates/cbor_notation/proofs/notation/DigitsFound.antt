@@ -5,12 +5,12 @@ use Rattle.std.proofs.Common.{codes, Vec, Global, Option, Some, None, refl, sym,
 use Rattle.std.specs.Int.Digits.{AllBelowBase, number_from_digits}
 use Rattle.std.specs.Option.{ok_or, IfSome, IfNone}
 use Rattle.std.proofs.lemmas.Slice.Eq.{bytes_eq-Decides}
-use Rattle.cbor_notes.specs.AreBytes.{AreBytes}
-use Rattle.cbor_notes.specs.Base32.{Alphabet, characters, places, encode}
-use Rattle.cbor_notes.specs.Base64.{standard, url_safe}
-use Rattle.cbor_notes.proofs.bases.Base32Encode.{AllBelowBase-append}
-use Rattle.cbor_notes.proofs.dates.Places.{AllBelowBase-places}
-use Rattle.cbor_notes.proofs.tokens.TextPlaces.{first_at}
+use Rattle.cbor_tokens.specs.AreBytes.{AreBytes}
+use Rattle.cbor_tokens.specs.Base32.{Alphabet, characters, places, encode}
+use Rattle.cbor_tokens.specs.Base64.{standard, url_safe}
+use Rattle.cbor_tokens.proofs.bases.Base32Encode.{AllBelowBase-append}
+use Rattle.cbor_tokens.proofs.bases.Places.{AllBelowBase-places}
+use Rattle.cbor_tokens.proofs.tokens.TextPlaces.{first_at}
 use Rattle.cbor_notation.proofs.notation.Decoded.{base32_again, url_safe_again, standard_again}
 use Rattle.cbor_grammar.specs.declared.error.Error.TheVariants as refusal
 use Rattle.cbor_grammar.specs.Reading.{Gives}

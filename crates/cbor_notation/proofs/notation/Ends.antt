@@ -4,9 +4,9 @@ use Rattle.std.proofs.Common.{sym, ap, ◌∙◌, subst, inl, inr, IsTrue}
 use Rattle.std.specs.List.{list_any, list_all}
 use Rattle.std.specs.Char.{digit_value}
 use Rattle.std.proofs.lemmas.Bool.{and_parts, or_cases, or_parts, eqb-true, eqb-false, leb-true, not-true}
-use Rattle.cbor_notes.specs.Token.{nothing, whitespace, comment, is_whitespace}
-use Rattle.cbor_notes.proofs.tokens.Blanks.{at_whitespace, blank_left, after_blank-append, after_blank-ends, EndsBlank}
-use Rattle.cbor_notes.proofs.tokens.Numbers.{EndsNumber}
+use Rattle.cbor_tokens.specs.Token.{nothing, whitespace, comment, is_whitespace}
+use Rattle.cbor_tokens.proofs.tokens.Blanks.{at_whitespace, blank_left, after_blank-append, after_blank-ends, EndsBlank}
+use Rattle.cbor_tokens.proofs.tokens.Numbers.{EndsNumber}
 use Rattle.cbor_grammar.specs.Notation.{IsBlank}
 use Rattle.cbor_notation.specs.mirror.NotationReading.{after_byte, skip_blank}
 

@@ -2,7 +2,7 @@
 use Rattle.std.proofs.Common.{◌≡◌, ℕ, zero, suc, List, [], ◌∷◌, ◌++◌, codes, Option, Some, None, Ok, refl, sym, ap, ◌∙◌}
 use Rattle.std.proofs.Common.{subst, inl, inr}
 use Rattle.std.proofs.lemmas.List.{append-nil}
-use Rattle.cbor_notes.specs.Token.{nothing}
+use Rattle.cbor_tokens.specs.Token.{nothing}
 use Rattle.cbor_grammar.specs.Item as spec
 use Rattle.cbor_grammar.specs.Item.{Chunk, Atom, integer, negative, string, chunked_string}
 use Rattle.cbor_grammar.specs.Item.{float, simple, Item, atom, array, tagged}

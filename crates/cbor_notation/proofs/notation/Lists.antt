@@ -7,7 +7,7 @@ use Rattle.std.proofs.Math.Numerals.{one-add}
 use Rattle.std.proofs.lemmas.Bool.{or_parts, or_from, cond_both, eq-eqb, lt-ltb, not-true, not_from_true}
 use Rattle.std.proofs.lemmas.Bool.{not_from_false, false≢true}
 use Rattle.std.proofs.lemmas.List.{append_assoc, length-append, drop_at}
-use Rattle.cbor_notes.specs.Token.{Blank, nothing, whitespace, comment, is_whitespace}
+use Rattle.cbor_tokens.specs.Token.{Blank, nothing, whitespace, comment, is_whitespace}
 use Rattle.cbor_grammar.specs.Notation.{IsBlank, Blanked, Closes, Further, Members, Listed}
 use Rattle.cbor_grammar.specs.Reading.{Read}
 use Rattle.cbor_notation.specs.mirror.NotationReading.{after_byte, after_space, after_end, skip_blank, members_from}

@@ -7,10 +7,10 @@ use Rattle.std.proofs.Math.Numerals.{add-one}
 use Rattle.std.proofs.lemmas.Bool.{agree_below_at, and_from, lt-ltb, le-leb, or_cases, eqb-true, ltb-true}
 use Rattle.std.proofs.lemmas.List.{append_assoc}
 use Rattle.std.proofs.lemmas.Str.Parse.{digit_from_value}
-use Rattle.cbor_notes.specs.Token.{IsNumber}
-use Rattle.cbor_notes.specs.TokenReading.{starts_with_digit}
-use Rattle.cbor_notes.proofs.tokens.NumberFronts.{number_digit}
-use Rattle.cbor_notes.proofs.tokens.Numbers.{EndsNumber, number_of-append}
+use Rattle.cbor_tokens.specs.Token.{IsNumber}
+use Rattle.cbor_tokens.specs.TokenReading.{starts_with_digit}
+use Rattle.cbor_tokens.proofs.tokens.NumberFronts.{number_digit}
+use Rattle.cbor_tokens.proofs.tokens.Numbers.{EndsNumber, number_of-append}
 use Rattle.cbor_grammar.specs.declared.width.IntegerWidth.{IntegerWidth}
 use Rattle.cbor_grammar.specs.declared.width.IntegerWidth.TheVariants.{Unknown, Zero, Eight, Sixteen, ThirtyTwo}
 use Rattle.cbor_grammar.specs.declared.width.IntegerWidth.TheVariants.{SixtyFour}

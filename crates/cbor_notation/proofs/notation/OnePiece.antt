@@ -5,10 +5,10 @@ use Rattle.std.proofs.Common.{rules, tests}
 use Rattle.std.specs.List.{starts_with}
 use Rattle.std.proofs.lemmas.Bool.{cond-false, eqb-true}
 use Rattle.std.proofs.lemmas.List.{append-nil}
-use Rattle.cbor_notes.specs.Token.{is_special}
-use Rattle.cbor_notes.specs.TokenReading.{unquoted, with_front}
-use Rattle.cbor_notes.proofs.tokens.Quoted.{unquoted-plain, closes}
-use Rattle.cbor_notes.proofs.tokens.TextPlaces.{first_at}
+use Rattle.cbor_tokens.specs.Token.{is_special}
+use Rattle.cbor_tokens.specs.TokenReading.{unquoted, with_front}
+use Rattle.cbor_tokens.proofs.tokens.Quoted.{unquoted-plain, closes}
+use Rattle.cbor_tokens.proofs.tokens.TextPlaces.{first_at}
 use Rattle.cbor_grammar.specs.declared.error.Error.{Error}
 use Rattle.cbor_grammar.specs.Item.{Item, Atom, Chunk, atom, string}
 use Rattle.cbor_grammar.specs.declared.strings.StringKind.{StringKind}

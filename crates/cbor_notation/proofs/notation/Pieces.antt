@@ -3,11 +3,11 @@ use Rattle.std.proofs.Common.{◌≡◌, ◌≢◌, ℕ, zero, suc, ◌<◌, Boo
 use Rattle.std.proofs.Common.{Option, Some, Ok, refl, sym, ap, ◌∙◌, subst, inl, inr, arith}
 use Rattle.std.proofs.lemmas.Bool.{not-true}
 use Rattle.std.proofs.lemmas.List.{append_assoc, append-nil, length-append}
-use Rattle.cbor_notes.specs.Base32.{standard, extended_hex}
-use Rattle.cbor_notes.specs.Token.{in_quotes, DigitsBetween}
-use Rattle.cbor_notes.specs.TokenReading.{unquoted}
-use Rattle.cbor_notes.proofs.tokens.Quoted.{unquoted-in_quotes}
-use Rattle.cbor_notes.proofs.tokens.Spaced.{digits_of-DigitsBetween}
+use Rattle.cbor_tokens.specs.Base32.{standard, extended_hex}
+use Rattle.cbor_tokens.specs.Token.{in_quotes, DigitsBetween}
+use Rattle.cbor_tokens.specs.TokenReading.{unquoted}
+use Rattle.cbor_tokens.proofs.tokens.Quoted.{unquoted-in_quotes}
+use Rattle.cbor_tokens.proofs.tokens.Spaced.{digits_of-DigitsBetween}
 use Rattle.cbor_grammar.specs.Item.{Item, Items, no_items, item}
 use Rattle.cbor_grammar.specs.Item.{items_of}
 use Rattle.cbor_grammar.specs.declared.strings.StringKind.{StringKind}

@@ -9,8 +9,8 @@ use Rattle.std.proofs.lemmas.List.Sums.{list_all-from_AllPass}
 use Rattle.hex.specs.declared.error.FromHexError.{FromHexError}
 use Rattle.hex.specs.Hex.{decode_of, is_hex_digit}
 use Rattle.hex.proofs.HexLemmas.{decode_of-ok}
-use Rattle.cbor_notes.specs.Token.{is_digit}
-use Rattle.cbor_notes.proofs.tokens.TextPlaces.{from_byte}
+use Rattle.cbor_tokens.specs.Token.{is_digit}
+use Rattle.cbor_tokens.proofs.tokens.TextPlaces.{from_byte}
 use Rattle.cbor_grammar.specs.Reading.{◌>>=◌}
 use Rattle.cbor_notation.specs.mirror.NotationReading.{or_refused, base16_bytes, base16_of, read_decoded}
 use Rattle.cbor_notation.proofs.notation.Tokens.{digits_found}

@@ -4,7 +4,7 @@ use Rattle.std.proofs.Common.{drop, codes, Some, None, Ok, refl, sym, ap, ◌∙
 use Rattle.std.specs.List.{list_all, starts_with}
 use Rattle.std.proofs.lemmas.Bool.{cases_Bool, or_parts, ne_eqb, not-true, eq-eqb, eqb-false, cond-false}
 use Rattle.std.proofs.lemmas.List.{append_assoc, length-append}
-use Rattle.cbor_notes.specs.Token.{in_quotes, escaped_byte}
+use Rattle.cbor_tokens.specs.Token.{in_quotes, escaped_byte}
 use Rattle.cbor_grammar.specs.declared.width.IntegerWidth.{IntegerWidth}
 use Rattle.cbor_grammar.specs.declared.width.IntegerWidth.TheVariants.{Unknown}
 use Rattle.cbor_grammar.specs.Item.{Chunk, Item}

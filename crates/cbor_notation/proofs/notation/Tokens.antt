@@ -9,9 +9,9 @@ use Rattle.std.proofs.lemmas.List.{take_rest}
 use Rattle.std.proofs.lemmas.Bool.{cond-true, lt-ltb}
 use Rattle.std.proofs.Math.Nat.{pow-le-pow_right}
 use Rattle.cbor_grammar.specs.declared.error.Error.TheVariants as refusal
-use Rattle.cbor_notes.specs.Token.{is_whitespace, DigitsBetween}
-use Rattle.cbor_notes.specs.TokenReading.{number_of, digits_of}
-use Rattle.cbor_notes.proofs.tokens.Spaced.{digits_of-DigitsBetween}
+use Rattle.cbor_tokens.specs.Token.{is_whitespace, DigitsBetween}
+use Rattle.cbor_tokens.specs.TokenReading.{number_of, digits_of}
+use Rattle.cbor_tokens.proofs.tokens.Spaced.{digits_of-DigitsBetween}
 use Rattle.cbor_grammar.specs.Reading.{◌>>=◌}
 use Rattle.cbor_notation.specs.mirror.NotationReading.{or_refused, read_number, after_byte, after_space}
 use Rattle.cbor_notation.specs.mirror.NotationReading.{numeral}

@@ -6,9 +6,9 @@ use Rattle.std.specs.Char.{digit_value}
 use Rattle.std.specs.Str.Parse.{AllDigits}
 use Rattle.std.proofs.lemmas.Bool.{and_from, or_from, lt-ltb, ne_eqb}
 use Rattle.std.proofs.lemmas.List.{append_assoc, length-append, take_at, drop_at}
-use Rattle.cbor_notes.specs.Token.{AreDigits}
-use Rattle.cbor_notes.proofs.tokens.NumberFronts.{decimal_number}
-use Rattle.cbor_notes.proofs.tokens.Numbers.{number_of-append}
+use Rattle.cbor_tokens.specs.Token.{AreDigits}
+use Rattle.cbor_tokens.proofs.tokens.NumberFronts.{decimal_number}
+use Rattle.cbor_tokens.proofs.tokens.Numbers.{number_of-append}
 use Rattle.cbor_grammar.specs.declared.width.FloatWidth.{FloatWidth}
 use Rattle.cbor_grammar.specs.declared.width.FloatWidth.TheVariants as float_width
 use Rattle.cbor_grammar.specs.Item.{Item, atom, float, simple}

@@ -1,8 +1,7 @@
 -- A look at bytes that are still to be read finds how long what reading gives is.
 use Rattle.std.proofs.Common.{◌≡◌, ℕ, zero, suc, ◌+◌, ◌-◌, ◌<◌, ◌≤◌, List, Option, Some, None}
-use Rattle.std.proofs.Common.{Ok, Err, IfSome, ◌⊎◌, inl, inr, refl, sym, ap, subst, ◌∙◌, arith}
+use Rattle.std.proofs.Common.{Ok, IfSome, ◌⊎◌, inl, inr, refl, sym, ap, subst, ◌∙◌, arith}
 use Rattle.cbor_grammar.specs.declared.width.IntegerWidth.{IntegerWidth}
-use Rattle.cbor_grammar.specs.declared.error.Error.{Error}
 use Rattle.cbor_notation.specs.declared.ahead.Ahead.{Ahead}
 use Rattle.cbor_grammar.specs.declared.argument.Argument.{Argument}
 use Rattle.cbor_grammar.specs.Estimate.{digit_count, estimated_length, estimated_items, estimated_pairs}
@@ -10,15 +9,17 @@ use Rattle.cbor_grammar.specs.Item as spec
 use Rattle.cbor_grammar.specs.Item.{Item, Items, no_items, item, Pairs, no_pairs, pair, array, tagged}
 use Rattle.cbor_grammar.specs.declared.head.ItemHead.TheVariants as item_head
 use Rattle.cbor_grammar.specs.declared.head.ItemHead.{ItemHead}
-use Rattle.cbor_grammar.specs.Reading.{Counted, ◌>>-◌, Frame, items_in, pairs_in, value_of, tag_of, tagged_with, opened}
+use Rattle.cbor_grammar.specs.Reading.{Counted, ◌>>-◌, Frame, items_in, pairs_in, value_of, tag_of, tagged_with}
 use Rattle.cbor_grammar.specs.Reading.{joined, joined_pairs, one_less, put, after_members, after_end, closed, close_or}
-use Rattle.cbor_grammar.specs.Reading.{count_width, parts_from, read_body, read_head, counted_item, read_item}
-use Rattle.cbor_notation.specs.mirror.Ahead.{Leaves, Estimates, front_read, body_read}
+use Rattle.cbor_grammar.specs.Reading.{count_width, parts_from, read_head, counted_item, read_item}
+use Rattle.cbor_notation.specs.mirror.Ahead.{Leaves, Estimates, front_read}
+use Rattle.cbor_grammar.specs.mirror.AtLevel.{body_read}
 use Rattle.cbor_grammar.specs.mirror.Lengths.{left_of}
 use Rattle.cbor_grammar.proofs.bytes.Heads.{then_ok, ok_is}
 use Rattle.cbor_grammar.proofs.bytes.Steps.{parts_more, item_shortens}
-use Rattle.cbor_notation.proofs.straight.Readings.{ok_then, parts_read, parts_ended, none_held}
+use Rattle.cbor_bytes.proofs.reading.Readings.{parts_read, parts_ended, none_held}
 use Rattle.cbor_bytes.proofs.bytes.Remaining.{left_less}
+use Rattle.cbor_bytes.proofs.reading.Readings.{item_after}
 
 -- ---- what is left of a budget
 
@@ -48,26 +49,6 @@ leaves_after (Some a) budget left before size rest is h = (omega (arith, h.0, h.
 leaves_after None budget left before size rest is h = omega (arith, h, is)
 
 -- ---- heads
-
--- no item is read where no head is
-pub no_item : (levels : ℕ) (b : List ℕ) (e : Error) (x : Item × List ℕ) → read_head b ≡ Err e
-    → read_item levels b ≡ Ok x → ⊥
-unfolding counted_item
-no_item zero b e x fails is = cc
-no_item (suc levels) b e x fails is =
-    let t = then_ok (1, read_head b) (λ y. read_body (counted_item levels) (opened y.0) y.0 y.1) x is in
-    let both : Err e ≡ Ok t.0 = sym fails ∙ t.1 in
-    cc
-
--- an item is what is read after its head
-pub item_after : (levels : ℕ) (b : List ℕ) (h : ItemHead) (rest : List ℕ) (x : Item × List ℕ)
-    → read_head b ≡ Ok (h, rest) → read_item levels b ≡ Ok x → (n : ℕ) × (body_read h rest n ≡ Ok x)
-unfolding counted_item
-item_after zero b h rest x head is = absurd cc
-item_after (suc levels) b h rest x head is = (
-  levels,
-  sym (ok_then (1, read_head b) (h, rest) (λ y. read_body (counted_item levels) (opened y.0) y.0 y.1) head) ∙ is,
-)
 
 -- what was found after the head was found of the item
 pub headed : (found : Option Ahead) (budget : ℕ) (b : List ℕ) (h : ItemHead) (rest : List ℕ)

@@ -15,7 +15,7 @@ use Rattle.cbor_grammar.specs.NotationText.{Writer, members, members_layout, las
 use Rattle.cbor_grammar.specs.NotationText.{rest_text, sequence_listed, sequence_text, text_at_level}
 use Rattle.cbor_grammar.specs.Reading.{Fails, joined, read_item}
 use Rattle.cbor_grammar.specs.WellFormed.{levels_left}
-use Rattle.cbor_notes.specs.Appends.{Appends}
+use Rattle.cbor_tokens.specs.Appends.{Appends}
 use Rattle.cbor_notation.specs.mirror.LayoutView.{context_view, content_there, item_text}
 use Rattle.cbor_grammar.proofs.bytes.FoundAgain.{joined-none, joined_one}
 use Rattle.cbor_grammar.proofs.bytes.Shorter.{item_shorter}

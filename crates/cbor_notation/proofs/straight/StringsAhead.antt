@@ -19,7 +19,8 @@ use Rattle.cbor_grammar.specs.Reading.{length_of, chunk_of, read_chunk_length, r
 use Rattle.cbor_grammar.specs.declared.strings.StringKind.{StringKind}
 use Rattle.cbor_grammar.specs.declared.strings.StringKind.TheVariants.{Bytes, Text}
 use Rattle.cbor_grammar.specs.StringKind.{major_of}
-use Rattle.cbor_notation.specs.mirror.Ahead.{Leaves, Estimates, body_read}
+use Rattle.cbor_notation.specs.mirror.Ahead.{Leaves, Estimates}
+use Rattle.cbor_grammar.specs.mirror.AtLevel.{body_read}
 use Rattle.cbor_grammar.proofs.bytes.Heads.{bind_ok, then_ok, ok_is, guard_held}
 
 -- an error that is not that memory ran out is one of reading

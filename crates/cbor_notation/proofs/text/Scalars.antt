@@ -6,8 +6,8 @@ use Rattle.std.proofs.lemmas.List.{length-take, take_more, drop_more, drop-appen
 use Rattle.std.proofs.lemmas.Fmt.{decimal_digit}
 use Rattle.std.proofs.lemmas.Grind.{flat_map-append}
 use Rattle.std.proofs.lemmas.Bool.Decides.{nat_tests}
-use Rattle.cbor_notes.specs.Ascii.{quote}
-use Rattle.cbor_notes.specs.Token.{is_special, escaped_byte, in_quotes}
+use Rattle.cbor_tokens.specs.Ascii.{quote}
+use Rattle.cbor_tokens.specs.Token.{is_special, escaped_byte, in_quotes}
 use Rattle.cbor_grammar.specs.NotationText.{members, bracketed, opened, chunks_listed}
 use Rattle.cbor_grammar.specs.declared.layout.ContainerStyle.TheVariants as style
 use Rattle.cbor_grammar.specs.declared.layout.ContainerStyle.{ContainerStyle}

@@ -3,8 +3,7 @@ use Rattle.std.specs.Prelude.{◌≡◌, ℕ, ◌+◌, ◌<◌, ◌≤◌, List,
 use Rattle.cbor_notation.specs.declared.ahead.Ahead.{Ahead}
 use Rattle.cbor_grammar.specs.Estimate.{estimated_length}
 use Rattle.cbor_grammar.specs.Item.{Item}
-use Rattle.cbor_grammar.specs.declared.head.ItemHead.{ItemHead}
-use Rattle.cbor_grammar.specs.Reading.{Read, opened, read_body, counted_item, read_item}
+use Rattle.cbor_grammar.specs.Reading.{Read, read_item}
 
 -- What is that long takes this much of the budget, and these bytes follow it; or it takes all.
 abbrev pub Leaves : Option Ahead → ℕ → ℕ → List ℕ → Type 0
@@ -19,6 +18,3 @@ Estimates found budget read = (levels : ℕ) (i : Item) (rest : List ℕ) → re
 -- the item at the front, and what is read after a head
 abbrev pub front_read : List ℕ → ℕ → Read Item
 front_read b levels = read_item levels b
-
-abbrev pub body_read : ItemHead → List ℕ → ℕ → Read Item
-body_read h b levels = (read_body (counted_item levels) (opened h) h b).1

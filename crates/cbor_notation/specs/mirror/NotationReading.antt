@@ -9,10 +9,10 @@ use Rattle.std.specs.Str.Parse.{digits_value}
 use Rattle.std.specs.Int.Digits.{number_from_digits}
 use Rattle.hex.specs.declared.error.FromHexError.{FromHexError}
 use Rattle.hex.specs.Hex.{decode_of}
-use Rattle.cbor_notes.specs.Base32 as base32
-use Rattle.cbor_notes.specs.Base64 as base64
-use Rattle.cbor_notes.specs.Token.{is_whitespace}
-use Rattle.cbor_notes.specs.TokenReading.{after_blank, number_of, unquoted, digits_of}
+use Rattle.cbor_tokens.specs.Base32 as base32
+use Rattle.cbor_tokens.specs.Base64 as base64
+use Rattle.cbor_tokens.specs.Token.{is_whitespace}
+use Rattle.cbor_tokens.specs.TokenReading.{after_blank, number_of, unquoted, digits_of}
 use Rattle.cbor_grammar.specs.declared.width.IntegerWidth.{IntegerWidth}
 use Rattle.cbor_grammar.specs.declared.width.IntegerWidth.TheVariants.{Unknown, Zero, Eight, Sixteen, ThirtyTwo}
 use Rattle.cbor_grammar.specs.declared.width.FloatWidth.{FloatWidth}

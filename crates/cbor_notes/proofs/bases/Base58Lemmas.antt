@@ -8,7 +8,7 @@ use Rattle.std.specs.Int.{from_be_bytes, w128}
 use Rattle.std.specs.Int.Digits.{digits_of, number_from_digits}
 use Rattle.std.specs.Str.{IsAscii}
 use Rattle.cbor_notes.specs.Base58.{characters}
-use Rattle.cbor_notes.proofs.texts.HexLemmas.{IsAscii-from_test}
+use Rattle.cbor_tokens.proofs.texts.HexLemmas.{IsAscii-from_test}
 
 -- the last digit comes last
 pub base58_step : (n : ℕ) → 0 < n → map (slice_index characters) (digits_of 58 n) ≡ map (slice_index characters)

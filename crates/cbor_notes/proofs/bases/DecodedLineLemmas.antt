@@ -1,22 +1,15 @@
 -- The lines of decoded bytes, one after the other.
-use Rattle.std.proofs.Common.{◌≡◌, ℕ, ◌+◌, ◌-◌, ◌*◌, ◌/◌, ◌%◌, ◌<◌, ◌≤◌, min, List, [], ◌∷◌, ◌++◌, map, length, take}
-use Rattle.std.proofs.Common.{drop, replicate, slice_index, codes, refl, sym, ap, ◌∙◌, arith}
+use Rattle.std.proofs.Common.{◌≡◌, ℕ, ◌+◌, ◌-◌, ◌*◌, ◌<◌, ◌≤◌, min, List, [], ◌∷◌, ◌++◌, map, length, take}
+use Rattle.std.proofs.Common.{drop, replicate, codes, refl, sym, ap, ◌∙◌, arith}
 use Rattle.std.specs.Int.{div_ceil}
 use Rattle.std.specs.List.{range_with_len}
 use Rattle.std.specs.Fork.{slice_chunk}
 use Rattle.std.proofs.lemmas.List.{append_assoc, drop-drop, take_at, drop_at, length-drop, replicate_more, take_min}
 use Rattle.std.proofs.lemmas.List.{drop_min}
 use Rattle.std.proofs.lemmas.List.FromFn.{map-range_with_len_more}
-use Rattle.hex.specs.Hex.{encode_lower, encode_with}
+use Rattle.hex.specs.Hex.{encode_lower}
 use Rattle.cbor_notes.specs.Text.{quoted_bytes}
 use Rattle.cbor_notes.specs.DecodedLines.{decoded_line, decoded_lines}
-
--- the digits of two lists, one after the other
-pub encode_with-append : (t xs ys : List ℕ) → encode_with t (xs ++ ys) ≡ encode_with t xs ++ encode_with t ys
-unfolding encode_with
-encode_with-append t [] ys = refl
-encode_with-append t (x ∷ xs) ys =
-    ap (λ (l : List ℕ). slice_index t (x / 16) ∷ slice_index t (x % 16) ∷ l) (encode_with-append t xs ys)
 
 -- one more blank
 pub blanks_more : (line after blank : List ℕ) (counter start : ℕ) → start ≤ counter

@@ -13,7 +13,7 @@ use Rattle.uuid.specs.declared.Variant.{Variant}
 use Rattle.uuid.specs.declared.Variant.TheVariants.{NCS, RFC4122, Microsoft, Future}
 use Rattle.uuid.specs.declared.Version.{Version}
 use Rattle.uuid.specs.declared.Version.TheVariants.{Nil, Mac, Dce, Md5, Random, Sha1, SortMac, SortRand, Custom, Max}
-use Rattle.cbor_notes.specs.Ascii.{dot, colon}
+use Rattle.cbor_tokens.specs.Ascii.{dot, colon}
 use Rattle.cbor_notes.specs.Address.{groups_text, hex_text, ipv4_text, ipv6_text, mac_text, shortened}
 use Rattle.cbor_notes.specs.Base58.{base58_of, characters}
 use Rattle.cbor_notes.specs.DecodedLines.{base64_lines, decoded_line, decoded_lines}

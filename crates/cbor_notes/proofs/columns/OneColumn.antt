@@ -13,7 +13,8 @@ use Rattle.std.proofs.lemmas.List.Splits.{slice_split_at}
 use Rattle.std.proofs.lemmas.List.Sums.{position_or_len_is}
 use Rattle.std.proofs.Math.Seq.{get_or-append_seam, take-append_seam, take-append-add}
 use Rattle.cbor_notes.specs.Layout.{DumpLine, blanks, left_column, line_text, reach, width_of}
-use Rattle.cbor_notes.specs.Columns.{Lacks, IsPlain, IsColumn, digits_of, uncommented}
+use Rattle.cbor_tokens.specs.Uncommented.{Lacks, uncommented}
+use Rattle.cbor_notes.specs.Columns.{IsPlain, IsColumn, digits_of}
 
 -- the bytes before the first one that passes
 pub first_at : (c : ℕ) (front back : List ℕ) → Lacks c front

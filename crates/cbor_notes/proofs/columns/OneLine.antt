@@ -10,8 +10,8 @@ use Rattle.std.proofs.lemmas.Bool.{cases_eq}
 use Rattle.std.proofs.lemmas.Bool.Decides.{nat_tests}
 use Rattle.base64.specs.Rfc4648.{encode_symbols, padding_len}
 use Rattle.hex.specs.Hex.{encode_lower, encode_with, lower_digits}
-use Rattle.cbor_notes.specs.Base64.{standard, url_safe}
-use Rattle.cbor_notes.specs.Columns.{Lacks}
+use Rattle.cbor_tokens.specs.Base64.{standard, url_safe}
+use Rattle.cbor_tokens.specs.Uncommented.{Lacks}
 use Rattle.cbor_notes.specs.TagNames.{array_name, tag_name}
 use Rattle.cbor_notes.specs.Text.{escaped_byte, quoted_bytes, escaped_char, escaped_text, is_control, comma_before}
 use Rattle.cbor_notes.specs.Text.{in_groups, minus_if, grouped}

@@ -5,7 +5,7 @@ use Rattle.std.proofs.lemmas.List.{length-append, take_at, drop_at}
 use Rattle.std.proofs.lemmas.Str.{IsCharBoundary-from_ascii}
 use Rattle.std.specs.Str.{IsCharBoundary}
 use Rattle.cbor_notes.specs.Layout.{gap}
-use Rattle.cbor_notes.proofs.texts.HexLemmas.{IsAscii-from_test}
+use Rattle.cbor_tokens.proofs.texts.HexLemmas.{IsAscii-from_test}
 use Rattle.std.proofs.lemmas.List.{replicate-append-replicate, get_or-replicate, length-replicate, take-replicate}
 
 -- blanks can be cut at any place

@@ -9,7 +9,7 @@ use Rattle.std.specs.Int.Digits.{number_from_digits}
 use Rattle.std.proofs.lemmas.List.{length-reverse, length-take-le}
 use Rattle.std.proofs.lemmas.Nat.{pow-add}
 use Rattle.std.specs.Prelude.{nat_lt, if◌then◌else◌, is_some, reverse, unwrap_or}
-use Rattle.cbor_notes.specs.AreBytes.{AreBytes}
+use Rattle.cbor_tokens.specs.AreBytes.{AreBytes}
 use Rattle.cbor_notes.specs.Element.{signed_text, size}
 use Rattle.cbor_notes.specs.Text.{grouped}
 

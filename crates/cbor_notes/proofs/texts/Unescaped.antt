@@ -10,6 +10,10 @@ use Rattle.std.specs.List.{flat_map, list_any}
 use Rattle.std.specs.Str.{IsUtf8, chars}
 use Rattle.cbor_notes.specs.Text.{escaped_char, escaped_text}
 use Rattle.cbor_notes.specs.Views.{begins_escape}
+use Rattle.std.proofs.Common.{◌++◌}
+use Rattle.std.proofs.Common.{append_assoc}
+use Rattle.std.proofs.lemmas.Grind.{flat_map-append}
+use Rattle.cbor_notes.specs.Text.{escaped_byte}
 
 -- U+0080 to U+00BF begin with 194
 begins_high : (c : ℕ) → 128 ≤ c → c < 192 → list_any begins_escape (encode c) ≡ true
@@ -38,3 +42,13 @@ pub unescaped_text : (text : List ℕ) → IsUtf8 text → list_any begins_escap
 unescaped_text text utf8 none =
     let whole = encodes-chars text utf8 in
     unescaped_chars (chars text) (ap (list_any begins_escape) whole ∙ none) ∙ whole
+
+-- a piece more is written, escaped
+pub escaped_more : (text piece after rest whole : List ℕ) → piece ++ after ≡ rest
+    → text ++ flat_map escaped_byte rest ≡ whole
+    → (text ++ flat_map escaped_byte piece) ++ flat_map escaped_byte after ≡ whole
+escaped_more text piece after rest whole parts h =
+    append_assoc text (flat_map escaped_byte piece) (flat_map escaped_byte after)
+    ∙ ap (λ x. text ++ x) (sym (flat_map-append escaped_byte piece after))
+    ∙ ap (λ x. text ++ flat_map escaped_byte x) parts
+    ∙ h

@@ -1,6 +1,6 @@
 -- What is passed are spaces.
 use Rattle.std.proofs.Common.{◌≡◌, ◌≤◌, length}
-use Rattle.cbor_notes.specs.Columns.{unspaced}
+use Rattle.cbor_tokens.specs.Uncommented.{unspaced}
 use Rattle.cbor_bytes.proofs.hex_text.after_eights.Given as goal
 
 abbrev pub invariant-eights : goal.invariant-eights

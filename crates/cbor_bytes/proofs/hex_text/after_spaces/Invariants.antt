@@ -1,6 +1,6 @@
 -- What is passed are spaces, within the bytes that are near.
 use Rattle.std.proofs.Common.{◌≡◌, ◌≤◌, ◌-◌, length, drop}
-use Rattle.cbor_notes.specs.Columns.{unspaced}
+use Rattle.cbor_tokens.specs.Uncommented.{unspaced}
 use Rattle.cbor_bytes.proofs.hex_text.after_spaces.Given as goal
 
 abbrev pub invariant-spaces : goal.invariant-spaces

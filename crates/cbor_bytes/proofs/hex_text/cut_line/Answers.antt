@@ -1,7 +1,7 @@
 -- What is kept of a text is what is kept of its first line and of the lines after it.
 use Rattle.std.proofs.Common.{ℕ, ◌+◌, ◌++◌, List, take, length, sym, ap, ◌∙◌, arith, append-nil}
 use Rattle.std.proofs.lemmas.List.{drop_all, take_rest}
-use Rattle.cbor_notes.specs.Columns.{unspaced, uncommented}
+use Rattle.cbor_tokens.specs.Uncommented.{unspaced, uncommented}
 use Rattle.cbor_grammar.proofs.hex.Lines.{cut_whole, cut_feed, cut_comment}
 use Rattle.cbor_bytes.proofs.hex.Search.{neither_at, neither_before, either_here}
 use Rattle.cbor_bytes.proofs.hex_text.cut_line.Goals as goal

@@ -1,6 +1,6 @@
 -- What is written and the rest without its spaces are the whole line without its spaces.
 use Rattle.std.proofs.Common.{◌≡◌, ◌≢◌, ◌<◌, ◌++◌, length, slice_index}
-use Rattle.cbor_notes.specs.Columns.{unspaced}
+use Rattle.cbor_tokens.specs.Uncommented.{unspaced}
 use Rattle.cbor_bytes.proofs.hex_text.push_unspaced.Given as goal
 
 abbrev pub invariant-runs : goal.invariant-runs

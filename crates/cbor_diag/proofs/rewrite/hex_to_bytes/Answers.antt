@@ -2,7 +2,7 @@
 use Rattle.std.proofs.Common.{◌∙◌}
 use Rattle.std.proofs.lemmas.Result.{err_from_is_err_and}
 use Rattle.cbor_grammar.proofs.hex.Digits.{digits_want_memory, digits_refused, bytes_refused}
-use Rattle.cbor_notes.specs.Columns.{uncommented}
+use Rattle.cbor_tokens.specs.Uncommented.{uncommented}
 use Rattle.cbor_diag.proofs.rewrite.hex_to_bytes.Goals as goal
 
 pub returns-in_err-bytes-clause-every_item : goal.returns-in_err-bytes-clause-every_item

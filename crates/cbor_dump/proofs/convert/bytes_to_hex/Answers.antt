@@ -1,7 +1,7 @@
 -- What is promised of the dump of all bytes: each item and each error, its digits, its column and its notes.
 use Rattle.std.proofs.Common.{◌≡◌, refl, arith}
 use Rattle.std.specs.String.{string_bytes}
-use Rattle.cbor_grammar.specs.Dump.{dump}
+use Rattle.cbor_dump.specs.Dump.{dump}
 use Rattle.cbor_grammar.proofs.bytes.ExactlyOne.{one_outcome}
 use Rattle.cbor_dump.proofs.dump.PublicDumps.{digits_shown, reads_back, column_shown, lines_shown}
 use Rattle.cbor_grammar.proofs.shared.EmbeddedItems.{embeds_exactly, rejects_exactly}

@@ -1,7 +1,7 @@
 -- What is appended is the dump of each item that the bytes are, and each error that they have is returned.
 use Rattle.std.proofs.Common.{◌≡◌, ◌++◌, refl, arith}
 use Rattle.std.specs.String.{string_bytes}
-use Rattle.cbor_grammar.specs.Dump.{dump}
+use Rattle.cbor_dump.specs.Dump.{dump}
 use Rattle.cbor_grammar.proofs.bytes.ExactlyOne.{one_outcome}
 use Rattle.cbor_grammar.proofs.straight.PublicCalls.{every_shown, every_refusal}
 use Rattle.cbor_dump.proofs.convert.push_bytes_to_hex.Goals as goal

@@ -6,7 +6,7 @@ use Rattle.cbor_grammar.specs.Reading.{Fails, read_item}
 use Rattle.cbor_grammar.proofs.bytes.ExactlyOne.{one_outcome}
 use Rattle.cbor_grammar.proofs.bytes.Outcomes.{same}
 use Rattle.cbor_grammar.proofs.bytes.Shorter.{item_shorter}
-use Rattle.cbor_grammar.specs.Dump.{dump}
+use Rattle.cbor_dump.specs.Dump.{dump}
 use Rattle.cbor_grammar.proofs.straight.PublicCalls.{begins_so, front_fault, front_cut_so, gave_text, gave_fault}
 use Rattle.cbor_dump.proofs.convert.push_bytes_to_hex_partial.Goals as goal
 

@@ -1,5 +1,5 @@
 use Rattle.std.proofs.Common.{arith}
-use Rattle.cbor_grammar.proofs.dump.Digits.{length-head_short, length-head_long}
+use Rattle.cbor_dump.proofs.dump.Digits.{length-head_short, length-head_long}
 use Rattle.cbor_dump.proofs.hex_style.head_count.Goals as goal
 
 pub returns-then-bytes-gt1 : goal.returns-then-bytes-gt1

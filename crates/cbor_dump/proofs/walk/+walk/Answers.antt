@@ -6,7 +6,7 @@ use Rattle.std.proofs.lemmas.List.{nil_from_length}
 use Rattle.std.proofs.lemmas.Result.{err_from_is_err_and, IfErr-weaker, on_ok_weaker}
 use Rattle.cbor_notes.specs.Layout.{width_of}
 use Rattle.cbor_dump.specs.declared.writer.Writer.{Writer}
-use Rattle.cbor_grammar.specs.Dump.{Context, embedded_note, note_lines}
+use Rattle.cbor_dump.specs.Dump.{Context, embedded_note, note_lines}
 use Rattle.cbor_grammar.specs.Item.{Item, no_items, item, no_pairs, pair}
 use Rattle.cbor_grammar.specs.Reading.{Fails, items_in, pairs_in, tag_of, joined, joined_pairs, read_head}
 use Rattle.cbor_grammar.specs.Reading.{no_level_left}
@@ -26,11 +26,11 @@ use Rattle.cbor_dump.proofs.dump.Fronts.{front_ok, alone_dumped, items_dumped, p
 use Rattle.cbor_dump.proofs.dump.HeadLines.{head_shown}
 use Rattle.cbor_dump.proofs.dump.Members.{none_announced, more_announced, item_done, item_shares, pair_done}
 use Rattle.cbor_dump.proofs.dump.Members.{pair_shares}
-use Rattle.cbor_grammar.proofs.dump.Pieces.{none_left, some_left}
+use Rattle.cbor_dump.proofs.dump.Pieces.{none_left, some_left}
 use Rattle.cbor_dump.proofs.dump.Walks.{wrote_none}
-use Rattle.cbor_notation.proofs.straight.Levels.{behind_fails, head_fails, too_deep, level_read, same_read, same_fails}
-use Rattle.cbor_notation.proofs.straight.Readings.{fails_is, parts_read, part_fails, none_held, member_read, pair_read}
-use Rattle.cbor_notation.proofs.straight.Readings.{value_fails}
+use Rattle.cbor_bytes.proofs.reading.Levels.{behind_fails, head_fails, too_deep, level_read, same_read, same_fails}
+use Rattle.cbor_bytes.proofs.reading.Readings.{fails_is, parts_read, part_fails, none_held, member_read, pair_read}
+use Rattle.cbor_bytes.proofs.reading.Readings.{value_fails}
 use Rattle.cbor_dump.proofs.walk.+walk.Goals as goal
 
 -- ---- an item

@@ -1,6 +1,6 @@
 -- The walk ends, and what it wrote in a loop are the lines of the members before the rest.
 use Rattle.std.proofs.Common.{◌≡◌, ◌+◌, ◌-◌, ◌*◌, ◌≤◌, length}
-use Rattle.cbor_grammar.specs.Dump.{shared_in_items, shared_in_pairs}
+use Rattle.cbor_dump.specs.Dump.{shared_in_items, shared_in_pairs}
 use Rattle.cbor_grammar.specs.Item.{Items, no_items, Pairs, no_pairs, item_count, pair_count}
 use Rattle.cbor_grammar.specs.Reading.{items_in, pairs_in}
 use Rattle.cbor_grammar.specs.WellFormed.{levels_left}
@@ -8,7 +8,7 @@ use Rattle.cbor_dump.specs.mirror.Dumped.{items_there, pairs_there, sequence_not
 use Rattle.cbor_grammar.specs.mirror.Lengths.{left_of}
 use Rattle.cbor_dump.proofs.dump.EmbeddedDumps.{SequenceLeft}
 use Rattle.cbor_dump.proofs.dump.Members.{Announced}
-use Rattle.cbor_notation.proofs.straight.Readings.{parts_read}
+use Rattle.cbor_bytes.proofs.reading.Readings.{parts_read}
 use Rattle.cbor_dump.proofs.walk.+walk.Given as goal
 
 -- Each level is deeper than the one before, and an embedded item is deeper than the value that embeds it.

@@ -1,10 +1,10 @@
 use Rattle.std.proofs.Common.{◌≡◌, ℕ, List, refl, sym, ap, ◌∙◌, arith}
 use Rattle.cbor_notes.specs.Layout.{width_of}
-use Rattle.cbor_grammar.specs.Dump.{lines_at_level, top}
+use Rattle.cbor_dump.specs.Dump.{lines_at_level, top}
 use Rattle.cbor_grammar.specs.Item.{Item}
 use Rattle.cbor_grammar.proofs.bytes.Heads.{ok_is}
 use Rattle.cbor_dump.proofs.dump.Fronts.{whole_dump}
-use Rattle.cbor_notation.proofs.straight.Levels.{level_read, same_read}
+use Rattle.cbor_bytes.proofs.reading.Levels.{level_read, same_read}
 use Rattle.cbor_dump.proofs.walk.dump.Goals as goal
 
 pub returns-clause-dumped : goal.returns-clause-dumped

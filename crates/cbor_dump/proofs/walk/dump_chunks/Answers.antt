@@ -5,8 +5,8 @@ use Rattle.cbor_grammar.specs.StringKind.{major_of}
 use Rattle.cbor_grammar.specs.Written.{encoded_head}
 use Rattle.cbor_grammar.specs.mirror.StringView.{kind_of, borrowed_chunk}
 use Rattle.cbor_grammar.proofs.bytes.Chunks.{chunk_takes}
-use Rattle.cbor_notation.proofs.straight.Readings.{fails_then}
-use Rattle.cbor_notation.proofs.straight.ChunksRead.{none_read, one_read, all_read, not_read}
+use Rattle.cbor_bytes.proofs.reading.Readings.{fails_then}
+use Rattle.cbor_bytes.proofs.reading.ChunksRead.{none_read, one_read, all_read, not_read}
 use Rattle.cbor_dump.proofs.dump.Fronts.{chunk_done, chunks_dumped}
 use Rattle.cbor_dump.proofs.dump.HeadLines.{chunk_fits, chunk_head}
 use Rattle.cbor_dump.proofs.dump.Walks.{wrote_none}

@@ -1,10 +1,10 @@
 -- What is written are the lines of the chunks before the rest, and each chunk shortens the rest.
 use Rattle.std.proofs.Common.{◌≡◌, length}
 use Rattle.std.specs.List.{flat_map}
-use Rattle.cbor_grammar.specs.Dump.{inside, string_lines}
+use Rattle.cbor_dump.specs.Dump.{inside, string_lines}
 use Rattle.cbor_dump.specs.mirror.Dumped.{context_view, Wrote}
 use Rattle.cbor_grammar.proofs.bytes.Heads.{IsBytes}
-use Rattle.cbor_notation.proofs.straight.ChunksRead.{ChunksRead}
+use Rattle.cbor_bytes.proofs.reading.ChunksRead.{ChunksRead}
 use Rattle.cbor_dump.proofs.walk.dump_chunks.Given as goal
 
 abbrev pub decreases-chunks : goal.decreases-chunks

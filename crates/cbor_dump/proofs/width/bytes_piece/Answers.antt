@@ -1,6 +1,6 @@
 -- An element of a typed array is no longer than a line of bytes.
 use Rattle.std.proofs.Common.{◌∙◌, sym, subst, arith}
-use Rattle.cbor_grammar.proofs.dump.Elements.{Small, element_small}
+use Rattle.cbor_dump.proofs.dump.Elements.{Small, element_small}
 use Rattle.cbor_dump.proofs.width.bytes_piece.Goals as goal
 
 pub returns-in-Some-element_size-clause-short : goal.returns-in-Some-element_size-clause-short

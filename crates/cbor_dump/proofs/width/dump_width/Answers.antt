@@ -1,6 +1,6 @@
 -- The width found from bytes is the width of the dump of their item.
 use Rattle.std.proofs.Common.{max, ap, sym, ◌∙◌}
-use Rattle.cbor_grammar.specs.Dump.{top}
+use Rattle.cbor_dump.specs.Dump.{top}
 use Rattle.cbor_grammar.specs.WellFormed.{levels_left}
 use Rattle.cbor_dump.proofs.dump.Widths.{item_reach}
 use Rattle.cbor_dump.proofs.width.dump_width.Goals as goal

@@ -1,5 +1,5 @@
 -- A text is cut at the last boundary between characters within the length of a line.
-use Rattle.cbor_grammar.proofs.dump.Pieces.{floor_is}
+use Rattle.cbor_dump.proofs.dump.Pieces.{floor_is}
 use Rattle.cbor_dump.proofs.width.text_cut.Goals as goal
 
 pub returns-clause-cut : goal.returns-clause-cut

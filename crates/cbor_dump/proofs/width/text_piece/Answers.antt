@@ -3,9 +3,9 @@ use Rattle.std.proofs.Common.{◌∙◌, length, take, drop, ap, sym, subst, ari
 use Rattle.std.specs.Str.{IsUtf8}
 use Rattle.std.proofs.lemmas.List.{length-take}
 use Rattle.std.proofs.lemmas.Str.{IsUtf8-drop}
-use Rattle.cbor_grammar.specs.Pieces.{text_cut}
-use Rattle.cbor_grammar.proofs.dump.Fits.{text_cut_low}
-use Rattle.cbor_grammar.proofs.dump.Pieces.{some_left}
+use Rattle.cbor_dump.specs.Pieces.{text_cut}
+use Rattle.cbor_dump.proofs.dump.Fits.{text_cut_low}
+use Rattle.cbor_dump.proofs.dump.Pieces.{some_left}
 use Rattle.cbor_dump.proofs.dump.Widths.{text_step, text_low}
 use Rattle.cbor_dump.proofs.width.text_piece.Goals as goal
 

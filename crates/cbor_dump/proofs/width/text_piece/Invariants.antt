@@ -2,7 +2,7 @@
 use denote.Shadow.{shadow}
 use denote.Text.{Utf8}
 use Rattle.std.proofs.Common.{◌≡◌, ◌≤◌, length, max}
-use Rattle.cbor_grammar.specs.Pieces.{pieces_of, piece_size, text_cut, text_pieces}
+use Rattle.cbor_dump.specs.Pieces.{pieces_of, piece_size, text_cut, text_pieces}
 use Rattle.cbor_dump.specs.mirror.Widths.{longest}
 use Rattle.cbor_dump.proofs.width.text_piece.Given as goal
 

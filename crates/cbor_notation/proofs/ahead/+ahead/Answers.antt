@@ -3,7 +3,8 @@ use Rattle.std.proofs.Common.{refl, ap, arith}
 use Rattle.cbor_grammar.specs.Estimate.{digit_count}
 use Rattle.cbor_grammar.specs.Item.{atom, integer, negative, float, simple}
 use Rattle.cbor_grammar.specs.declared.head.ItemHead.TheVariants as item_head
-use Rattle.cbor_notation.proofs.straight.Ahead.{no_item, headed, atom_found, container_found, tag_found}
+use Rattle.cbor_bytes.proofs.reading.Readings.{no_item}
+use Rattle.cbor_notation.proofs.straight.Ahead.{headed, atom_found, container_found, tag_found}
 use Rattle.cbor_notation.proofs.straight.Ahead.{no_items_yet, one_item_more, item_takes_all, items_found}
 use Rattle.cbor_notation.proofs.straight.Ahead.{no_pairs_yet, one_pair_more, key_takes_all, value_takes_all}
 use Rattle.cbor_notation.proofs.straight.Ahead.{pairs_found}

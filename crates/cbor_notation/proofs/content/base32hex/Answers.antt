@@ -1,5 +1,5 @@
 -- The digits of base 32 with the extended hex alphabet are decoded, or refused, as the definition does.
-use Rattle.cbor_notes.specs.Base32.{extended_hex}
+use Rattle.cbor_tokens.specs.Base32.{extended_hex}
 use Rattle.cbor_notation.proofs.notation.DigitsFound.{base32_answer}
 use Rattle.cbor_notation.proofs.content.base32hex.Goals as goal
 

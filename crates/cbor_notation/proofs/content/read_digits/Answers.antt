@@ -1,7 +1,7 @@
 -- The digits up to the apostrophe are those of the definition, or there are none.
 use Rattle.std.proofs.Common.{Ok, ap, ◌∙◌, sym}
 use Rattle.std.proofs.lemmas.List.{take_rest}
-use Rattle.cbor_notes.specs.TokenReading.{digits_of}
+use Rattle.cbor_tokens.specs.TokenReading.{digits_of}
 use Rattle.cbor_notation.specs.mirror.NotationReading.{or_refused}
 use Rattle.cbor_notation.proofs.content.read_digits.Goals as goal
 

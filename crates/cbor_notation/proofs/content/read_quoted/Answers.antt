@@ -1,7 +1,7 @@
 -- The content up to the closing quote is that of the definition, or there is none.
 use Rattle.std.proofs.Common.{Ok, false, ap, ◌∙◌, sym}
 use Rattle.std.proofs.lemmas.List.{take_rest}
-use Rattle.cbor_notes.specs.TokenReading.{unquoted}
+use Rattle.cbor_tokens.specs.TokenReading.{unquoted}
 use Rattle.cbor_notation.specs.mirror.NotationReading.{or_refused}
 use Rattle.cbor_notation.proofs.content.read_quoted.Goals as goal
 

@@ -2,7 +2,7 @@
 use Rattle.std.proofs.Common.{codes, refl}
 use Rattle.hex.specs.Hex.{decode_pairs}
 use Rattle.base64.specs.Rfc4648.{encode_symbols}
-use Rattle.cbor_notes.specs.Base32.{encode}
+use Rattle.cbor_tokens.specs.Base32.{encode}
 use Rattle.cbor_notation.specs.mirror.NotationReading.{read_item, read_core, start_of, read_members, members_from}
 use Rattle.cbor_notation.specs.mirror.NotationReading.{read_piece, read_pieces, read_string, from_fives, from_sixes}
 use Rattle.cbor_notation.specs.mirror.NotationReading.{base32_of, base64_of}

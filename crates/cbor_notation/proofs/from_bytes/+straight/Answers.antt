@@ -22,10 +22,12 @@ use Rattle.cbor_grammar.proofs.shared.Appending.{cut_back}
 use Rattle.cbor_notation.proofs.straight.Sequences.{sequence_begun, sequence_more, sequence_ends, begun_after}
 use Rattle.cbor_notation.proofs.straight.Sequences.{begun_member}
 use Rattle.cbor_notation.proofs.straight.Sequences.{sequence_printed}
-use Rattle.cbor_notation.proofs.straight.Readings.{fails_is, head_fails, too_deep, after_head, atom_printed, float_fits}
-use Rattle.cbor_notation.proofs.straight.Readings.{parts_read, part_fails, parts_ended, none_held, member_read}
-use Rattle.cbor_notation.proofs.straight.Readings.{pair_read}
-use Rattle.cbor_notation.proofs.straight.Readings.{value_fails, tag_read, content_read, below_read, below_fails}
+use Rattle.cbor_bytes.proofs.reading.Readings.{fails_is, float_fits}
+use Rattle.cbor_notation.proofs.straight.Readings.{head_fails, too_deep, after_head, atom_printed}
+use Rattle.cbor_bytes.proofs.reading.Readings.{parts_read, part_fails, parts_ended, none_held, member_read}
+use Rattle.cbor_bytes.proofs.reading.Readings.{pair_read}
+use Rattle.cbor_bytes.proofs.reading.Readings.{value_fails, tag_read, content_read}
+use Rattle.cbor_notation.proofs.straight.Readings.{below_read, below_fails}
 use Rattle.cbor_notation.proofs.straight.Texts.{none_written, item_more, pair_more, writes_inner}
 use Rattle.cbor_notation.proofs.straight.Texts.{array_printed, map_printed, string_printed}
 use Rattle.cbor_grammar.proofs.text.Parts.{tag_shown}

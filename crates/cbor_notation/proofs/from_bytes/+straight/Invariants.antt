@@ -9,7 +9,7 @@ use Rattle.cbor_grammar.specs.WellFormed.{levels_left}
 use Rattle.cbor_notation.specs.mirror.LayoutView.{item_text}
 use Rattle.cbor_grammar.specs.mirror.Lengths.{left_of}
 use Rattle.cbor_notation.proofs.straight.Sequences.{SoFar}
-use Rattle.cbor_notation.proofs.straight.Readings.{parts_read}
+use Rattle.cbor_bytes.proofs.reading.Readings.{parts_read}
 use Rattle.cbor_notation.proofs.from_bytes.+straight.Given as goal
 
 -- Each level is deeper than the one before.

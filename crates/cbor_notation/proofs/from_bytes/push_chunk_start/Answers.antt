@@ -1,7 +1,7 @@
 -- What is written before the first chunk is the opening of the string.
 use Rattle.std.proofs.Common.{sym, subst}
 use Rattle.std.specs.String.{string_bytes}
-use Rattle.cbor_notes.specs.Appends.{Appends}
+use Rattle.cbor_tokens.specs.Appends.{Appends}
 use Rattle.cbor_notation.specs.mirror.Straight.{before_chunk}
 use Rattle.cbor_grammar.proofs.shared.Appending.{appends_after}
 use Rattle.cbor_notation.proofs.from_bytes.push_chunk_start.Goals as goal

@@ -6,9 +6,9 @@ use Rattle.std.specs.String.{string_bytes}
 use Rattle.cbor_grammar.specs.Item.{atom, chunked_string}
 use Rattle.cbor_grammar.specs.NotationText.{string_text}
 use Rattle.cbor_grammar.specs.mirror.StringView.{borrowed_chunk}
-use Rattle.cbor_notation.proofs.straight.Readings.{fails_then, ok_then}
+use Rattle.cbor_bytes.proofs.reading.Readings.{fails_then, ok_then}
 use Rattle.cbor_notation.proofs.straight.Texts.{chunk_more, chunks_printed}
-use Rattle.cbor_notation.proofs.straight.ChunksRead.{none_read, one_read, all_read, not_read}
+use Rattle.cbor_bytes.proofs.reading.ChunksRead.{none_read, one_read, all_read, not_read}
 use Rattle.cbor_notation.proofs.from_bytes.push_chunks_front.Goals as goal
 
 pub chunks-init : goal.chunks-init

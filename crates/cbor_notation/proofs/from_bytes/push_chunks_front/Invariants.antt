@@ -2,7 +2,7 @@
 use Rattle.std.proofs.Common.{◌≡◌, ◌+◌, ◌≤◌, ◌++◌, length}
 use Rattle.std.specs.String.{string_bytes}
 use Rattle.cbor_notation.proofs.straight.Texts.{chunks_begun, chunk_texts}
-use Rattle.cbor_notation.proofs.straight.ChunksRead.{ChunksRead}
+use Rattle.cbor_bytes.proofs.reading.ChunksRead.{ChunksRead}
 use Rattle.cbor_notation.proofs.from_bytes.push_chunks_front.Given as goal
 
 abbrev pub decreases-chunks : goal.decreases-chunks

@@ -3,7 +3,7 @@ use Rattle.std.proofs.Common.{◌≡◌, ℕ, suc, ◌+◌, ◌-◌, ◌≤◌, 
 use Rattle.std.specs.String.{string_bytes}
 use Rattle.std.proofs.lemmas.List.{take-replicate}
 use Rattle.std.proofs.lemmas.Str.{IsCharBoundary-from_ascii}
-use Rattle.cbor_notes.proofs.texts.HexLemmas.{IsAscii-from_test}
+use Rattle.cbor_tokens.proofs.texts.HexLemmas.{IsAscii-from_test}
 use Rattle.cbor_notation.proofs.members.push_far_line.Goals as goal
 
 -- a line feed and some of the blanks after it

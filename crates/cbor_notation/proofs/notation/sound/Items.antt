@@ -1,8 +1,8 @@
 -- Items: what is read of a text is what the grammar says it is, and a refusal says what is true of it.
 use Rattle.std.proofs.Common.{◌≡◌, ℕ, zero, suc, ◌<◌, true, List, [], ◌∷◌, ◌++◌, length, Option, Some, None, Ok}
 use Rattle.std.proofs.Common.{Err, refl, sym, ap, subst, ◌∙◌, append_assoc, append-nil, length-append, inl, inr, arith}
-use Rattle.cbor_notes.specs.Token.{Blank, nothing, whitespace, comment}
-use Rattle.cbor_notes.proofs.tokens.Blanks.{blank_left, Blank-append, at_whitespace}
+use Rattle.cbor_tokens.specs.Token.{Blank, nothing, whitespace, comment}
+use Rattle.cbor_tokens.proofs.tokens.Blanks.{blank_left, Blank-append, at_whitespace}
 use Rattle.cbor_notation.specs.declared.start.Start.{Start}
 use Rattle.cbor_notation.specs.declared.start.Start.TheVariants as start
 use Rattle.cbor_grammar.specs.declared.width.IntegerWidth.TheVariants.{Unknown}

@@ -5,8 +5,8 @@ use Rattle.std.proofs.Common.{inl, inr, arith}
 use Rattle.std.specs.List.{prefix_len}
 use Rattle.std.proofs.lemmas.List.{length-take-le}
 use borrow.Author.Tests.{ltb-true}
-use Rattle.cbor_notes.specs.Token.{Blank, nothing, whitespace, is_whitespace}
-use Rattle.cbor_notes.proofs.tokens.Blanks.{blank_left}
+use Rattle.cbor_tokens.specs.Token.{Blank, nothing, whitespace, is_whitespace}
+use Rattle.cbor_tokens.proofs.tokens.Blanks.{blank_left}
 use Rattle.cbor_grammar.specs.Reading.{Read, ◌>>=◌}
 use Rattle.cbor_grammar.specs.Notation.{IsBlank, IsSpace, Closes, Further, Members}
 use Rattle.cbor_notation.specs.mirror.NotationReading.{skip_blank, after_byte, after_space, after_end, more_members}

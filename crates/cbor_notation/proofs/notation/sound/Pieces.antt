@@ -6,10 +6,10 @@ use Rattle.std.specs.Str.{is_utf8}
 use Rattle.std.proofs.lemmas.Bool.{cond_both, eqb-true}
 use Rattle.std.proofs.lemmas.List.Sums.{sum_by-cons}
 use Rattle.std.proofs.lemmas.Str.{IsUtf8-from_is_utf8}
-use Rattle.cbor_notes.specs.Token.{in_quotes}
-use Rattle.cbor_notes.specs.TokenReading.{unquoted}
-use Rattle.cbor_notes.proofs.tokens.Blanks.{blank_left, Blank-append}
-use Rattle.cbor_notes.proofs.tokens.Quoted.{in_quotes-unquoted}
+use Rattle.cbor_tokens.specs.Token.{in_quotes}
+use Rattle.cbor_tokens.specs.TokenReading.{unquoted}
+use Rattle.cbor_tokens.proofs.tokens.Blanks.{blank_left, Blank-append}
+use Rattle.cbor_tokens.proofs.tokens.Quoted.{in_quotes-unquoted}
 use Rattle.cbor_grammar.specs.declared.error.Error.{Error}
 use Rattle.cbor_grammar.specs.declared.error.Error.TheVariants as refusal
 use Rattle.cbor_grammar.specs.declared.width.IntegerWidth.TheVariants.{Unknown}

@@ -3,9 +3,9 @@ use Rattle.std.proofs.Common.{◌≡◌, ℕ, Bool, true, false, List, [], ◌�
 use Rattle.std.proofs.Common.{Ok, Err, refl, sym, ap, ◌∙◌, append_assoc, inl, inr}
 use Rattle.hex.specs.declared.error.FromHexError.{FromHexError}
 use Rattle.hex.specs.Hex.{decode_of}
-use Rattle.cbor_notes.specs.Base32 as base32
-use Rattle.cbor_notes.specs.TokenReading.{digits_of}
-use Rattle.cbor_notes.proofs.tokens.Spaced.{DigitsBetween-digits_of}
+use Rattle.cbor_tokens.specs.Base32 as base32
+use Rattle.cbor_tokens.specs.TokenReading.{digits_of}
+use Rattle.cbor_tokens.proofs.tokens.Spaced.{DigitsBetween-digits_of}
 use Rattle.cbor_grammar.specs.Item.{Item}
 use Rattle.cbor_grammar.specs.Item.{items_of}
 use Rattle.cbor_grammar.specs.Reading.{Read, ◌>>=◌}

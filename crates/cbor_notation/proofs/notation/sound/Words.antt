@@ -10,11 +10,11 @@ use Rattle.std.proofs.lemmas.Bool.{cond_both, eqb-true, and_parts}
 use Rattle.std.proofs.lemmas.List.{length-take-le, take-append-drop}
 use Rattle.std.proofs.lemmas.List.Sums.{passes_at_first, sum_by-append, sum_by-cons}
 use borrow.Author.Tests.{ltb-true}
-use Rattle.cbor_notes.specs.Token.{IsNumber, AreDigits}
-use Rattle.cbor_notes.specs.TokenReading.{number_of}
-use Rattle.cbor_notes.proofs.tokens.NumberParts.{behind_underscore, decimal_number}
-use Rattle.cbor_notes.proofs.tokens.Numbers.{IsNumber-number_of}
-use Rattle.cbor_notes.proofs.tokens.TextPlaces.{first_at, from_byte}
+use Rattle.cbor_tokens.specs.Token.{IsNumber, AreDigits}
+use Rattle.cbor_tokens.specs.TokenReading.{number_of}
+use Rattle.cbor_tokens.proofs.tokens.NumberParts.{behind_underscore, decimal_number}
+use Rattle.cbor_tokens.proofs.tokens.Numbers.{IsNumber-number_of}
+use Rattle.cbor_tokens.proofs.tokens.TextPlaces.{first_at, from_byte}
 use Rattle.cbor_grammar.specs.declared.error.Error.{Error}
 use Rattle.cbor_grammar.specs.declared.error.Error.TheVariants as refusal
 use Rattle.cbor_grammar.specs.declared.width.IntegerWidth.{IntegerWidth}

@@ -1,8 +1,8 @@
 -- What is found is whether one of the bytes so far is escaped.
 use Rattle.std.proofs.Common.{◌≡◌, if◌then◌else◌, take}
 use Rattle.std.specs.List.{list_any}
-use Rattle.cbor_notes.specs.Ascii.{quote}
-use Rattle.cbor_notes.specs.Token.{is_special}
+use Rattle.cbor_tokens.specs.Ascii.{quote}
+use Rattle.cbor_tokens.specs.Token.{is_special}
 use Rattle.cbor_notation.proofs.scalars.has_escaped.Given as goal
 
 -- whether one of the bytes so far is one

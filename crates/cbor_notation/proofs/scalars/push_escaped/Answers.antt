@@ -1,8 +1,8 @@
 -- What is appended is the text with its quotes and backslashes escaped, also where it has none.
 use Rattle.std.proofs.Common.{◌≡◌, ◌<◌, ◌+◌, ◌-◌, [], ◌∷◌, ◌++◌, length, get_or, take, drop, refl, sym, ap, ◌∙◌, arith}
 use Rattle.std.proofs.lemmas.List.{drop-take}
-use Rattle.cbor_notes.specs.Ascii.{quote}
-use Rattle.cbor_notes.specs.Token.{in_quotes, is_special}
+use Rattle.cbor_tokens.specs.Ascii.{quote}
+use Rattle.cbor_tokens.specs.Token.{in_quotes, is_special}
 use Rattle.std.proofs.lemmas.Str.{IsCharBoundary-start, IsCharBoundary-before_ascii}
 use Rattle.std.specs.String.{string_bytes}
 use Rattle.cbor_grammar.proofs.shared.Appending.{begins_same, begins_still, appends_of, appends_as}

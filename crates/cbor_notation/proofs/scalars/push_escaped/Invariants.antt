@@ -3,8 +3,8 @@ use Rattle.std.proofs.Common.{◌≡◌, ◌≤◌, ◌++◌, take, drop}
 use Rattle.std.specs.Io.{StartsWith}
 use Rattle.std.specs.Str.{IsCharBoundary}
 use Rattle.std.specs.String.{string_bytes}
-use Rattle.cbor_notes.specs.Ascii.{quote}
-use Rattle.cbor_notes.specs.Token.{in_quotes}
+use Rattle.cbor_tokens.specs.Ascii.{quote}
+use Rattle.cbor_tokens.specs.Token.{in_quotes}
 use Rattle.cbor_notation.proofs.scalars.push_escaped.Given as goal
 
 -- what is written, and the bytes from `done` on, are the escaped bytes so far

@@ -2,7 +2,7 @@ use Rattle.std.proofs.Common.{◌≡◌, [], ◌∷◌, ◌++◌, take, get_or}
 use Rattle.std.specs.String.{string_bytes}
 use Rattle.std.specs.List.{flat_map}
 use Rattle.hex.specs.Hex.{encode_lower}
-use Rattle.cbor_notes.specs.Ascii.{colon}
+use Rattle.cbor_tokens.specs.Ascii.{colon}
 use Rattle.cbor_notes.proofs.address.mac_text.Given as goal
 
 -- the first octet is written, and those so far after it, each with its colon

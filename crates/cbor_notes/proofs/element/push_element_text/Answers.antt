@@ -3,7 +3,7 @@ use Rattle.std.proofs.lemmas.Bool.Decides.{nat_tests}
 use Rattle.std.specs.String.{string_bytes}
 use Rattle.cbor_notes.specs.Element.{element_text, size}
 use Rattle.cbor_notes.proofs.texts.ElementLemmas.{length_either, size_small}
-use Rattle.cbor_notes.proofs.texts.Fronts.{cut_point}
+use Rattle.cbor_tokens.proofs.texts.Fronts.{cut_point}
 use Rattle.cbor_notes.proofs.element.push_element_text.Goals as goal
 
 pub returns-in_default : goal.returns-in_default

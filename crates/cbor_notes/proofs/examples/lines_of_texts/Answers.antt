@@ -1,7 +1,7 @@
 use Rattle.std.proofs.Common.{refl}
 use Rattle.base64.proofs.OnLiterals.{base64_on_literals}
 use Rattle.hex.specs.Hex.{encode_with}
-use Rattle.cbor_notes.specs.Base64.{decoded}
+use Rattle.cbor_tokens.specs.Base64.{decoded}
 use Rattle.cbor_notes.specs.DecodedLines.{base64_lines, decoded_line, decoded_lines}
 use Rattle.cbor_notes.proofs.examples.lines_of_texts.Goals as goal
 

@@ -1,7 +1,8 @@
 use Rattle.std.proofs.Common.{◌≡◌, ◌+◌, ◌∙◌, ap, sym, subst, arith, string_bytes}
 use Rattle.std.proofs.lemmas.Grind.{common_steps}
 use Rattle.cbor_notes.specs.Layout.{layout, width_of}
-use Rattle.cbor_notes.specs.Columns.{IsColumn, uncommented}
+use Rattle.cbor_notes.specs.Columns.{IsColumn}
+use Rattle.cbor_tokens.specs.Uncommented.{uncommented}
 use Rattle.cbor_notes.specs.LineTree.{tree_lines}
 use Rattle.cbor_notes.proofs.columns.OneColumn.{one_column, digits_left}
 use Rattle.cbor_notes.proofs.columns.Trees.{fit_width}

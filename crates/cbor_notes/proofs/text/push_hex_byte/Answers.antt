@@ -2,7 +2,7 @@ use Rattle.std.proofs.Common.{◌≡◌, ◌<◌, [], ◌∷◌, get_or, arith}
 use Rattle.std.proofs.lemmas.Grind.{common_steps}
 use Rattle.std.specs.Str.{IsAscii}
 use Rattle.hex.specs.Hex.{encode_lower}
-use Rattle.cbor_notes.proofs.texts.HexLemmas.{IsAscii-encode_lower, encode_lower-byte}
+use Rattle.cbor_tokens.proofs.texts.HexLemmas.{IsAscii-encode_lower, encode_lower-byte}
 use Rattle.cbor_notes.proofs.text.push_hex_byte.Goals as goal
 
 pub returns : goal.returns

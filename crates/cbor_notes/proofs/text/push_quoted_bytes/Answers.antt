@@ -1,4 +1,4 @@
-use Rattle.cbor_notes.proofs.texts.Fronts.{cut_point}
+use Rattle.cbor_tokens.proofs.texts.Fronts.{cut_point}
 use Rattle.cbor_notes.proofs.text.push_quoted_bytes.Goals as goal
 
 pub cut_after_error-requires : goal.cut_after_error-requires

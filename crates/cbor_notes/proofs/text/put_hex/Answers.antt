@@ -3,7 +3,7 @@ use Rattle.std.proofs.lemmas.Grind.{common_steps}
 use Rattle.std.proofs.lemmas.List.{append-nil, take_more}
 use Rattle.hex.specs.Hex.{encode_lower, encode_with, lower_digits}
 use Rattle.hex.proofs.HexLemmas.{length-encode_with}
-use Rattle.cbor_notes.proofs.texts.HexLemmas.{byte_more}
+use Rattle.cbor_tokens.proofs.texts.HexLemmas.{byte_more}
 use Rattle.cbor_notes.proofs.text.put_hex.Goals as goal
 
 pub loop-byte-init : goal.loop-byte-init

@@ -6,7 +6,7 @@ use Rattle.std.proofs.lemmas.List.{map-id}
 use Rattle.std.proofs.lemmas.Result.{err_from_is_err_and}
 use Rattle.std.specs.List.{flat_map}
 use Rattle.cbor_notes.specs.Text as spec
-use Rattle.cbor_notes.proofs.texts.Fronts.{front_before}
+use Rattle.cbor_tokens.proofs.texts.Fronts.{front_before}
 use Rattle.cbor_notes.proofs.text.write_escaped_text.Goals as goal
 
 -- the loop has gone over the characters of the text

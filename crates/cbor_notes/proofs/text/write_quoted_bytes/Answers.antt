@@ -2,7 +2,7 @@ use Rattle.std.proofs.Common.{◌≡◌, ◌++◌}
 use Rattle.std.proofs.Transfers.{starts_with_of_append, starts_with_trans}
 use Rattle.std.specs.String.{string_bytes}
 use Rattle.std.proofs.lemmas.List.{take-append-drop}
-use Rattle.cbor_notes.proofs.texts.Fronts.{escaped_more}
+use Rattle.cbor_notes.proofs.texts.Unescaped.{escaped_more}
 use Rattle.cbor_notes.proofs.text.write_quoted_bytes.Goals as goal
 
 pub pieces-preserved : goal.pieces-preserved

@@ -1,7 +1,7 @@
 -- What is appended for an item, an array, a map or a tag is its encoding.
 use Rattle.std.proofs.Common.{◌≡◌, ℕ, List, ◌++◌, subst, ◌∙◌, append_assoc, arith, Option, Result, rules}
 use Rattle.cbor_grammar.specs.declared.width.IntegerWidth.{IntegerWidth}
-use Rattle.cbor_notes.specs.Appends.{Appends}
+use Rattle.cbor_tokens.specs.Appends.{Appends}
 use Rattle.cbor_grammar.specs.Item.{item_count, pair_count}
 use Rattle.cbor_diag.specs.View.{items_view, pairs_view}
 use Rattle.cbor_grammar.specs.WellFormed.{WellFormedItems, WellFormedPairs, FitsCount}

@@ -2,7 +2,7 @@
 use Rattle.std.proofs.Common.{◌≡◌, ◌+◌, ℕ, List, ◌++◌, map, drop, ap, sym, subst, ◌∙◌, append_assoc, arith}
 use Rattle.std.proofs.lemmas.List.{drop_all}
 use Rattle.std.specs.String.{string_bytes}
-use Rattle.cbor_notes.specs.Appends.{Appends}
+use Rattle.cbor_tokens.specs.Appends.{Appends}
 use Rattle.cbor_grammar.specs.Item as spec
 use Rattle.cbor_grammar.specs.Item.{Items, atom, array, integer, negative, string, chunked_string, float, simple}
 use Rattle.cbor_diag.specs.View.{view, items_view, pairs_view}

@@ -1,15 +1,16 @@
 -- What is promised of the dump: its lines, digits, column and notes, and that it is read back.
 use Rattle.std.proofs.Common.{◌≡◌, List, ℕ, Ok, ◌∙◌, ◌+◌, ap, sym, subst}
 use Rattle.std.proofs.lemmas.Result.{err_from_is_err_and}
-use Rattle.cbor_notes.specs.Columns.{IsColumn, uncommented}
+use Rattle.cbor_notes.specs.Columns.{IsColumn}
+use Rattle.cbor_tokens.specs.Uncommented.{uncommented}
 use Rattle.cbor_notes.specs.Layout.{width_of}
-use Rattle.cbor_grammar.specs.Dump.{lines}
+use Rattle.cbor_dump.specs.Dump.{lines}
 use Rattle.cbor_grammar.specs.HexText.{IsHexOf}
 use Rattle.cbor_grammar.specs.Reading.{Fails, read_item}
 use Rattle.cbor_diag.specs.View.{view}
 use Rattle.cbor_grammar.specs.Written.{resolve}
 use Rattle.cbor_dump.proofs.dump.PublicDumps.{dump_one_line, dump_one_column, dump_digits, dump_read_back}
-use Rattle.cbor_grammar.proofs.dump.ResolvedDumps.{dump_of_encoded, encoded_fails}
+use Rattle.cbor_dump.proofs.dump.ResolvedDumps.{dump_of_encoded, encoded_fails}
 use Rattle.cbor_grammar.proofs.shared.EmbeddedItems.{embeds_exactly, rejects_exactly}
 use Rattle.cbor_diag.proofs.syntax.DataItem.to_hex.Goals as goal
 

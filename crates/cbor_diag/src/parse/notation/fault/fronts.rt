@@ -1,6 +1,6 @@
 //! Parts of notation at the front of a text, each with the text after it.
 ghost use Rattle.std.specs.Prelude.{◌≡◌, ◌≢◌, ◌<◌, ◌≤◌, ℕ, length, map, Ok, Err, IfOk, MatchResult};
-ghost use Rattle.cbor_notes.specs.Token.{capped};
+ghost use Rattle.cbor_tokens.specs.Token.{capped};
 ghost use Rattle.cbor_grammar.specs.WellFormed.{levels_left};
 ghost use Rattle.cbor_grammar.specs.Reading.{Gives};
 ghost use Rattle.cbor_notation.specs.mirror.NotationReading.{read_content, read_item, read_members};

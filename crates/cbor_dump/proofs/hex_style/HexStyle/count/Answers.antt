@@ -1,5 +1,5 @@
 use Rattle.std.proofs.Common.{sym}
-use Rattle.cbor_grammar.proofs.dump.Digits.{length-hex}
+use Rattle.cbor_dump.proofs.dump.Digits.{length-hex}
 use Rattle.cbor_dump.proofs.hex_style.HexStyle.count.Goals as goal
 
 pub returns-in-Content : goal.returns-in-Content

@@ -3,7 +3,7 @@ use Rattle.std.proofs.Common.{sym}
 use Rattle.std.specs.Int.{w128}
 use Rattle.std.proofs.lemmas.Int.{to_z-of_z}
 use Rattle.cbor_notes.proofs.dates.DateNotes.{date_of_epoch-out}
-use Rattle.cbor_grammar.proofs.dump.NoteTexts.{day_fits_64}
+use Rattle.cbor_dump.proofs.dump.NoteTexts.{day_fits_64}
 use Rattle.cbor_dump.proofs.notes.dates.day_text.Goals as goal
 
 pub returns-in-Err : goal.returns-in-Err

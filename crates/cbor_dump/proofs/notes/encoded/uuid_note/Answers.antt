@@ -3,7 +3,7 @@ use Rattle.std.proofs.Common.{ap, sym, ◌∙◌, arith}
 use Rattle.std.proofs.Common.{refl, ap, sym, ◌∙◌, arith}
 use Rattle.std.specs.String.{string_bytes}
 use Rattle.cbor_dump.specs.mirror.NotesView.{atom_view, unstated, value_view}
-use Rattle.cbor_grammar.proofs.dump.NoteTexts.{fields_are, first_some, uuid_is}
+use Rattle.cbor_dump.proofs.dump.NoteTexts.{fields_are, first_some, uuid_is}
 use Rattle.cbor_dump.proofs.notes.encoded.uuid_note.Goals as goal
 
 pub remove-text-requires : goal.remove-text-requires

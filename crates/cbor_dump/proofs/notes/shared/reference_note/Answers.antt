@@ -2,10 +2,10 @@
 use Rattle.std.proofs.Common.{◌≡◌, false, [], nat_lt, codes, if◌then◌else◌, ap, ◌∙◌}
 use Rattle.std.specs.String.{string_bytes}
 use Rattle.cbor_notes.specs.Text.{grouped}
-use Rattle.cbor_grammar.specs.Comments.{in_brackets}
+use Rattle.cbor_dump.specs.Comments.{in_brackets}
 use Rattle.cbor_grammar.specs.declared.width.IntegerWidth.TheVariants.{Unknown}
 use Rattle.cbor_dump.specs.mirror.NotesView.{atom_view, value_view}
-use Rattle.cbor_grammar.proofs.dump.NoteTexts.{reference_is, unknown_if, unknown_else}
+use Rattle.cbor_dump.proofs.dump.NoteTexts.{reference_is, unknown_if, unknown_else}
 use Rattle.cbor_dump.proofs.notes.shared.reference_note.Goals as goal
 use Rattle.cbor_dump.proofs.notes.shared.reference_note.Goals.{then-number-known, else-number-known}
 

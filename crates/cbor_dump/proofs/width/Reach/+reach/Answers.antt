@@ -11,15 +11,15 @@ use Rattle.cbor_grammar.specs.mirror.Lengths.{left_of}
 use Rattle.cbor_grammar.specs.mirror.AtLevel.{read_at}
 use Rattle.cbor_dump.specs.mirror.Widths.{head_reach, width_there}
 use Rattle.cbor_grammar.proofs.bytes.Shorter.{item_shorter}
-use Rattle.cbor_notation.proofs.straight.Levels.{behind_fails, head_fails, too_deep}
+use Rattle.cbor_bytes.proofs.reading.Levels.{behind_fails, head_fails, too_deep}
 use Rattle.cbor_dump.proofs.dump.FrontWidths.{head_low, front_measured}
 use Rattle.cbor_dump.proofs.dump.FrontWidths.{alone_measured, tag_measured, tag_behind_fails, item_counted}
 use Rattle.cbor_dump.proofs.dump.FrontWidths.{pair_counted}
 use Rattle.cbor_dump.proofs.dump.FrontWidths.{array_measured, map_measured, none_yet, held_width, level_read}
 use Rattle.cbor_dump.proofs.dump.FrontWidths.{level_fails}
-use Rattle.cbor_notation.proofs.straight.Readings.{fails_is, parts_read, part_fails, parts_ended, none_held}
-use Rattle.cbor_notation.proofs.straight.Readings.{member_read}
-use Rattle.cbor_notation.proofs.straight.Readings.{pair_read, value_fails}
+use Rattle.cbor_bytes.proofs.reading.Readings.{fails_is, parts_read, part_fails, parts_ended, none_held}
+use Rattle.cbor_bytes.proofs.reading.Readings.{member_read}
+use Rattle.cbor_bytes.proofs.reading.Readings.{pair_read, value_fails}
 use Rattle.cbor_dump.proofs.width.Reach.+reach.Goals as goal
 
 -- ---- an item

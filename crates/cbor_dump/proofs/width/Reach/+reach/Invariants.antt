@@ -5,7 +5,7 @@ use Rattle.cbor_grammar.specs.Reading.{items_in, pairs_in}
 use Rattle.cbor_grammar.specs.WellFormed.{levels_left}
 use Rattle.cbor_grammar.specs.mirror.Lengths.{left_of}
 use Rattle.cbor_dump.specs.mirror.Widths.{items_width, pairs_width, width_there}
-use Rattle.cbor_notation.proofs.straight.Readings.{parts_read}
+use Rattle.cbor_bytes.proofs.reading.Readings.{parts_read}
 use Rattle.cbor_dump.proofs.width.Reach.+reach.Given as goal
 
 -- Each level is deeper than the one before.

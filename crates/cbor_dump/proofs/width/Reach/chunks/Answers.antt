@@ -4,8 +4,8 @@ use Rattle.std.proofs.lemmas.Result.{err_from_is_err_and}
 use Rattle.cbor_grammar.specs.mirror.StringView.{borrowed_chunk}
 use Rattle.cbor_grammar.proofs.bytes.Chunks.{chunk_takes}
 use Rattle.cbor_dump.proofs.dump.FrontWidths.{none_yet, chunk_taken, chunk_counted, chunks_measured}
-use Rattle.cbor_notation.proofs.straight.Readings.{fails_then, ok_then}
-use Rattle.cbor_notation.proofs.straight.ChunksRead.{none_read, one_read, all_read, not_read}
+use Rattle.cbor_bytes.proofs.reading.Readings.{fails_then, ok_then}
+use Rattle.cbor_bytes.proofs.reading.ChunksRead.{none_read, one_read, all_read, not_read}
 use Rattle.cbor_dump.proofs.width.Reach.chunks.Goals as goal
 
 pub chunks-init : goal.chunks-init

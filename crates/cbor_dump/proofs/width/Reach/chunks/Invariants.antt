@@ -2,7 +2,7 @@
 use Rattle.std.proofs.Common.{◌≡◌, ◌+◌, length, max}
 use Rattle.cbor_dump.specs.mirror.Widths.{chunks_width}
 use Rattle.cbor_grammar.proofs.bytes.Heads.{IsBytes}
-use Rattle.cbor_notation.proofs.straight.ChunksRead.{ChunksRead}
+use Rattle.cbor_bytes.proofs.reading.ChunksRead.{ChunksRead}
 use Rattle.cbor_dump.proofs.width.Reach.chunks.Given as goal
 
 abbrev pub decreases-chunks : goal.decreases-chunks

@@ -2,9 +2,9 @@
 use Rattle.std.proofs.Common.{◌∙◌, ℕ, List, length, take, drop, ap, subst, arith}
 use Rattle.std.proofs.lemmas.List.{nil_from_length}
 use Rattle.cbor_notes.specs.Layout.{DumpLine}
-use Rattle.cbor_grammar.specs.Comments.{bytes_comment}
-use Rattle.cbor_grammar.specs.Dump.{bytes_lines, piece_line}
-use Rattle.cbor_grammar.proofs.dump.Pieces.{byte_cut, byte_cuts, some_left, none_left}
+use Rattle.cbor_dump.specs.Comments.{bytes_comment}
+use Rattle.cbor_dump.specs.Dump.{bytes_lines, piece_line}
+use Rattle.cbor_dump.proofs.dump.Pieces.{byte_cut, byte_cuts, some_left, none_left}
 use Rattle.cbor_dump.proofs.dump.Walks.{content_is, left_all, left_none, lines_of, Left, piece_few, pieces_left}
 use Rattle.cbor_dump.proofs.writer.Writer.bytes_content.Goals as goal
 

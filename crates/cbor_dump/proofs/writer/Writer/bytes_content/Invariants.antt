@@ -1,9 +1,9 @@
 -- What is written and the lines of the bytes that are left are the lines of all bytes.
 use Rattle.std.proofs.Common.{length}
-use Rattle.cbor_grammar.specs.Comments.{bytes_comment}
-use Rattle.cbor_grammar.specs.Pieces.{byte_pieces}
-use Rattle.cbor_grammar.specs.Dump.{content_lines, piece_line}
-use Rattle.cbor_grammar.proofs.dump.Pieces.{byte_cut}
+use Rattle.cbor_dump.specs.Comments.{bytes_comment}
+use Rattle.cbor_dump.specs.Pieces.{byte_pieces}
+use Rattle.cbor_dump.specs.Dump.{content_lines, piece_line}
+use Rattle.cbor_dump.proofs.dump.Pieces.{byte_cut}
 use Rattle.cbor_dump.proofs.dump.Walks.{lines_of, Left}
 use Rattle.cbor_dump.proofs.writer.Writer.bytes_content.Given as goal
 

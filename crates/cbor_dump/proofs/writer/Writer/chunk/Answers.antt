@@ -2,7 +2,7 @@
 use Rattle.std.proofs.Common.{[], ◌∷◌, ℕ, length, ap, subst, ◌∙◌}
 use Rattle.std.proofs.lemmas.Result.{on_ok_weaker}
 use Rattle.cbor_grammar.specs.declared.argument.Argument.TheVariants.{Number}
-use Rattle.cbor_grammar.specs.Dump.{string_content_lines}
+use Rattle.cbor_dump.specs.Dump.{string_content_lines}
 use Rattle.cbor_grammar.specs.declared.head.ItemHead.TheVariants as item_head
 use Rattle.cbor_dump.specs.mirror.Dumped.{context_view, line_of_head, Wrote}
 use Rattle.cbor_grammar.specs.mirror.StringView.{bytes_of, kind_of}

@@ -3,9 +3,9 @@ use Rattle.std.proofs.Common.{◌∙◌, ℕ, List, [], length, take, drop, unwr
 use Rattle.std.proofs.lemmas.List.{nil_from_length}
 use Rattle.cbor_notes.specs.Element.{element_text}
 use Rattle.cbor_notes.specs.Layout.{DumpLine}
-use Rattle.cbor_grammar.specs.Dump.{element_lines, piece_line}
-use Rattle.cbor_grammar.proofs.dump.Pieces.{some_left, none_left}
-use Rattle.cbor_grammar.proofs.dump.Elements.{element_cut, element_cuts}
+use Rattle.cbor_dump.specs.Dump.{element_lines, piece_line}
+use Rattle.cbor_dump.proofs.dump.Pieces.{some_left, none_left}
+use Rattle.cbor_dump.proofs.dump.Elements.{element_cut, element_cuts}
 use Rattle.cbor_dump.proofs.dump.Walks.{left_all, left_none, lines_of, Left, piece_few, pieces_left}
 use Rattle.cbor_dump.proofs.writer.Writer.elements.Goals as goal
 

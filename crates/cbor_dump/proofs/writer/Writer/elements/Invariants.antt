@@ -1,8 +1,8 @@
 -- What is written and the lines of the elements that are left are the lines of all elements.
 use Rattle.std.proofs.Common.{ℕ, List, [], length, unwrap_or}
 use Rattle.cbor_notes.specs.Element.{element_text}
-use Rattle.cbor_grammar.specs.Dump.{element_lines, piece_line}
-use Rattle.cbor_grammar.proofs.dump.Elements.{element_cut}
+use Rattle.cbor_dump.specs.Dump.{element_lines, piece_line}
+use Rattle.cbor_dump.proofs.dump.Elements.{element_cut}
 use Rattle.cbor_dump.proofs.dump.Walks.{lines_of, Left}
 use Rattle.cbor_dump.proofs.writer.Writer.elements.Given as goal
 

@@ -1,6 +1,6 @@
 -- The line of a head has its bytes, of which there are few, and its comment.
 use Rattle.std.proofs.Common.{[], ◌∷◌, List, ℕ, OnOk, ap, subst, ◌∙◌}
-use Rattle.cbor_grammar.specs.Dump.{head_line}
+use Rattle.cbor_dump.specs.Dump.{head_line}
 use Rattle.cbor_dump.specs.mirror.Dumped.{Wrote, head_bytes}
 use Rattle.cbor_dump.specs.mirror.ShownLines.{comment_text}
 use Rattle.cbor_dump.proofs.dump.HeadLines.{head_few, head_is}

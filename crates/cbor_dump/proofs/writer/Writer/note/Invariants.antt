@@ -1,7 +1,7 @@
 -- What is written and the lines of the texts that are left are the whole note.
 use Rattle.std.proofs.Common.{◌+◌, map, drop}
 use Rattle.std.specs.String.{string_bytes}
-use Rattle.cbor_grammar.specs.Dump.{note_line, note_lines}
+use Rattle.cbor_dump.specs.Dump.{note_line, note_lines}
 use Rattle.cbor_dump.specs.mirror.NotesView.{note_view}
 use Rattle.cbor_dump.proofs.dump.Walks.{Left}
 use Rattle.cbor_dump.proofs.writer.Writer.note.Given as goal

@@ -3,7 +3,7 @@ use Rattle.std.proofs.Common.{◌≡◌, [], Bor, ℕ, List, refl}
 use Rattle.hex.specs.Hex.{encode_with}
 use Rattle.cbor_dump.specs.declared.comment.Comment.TheVariants as comment
 use Rattle.cbor_dump.specs.declared.hex_style.HexStyle.TheVariants.{Content}
-use Rattle.cbor_grammar.specs.Dump.{note_line}
+use Rattle.cbor_dump.specs.Dump.{note_line}
 use Rattle.cbor_dump.specs.mirror.ShownLines.{shown_line}
 use Rattle.cbor_dump.proofs.writer.Writer.note_line.Goals as goal
 

@@ -4,12 +4,12 @@ use Rattle.std.proofs.lemmas.List.{nil_from_length}
 use Rattle.std.specs.Str.{IsUtf8}
 use Rattle.std.proofs.lemmas.Str.{IsUtf8-drop}
 use Rattle.cbor_notes.specs.Layout.{DumpLine}
-use Rattle.cbor_grammar.specs.Comments.{text_comment}
-use Rattle.cbor_grammar.specs.Dump.{content_lines, piece_line}
-use Rattle.cbor_grammar.specs.Pieces.{text_cut, text_pieces}
+use Rattle.cbor_dump.specs.Comments.{text_comment}
+use Rattle.cbor_dump.specs.Dump.{content_lines, piece_line}
+use Rattle.cbor_dump.specs.Pieces.{text_cut, text_pieces}
 use Rattle.cbor_dump.specs.mirror.Dumped.{Wrote}
-use Rattle.cbor_grammar.proofs.dump.Fits.{text_cut_low}
-use Rattle.cbor_grammar.proofs.dump.Pieces.{text_cuts, text_long, some_left, none_left}
+use Rattle.cbor_dump.proofs.dump.Fits.{text_cut_low}
+use Rattle.cbor_dump.proofs.dump.Pieces.{text_cuts, text_long, some_left, none_left}
 use Rattle.cbor_dump.proofs.dump.Walks.{content_is, left_all, left_none, lines_of, Left, piece_few, pieces_left}
 use Rattle.cbor_dump.proofs.writer.Writer.text_content.Goals as goal
 

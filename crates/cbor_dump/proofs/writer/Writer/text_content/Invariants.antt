@@ -2,9 +2,9 @@
 use denote.Shadow.{shadow}
 use denote.Text.{Utf8}
 use Rattle.std.proofs.Common.{ℕ, List, length}
-use Rattle.cbor_grammar.specs.Comments.{text_comment}
-use Rattle.cbor_grammar.specs.Pieces.{text_cut, text_pieces}
-use Rattle.cbor_grammar.specs.Dump.{content_lines, piece_line}
+use Rattle.cbor_dump.specs.Comments.{text_comment}
+use Rattle.cbor_dump.specs.Pieces.{text_cut, text_pieces}
+use Rattle.cbor_dump.specs.Dump.{content_lines, piece_line}
 use Rattle.cbor_dump.proofs.dump.Walks.{lines_of, Left}
 use Rattle.cbor_dump.proofs.writer.Writer.text_content.Given as goal
 

@@ -1,4 +1,4 @@
-use Rattle.cbor_notes.proofs.texts.HexLemmas.{two_digits}
+use Rattle.cbor_tokens.proofs.texts.HexLemmas.{two_digits}
 use Rattle.cbor_notes.proofs.ascii_buffer.AsciiBuffer.push_hex.Goals as goal
 
 pub returns : goal.returns

@@ -1,7 +1,7 @@
 -- The note of a prefix is its address, filled up with zeros, and its length.
 use Rattle.std.proofs.Common.{◌≤◌, ◌++◌, length, codes, decimal, sym, ap, ◌∙◌}
-use Rattle.cbor_grammar.specs.Notes.{address_text, family_size}
-use Rattle.cbor_grammar.proofs.dump.NoteTexts.{filled_up, prefix_is, size_small}
+use Rattle.cbor_dump.specs.Notes.{address_text, family_size}
+use Rattle.cbor_dump.proofs.dump.NoteTexts.{filled_up, prefix_is, size_small}
 use Rattle.cbor_dump.proofs.notes.addresses.AddressNotes.prefix_note.Goals as goal
 
 pub returns-in_ok-push_length-in-Some : goal.returns-in_ok-push_length-in-Some

@@ -3,7 +3,7 @@ use Rattle.cbor_grammar.specs.Item.{no_items}
 use Rattle.cbor_dump.specs.mirror.NotesView.{AreMembers, then_view}
 use Rattle.cbor_grammar.specs.mirror.Lengths.{left_of}
 use Rattle.cbor_dump.proofs.dump.NotedValues.{front_seen}
-use Rattle.cbor_notation.proofs.straight.Readings.{none_held}
+use Rattle.cbor_bytes.proofs.reading.Readings.{none_held}
 use Rattle.cbor_dump.proofs.notes.value.Members.read.Goals as goal
 
 pub returns : goal.returns

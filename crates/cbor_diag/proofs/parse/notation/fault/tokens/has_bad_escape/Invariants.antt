@@ -1,6 +1,6 @@
 -- If no text makes the rest a content, none makes all of the text one.
 use Rattle.std.proofs.Common.{◌≡◌, ◌++◌, List, ℕ, false, None, length}
-use Rattle.cbor_notes.specs.TokenReading.{unquoted}
+use Rattle.cbor_tokens.specs.TokenReading.{unquoted}
 use Rattle.cbor_grammar.specs.DeadEnd.{closes_text}
 use Rattle.cbor_diag.proofs.parse.notation.fault.tokens.has_bad_escape.Given as goal
 

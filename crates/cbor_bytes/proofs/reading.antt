@@ -1,0 +1,3 @@
+pub mod Readings
+pub mod ChunksRead
+pub mod Levels

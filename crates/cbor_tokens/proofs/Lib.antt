@@ -1,0 +1,3 @@
+pub mod bases
+pub mod tokens
+pub mod texts

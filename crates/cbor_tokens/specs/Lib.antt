@@ -1,0 +1,9 @@
+pub mod Appends
+pub mod AreBytes
+pub mod Ascii
+pub mod Base32
+pub mod Base64
+pub mod Token
+pub mod TokenReading
+pub mod Uncommented
+pub mod Views

@@ -1,0 +1,21 @@
+//! What needs no item and stands below all: the tokens of diagnostic notation, base 32, base 64 and
+//! hex digits. `cbor_notes` re-exports the calls.
+//!
+//! A call that allocates takes an allocator first and returns `AllocError` if an allocation fails.
+//! Every other result depends on its arguments alone. In the examples of this crate, `rt` is the
+//! `HostRuntime` of a test, and `alloc` is `rt.alloc()`.
+#![tactic(auto)]
+
+mod base32;
+pub mod base64_text;
+mod examples;
+mod hex_digits;
+mod laws;
+mod token;
+
+pub use base32::{base32_decode, base32hex_decode};
+pub use base64_text::base64_any_decode;
+pub use hex_digits::push_hex;
+pub use token::{
+    blank_end, blank_len, digits_at, digits_front, number_at, number_front, quoted_at, quoted_front,
+};
