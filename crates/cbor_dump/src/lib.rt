@@ -1,4 +1,5 @@
-//! Dumps of CBOR items: annotated hex, written straight from their bytes.
+//! Dumps of CBOR items: annotated hex, written straight from their bytes. The definitions of dumps
+//! are in `specs/`: lines, comments and notes.
 //!
 //! One recursion over the bytes finds the column of the digits, and one writes each line as soon as
 //! it is read.

@@ -1,7 +1,7 @@
-//! Texts for comments beside CBOR data, which need no item: base 32, base 58 and base 64,
-//! numbers in groups, escaped bytes and texts, addresses, UUIDs, dates, URLs, the elements of typed
-//! arrays and the names of tags; the lines of dumps, in columns; and the tokens of diagnostic
-//! notation.
+//! Texts for comments beside CBOR data, which need no item: numbers in groups, escaped bytes and
+//! texts, base 58, addresses, UUIDs, dates, URLs, the elements of typed arrays and the names of
+//! tags; and the lines of dumps, in columns. The calls of `cbor_tokens` are here, too: base 32,
+//! base 64, hex digits, and the tokens of diagnostic notation.
 //!
 //! ```rust
 //! use cbor_notes::grouped;

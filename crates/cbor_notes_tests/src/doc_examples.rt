@@ -1,4 +1,5 @@
-// The examples of the doc comments of `cbor_notes`, line for line: `checks/examples` compares.
+// The examples of the doc comments of `cbor_notes` and `cbor_tokens`, line for line:
+// `checks/examples` compares.
 // The expected values are those of the documents that the comments name.
 
 use cbor_notes::{

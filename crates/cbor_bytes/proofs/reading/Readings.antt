@@ -30,6 +30,8 @@ use Rattle.std.proofs.Common.{zero}
 use Rattle.cbor_grammar.specs.mirror.AtLevel.{body_read}
 use Rattle.cbor_grammar.proofs.bytes.Heads.{then_ok}
 
+-- ---- steps
+
 -- an error that reading gives
 pub fails_is : {X : Type 0} (e d : Error) (read : Result X Error) → e ≡ d → read ≡ Err d → Fails e read
 fails_is refusal.Memory d read same is = tt
@@ -55,6 +57,8 @@ pub ok_then : {A B : Type 0} (c : Counted A) (x : A × List ℕ) (f : A × List 
     → (c >>- f).1 ≡ (f x).1
 ok_then c x f h = then_first c (0, Ok x) f h
 
+-- ---- heads
+
 pub one_more : (level : ℕ) → level ≤ 128 → levels_left level ≡ suc (levels_left (level + 1))
 one_more level le = omega arith
 
@@ -67,6 +71,8 @@ fits_so bits float_width.SixtyFour b rest h = h.0
 pub float_fits : (b rest : List ℕ) (bits : ℕ) (w : FloatWidth) → IsBytes b
     → read_head b ≡ Ok (item_head.Float bits w, rest) → FitsFloat w bits
 float_fits b rest bits w fits e = fits_so bits w b rest (head_takes b rest (item_head.Float bits w) fits e).0
+
+-- ---- the parts of a container
 
 abbrev pub parts_read : ℕ → Frame → List ℕ → Read Item
 parts_read left f b = (read_parts (counted_item left) f b).1
@@ -121,6 +127,8 @@ pub tag_read : (left t : ℕ) (w : IntegerWidth) (b rest : List ℕ) (i : Item) 
 tag_read left t w b rest i e = part_read left (tag_of t w) b rest i refl e
     ∙ parts_ended left (tagged_with t w i) rest rest (tagged t w i) refl refl
 
+-- ---- chunks
+
 pub none_before : (c : Counted (List Chunk)) → onto [] c ≡ c
 none_before c = go c.0 c.1
   where
@@ -128,11 +136,15 @@ none_before c = go c.0 c.1
     go n (Ok x) = let e : n + 0 ≡ n = omega arith in ap (λ k. (k, Ok x)) e
     go n (Err e) = refl
 
+-- ---- strings of definite length
+
 pub content_read : (n : ℕ) (w : IntegerWidth) (s : StringContent) (b rest : List ℕ) (kind : StringKind)
     → kind_of s ≡ kind → read_content kind n w b ≡ Ok (borrowed_chunk w s, rest)
     → (read_atom (item_head.String kind (Number n w)) b).1 ≡ Ok (atom (string (kind_of s) (borrowed_chunk w s)), rest)
 content_read n w s b rest kind same e = ap (λ r. r >>= λ c. Ok (atom (string kind c.0), c.1)) e
     ∙ ap (λ k. Ok (atom (string k (borrowed_chunk w s)), rest)) (sym same)
+
+-- ---- an item and its head
 
 -- no item is read where no head is
 pub no_item : (levels : ℕ) (b : List ℕ) (e : Error) (x : Item × List ℕ) → read_head b ≡ Err e

@@ -12,5 +12,6 @@ read_at level b = read_item (levels_left level) b
 abbrev pub read_behind : ℕ → ItemHead → List ℕ → Read Item
 read_behind level h b = (read_body (counted_item (levels_left (level + 1))) (opened h) h b).1
 
+-- the same by the levels that are left for what it holds
 abbrev pub body_read : ItemHead → List ℕ → ℕ → Read Item
 body_read h b levels = (read_body (counted_item levels) (opened h) h b).1

@@ -1,4 +1,4 @@
--- What reading gives after a head, and of containers part by part, its turns left aside.
+-- What reading gives at the level of a context of the printer.
 use Rattle.std.proofs.Common.{◌≡◌, ℕ, ◌+◌, ◌<◌, ◌≤◌, List, Ok, Err, sym, ap}
 use Rattle.std.proofs.Common.{subst, ◌∙◌, ◌++◌, arith}
 use Rattle.cbor_grammar.specs.declared.error.Error.{Error}

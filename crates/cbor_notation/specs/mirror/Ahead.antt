@@ -15,6 +15,6 @@ abbrev pub Estimates : Option Ahead → ℕ → (ℕ → Read Item) → Type 0
 Estimates found budget read = (levels : ℕ) (i : Item) (rest : List ℕ) → read levels ≡ Ok (i, rest)
     → Leaves found budget (estimated_length i) rest
 
--- the item at the front, and what is read after a head
+-- the item at the front
 abbrev pub front_read : List ℕ → ℕ → Read Item
 front_read b levels = read_item levels b
