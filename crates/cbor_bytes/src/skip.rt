@@ -25,7 +25,7 @@ ghost use Rattle.cbor_grammar.specs.Reading.{opened, read_item};
 ghost use Rattle.cbor_bytes.specs.mirror.Skipping.{here, Goes, StopsSo, stop_of};
 ghost use Rattle.cbor_bytes.specs.mirror.Skipping.{skip_content, skip_chunks, after_chunk};
 ghost use Rattle.cbor_bytes.specs.mirror.Skipping.{after_chunk_length};
-ghost use Rattle.cbor_bytes.specs.mirror.Skipping.{skip_item, skip_body, begun};
+ghost use Rattle.cbor_bytes.specs.mirror.Skipping.{skip_item, skip_body, skip_parts, begun};
 
 use crate::head::{read_argument, read_head};
 pub use answer::Extent;
@@ -171,6 +171,7 @@ fn read_item_head(bytes: &[u8], levels: usize) -> Result<(ItemHead, &[u8]), Stop
 }
 
 /// The bytes after a string of that length, or one in chunks; its head is read already.
+#[inline(never)]
 fn after_string(kind: StringKind, len: Argument, bytes: &[u8]) -> Result<&[u8], Stop>
     ensures goes { (left : ℕ) → IfOk result (λ rest. Goes (skip_body left
         (ItemHead.String kind len)) here bytes.now rest.now) }
@@ -185,6 +186,7 @@ fn after_string(kind: StringKind, len: Argument, bytes: &[u8]) -> Result<&[u8], 
 }
 
 /// The bytes after an item without parts; its head is read already.
+#[inline(always)]
 fn after_atom(head: ItemHead, bytes: &[u8]) -> Result<&[u8], Stop>
     requires { opened head ≡ None }
     ensures goes { (left : ℕ) → IfOk result
@@ -218,17 +220,28 @@ fn read_part(bytes: &[u8], levels: usize) -> Result<(Option<ToCome>, &[u8]), Sto
     Ok((None, rest))
 }
 
-/// The bytes after the item at the front, read from `level`.
-fn after_item(bytes: &[u8], level: u8) -> Result<&[u8], Stop>
-    requires from { 1 ≤ level }
-    requires to { level ≤ deepest + 1 }
-    ensures goes { IfOk result (λ rest.
-        Goes (skip_item (levels_left level)) here bytes.now rest.now) }
-    ensures stops { IfErr result (λ stop. StopsSo (skip_item (levels_left level)) bytes.now stop) }
+/// The bytes after the item at the front, if it is whole and has no parts.
+fn after_whole(bytes: &[u8]) -> Option<&[u8]>
+    ensures { IfSome result (λ rest. Goes (skip_item deepest) here bytes.now rest.now) }
 {
-    let mut outer = Outer::around(level);
-    // One item is to come.
-    let mut top = ToCome::one();
+    match read_part(bytes, usize::from(DEEPEST)) {
+        Ok((None, rest)) => Some(rest),
+        _ => None,
+    }
+}
+
+/// The bytes after the item whose head is read already, at `level`, of which these parts are to
+/// come. Not inlined: its stack is made for containers alone.
+#[inline(never)]
+fn after_parts(parts: ToCome, bytes: &[u8], level: u8) -> Result<&[u8], Stop>
+    requires { level ≤ deepest }
+    ensures goes { IfOk result (λ rest.
+        Goes (skip_parts (deepest - level) parts) here bytes.now rest.now) }
+    ensures stops { IfErr result (λ stop.
+        StopsSo (skip_parts (deepest - level) parts) bytes.now stop) }
+{
+    let mut outer = Outer::ended(level);
+    let mut top = parts;
     let mut rest = bytes;
     'turns: loop {
         if let Some(after) = top.after_end(rest) {
@@ -246,6 +259,21 @@ fn after_item(bytes: &[u8], level: u8) -> Result<&[u8], Stop>
                 top = parts;
             }
         }
+    }
+}
+
+/// The bytes after the item at the front, read from `level`.
+fn after_item(bytes: &[u8], level: u8) -> Result<&[u8], Stop>
+    requires from { 1 ≤ level }
+    requires to { level ≤ deepest + 1 }
+    ensures goes { IfOk result (λ rest.
+        Goes (skip_item (levels_left level)) here bytes.now rest.now) }
+    ensures stops { IfErr result (λ stop. StopsSo (skip_item (levels_left level)) bytes.now stop) }
+{
+    let (parts, rest) = read_part(bytes, usize::from(DEEPEST + 1 - level))?;
+    match parts {
+        Some(parts) => after_parts(parts, rest, level),
+        None => Ok(rest),
     }
 }
 

@@ -2,7 +2,7 @@
 use Rattle.std.proofs.Common.{◌≡◌, ◌≢◌, ℕ, ◌+◌, ◌-◌, ◌<◌, ◌≤◌, List, ◌++◌, length, get_or, take, Result, Ok, Err, inl}
 use Rattle.std.proofs.Common.{inr}
 use Rattle.std.proofs.Common.{refl, sym, ap, subst, ◌∙◌, arith}
-use Rattle.std.specs.Prelude.{IfOk, IfErr}
+use Rattle.std.specs.Prelude.{Option, Some, None, IfOk, IfErr}
 use Rattle.std.proofs.lemmas.Bool.{cases_lt}
 use Rattle.std.proofs.lemmas.List.{get_or_append_left, get_or-append-add, take-append-le}
 use Rattle.cbor_grammar.specs.declared.error.Error.{Error}
@@ -18,10 +18,10 @@ use Rattle.cbor_bytes.specs.Extent.{IsExtent}
 use Rattle.cbor_bytes.specs.declared.skip.scanner.Scanner.{Scanner}
 use Rattle.cbor_bytes.specs.Scanning.{HasScanned, IsAnswer}
 use Rattle.cbor_bytes.specs.mirror.Skipping.{skip_item}
-use Rattle.cbor_bytes.specs.mirror.Scanned.{EndsBefore, StopsAt, answer_of}
+use Rattle.cbor_bytes.specs.mirror.Scanned.{EndsBefore, StopsAfter, WaitsAfter, answer_of}
 use Rattle.cbor_grammar.proofs.bytes.Heads.{IsBytes, IsBytes-take}
 use Rattle.cbor_grammar.proofs.bytes.ExactlyOne.{one_outcome}
-use Rattle.cbor_bytes.proofs.skipping.Skips.{goes_at}
+use Rattle.cbor_bytes.proofs.skipping.Skips.{goes_at, no_item}
 use Rattle.cbor_bytes.proofs.skipping.Extents.{item_extent, cut_extent, fault_extent, has_fault, same, every_item}
 use Rattle.cbor_bytes.proofs.skipping.Extents.{cut_exactly, every_fault, item_stays, fault_stays}
 
@@ -78,21 +78,25 @@ extent_once b x y fits h k = by y k
 
 -- ---- what a scanner keeps
 
-pub answer_extent : (count : ℕ) (p : Progress) (fed : List ℕ) (x : Extent) → IsBytes fed → IsAnswer count p fed x
+waits_cut : (p : Option Progress) (fed : List ℕ) → IsBytes fed → WaitsAfter p fed → IsCut fed
+waits_cut None fed fits none = cut_extent fed fits (ap (skip_item deepest) none ∙ no_item deepest)
+waits_cut (Some p) fed fits w = cut_extent fed fits (goes_at w.goes ∙ w.cut)
+
+pub answer_extent : (count : ℕ) (p : Option Progress) (fed : List ℕ) (x : Extent) → IsBytes fed → IsAnswer count p fed x
     → IsExtent fed x
 answer_extent count p fed (extent.Item n) fits h = h
-answer_extent count p fed extent.Cut fits h = cut_extent fed fits (goes_at h.1.goes ∙ h.1.cut)
+answer_extent count p fed extent.Cut fits h = waits_cut p fed fits h.1
 answer_extent count p fed (extent.Fault e end) fits h = h
 
-pub answered_more : (count : ℕ) (p : Progress) (fed more : List ℕ) (x : Extent) → x ≢ extent.Cut
+pub answered_more : (count : ℕ) (p : Option Progress) (fed more : List ℕ) (x : Extent) → x ≢ extent.Cut
     → IsAnswer count p fed x → IsAnswer count p (fed ++ more) x
 answered_more count p fed more (extent.Item n) other h = extent_stays fed more (extent.Item n) h other
 answered_more count p fed more extent.Cut other h = absurd (other refl)
 answered_more count p fed more (extent.Fault e end) other h = extent_stays fed more (extent.Fault e end) h other
 
-pub scanned_more : (count : ℕ) (p : Progress) (b : List ℕ) (r : Result ℕ Stop) → IsBytes b → count ≡ length b
+pub scanned_more : (count : ℕ) (p : Option Progress) (b : List ℕ) (r : Result ℕ Stop) → IsBytes b → count ≡ length b
     → IfOk r (λ after. EndsBefore (skip_item deepest) b after)
-    → IfErr r (λ stop. StopsAt p (skip_item deepest) b stop) → IsAnswer count p b (answer_of count r)
+    → IfErr r (StopsAfter p b) → IsAnswer count p b (answer_of count r)
 scanned_more count p b (Ok after) fits is ends stop =
     subst (λ (n : ℕ). IsExtent b (extent.Item n)) (omega (arith, ends.2)) (item_extent b ends.0 fits ends.1)
 scanned_more count p b (Err stops.Cut) fits is ends stop = (is, stop)

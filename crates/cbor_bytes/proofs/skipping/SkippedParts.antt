@@ -354,22 +354,22 @@ around_ended (suc n) left r = ap (λ s. s >>= skip_parts left ended) (around_end
     ends (Ok b) = frame_end left (items_in no_items (Number 0 Zero)) b b refl
     ends (Err e) = refl
 
--- the first item inside `n` containers that end after it
-pub item_goes : (n : ℕ) (b : List ℕ) (t : ToCome) → frame_of t ≡ emptied (tag_of 0 Zero)
-    → Goes (skip_item (deepest - n)) (skip_open (replicate n ended) t) b b
-item_goes n b t is = goes_here b (λ c. first (deepest - n) c ∙ frame_alike (deepest - n) (tag_of 0 Zero) (frame_of t) c
-    (sym (emptied_twice (tag_of 0 Zero)) ∙ ap emptied (sym is))
-    ∙ ap (λ m. skip_parts (deepest - m) t c) (sym (length-replicate n ended))
+-- the parts of the innermost of `n` containers that end here
+pub parts_goes : (n : ℕ) (b : List ℕ) (t : ToCome)
+    → Goes (skip_parts (deepest - n) t) (skip_open (replicate n ended) t) b b
+parts_goes n b t = goes_here b (λ c.
+    ap (λ m. skip_parts (deepest - m) t c) (sym (length-replicate n ended))
     ∙ sym (around_ended n deepest (skip_parts (deepest - length (replicate n ended)) t c)))
-  where
-    first : (left : ℕ) (c : List ℕ) → skip_item left c ≡ skip_frame left (tag_of 0 Zero) c
-    first left c = sym (frame_next left (tag_of 0 Zero) c refl ∙ after (skip_item left c))
-      where
-        after : (r : Skip) → (r >>= skip_frame left (tagged_with 0 Zero some_item)) ≡ r
-        after (Ok c) = frame_end left (tagged_with 0 Zero some_item) c c refl
-        after (Err e) = refl
 
 -- nothing is open
 pub first_goes : (b : List ℕ) (t : ToCome) → frame_of t ≡ emptied (tag_of 0 Zero)
     → Goes (skip_item deepest) (skip_open [] t) b b
-first_goes b t is = item_goes 0 b t is
+first_goes b t is = goes_here b (λ c. first c ∙ frame_alike deepest (tag_of 0 Zero) (frame_of t) c
+    (sym (emptied_twice (tag_of 0 Zero)) ∙ ap emptied (sym is)))
+  where
+    after : (r : Skip) → (r >>= skip_frame deepest (tagged_with 0 Zero some_item)) ≡ r
+    after (Ok c) = frame_end deepest (tagged_with 0 Zero some_item) c c refl
+    after (Err e) = refl
+
+    first : (c : List ℕ) → skip_item deepest c ≡ skip_frame deepest (tag_of 0 Zero) c
+    first c = sym (frame_next deepest (tag_of 0 Zero) c refl ∙ after (skip_item deepest c))

@@ -1,5 +1,5 @@
 //! The open containers around the innermost one, on a stack of fixed size.
-ghost use Rattle.std.specs.Prelude.{◌≡◌, ◌+◌, ◌-◌, ◌<◌, ◌≤◌, [], ◌∷◌, ◌++◌, length, replicate};
+ghost use Rattle.std.specs.Prelude.{◌≡◌, ◌<◌, ◌≤◌, [], ◌∷◌, ◌++◌, length, replicate};
 ghost use Rattle.std.specs.Prelude.{IfSome, Some, None};
 ghost use Rattle.cbor_grammar.specs.WellFormed.{deepest};
 ghost use Rattle.cbor_bytes.specs.mirror.Skipping.{ended};
@@ -30,15 +30,14 @@ impl Model for Outer {
 }
 
 impl Outer {
-    /// Those around an item at `level`, each of which ends after it.
-    pub(super) fn around(level: u8) -> Outer
-        requires from { 1 ≤ level }
-        requires to { level ≤ deepest + 1 }
-        ensures { result ≡ replicate (level - 1) ended }
+    /// An item at `level` and those around it, each of which ends here.
+    pub(super) fn ended(level: u8) -> Outer
+        requires { level ≤ deepest }
+        ensures { result ≡ replicate level ended }
     {
         Outer {
             open: [ToCome::Items(Some(0)); CAPACITY],
-            len: usize::from(level) - 1,
+            len: usize::from(level),
         }
     }
 

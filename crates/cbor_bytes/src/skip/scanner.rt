@@ -1,12 +1,15 @@
 //! Reports how bytes begin that come in pieces.
 ghost use Rattle.std.specs.Prelude.{◌≡◌, ◌≢◌, ℕ, ◌+◌, ◌^◌, ◌<◌, List, [], ◌++◌, length};
+ghost use Rattle.std.specs.Prelude.{IfOk, IfErr};
+ghost use Rattle.cbor_grammar.specs.WellFormed.{deepest};
 ghost use Rattle.cbor_bytes.specs.Extent.{IsExtent};
 ghost use Rattle.cbor_bytes.specs.Scanning.{HasScanned};
-ghost use Rattle.cbor_bytes.specs.mirror.Scanned.{answer_of};
+ghost use Rattle.cbor_bytes.specs.mirror.Scanned.{EndsBefore, StopsAfter, WaitsAfter, answer_of};
+ghost use Rattle.cbor_bytes.specs.mirror.Skipping.{skip_item};
 
-use super::Stop;
 use super::answer::Extent;
 use super::progress::Progress;
+use super::{Stop, after_whole};
 
 /// Reports how bytes begin, as [`extent`] does, where they come in pieces, as from a socket. It
 /// allocates nothing. It looks again at no more than eight of the bytes before a piece: those of a
@@ -24,7 +27,8 @@ use super::progress::Progress;
 /// [`extent`]: crate::extent
 #[derive(Drop)]
 pub struct Scanner {
-    progress: Progress,
+    /// How far an item has come that was not whole at once, or has parts.
+    progress: Option<Progress>,
     fed: usize,
     answer: Extent,
 }
@@ -35,7 +39,7 @@ impl Scanner {
         ensures { HasScanned result [] }
     {
         Scanner {
-            progress: Progress::new(),
+            progress: None,
             fed: 0,
             answer: Extent::Cut,
         }
@@ -79,10 +83,30 @@ impl Scanner {
         ensures answer { self.new.answer ≡ result }
     {
         self.fed = self.fed.saturating_add(bytes.len());
-        let scanned = self.progress.after_more(bytes);
+        let scanned = after_more(&mut self.progress, bytes);
         self.answer = answer_of(self.fed, scanned);
         self.answer
     }
+}
+
+/// How many bytes follow the item, with these bytes after those that came. An item without parts
+/// that is whole at once needs no [`Progress`], which takes longer to make than to use.
+fn after_more(progress: &mut Option<Progress>, bytes: &[u8]) -> Result<usize, Stop>
+    ensures whole { (fed : List ℕ) → WaitsAfter progress.old fed
+        → IfOk result (λ after. EndsBefore (skip_item deepest) (fed ++ bytes.now) after) }
+    ensures stops { (fed : List ℕ) → WaitsAfter progress.old fed
+        → IfErr result (StopsAfter progress.new (fed ++ bytes.now)) }
+{
+    if let Some(progress) = progress {
+        return progress.after_more(bytes);
+    }
+    if let Some(rest) = after_whole(bytes) {
+        return Ok(rest.len());
+    }
+    let mut begun = Progress::new();
+    let scanned = begun.after_more(bytes);
+    *progress = Some(begun);
+    scanned
 }
 
 /// The answer for `fed` bytes, of how many follow the item or why there is none.

@@ -1,66 +1,29 @@
--- Skipping an item goes on from part to part over the open containers, and stops where a part does.
-use Rattle.std.proofs.Common.{◌≡◌, ◌-◌, length, replicate, subst, arith}
-use Rattle.std.proofs.lemmas.Result.{err_from_is_err_and}
-use Rattle.cbor_grammar.specs.WellFormed.{deepest}
-use Rattle.cbor_bytes.specs.mirror.Skipping.{Goes, StopsSo, skip_item, begun, skip_open, ended}
+-- After the head of a container its parts are still to come; any other item is skipped by then.
+use Rattle.std.proofs.Common.{◌≡◌, ℕ, ◌-◌, List, Some, subst, arith}
+use Rattle.std.specs.Prelude.{Option}
+use Rattle.std.proofs.lemmas.Result.{IfOk-weaker, IfErr-weaker}
+use Rattle.cbor_bytes.specs.declared.skip.to_come.ToCome.{ToCome}
+use Rattle.cbor_grammar.specs.WellFormed.{deepest, levels_left}
+use Rattle.cbor_bytes.specs.mirror.Skipping.{Goes, skip_item, skip_parts, begun}
 use Rattle.cbor_bytes.proofs.skipping.Skips.{goes_then, stops_then}
-use Rattle.cbor_bytes.proofs.skipping.SkippedParts.{item_goes, last_ends, open_ends, part_stops, whole_goes, opens_goes}
 use Rattle.cbor_bytes.proofs.skip.after_item.Goals as goal
 
-pub turns-init : goal.turns-init
-turns-init c =
-    let b = c.args.bytes.now in
-    let levels : deepest - (c.args.level - 1) ≡ 129 - c.args.level = omega arith in
-    let goes = item_goes (c.args.level - 1) b c.one-top.result c.one-top.ensures in
-    record {
-      goes = rw c.around-outer.ensures (subst
-          (λ l. Goes (skip_item l) (skip_open (replicate (c.args.level - 1) ended) c.one-top.result) b b) levels goes);
-    }
+opens : (level left : ℕ) (begins : Option ToCome) (parts : ToCome) (b rest : List ℕ) → left ≡ levels_left level
+    → begins ≡ Some parts → Goes (skip_item left) (begun (left - 1) begins) b rest
+    → Goes (skip_item (levels_left level)) (skip_parts (deepest - level) parts) b rest
+opens level left begins parts b rest levels is goes =
+    let below : levels_left level - 1 ≡ deepest - level = omega arith in
+    let at = subst (λ (l : ℕ). Goes (skip_item l) (begun (l - 1) begins) b rest) levels goes in
+    subst (λ (l : ℕ). Goes (skip_item (levels_left level)) (skip_parts l parts) b rest) below (rw is at at)
 
-pub returns-in_default-pop-clause-goes : goal.returns-in_default-pop-clause-goes
-returns-in_default-pop-clause-goes c =
-    last_ends c.turns.outer c.turns.top c.turns.rest.now c.in-Some.after.now c.turns.invariant.goes
-    (c.pop.ensures.none c.in_default-pop.is) c.in-Some.ensures
+pub returns-in-Some-clause-goes : goal.returns-in-Some-clause-goes
+returns-in-Some-clause-goes c =
+    let head = opens c.args.level c.from.result c.in_ok-parts.parts c.in-Some.parts c.args.bytes.now
+    c.in_ok-parts.rest.now (omega arith) c.in-Some.is c.in_ok-parts.ensures.goes in
+    IfOk-weaker c.after_parts.result _ _ (λ rest goes. goes_then head goes) c.after_parts.ensures.goes
 
-pub turns-preserved-in-Some : goal.turns-preserved-in-Some
-turns-preserved-in-Some c = record {
-  goes = open_ends c.turns.outer c.pop.new.self c.in-Some-pop.«open» c.turns.top c.turns.rest.now c.in-Some.after.now
-      c.turns.invariant.goes c.in-Some-pop.ensures.some c.in-Some.ensures;
-}
-
-pub returns-in_err-parts-clause-stops : goal.returns-in_err-parts-clause-stops
-returns-in_err-parts-clause-stops c =
-    let p = err_from_is_err_and c.from_residual.result c.from_residual.ensures.1 in
-    let stop = c.in_err-parts.field-0.0 in
-    let levels : c.from.result - c.len.result ≡ deepest - length c.turns.outer = omega arith in
-    let part = subst (λ l. StopsSo (skip_item l) c.turns.rest.now stop) levels c.in_err-parts.ensures.stops in
-    rw (p.1, p.2) (stops_then stop c.turns.invariant.goes
-    (part_stops c.turns.outer c.turns.top c.turns.rest.now stop c.in_default.ensures part))
-
-pub turns-preserved-in-Some-parts : goal.turns-preserved-in-Some-parts
-turns-preserved-in-Some-parts c =
-    let outer = c.turns.outer in
-    let top = c.turns.top in
-    let rest = c.turns.rest.now in
-    let after = c.in_ok-parts.after.now in
-    let parts = c.in-Some-parts.parts in
-    let levels : c.from.result - c.len.result ≡ deepest - length outer = omega arith in
-    let part = subst (λ l. Goes (skip_item l) (begun (l - 1) c.in_ok-parts.parts) rest after) levels
-    c.in_ok-parts.ensures.goes in
-    let next = opens_goes outer top c.after_part-top.result parts rest after c.in_default.ensures
-    c.after_part-top.ensures
-    c.in_ok-parts.ensures.shorter (rw c.in-Some-parts.is at part) in
-    record { goes = goes_then c.turns.invariant.goes (rw c.push.ensures next) }
-
-pub turns-preserved : goal.turns-preserved
-turns-preserved c =
-    let outer = c.turns.outer in
-    let top = c.turns.top in
-    let rest = c.turns.rest.now in
-    let after = c.in_ok-parts.after.now in
-    let levels : c.from.result - c.len.result ≡ deepest - length outer = omega arith in
-    let part = subst (λ l. Goes (skip_item l) (begun (l - 1) c.in_ok-parts.parts) rest after) levels
-    c.in_ok-parts.ensures.goes in
-    let next = whole_goes outer top c.after_part-top.result rest after c.in_default.ensures c.after_part-top.ensures
-    c.in_ok-parts.ensures.shorter (rw c.in_default-parts.is at part) in
-    record { goes = goes_then c.turns.invariant.goes next }
+pub returns-in-Some-clause-stops : goal.returns-in-Some-clause-stops
+returns-in-Some-clause-stops c =
+    let head = opens c.args.level c.from.result c.in_ok-parts.parts c.in-Some.parts c.args.bytes.now
+    c.in_ok-parts.rest.now (omega arith) c.in-Some.is c.in_ok-parts.ensures.goes in
+    IfErr-weaker c.after_parts.result _ _ (λ stop stops. stops_then stop head stops) c.after_parts.ensures.stops
