@@ -1,3 +1,4 @@
 pub mod Extent
 pub mod Scanning
+pub mod Utf8
 pub mod mirror

@@ -3,3 +3,4 @@ pub mod Skipping
 pub mod OpenStack
 pub mod Scanning
 pub mod Scanned
+pub mod Characters

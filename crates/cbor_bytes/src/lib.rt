@@ -1,8 +1,8 @@
 //! Reads and writes the heads of CBOR items (RFC 7049 section 2), and finds where items end without
 //! building any.
 //!
-//! [`extent`] tells how bytes begin, [`Scanner`] does the same with bytes that come in pieces, and
-//! `hex_text` finds the bytes of hex with comments.
+//! [`extent`] tells how bytes begin, [`Scanner`] does the same with bytes that come in pieces,
+//! `hex_text` finds the bytes of hex with comments, and [`utf8_fault`] where bytes are not UTF-8.
 #![tactic(auto)]
 
 pub mod borrowed;
@@ -13,8 +13,10 @@ pub mod skip;
 pub mod strict;
 pub mod strings;
 pub mod turns;
+pub mod utf8;
 pub mod write;
 
 pub use hex_text::{hex_bytes, hex_fault, hex_place};
 pub use skip::{Extent, Scanner, extent};
 pub use turns::Turns;
+pub use utf8::utf8_fault;

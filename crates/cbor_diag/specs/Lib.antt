@@ -32,5 +32,6 @@ pub use Rattle.cbor_bytes.specs.Scanning
 pub use Rattle.cbor_grammar.specs.StringKind
 pub use Rattle.cbor_grammar.specs.Strings
 pub use Rattle.cbor_grammar.specs.Turns
+pub use Rattle.cbor_bytes.specs.Utf8
 pub use Rattle.cbor_grammar.specs.WellFormed
 pub use Rattle.cbor_grammar.specs.Written

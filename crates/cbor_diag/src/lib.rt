@@ -25,7 +25,7 @@ mod parse;
 mod rewrite;
 mod syntax;
 
-pub use cbor_bytes::{Extent, Scanner, Turns, extent, hex_bytes, hex_fault, hex_place};
+pub use cbor_bytes::{Extent, Scanner, Turns, extent, hex_bytes, hex_fault, hex_place, utf8_fault};
 pub use cbor_dump::{bytes_to_hex, hex_to_hex, push_bytes_to_hex, push_bytes_to_hex_partial};
 pub use cbor_grammar::{
     ByteString, Error, FloatWidth, IntegerWidth, Result, Simple, Tag, TextString,

@@ -7,6 +7,7 @@ use cbor_diag::{
     diag_fault, extent, hex_bytes, hex_fault, hex_place, hex_to_bytes, hex_to_diag,
     hex_to_diag_pretty, hex_to_hex, parse_bytes, parse_bytes_partial, parse_diag, parse_hex,
     push_bytes_to_diag_partial, push_bytes_to_diag_pretty_partial, push_bytes_to_hex_partial,
+    utf8_fault,
 };
 use std::alloc::Global;
 use std::process::Abort;
@@ -176,6 +177,13 @@ fn of_places_in_hex(rt: &impl Abort) {
     assert_eq!(rt; hex_place("82 01 # one\n02 # two", 3), None);
 }
 
+fn of_places_in_text(rt: &impl Abort) {
+    assert_eq!(rt; utf8_fault(b"a\xffb"), Some(1));
+    assert_eq!(rt; utf8_fault(b"a\xe2\x82b"), Some(3));
+    assert_eq!(rt; utf8_fault(b"a\xe2\x82"), Some(3));
+    assert_eq!(rt; utf8_fault(b"a\xe2\x82\xac"), None);
+}
+
 fn of_places_in_notation(rt: &impl Abort, alloc: Global) -> Result<(), Fail> {
     // After `1` the text cannot go on with `.`.
     assert_eq!(rt; diag_fault(alloc, "[1.5]")?, Some((Error::Notation, 3)));
@@ -212,5 +220,6 @@ fn examples_of_doc_comments(rt: HostRuntime) -> Result<(), Fail> {
     of_pieces(&rt);
     of_hex_digits(&rt, rt.alloc())?;
     of_places_in_hex(&rt);
+    of_places_in_text(&rt);
     Ok(())
 }

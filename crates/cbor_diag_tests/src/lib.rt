@@ -47,4 +47,6 @@ mod tags;
 #[cfg(test)]
 mod turns;
 #[cfg(test)]
+mod utf8;
+#[cfg(test)]
 mod written;

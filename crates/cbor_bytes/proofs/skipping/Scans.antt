@@ -100,7 +100,7 @@ take_over [] c n k is = ap (λ (m : ℕ). take m c) (let e : n ≡ k = omega ari
 take_over (b ∷ x) c zero k is = absurd (omega arith)
 take_over (b ∷ x) c (suc n) k is = ap (λ (z : List ℕ). b ∷ z) (take_over x c n k (omega arith))
 
-utf8_behind : (x y : List ℕ) → IsUtf8 x → IsUtf8 (x ++ y) → IsUtf8 y
+pub utf8_behind : (x y : List ℕ) → IsUtf8 x → IsUtf8 (x ++ y) → IsUtf8 y
 utf8_behind x y front whole =
     let at = IsCharBoundary-from_take (x ++ y) (length x) whole (omega (arith, length-append x y))
     (subst IsUtf8 (sym (take_at x y (length x) refl)) front) in

@@ -7,10 +7,11 @@ ghost use Rattle.cbor_grammar.specs.Reading.{opened};
 ghost use Rattle.cbor_grammar.specs.declared.width.IntegerWidth.TheVariants.{Zero};
 ghost use Rattle.cbor_bytes.specs.mirror.Skipping.{here, Goes, FailsAt, skip_content, skip_chunks};
 ghost use Rattle.cbor_bytes.specs.mirror.Skipping.{skip_body};
-ghost use Rattle.cbor_bytes.specs.mirror.Scanning.{WholeChars, then_chunks, skip_bad, skip_due};
+ghost use Rattle.cbor_bytes.specs.mirror.Scanning.{then_chunks, skip_bad, skip_due};
 ghost use Rattle.cbor_bytes.specs.mirror.Scanning.{Waits};
 
 use super::{Stop, after_content, read_chunk_length};
+use crate::utf8::whole_chars;
 use cbor_grammar::Error;
 use cbor_grammar::argument::Argument;
 use cbor_grammar::head::ItemHead;
@@ -36,16 +37,6 @@ pub(super) enum Pause<'a> {
     Cut(Due, &'a [u8]),
     /// An error, and how many bytes follow the first ones that have it.
     Fault { error: Error, after: usize },
-}
-
-/// How many of the first bytes are whole characters.
-fn whole_chars(bytes: &[u8]) -> usize
-    ensures { WholeChars bytes.now result }
-{
-    match simdutf8::compat::from_utf8(bytes) {
-        Ok(_) => bytes.len(),
-        Err(error) => error.valid_up_to(),
-    }
 }
 
 /// What is due in a text of `left` bytes of which fewer are here.
