@@ -14,7 +14,7 @@ ghost use Rattle.cbor_tokens.specs.Uncommented.{unspaced, uncommented};
 ghost use Rattle.cbor_grammar.specs.HexText.{IsHexRefused};
 
 use cbor_grammar::Error;
-use hex::FromHexError;
+use cbor_tokens::decode_hex;
 use memchr::{memchr, memchr2};
 pub use place::{hex_fault, hex_place};
 use std::alloc::{AllocError, Global};
@@ -131,13 +131,10 @@ pub fn decode(alloc: Global, digits: Vec<u8>) -> cbor_grammar::Result<Vec<u8>>
         ⊎ (e ≡ Error.BadHex) × (length digits.items % 2 ≡ 0)
         × ¬ (AllPass is_hex_digit digits.items)) }
 {
-    match hex::decode(alloc, digits) {
-        Ok(bytes) => Ok(bytes),
-        Err(FromHexError::OutOfMemory) => Err(Error::Memory),
-        Err(FromHexError::OddLength) => Err(Error::OddHex),
-        Err(FromHexError::InvalidHexCharacter { .. }) => Err(Error::BadHex),
-        // Only decoding into a slice of a given length has this error.
-        Err(FromHexError::InvalidStringLength) => unreachable!(),
+    match decode_hex(alloc, &digits)? {
+        Some(bytes) => Ok(bytes),
+        None if digits.len() % 2 == 1 => Err(Error::OddHex),
+        None => Err(Error::BadHex),
     }
 }
 

@@ -5,14 +5,14 @@ ghost use Rattle.cbor_grammar.specs.Reading.{Gives};
 ghost use Rattle.cbor_tokens.specs.Base32.{standard, extended_hex};
 ghost use Rattle.cbor_tokens.specs.Token.{is_special};
 ghost use Rattle.cbor_tokens.specs.TokenReading.{unquoted, digits_of};
-ghost use Rattle.cbor_notation.specs.mirror.NotationReading.{or_refused, base16_of, base32_of};
+ghost use Rattle.cbor_tokens.specs.HexDigits.{base16_of};
+ghost use Rattle.cbor_notation.specs.mirror.NotationReading.{or_refused, base32_of};
 ghost use Rattle.cbor_notation.specs.mirror.NotationReading.{base64_of, read_decoded};
 ghost use Rattle.cbor_notation.specs.mirror.NotationReading.{h_notation, b_notation};
 
 use crate::cursor::Cursor;
 use crate::scan::after_byte;
 use cbor_grammar::{Error, Result};
-use hex::FromHexError;
 use memchr::memchr;
 use std::alloc::Global;
 
@@ -74,11 +74,7 @@ pub fn base16(alloc: Global, digits: &[u8]) -> Result<Option<Vec<u8>>>
     ensures gives { IfOk result (λ bytes. option_map (λ x. x.items) bytes ≡ base16_of digits.now) }
     ensures refused { IfErr result (λ e. e ≡ Error.Memory) }
 {
-    match hex::decode(alloc, digits) {
-        Ok(bytes) => Ok(Some(bytes)),
-        Err(FromHexError::OutOfMemory) => Err(Error::Memory),
-        Err(_) => Ok(None),
-    }
+    Ok(cbor_tokens::decode_hex(alloc, digits)?)
 }
 
 /// The bytes of hex digits up to the closing apostrophe. Digits without blanks between them, the

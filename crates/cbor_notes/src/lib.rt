@@ -33,8 +33,8 @@ mod url_text;
 pub use address::{ipv4_text, ipv6_text, mac_text};
 pub use base58_text::base58;
 pub use cbor_tokens::{
-    base32_decode, base32hex_decode, base64_any_decode, blank_end, blank_len, digits_at,
-    digits_front, number_at, number_front, push_hex, quoted_at, quoted_front,
+    base32_decode, base32hex_decode, base64_any_decode, blank_end, blank_len, decode_hex,
+    digits_at, digits_front, number_at, number_front, push_hex, quoted_at, quoted_front,
 };
 pub use date::{date_of_epoch, epoch_of_date};
 pub use datetime::{datetime_of_epoch, epoch_of_datetime};

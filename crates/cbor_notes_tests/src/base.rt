@@ -1,7 +1,9 @@
-//! Base 32, 58 and 64. The vectors of `foobar` are those of RFC 4648, section 10; the encodings of
+//! Base 16, 32, 58 and 64. The vectors of `foobar` are those of RFC 4648, section 10; the encodings of
 //! all bytes and the texts in base 58 were made by an independent implementation.
 
-use cbor_notes::{base32_decode, base32hex_decode, base58, base64_any_decode, base64_lines};
+use cbor_notes::{
+    base32_decode, base32hex_decode, base58, base64_any_decode, base64_lines, decode_hex, push_hex,
+};
 use std::alloc::{AllocError, Global};
 use std::test::Fail;
 
@@ -47,6 +49,18 @@ const ALL_BASE64URL: &str = "\
     8PHy8_T19vf4-fr7_P3-_w\
     ";
 
+/// The same in hex.
+const ALL_HEX: &str = "\
+    000102030405060708090a0b0c0d0e0f101112131415161718191a1b1c1d1e1f\
+    202122232425262728292a2b2c2d2e2f303132333435363738393a3b3c3d3e3f\
+    404142434445464748494a4b4c4d4e4f505152535455565758595a5b5c5d5e5f\
+    606162636465666768696a6b6c6d6e6f707172737475767778797a7b7c7d7e7f\
+    808182838485868788898a8b8c8d8e8f909192939495969798999a9b9c9d9e9f\
+    a0a1a2a3a4a5a6a7a8a9aaabacadaeafb0b1b2b3b4b5b6b7b8b9babbbcbdbebf\
+    c0c1c2c3c4c5c6c7c8c9cacbcccdcecfd0d1d2d3d4d5d6d7d8d9dadbdcdddedf\
+    e0e1e2e3e4e5e6e7e8e9eaebecedeeeff0f1f2f3f4f5f6f7f8f9fafbfcfdfeff\
+    ";
+
 /// The bytes 0 to 255.
 const ALL_BYTES: [u8; 256] = [
     0x00, 0x01, 0x02, 0x03, 0x04, 0x05, 0x06, 0x07, 0x08, 0x09, 0x0a, 0x0b, 0x0c, 0x0d, 0x0e, 0x0f,
@@ -69,15 +83,20 @@ const ALL_BYTES: [u8; 256] = [
 
 #[derive(Clone, Copy, Debug)]
 enum Decoder {
+    Hex,
     Base32,
     Base32Hex,
     Base64,
 }
 
-use Decoder::{Base32, Base32Hex, Base64};
+use Decoder::{Base32, Base32Hex, Base64, Hex};
 
 /// Digits, and the bytes that they encode.
 const DECODED: &[(Decoder, &str, &[u8])] = &[
+    (Hex, "", b""),
+    (Hex, "666F6f626172", b"foobar"),
+    (Hex, "aAbBcCdDeEfF", &[0xaa, 0xbb, 0xcc, 0xdd, 0xee, 0xff]),
+    (Hex, ALL_HEX, &ALL_BYTES),
     (Base32, "", b""),
     (Base32, "MY======", b"f"),
     (Base32, "MZXQ====", b"fo"),
@@ -118,6 +137,17 @@ const DECODED: &[(Decoder, &str, &[u8])] = &[
 
 /// Digits that encode no bytes.
 const REFUSED: &[(Decoder, &str)] = &[
+    // an odd number, or a byte beside the digits
+    (Hex, "6"),
+    (Hex, "666f6"),
+    (Hex, "6/"),
+    (Hex, ":6"),
+    (Hex, "6@"),
+    (Hex, "G6"),
+    (Hex, "6`"),
+    (Hex, "g6"),
+    (Hex, "66 6f"),
+    (Hex, "6g6f6f"),
     // bits that no byte uses are set in the last digit
     (Base32, "MZ======"),
     (Base32, "MZXR===="),
@@ -187,11 +217,17 @@ const REFUSED: &[(Decoder, &str)] = &[
 ];
 
 /// Bytes that are no digits, nor UTF-8.
-const NO_DIGITS: &[(Decoder, &[u8])] = &[(Base32, b"MZXW6YT\xc2"), (Base64, b"Zm9\xc2")];
+const NO_DIGITS: &[(Decoder, &[u8])] = &[
+    (Hex, b"6\x80"),
+    (Hex, b"\xff6"),
+    (Base32, b"MZXW6YT\xc2"),
+    (Base64, b"Zm9\xc2"),
+];
 
 /// What digits decode to, in hex, or `none` if they encode nothing.
 fn decoded(alloc: Global, decoder: Decoder, digits: &[u8]) -> Result<String, AllocError> {
     let found = match decoder {
+        Hex => decode_hex(alloc, digits)?,
         Base32 => base32_decode(alloc, digits)?,
         Base32Hex => base32hex_decode(alloc, digits)?,
         Base64 => base64_any_decode(alloc, digits)?,
@@ -200,6 +236,14 @@ fn decoded(alloc: Global, decoder: Decoder, digits: &[u8]) -> Result<String, All
         Some(bytes) => hex::encode(alloc, &bytes),
         None => String::from_str(alloc, "none"),
     }
+}
+
+#[test]
+fn bytes_are_written_in_hex(rt: HostRuntime) -> Result<(), Fail> {
+    let mut text = String::new(rt.alloc());
+    push_hex(&mut text, &ALL_BYTES)?;
+    assert_eq!(rt; text.as_str(), ALL_HEX);
+    Ok(())
 }
 
 #[test]

@@ -4,7 +4,7 @@
 
 use cbor_notes::{
     Line, base32_decode, base32hex_decode, base58, base64_any_decode, base64_lines, blank_end,
-    blank_len, date_of_epoch, datetime_of_epoch, digits_at, digits_front, element_size,
+    blank_len, date_of_epoch, datetime_of_epoch, decode_hex, digits_at, digits_front, element_size,
     element_text, epoch_of_date, epoch_of_datetime, escaped_text, grouped, ipv4_text, ipv6_text,
     mac_text, merge, number_at, number_front, push_blanks, push_element_text, push_escaped_text,
     push_gap, push_grouped, push_hex, push_quoted_bytes, push_spaced_hex, put_line, quoted_at,
@@ -38,9 +38,12 @@ fn of_base32hex(rt: &impl Abort, alloc: Global) -> Result<(), Fail> {
     Ok(())
 }
 
-fn of_base58_and_64(rt: &impl Abort, alloc: Global) -> Result<(), Fail> {
+fn of_other_bases(rt: &impl Abort, alloc: Global) -> Result<(), Fail> {
     let text = base58(alloc, b"\0\0\0\0\0\0\0\0\0\0\0\0\0\0\0\x01")?;
     assert_eq!(rt; text.as_str(), "1111111111111112");
+
+    let bytes = decode_hex(alloc, b"82Ff")?;
+    assert_eq!(rt; bytes.as_deref(), Some(b"\x82\xff".as_slice()));
 
     let bytes = base64_any_decode(alloc, b"Zm9vYg==")?;
     assert_eq!(rt; bytes.as_deref(), Some(b"foob".as_slice()));
@@ -196,7 +199,7 @@ fn examples_of_doc_comments(rt: HostRuntime) -> Result<(), Fail> {
     of_addresses(&rt, rt.alloc())?;
     of_base32(&rt, rt.alloc())?;
     of_base32hex(&rt, rt.alloc())?;
-    of_base58_and_64(&rt, rt.alloc())?;
+    of_other_bases(&rt, rt.alloc())?;
     of_dates(&rt, rt.alloc())?;
     of_elements(&rt, rt.alloc())?;
     of_texts(&rt, rt.alloc())?;

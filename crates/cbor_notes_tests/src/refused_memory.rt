@@ -3,10 +3,10 @@
 
 use cbor_notes::{
     Line, base32_decode, base32hex_decode, base58, base64_any_decode, base64_lines, date_of_epoch,
-    datetime_of_epoch, digits_at, element_text, epoch_of_date, epoch_of_datetime, escaped_text,
-    grouped, ipv4_text, ipv6_text, mac_text, merge, push_element_text, push_escaped_text,
-    push_grouped, push_hex, push_quoted_bytes, put_line, quoted_at, quoted_bytes, url_verdict,
-    uuid_lines,
+    datetime_of_epoch, decode_hex, digits_at, element_text, epoch_of_date, epoch_of_datetime,
+    escaped_text, grouped, ipv4_text, ipv6_text, mac_text, merge, push_element_text,
+    push_escaped_text, push_grouped, push_hex, push_quoted_bytes, put_line, quoted_at,
+    quoted_bytes, url_verdict, uuid_lines,
 };
 use std::alloc::{AllocError, Global};
 use std::process::Abort;
@@ -17,6 +17,7 @@ enum Call {
     Base32,
     Base32Hex,
     Base64Any,
+    DecodeHex,
     Base64Lines,
     UuidLines,
     QuotedAt,
@@ -50,6 +51,7 @@ const ROWS: &[(Call, &str)] = &[
     (Call::Base32Hex, "666f6f6261"),
     // the second alphabet that is tried
     (Call::Base64Any, "fbff"),
+    (Call::DecodeHex, "0aff"),
     (
         Call::Base64Lines,
         "54686520717569636b2062726f776e20 # \"The quick brown \"
@@ -143,6 +145,7 @@ fn decoded(alloc: Global, call: Call) -> Result<String, AllocError> {
         Call::Base32 => found_bytes(alloc, base32_decode(alloc, b"MZXW6YTB")?),
         Call::Base32Hex => found_bytes(alloc, base32hex_decode(alloc, b"CPNMUOJ1")?),
         Call::Base64Any => found_bytes(alloc, base64_any_decode(alloc, b"-_8")?),
+        Call::DecodeHex => found_bytes(alloc, decode_hex(alloc, b"0aFF")?),
         Call::Base64Lines => {
             match base64_lines(alloc, "VGhlIHF1aWNrIGJyb3duIGZveA==", false)? {
                 Some(lines) => joined(alloc, &lines),
@@ -233,6 +236,7 @@ fn answer(rt: &impl Abort, alloc: Global, call: Call) -> Result<String, AllocErr
         Call::Base32
         | Call::Base32Hex
         | Call::Base64Any
+        | Call::DecodeHex
         | Call::Base64Lines
         | Call::UuidLines
         | Call::QuotedAt

@@ -1,2 +1,4 @@
 pub mod Fronts
+pub mod HexDecoded
 pub mod HexLemmas
+pub mod HexTables

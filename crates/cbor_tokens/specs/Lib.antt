@@ -3,6 +3,7 @@ pub mod AreBytes
 pub mod Ascii
 pub mod Base32
 pub mod Base64
+pub mod HexDigits
 pub mod Token
 pub mod TokenReading
 pub mod Uncommented

@@ -15,7 +15,7 @@ mod token;
 
 pub use base32::{base32_decode, base32hex_decode};
 pub use base64_text::base64_any_decode;
-pub use hex_digits::push_hex;
+pub use hex_digits::{decode_hex, push_hex};
 pub use token::{
     blank_end, blank_len, digits_at, digits_front, number_at, number_front, quoted_at, quoted_front,
 };

@@ -21,7 +21,7 @@ use Rattle.cbor_notation.specs.mirror.NotationReading.{read_number}
 use Rattle.cbor_notation.specs.mirror.NotationReading.{read_simple, simple_value, read_float}
 use Rattle.cbor_notation.specs.mirror.NotationReading.{float_of}
 use Rattle.cbor_notation.specs.mirror.NotationReading.{numeral, read_word, b_notation, h_notation, read_decoded}
-use Rattle.cbor_notation.specs.mirror.NotationReading.{base16_of}
+use Rattle.cbor_tokens.specs.HexDigits.{base16_of}
 use Rattle.cbor_notation.specs.mirror.NotationReading.{base32_of, base64_of}
 use Rattle.cbor_grammar.specs.DeadEnd.{closes}
 use Rattle.cbor_diag.specs.mirror.DeadEnds.{NotRead, IsRealError, NeverReads, HasEnd, grown, is_settled}

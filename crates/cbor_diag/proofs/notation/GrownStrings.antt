@@ -19,7 +19,8 @@ use Rattle.cbor_notation.specs.mirror.NotationReading.{read_decoded, b_notation,
 use Rattle.cbor_notation.specs.mirror.NotationReading.{read_piece, read_pieces, begins_piece, begins_string}
 use Rattle.cbor_notation.specs.mirror.NotationReading.{first_start, start_of, content_of, read_content, checked}
 use Rattle.cbor_notation.specs.mirror.NotationReading.{read_string, read_chunk, chunks_of, read_chunks, kind_from}
-use Rattle.cbor_notation.specs.mirror.NotationReading.{string_of, read_string_item, either_word, base16_of, base32_of}
+use Rattle.cbor_tokens.specs.HexDigits.{base16_of}
+use Rattle.cbor_notation.specs.mirror.NotationReading.{string_of, read_string_item, either_word, base32_of}
 use Rattle.cbor_notation.specs.mirror.NotationReading.{base64_of}
 use Rattle.cbor_tokens.specs.Base32.{standard, extended_hex}
 use Rattle.cbor_grammar.specs.Written.{encoded_items}

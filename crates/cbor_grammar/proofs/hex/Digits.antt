@@ -13,44 +13,6 @@ use Rattle.cbor_grammar.specs.Answer.{GaveRefusal, IsRefused}
 use Rattle.cbor_tokens.specs.Uncommented.{uncommented}
 use Rattle.cbor_grammar.specs.HexText.{IsHexRefused}
 
--- a decoder returns this error, out of memory aside
-abbrev Decoder : List ℕ → FromHexError → Type 0
-Decoder s e = (e ≡ OutOfMemory) ⊎ (decode_of s ≡ Err e)
-
--- for an odd length
-pub odd_refused : (s : List ℕ) → Decoder s OddLength → length s % 2 ≡ 1
-odd_refused s (inl h) = cc h
-odd_refused s (inr h) =
-    elim (decode_of-err s OddLength h) [
-      | inl w ↦ w.0
-      | inr w ↦ cc w.1
-    ]
-
--- else for a byte that is no digit
-pub bad_refused : (s : List ℕ) (c i : ℕ) → Decoder s (InvalidHexCharacter c i)
-    → (length s % 2 ≡ 0) × ¬ (AllPass is_hex_digit s)
-bad_refused s c i (inl h) = cc h
-bad_refused s c i (inr h) =
-    elim (decode_of-err s (InvalidHexCharacter c i) h) [
-      | inl w ↦ cc w.1
-      | inr w ↦
-          elim (cases_eq (length s % 2) 1) [
-            | inl odd ↦ cc (sym h ∙ decode_of-odd s odd)
-            | inr even ↦
-                let fails = w.3 in
-                (omega arith, λ all. let passes = all w.0 0 w.2 in cc (fails, passes))
-          ]
-    ]
-
--- and for nothing else
-pub sized_refused : (s : List ℕ) → Decoder s InvalidStringLength → ⊥
-sized_refused s (inl h) = cc h
-sized_refused s (inr h) =
-    elim (decode_of-err s InvalidStringLength h) [
-      | inl w ↦ cc w.1
-      | inr w ↦ cc w.1
-    ]
-
 -- what the error of some digits means
 abbrev NoBytes : List ℕ → Error → Type 0
 NoBytes s f =

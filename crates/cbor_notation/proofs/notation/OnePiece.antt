@@ -16,7 +16,8 @@ use Rattle.cbor_grammar.specs.declared.strings.StringKind.TheVariants.{Bytes, Te
 use Rattle.cbor_grammar.specs.Reading.{Read, ◌>>=◌}
 use Rattle.cbor_notation.specs.mirror.NotationReading.{after_word, or_refused, skip_blank, start_of, first_start}
 use Rattle.cbor_notation.specs.mirror.NotationReading.{begins_piece, ends_string, one_string, read_piece, read_pieces}
-use Rattle.cbor_notation.specs.mirror.NotationReading.{read_string, checked, base16_of, read_decoded, read_string_item}
+use Rattle.cbor_tokens.specs.HexDigits.{base16_of}
+use Rattle.cbor_notation.specs.mirror.NotationReading.{read_string, checked, read_decoded, read_string_item}
 
 -- What comes before the first quote or backslash of a text is its content, where that is the quote.
 pub plain : (text content rest : List ℕ) (place : Option ℕ) (n : ℕ) → place ≡ position (is_special 34) text

@@ -17,7 +17,8 @@ use Rattle.cbor_grammar.specs.Reading.{Read, ◌>>=◌}
 use Rattle.cbor_grammar.specs.Notation.{IsBlank, QuotedBy, DigitsIn, Notation, in_base16, in_base32, in_base32hex}
 use Rattle.cbor_grammar.specs.Notation.{in_base64, as_text, as_items, PieceOf, Joined, one, more, list_of, Listed}
 use Rattle.cbor_notation.specs.mirror.NotationReading.{or_refused, skip_blank, start_of, first_start, begins_piece}
-use Rattle.cbor_notation.specs.mirror.NotationReading.{read_piece, read_pieces, read_decoded, base16_bytes, base16_of}
+use Rattle.cbor_tokens.specs.HexDigits.{base16_bytes, base16_of}
+use Rattle.cbor_notation.specs.mirror.NotationReading.{read_piece, read_pieces, read_decoded}
 use Rattle.cbor_notation.specs.mirror.NotationReading.{base32_of, base64_of}
 use Rattle.cbor_notation.proofs.notation.Ends.{holds_of, Begins, begins_append, begins_more, item_ends, core_starts}
 use Rattle.cbor_notation.proofs.notation.Ends.{notation_starts, Follows, follows_passed, Starts, starts_passed}

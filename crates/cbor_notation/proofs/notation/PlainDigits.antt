@@ -12,7 +12,9 @@ use Rattle.hex.proofs.HexLemmas.{decode_of-ok}
 use Rattle.cbor_tokens.specs.Token.{is_digit}
 use Rattle.cbor_tokens.proofs.tokens.TextPlaces.{from_byte}
 use Rattle.cbor_grammar.specs.Reading.{◌>>=◌}
-use Rattle.cbor_notation.specs.mirror.NotationReading.{or_refused, base16_bytes, base16_of, read_decoded}
+use Rattle.cbor_tokens.proofs.texts.HexDecoded.{decoded}
+use Rattle.cbor_tokens.specs.HexDigits.{base16_of}
+use Rattle.cbor_notation.specs.mirror.NotationReading.{or_refused, read_decoded}
 use Rattle.cbor_notation.proofs.notation.Tokens.{digits_found}
 use Rattle.cbor_notation.proofs.normal.ReadTokens.{between}
 
@@ -26,11 +28,6 @@ hex_digits (d ∷ ds) all =
     let parts = and_parts (is_hex_digit d) (list_all is_hex_digit ds) all in
     (hex_digit d parts.0, hex_digits ds parts.1)
 
--- hex digits that decode
-decodes : (bytes : List ℕ) (r : Result (List ℕ) FromHexError) → base16_bytes r ≡ Some bytes → r ≡ Ok bytes
-decodes bytes (Ok other) is = cc is
-decodes bytes (Err e) is = cc is
-
 -- what decodes before a quote are the digits up to it
 pub plain_digits : (text bytes : List ℕ) (end : ℕ) → end < length text → get_or text end 0 ≡ 39
     → base16_of (take end text) ≡ Some bytes
@@ -40,7 +37,7 @@ plain_digits text bytes end within quote is =
     let rest = drop (end + 1) text in
     let parts : text ≡ ds ++ 39 ∷ rest = sym (take-append-drop end text)
     ∙ ap (λ (t : List ℕ). ds ++ t) (from_byte text end 39 within quote) in
-    let all = list_all-from_AllPass is_hex_digit ds (decode_of-ok ds bytes (decodes bytes (decode_of ds) is)).1 in
+    let all = list_all-from_AllPass is_hex_digit ds (decode_of-ok ds bytes (decoded ds bytes is)).1 in
     let found = digits_found true text ds ds rest parts (between true ds (hex_digits ds all)) in
     ap (λ r. or_refused r >>= λ x. or_refused (base16_of x.0) >>= λ bytes. Ok (bytes, x.1)) found
     ∙ ap (λ r. or_refused r >>= λ bytes. Ok (bytes, rest)) is

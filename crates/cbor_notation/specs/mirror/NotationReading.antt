@@ -7,10 +7,9 @@ use Rattle.std.specs.List.{starts_with, before_first, list_all}
 use Rattle.std.specs.Char.{digit_value}
 use Rattle.std.specs.Str.Parse.{digits_value}
 use Rattle.std.specs.Int.Digits.{number_from_digits}
-use Rattle.hex.specs.declared.error.FromHexError.{FromHexError}
-use Rattle.hex.specs.Hex.{decode_of}
 use Rattle.cbor_tokens.specs.Base32 as base32
 use Rattle.cbor_tokens.specs.Base64 as base64
+use Rattle.cbor_tokens.specs.HexDigits.{base16_of}
 use Rattle.cbor_tokens.specs.Token.{is_whitespace}
 use Rattle.cbor_tokens.specs.TokenReading.{after_blank, number_of, unquoted, digits_of}
 use Rattle.cbor_grammar.specs.declared.width.IntegerWidth.{IntegerWidth}
@@ -208,14 +207,6 @@ unfoldable pub base64_of : List ℕ → Option (List ℕ)
 base64_of digits =
     let bytes = from_sixes (map six_bits (unpadded digits)) in
     either (if_encoded base64.url_safe digits bytes) (if_encoded base64.standard digits bytes)
-
--- the bytes of hex digits, two for each, of either case
-abbrev pub base16_bytes : Result (List ℕ) FromHexError → Option (List ℕ)
-base16_bytes (Ok bytes) = Some bytes
-base16_bytes (Err e) = None
-
-abbrev pub base16_of : List ℕ → Option (List ℕ)
-base16_of digits = base16_bytes (decode_of digits)
 
 -- what the digits after an opened quote are the encoding of
 abbrev pub read_decoded : Bool → (List ℕ → Option (List ℕ)) → List ℕ → Read (List ℕ)

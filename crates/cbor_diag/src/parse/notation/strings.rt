@@ -12,7 +12,8 @@ ghost use Rattle.cbor_grammar.specs.WellFormed.{levels_left, WellFormed, WellFor
 ghost use Rattle.cbor_grammar.specs.Written.{encoded_items};
 ghost use Rattle.cbor_grammar.specs.Item.{Item, atom, chunked_string};
 ghost use Rattle.cbor_grammar.specs.Reading.{Gives, Read};
-ghost use Rattle.cbor_notation.specs.mirror.NotationReading.{base16_of, read_string_item, checked};
+ghost use Rattle.cbor_tokens.specs.HexDigits.{base16_of};
+ghost use Rattle.cbor_notation.specs.mirror.NotationReading.{read_string_item, checked};
 ghost use Rattle.cbor_notation.specs.mirror.NotationReading.{read_chunk, read_chunks};
 ghost use Rattle.cbor_notation.specs.mirror.NotationReading.{read_embedded};
 ghost use Rattle.cbor_notation.specs.mirror.NotationReading.{ends_string, read_item, read_members};

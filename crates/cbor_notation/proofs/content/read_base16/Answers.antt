@@ -1,7 +1,8 @@
 -- Hex digits decoded in place give what they give gathered.
 use Rattle.std.proofs.Common.{Ok, true, get_or, sym, ap, ◌∙◌, arith}
 use Rattle.std.proofs.lemmas.Bool.{eqb-true}
-use Rattle.cbor_notation.specs.mirror.NotationReading.{read_decoded, base16_of}
+use Rattle.cbor_tokens.specs.HexDigits.{base16_of}
+use Rattle.cbor_notation.specs.mirror.NotationReading.{read_decoded}
 use Rattle.cbor_notation.proofs.notation.PlainDigits.{plain_digits}
 use Rattle.cbor_notation.proofs.content.read_base16.Goals as goal
 

@@ -11,8 +11,10 @@ use Rattle.cbor_grammar.specs.Item.{items_of}
 use Rattle.cbor_grammar.specs.Reading.{Read, ◌>>=◌}
 use Rattle.cbor_grammar.specs.Notation.{Closes, Further, Members, list_of, DigitsIn, Notation, in_base16, in_base32}
 use Rattle.cbor_grammar.specs.Notation.{in_base32hex, in_base64}
-use Rattle.cbor_notation.specs.mirror.NotationReading.{or_refused, after_word, base32_of, base64_of, base16_bytes}
-use Rattle.cbor_notation.specs.mirror.NotationReading.{base16_of, read_decoded, either_word, h_notation, b_notation}
+use Rattle.cbor_tokens.proofs.texts.HexDecoded.{decoded}
+use Rattle.cbor_notation.specs.mirror.NotationReading.{or_refused, after_word, base32_of, base64_of}
+use Rattle.cbor_tokens.specs.HexDigits.{base16_of}
+use Rattle.cbor_notation.specs.mirror.NotationReading.{read_decoded, either_word, h_notation, b_notation}
 use Rattle.cbor_notation.proofs.notation.sound.Steps.{none_some, Sound, moved, sound_option, after_word_is}
 use Rattle.cbor_notation.proofs.notation.DigitsFound.{base32_found, base64_found}
 
@@ -62,15 +64,9 @@ members_more Member close more text (x ∷ xs) h = (
 -- ---- digits
 
 module _ (R : List ℕ → Item → Type 0) where
-  base16_so : (digits bytes : List ℕ) (r : Result (List ℕ) FromHexError) → decode_of digits ≡ r
-      → base16_bytes r ≡ Some bytes → decode_of digits ≡ Ok bytes
-  base16_so digits bytes (Ok out) is e = let same : out ≡ bytes = cc in is
-      ∙ ap (λ (z : List ℕ). let r : Result (List ℕ) FromHexError = Ok z in r) same
-  base16_so digits bytes (Err f) is e = absurd (none_some bytes e)
-
   from_base16 : (text digits bytes : List ℕ) → DigitsIn true (codes "h'") text digits → base16_of digits ≡ Some bytes
       → Notation R text bytes
-  from_base16 text digits bytes within e = in_base16 digits within (base16_so digits bytes (decode_of digits) refl e)
+  from_base16 text digits bytes within e = in_base16 digits within (decoded digits bytes e)
 
   -- after the opened quote of a notation
   decoded_sound : (levels : ℕ) (comments : Bool) (decode : List ℕ → Option (List ℕ)) (word : List ℕ)

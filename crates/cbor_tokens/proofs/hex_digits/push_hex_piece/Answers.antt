@@ -8,5 +8,5 @@ use Rattle.cbor_tokens.proofs.hex_digits.push_hex_piece.Goals as goal
 pub from_utf8_unchecked-requires : goal.from_utf8_unchecked-requires
 from_utf8_unchecked-requires c =
     let digits = encode_lower c.args.piece.now in
-    let written : c.encode_to_slice.new.output ≡ digits = grind (arith, common_steps) in
+    let written : c.write_hex.new.digits ≡ digits = grind (arith, common_steps) in
     rw written (IsUtf8-from_ascii digits (IsAscii-encode_lower c.args.piece.now))
