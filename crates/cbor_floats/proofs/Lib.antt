@@ -1,0 +1,7 @@
+pub mod Decimals
+pub mod Encodings
+pub mod Halves
+pub mod Readings
+pub mod Rounding
+pub mod Usual
+pub mod Values

@@ -1,0 +1,4 @@
+pub mod Decimal
+pub mod Nearest
+pub mod Value
+pub mod mirror

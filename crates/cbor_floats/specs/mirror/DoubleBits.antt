@@ -1,0 +1,10 @@
+-- A finite double whose sign is clear, by its bits: so many digits times 2 ^ -shift, in units of 2 ^ -24, where it lies
+-- below 2 ^ 17.
+use Rattle.std.specs.Prelude.{ℕ, ◌+◌, ◌-◌, ◌/◌, ◌%◌, ◌^◌, min, max, nat_lt, if◌then◌else◌}
+
+abbrev pub digits_of_bits : ℕ → ℕ
+digits_of_bits bits = if nat_lt bits (2 ^ 52) then bits else 2 ^ 52 + bits % 2 ^ 52
+
+-- 63 cut off as much as any larger shift, since there are at most 53 digits
+abbrev pub shift_of_bits : ℕ → ℕ
+shift_of_bits bits = min (1051 - max (bits / 2 ^ 52) 1) 63

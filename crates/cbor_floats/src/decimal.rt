@@ -1,0 +1,166 @@
+//! Decimal texts of floats, read and written.
+ghost use Rattle.std.specs.Prelude.{◌≡◌, ◌↔◌, ◌++◌, List, ℕ, string_bytes, IsTrue, IsFalse, OnOk};
+ghost use Rattle.std.specs.Prelude.{MatchOption, MatchResult};
+ghost use Rattle.std.specs.Float.{float_is_finite};
+ghost use Rattle.std.specs.Float.Ieee.{Float, binary32, binary64};
+ghost use Rattle.cbor_floats.specs.Decimal.{decimal_number, unsigned};
+ghost use Rattle.cbor_floats.specs.Decimal.{is_negative as begins_with_minus};
+ghost use Rattle.cbor_floats.specs.Decimal.{IsDecimal, IsNumber, IsReadAs, IsRefused, IsRefusedIn};
+ghost use Rattle.cbor_floats.specs.Decimal.{IsTextOf, IsWordOf};
+ghost use Rattle.cbor_floats.specs.Value.{IsEncodingOf, width_of};
+ghost use Rattle.cbor_floats.specs.declared.decimal.NumberError.TheVariants.{TooLarge};
+ghost use Rattle.cbor_floats.specs.declared.float.Width.TheVariants.{ThirtyTwo};
+
+use crate::float::{EncodedFloat, Width};
+use crate::nearest::half_of;
+use crate::single::single_of;
+use fast_float::Numeral;
+use ryu::Buffer;
+use std::alloc::AllocError;
+use std::num::f32_to_bits_with_nan;
+
+/// Why a text is not the number of a float.
+#[derive(Clone, Copy, PartialEq, Eq, Debug)]
+pub enum NumberError {
+    /// It is neither a decimal number with a point or an exponent, nor one of the words `NaN`,
+    /// `Infinity` and `-Infinity`.
+    NoNumber,
+    /// It lies past the largest float of the width, by half of the last place or more.
+    TooLarge,
+    /// No float of 16 bits is the number.
+    NoHalf,
+}
+
+/// The number that the text writes, to the nearest double, and at a tie to the even one: zero if it
+/// is too small for each other. The text is `NaN`, `Infinity` or `-Infinity`, or it is a decimal
+/// number that has a point or an exponent, as `1.5`, `1.`, `.5`, `-1e3` or `+1.0E+300`.
+pub fn parse_number(text: &[u8]) -> Result<f64, NumberError>
+    ensures { MatchResult result (λ x. IsNumber text.now x) (λ error. IsRefused error text.now) }
+{
+    if let Some(x) = word(text) {
+        return Ok(x);
+    }
+    if !is_decimal(text) {
+        return Err(NumberError::NoNumber);
+    }
+    let x = nearest_double(text);
+    if x.is_finite() {
+        Ok(x)
+    } else {
+        Err(NumberError::TooLarge)
+    }
+}
+
+/// The float that the text writes before the indicator of a width, `_1`, `_2` or `_3` in diagnostic
+/// notation: its number, as `parse_number` reads it. A number that 32 bits do not have is the
+/// nearest single, and one that 16 bits do not have is `NoHalf`.
+pub fn parse_in_width(text: &[u8], width: Width) -> Result<EncodedFloat, NumberError>
+    ensures { MatchResult result (IsReadAs text.now width)
+        (λ error. IsRefusedIn error text.now width) }
+{
+    let x = match parse_number(text) {
+        Ok(x) => x,
+        Err(error) => return Err(error),
+    };
+    match width {
+        Width::Sixteen => match half_of(x) {
+            Some(bits) => Ok(EncodedFloat::Half(bits)),
+            None => Err(NumberError::NoHalf),
+        },
+        Width::ThirtyTwo => match single_of(x) {
+            Some(bits) => Ok(EncodedFloat::Single(bits)),
+            None => nearest_in_single(text),
+        },
+        Width::SixtyFour => Ok(EncodedFloat::double(x)),
+    }
+}
+
+/// The single that is nearest to a decimal number, as it is encoded.
+fn nearest_in_single(text: &[u8]) -> Result<EncodedFloat, NumberError>
+    ensures { MatchResult result
+        (λ float. (width_of float ≡ ThirtyTwo)
+        × IsEncodingOf float (decimal_number binary32 text.now)
+        × IsTrue (float_is_finite (decimal_number binary32 text.now)))
+        (λ error. (error ≡ TooLarge)
+        × IsFalse (float_is_finite (decimal_number binary32 text.now))) }
+{
+    let nearest = nearest_single(text);
+    if nearest.is_finite() {
+        Ok(EncodedFloat::Single(f32_to_bits_with_nan(nearest)))
+    } else {
+        Err(NumberError::TooLarge)
+    }
+}
+
+/// The number of a word.
+fn word(text: &[u8]) -> Option<f64>
+    ensures { MatchOption result ((x : Float) → ¬ (IsWordOf text.now x))
+        (λ x. IsWordOf text.now x) }
+{
+    match text {
+        b"NaN" => Some(f64::NAN),
+        b"Infinity" => Some(f64::INFINITY),
+        b"-Infinity" => Some(f64::NEG_INFINITY),
+        _ => None,
+    }
+}
+
+/// The text without a sign at its front.
+fn without_sign(text: &[u8]) -> &[u8]
+    ensures { result.now ≡ unsigned text.now }
+{
+    match text {
+        [b'-' | b'+', rest @ ..] => rest,
+        _ => text,
+    }
+}
+
+/// Whether the text begins with a minus.
+fn is_negative(text: &[u8]) -> bool
+    ensures { result ≡ begins_with_minus text.now }
+{
+    matches!(text, [b'-', ..])
+}
+
+/// Whether the text is a decimal number with a point or an exponent.
+fn is_decimal(text: &[u8]) -> bool
+    ensures { IsTrue result ↔ IsDecimal text.now }
+{
+    let unsigned = without_sign(text);
+    let numeral = Numeral::scan(unsigned);
+    numeral.len() == unsigned.len()
+        && numeral.has_digits()
+        && (numeral.has_point() || !numeral.exponent().is_empty())
+}
+
+/// The double that is nearest to a decimal number.
+fn nearest_double(text: &[u8]) -> f64
+    ensures { result ≡ decimal_number binary64 text.now }
+{
+    Numeral::scan(without_sign(text)).to_float(is_negative(text))
+}
+
+/// The single that is nearest to a decimal number.
+fn nearest_single(text: &[u8]) -> f32
+    ensures { result ≡ decimal_number binary32 text.now }
+{
+    Numeral::scan(without_sign(text)).to_float(is_negative(text))
+}
+
+/// Appends a text of the number, which reads back as this number: one of the three words, or
+/// decimal digits with a point or an exponent. An error is out of memory; the text may then have a
+/// part of it.
+pub fn push_number(out: &mut String, x: f64) -> Result<(), AllocError>
+    ensures { OnOk result ((text : List ℕ)
+        × (string_bytes out.new ≡ string_bytes out.old ++ text) × IsTextOf text x) }
+{
+    if x.is_nan() {
+        out.push_str("NaN")
+    } else if x.is_finite() {
+        out.push_str(Buffer::new().format_finite(x))
+    } else if x.is_sign_negative() {
+        out.push_str("-Infinity")
+    } else {
+        out.push_str("Infinity")
+    }
+}

@@ -1,0 +1,106 @@
+//! A float as CBOR encodes it, its number, and the shortest encoding of a number.
+ghost use Rattle.std.specs.Prelude.{◌≡◌, ◌↔◌, IsTrue, MatchOption};
+ghost use Rattle.cbor_floats.specs.Value.{value_of, width_of, IsEncodingOf, IsShortest};
+
+use crate::half::half_value;
+use crate::nearest::half_of;
+use crate::single::{single_of, single_value};
+use std::num::{f64_from_bits_with_nan, f64_to_bits_with_nan};
+
+/// The width of a float: how many bits follow its first byte (RFC 8949 section 3.3).
+#[derive(Clone, Copy, PartialEq, Eq, Debug)]
+pub enum Width {
+    /// IEEE 754 binary16, two bytes.
+    Sixteen,
+    /// IEEE 754 binary32, four bytes.
+    ThirtyTwo,
+    /// IEEE 754 binary64, eight bytes.
+    SixtyFour,
+}
+
+/// A float as CBOR encodes it: its bits, in one of the three widths.
+#[derive(Clone, Copy, PartialEq, Eq, Debug)]
+pub enum EncodedFloat {
+    /// The bits of a float of 16 bits.
+    Half(u16),
+    /// The bits of a float of 32 bits.
+    Single(u32),
+    /// The bits of a float of 64 bits.
+    Double(u64),
+}
+
+impl EncodedFloat {
+    /// The number that the bits stand for. Each half and each single is a double, so nothing is
+    /// rounded. The bits of a NaN give a NaN with no particular sign or payload.
+    pub fn value(self) -> f64
+        ensures { result ≡ value_of self }
+    {
+        match self {
+            EncodedFloat::Half(bits) => half_value(bits),
+            EncodedFloat::Single(bits) => single_value(bits),
+            EncodedFloat::Double(bits) => f64_from_bits_with_nan(bits),
+        }
+    }
+
+    /// The number in this width, or `None` if the width does not have it. A NaN gives the usual NaN
+    /// of the width: 7e00, 7fc00000 or 7ff8000000000000.
+    pub fn in_width(x: f64, width: Width) -> Option<EncodedFloat>
+        ensures { MatchOption result
+            ((float : EncodedFloat) → width_of float ≡ width → ¬ (IsEncodingOf float x))
+            (λ float. (width_of float ≡ width) × IsEncodingOf float x) }
+    {
+        match width {
+            Width::Sixteen => Some(EncodedFloat::Half(half_of(x)?)),
+            Width::ThirtyTwo => Some(EncodedFloat::Single(single_of(x)?)),
+            Width::SixtyFour => Some(EncodedFloat::double(x)),
+        }
+    }
+
+    /// The number in 64 bits, which have each number.
+    pub fn double(x: f64) -> EncodedFloat
+        ensures encodes { IsEncodingOf result x }
+        ensures width { width_of result ≡ Width.SixtyFour }
+    {
+        EncodedFloat::Double(f64_to_bits_with_nan(x))
+    }
+
+    /// The number in the shortest width that has it.
+    pub fn shortest(x: f64) -> EncodedFloat
+        ensures { IsShortest result x }
+    {
+        if let Some(bits) = half_of(x) {
+            EncodedFloat::Half(bits)
+        } else if let Some(bits) = single_of(x) {
+            EncodedFloat::Single(bits)
+        } else {
+            EncodedFloat::double(x)
+        }
+    }
+    /// Whether these are the bits that the number is encoded as in this width: of a NaN only the
+    /// usual ones, 7e00, 7fc00000 and 7ff8000000000000.
+    pub fn is_usual(self) -> bool
+        ensures { IsTrue result ↔ IsEncodingOf self (value_of self) }
+    {
+        match self {
+            EncodedFloat::Half(bits) => bits == 0x7e00 || !half_value(bits).is_nan(),
+            EncodedFloat::Single(bits) => bits == 0x7fc0_0000 || !single_value(bits).is_nan(),
+            EncodedFloat::Double(bits) => {
+                bits == 0x7ff8_0000_0000_0000 || !f64_from_bits_with_nan(bits).is_nan()
+            }
+        }
+    }
+
+    /// Whether these are the bits that the number is encoded as in the shortest width that has it.
+    pub fn is_shortest(self) -> bool
+        ensures { IsTrue result ↔ IsShortest self (value_of self) }
+    {
+        let x = self.value();
+        let no_half = half_of(x).is_none();
+        self.is_usual()
+            && match self {
+                EncodedFloat::Half(_) => true,
+                EncodedFloat::Single(_) => no_half,
+                EncodedFloat::Double(_) => no_half && single_of(x).is_none(),
+            }
+    }
+}

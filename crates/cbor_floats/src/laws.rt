@@ -1,0 +1,35 @@
+//! Laws of the definitions, as contracts of functions that nobody calls.
+ghost use Rattle.std.specs.Prelude.{◌≡◌, ℕ, List};
+ghost use Rattle.std.specs.Float.Ieee.{Float};
+ghost use Rattle.cbor_floats.specs.Decimal.{IsNumber, IsReadAs};
+ghost use Rattle.cbor_floats.specs.Value.{IsEncodingOf, IsShortest, width_of};
+ghost use Rattle.cbor_floats.specs.declared.float.EncodedFloat.{EncodedFloat};
+ghost use Rattle.cbor_floats.specs.declared.float.Width.{Width};
+
+/// In one width a number has one encoding.
+fn one_encoding()
+    ensures { (x : Float) (a b : EncodedFloat) → IsEncodingOf a x → IsEncodingOf b x
+        → width_of a ≡ width_of b → a ≡ b }
+{}
+
+/// A text is one number.
+fn one_number()
+    ensures { (text : List ℕ) (x y : Float) → IsNumber text x → IsNumber text y → x ≡ y }
+{}
+
+/// A number has one shortest encoding.
+fn one_shortest()
+    ensures { (x : Float) (a b : EncodedFloat) → IsShortest a x → IsShortest b x → a ≡ b }
+{}
+
+/// A text is one float in a width.
+fn one_reading()
+    ensures { (text : List ℕ) (width : Width) (a b : EncodedFloat) → IsReadAs text width a
+        → IsReadAs text width b → a ≡ b }
+{}
+
+/// A text of the number of a float is that float, in its width.
+fn read_back()
+    ensures { (text : List ℕ) (x : Float) (a : EncodedFloat) → IsNumber text x
+        → IsEncodingOf a x → IsReadAs text (width_of a) a }
+{}
