@@ -1,0 +1,22 @@
+// The examples of the doc comments of `cbor_floats`, line for line: `checks/examples` compares.
+
+use cbor_floats::{EncodedFloat, Width, parse_in_width, parse_number, push_number};
+use std::alloc::Global;
+use std::process::Abort;
+use std::test::Fail;
+
+fn of_the_root(rt: &impl Abort, alloc: Global) -> Result<(), Fail> {
+    let x = parse_number(b"0.5").unwrap_or(0.0);
+    assert_eq!(rt; EncodedFloat::shortest(x), EncodedFloat::Half(0x3800));
+    let mut text = String::new(alloc);
+    push_number(&mut text, EncodedFloat::Half(0x3800).value())?;
+    assert_eq!(rt; text.as_str(), "0.5");
+    let single = parse_in_width(b"0.1", Width::ThirtyTwo);
+    assert_eq!(rt; single, Ok(EncodedFloat::Single(0x3dcccccd)));
+    Ok(())
+}
+
+#[test]
+fn examples_of_doc_comments(rt: HostRuntime) -> Result<(), Fail> {
+    of_the_root(&rt, rt.alloc())
+}
