@@ -1,6 +1,9 @@
 pub mod Ahead
 pub mod StringsAhead
 pub mod SequencesAhead
-pub mod Readings
+pub mod Levels
 pub mod Sequences
 pub mod Texts
+pub mod ChunkTexts
+pub mod Wrote
+pub mod DiagTexts

@@ -4,4 +4,6 @@ pub mod OpenTokens
 pub mod Straight
 pub mod Ahead
 pub mod LayoutView
+pub mod LeafView
+pub mod DiagLeaves
 pub mod Cursor

@@ -1,78 +1,74 @@
-//! Writes an item straight from its bytes: each part is written as soon as it is read, and no item
-//! is built. How long a container would be on one line is found by a look ahead (`ahead.rt`).
+//! Writes an item straight from its bytes, in any dialect of notation: each part is written as soon
+//! as it is read, and no item is built. How long a container would be on one line is found by a look
+//! ahead (`ahead.rt`).
 //!
 //! Each function takes the remaining bytes and returns those after what it wrote. What was written
 //! before an error stays. Items that are embedded in a byte string are written by the same
 //! functions; what was written of them is cut back where they can't be read.
 #![tactic(auto, using(cbor_grammar::proofs::shared::Appending::appending_steps))]
 
-ghost use Rattle.std.specs.Prelude.{◌≡◌, ◌+◌, ◌*◌, ◌<◌, ◌≤◌, ◌^◌, ◌++◌, codes, IfOk, IfErr, OnErr};
+ghost use Rattle.std.specs.Prelude.{◌≡◌, ◌+◌, ◌*◌, ◌<◌, ◌≤◌, ◌^◌, IfOk, IfErr, OnErr};
 ghost use Rattle.std.specs.Io.{StartsWith};
 ghost use Rattle.std.specs.String.{string_bytes};
 ghost use Rattle.cbor_grammar.specs.declared.layout.Content.TheVariants as shown;
-ghost use Rattle.cbor_grammar.specs.NotationText.{last_line, rest_text, style_indent};
+ghost use Rattle.cbor_grammar.specs.NotationText.{style_indent};
 ghost use Rattle.cbor_grammar.specs.Reading.{Fails};
 ghost use Rattle.cbor_grammar.specs.WellFormed.{deepest};
-ghost use Rattle.cbor_tokens.specs.Appends.{AppendsText};
-ghost use Rattle.cbor_notation.specs.mirror.LayoutView.{context_view, item_text};
-ghost use Rattle.cbor_notation.specs.mirror.LayoutView.{IsIndented, content_there};
-ghost use Rattle.cbor_notation.specs.mirror.Straight.{Printed, read_there, read_after};
-ghost use Rattle.cbor_notation.specs.mirror.Straight.{string_there, before_chunk, after_chunks};
+ghost use Rattle.cbor_notation.specs.Dialect.{Writes, TextsAt};
+ghost use Rattle.cbor_notation.specs.mirror.Straight.{Written, IsLaidOut, read_there, read_after};
+ghost use Rattle.cbor_notation.specs.mirror.Straight.{chunk, ContentThere, StringThere};
+ghost use Rattle.cbor_notation.specs.mirror.Straight.{BeforeChunk, AfterChunks};
 
 use crate::ahead::{array_style_ahead, chunks_style_ahead, map_style_ahead, sequence_style_ahead};
-use crate::context::NotationContext;
-use crate::members::{
-    push_closing, push_colon, push_end, push_no_chunks, push_opening, push_rest, push_start,
-};
-use crate::scalars::{push_float, push_negative, push_number, push_simple, push_string, push_text};
+use crate::dialect::Dialect;
+use crate::parts::{Container, Leaf};
 use cbor_bytes::borrowed::{next_chunk, read_borrowed};
 use cbor_bytes::head::{no_level_left, read_head};
-use cbor_bytes::quoted::push_quoted;
 use cbor_grammar::argument::Argument;
 use cbor_grammar::head::ItemHead;
 use cbor_grammar::layout::{ContainerStyle, Content};
 use cbor_grammar::level::DEEPEST;
 use cbor_grammar::strings::{StringContent, StringKind};
-use cbor_grammar::{Error, IntegerWidth, Simple, Tag};
+use cbor_grammar::{Error, IntegerWidth};
 use std::alloc::AllocError;
 
 /// Writes the item at the front.
 #[cycle(straight)]
-pub(super) fn push_front<'a>(
+pub fn push_front<'a, D: Dialect>(
     out: &mut String,
     bytes: &'a [u8],
-    context: &NotationContext,
+    place: &D::Place,
 ) -> cbor_grammar::Result<&'a [u8]>
-    requires level { context.now.level ≤ deepest + 1 }
-    requires indent { IsIndented context.now }
-    ensures printed { IfOk result (λ rest. Printed (item_text context.now)
-        (read_there context.now bytes.now) rest.now (string_bytes out.old) (string_bytes out.new)) }
-    ensures refused { IfErr result (λ e. Fails e (read_there context.now bytes.now)) }
+    requires level { D.leaves.level place.now ≤ deepest + 1 }
+    requires indent { IsLaidOut D.leaves place.now }
+    ensures printed { IfOk result (λ rest. Written (TextsAt D.leaves place.now) (read_there D.leaves place.now bytes.now)
+        rest.now (string_bytes out.old) (string_bytes out.new)) }
+    ensures refused { IfErr result (λ e. Fails e (read_there D.leaves place.now bytes.now)) }
     ensures begun { OnErr result (StartsWith (string_bytes out.new) (string_bytes out.old)) }
 {
-    if context.level > DEEPEST {
+    if D::level(place) > DEEPEST {
         return Err(no_level_left(bytes));
     }
     let (head, rest) = read_head(bytes)?;
     match head {
         ItemHead::Integer(value, width) => {
-            push_number(out, value, width)?;
+            D::leaf(out, Leaf::Integer(value, width), place)?;
             Ok(rest)
         }
         ItemHead::Negative(value, width) => {
-            push_negative(out, value, width)?;
+            D::leaf(out, Leaf::Negative(value, width), place)?;
             Ok(rest)
         }
-        ItemHead::String(kind, len) => push_string_front(out, (kind, len), rest, context),
-        ItemHead::Array(count) => push_array_front(out, count, rest, context),
-        ItemHead::Map(count) => push_map_front(out, count, rest, context),
-        ItemHead::Tag(tag, width) => push_tag_front(out, (tag, width), rest, context),
+        ItemHead::String(kind, len) => push_string_front::<D>(out, (kind, len), rest, place),
+        ItemHead::Array(count) => push_array_front::<D>(out, count, rest, place),
+        ItemHead::Map(count) => push_map_front::<D>(out, count, rest, place),
+        ItemHead::Tag(tag, width) => push_tag_front::<D>(out, (tag, width), rest, place),
         ItemHead::Float(bits, width) => {
-            push_float(out, bits, width)?;
+            D::leaf(out, Leaf::Float(bits, width), place)?;
             Ok(rest)
         }
         ItemHead::Simple(value) => {
-            push_simple(out, Simple(value))?;
+            D::leaf(out, Leaf::Simple(value), place)?;
             Ok(rest)
         }
     }
@@ -81,34 +77,36 @@ pub(super) fn push_front<'a>(
 /// Writes an array after its head, with this count of items.
 #[cycle(straight)]
 #[inline(never)]
-fn push_array_front<'a>(
+fn push_array_front<'a, D: Dialect>(
     out: &mut String,
     count: Argument,
     bytes: &'a [u8],
-    context: &NotationContext,
+    place: &D::Place,
 ) -> cbor_grammar::Result<&'a [u8]>
-    requires level { context.now.level ≤ deepest }
-    requires indent { IsIndented context.now }
-    ensures printed { IfOk result (λ rest. Printed (item_text context.now)
-        (read_after context.now (ItemHead.Array count) bytes.now) rest.now
-        (string_bytes out.old) (string_bytes out.new)) }
-    ensures refused { IfErr result (λ e. Fails e
-        (read_after context.now (ItemHead.Array count) bytes.now)) }
+    requires level { D.leaves.level place.now ≤ deepest }
+    requires indent { IsLaidOut D.leaves place.now }
+    ensures printed { IfOk result (λ rest. Written (TextsAt D.leaves place.now) (read_after D.leaves place.now
+        (ItemHead.Array count) bytes.now)
+        rest.now (string_bytes out.old) (string_bytes out.new)) }
+    ensures refused { IfErr result (λ e. Fails e (read_after D.leaves place.now
+        (ItemHead.Array count) bytes.now)) }
     ensures begun { OnErr result (StartsWith (string_bytes out.new) (string_bytes out.old)) }
 {
-    let style = array_style_ahead(context.layout, count, bytes);
-    let inner = context.inside(style.members_layout());
-    push_opening(out, '[', count.width(), style)?;
+    let container = Container::Array(count);
+    let style = array_style_ahead(D::layout(place), count, bytes);
+    let mut inner = D::inside(place, container, style.members_layout());
+    D::opening(out, container, style, place)?;
     let mut rest = bytes;
     let mut held = 0;
     'items: loop {
         if let Some(after) = count.after_end(held, rest) {
-            push_closing(out, style, ']')?;
+            D::closing(out, container, style, place)?;
             return Ok(after);
         }
-        push_start(out, style, held == 0)?;
-        rest = push_front(out, rest, &inner)?;
-        push_end(out, style)?;
+        D::start(out, container, style, held == 0)?;
+        rest = push_front::<D>(out, rest, &inner)?;
+        D::end(out, container, style)?;
+        D::pass(&mut inner);
         held += 1;
     }
 }
@@ -116,36 +114,39 @@ fn push_array_front<'a>(
 /// Writes a map after its head, with this count of pairs.
 #[cycle(straight)]
 #[inline(never)]
-fn push_map_front<'a>(
+fn push_map_front<'a, D: Dialect>(
     out: &mut String,
     count: Argument,
     bytes: &'a [u8],
-    context: &NotationContext,
+    place: &D::Place,
 ) -> cbor_grammar::Result<&'a [u8]>
-    requires level { context.now.level ≤ deepest }
-    requires indent { IsIndented context.now }
-    ensures printed { IfOk result (λ rest. Printed (item_text context.now)
-        (read_after context.now (ItemHead.Map count) bytes.now) rest.now
-        (string_bytes out.old) (string_bytes out.new)) }
-    ensures refused { IfErr result (λ e. Fails e
-        (read_after context.now (ItemHead.Map count) bytes.now)) }
+    requires level { D.leaves.level place.now ≤ deepest }
+    requires indent { IsLaidOut D.leaves place.now }
+    ensures printed { IfOk result (λ rest. Written (TextsAt D.leaves place.now) (read_after D.leaves place.now
+        (ItemHead.Map count) bytes.now)
+        rest.now (string_bytes out.old) (string_bytes out.new)) }
+    ensures refused { IfErr result (λ e. Fails e (read_after D.leaves place.now
+        (ItemHead.Map count) bytes.now)) }
     ensures begun { OnErr result (StartsWith (string_bytes out.new) (string_bytes out.old)) }
 {
-    let style = map_style_ahead(context.layout, count, bytes);
-    let inner = context.inside(style.members_layout());
-    push_opening(out, '{', count.width(), style)?;
+    let container = Container::Map(count);
+    let style = map_style_ahead(D::layout(place), count, bytes);
+    let mut inner = D::inside(place, container, style.members_layout());
+    D::opening(out, container, style, place)?;
     let mut rest = bytes;
     let mut held = 0;
     'pairs: loop {
         if let Some(after) = count.after_end(held, rest) {
-            push_closing(out, style, '}')?;
+            D::closing(out, container, style, place)?;
             return Ok(after);
         }
-        push_start(out, style, held == 0)?;
-        let value = push_front(out, rest, &inner)?;
-        push_colon(out, style)?;
-        rest = push_front(out, value, &inner)?;
-        push_end(out, style)?;
+        D::start(out, container, style, held == 0)?;
+        let value = push_front::<D>(out, rest, &inner)?;
+        D::pass_key(&mut inner, rest, value);
+        D::colon(out, style)?;
+        rest = push_front::<D>(out, value, &inner)?;
+        D::end(out, container, style)?;
+        D::pass(&mut inner);
         held += 1;
     }
 }
@@ -153,124 +154,130 @@ fn push_map_front<'a>(
 /// Writes a tag after its head, by its number and the width of that, and the item below it.
 #[cycle(straight)]
 #[inline(never)]
-fn push_tag_front<'a>(
+fn push_tag_front<'a, D: Dialect>(
     out: &mut String,
     head: (u64, IntegerWidth),
     bytes: &'a [u8],
-    context: &NotationContext,
+    place: &D::Place,
 ) -> cbor_grammar::Result<&'a [u8]>
-    requires level { context.now.level ≤ deepest }
-    requires indent { IsIndented context.now }
-    ensures printed { IfOk result (λ rest. Printed (item_text context.now)
-        (read_after context.now (ItemHead.Tag head.0 head.1) bytes.now) rest.now
-        (string_bytes out.old) (string_bytes out.new)) }
-    ensures refused { IfErr result (λ e. Fails e
-        (read_after context.now (ItemHead.Tag head.0 head.1) bytes.now)) }
+    requires level { D.leaves.level place.now ≤ deepest }
+    requires indent { IsLaidOut D.leaves place.now }
+    ensures printed { IfOk result (λ rest. Written (TextsAt D.leaves place.now) (read_after D.leaves place.now
+        (ItemHead.Tag head.0 head.1) bytes.now)
+        rest.now (string_bytes out.old) (string_bytes out.new)) }
+    ensures refused { IfErr result (λ e. Fails e (read_after D.leaves place.now
+        (ItemHead.Tag head.0 head.1) bytes.now)) }
     ensures begun { OnErr result (StartsWith (string_bytes out.new) (string_bytes out.old)) }
 {
     let (tag, width) = head;
-    push_number(out, tag, width)?;
-    out.push('(')?;
-    let rest = push_front(out, bytes, &context.below(Tag(tag)))?;
-    out.push(')')?;
+    D::tag(out, tag, width, place)?;
+    let rest = push_front::<D>(out, bytes, &D::below(place, tag))?;
+    D::tag_end(out, tag, place)?;
     Ok(rest)
 }
 
 /// Writes a string after its head, with this length.
 #[cycle(straight)]
-fn push_string_front<'a>(
+fn push_string_front<'a, D: Dialect>(
     out: &mut String,
     head: (StringKind, Argument),
     bytes: &'a [u8],
-    context: &NotationContext,
+    place: &D::Place,
 ) -> cbor_grammar::Result<&'a [u8]>
-    requires level { context.now.level ≤ deepest }
-    requires indent { IsIndented context.now }
-    ensures printed { IfOk result (λ rest. Printed (item_text context.now) (read_after context.now
-        (ItemHead.String head.0 head.1) bytes.now) rest.now
-        (string_bytes out.old) (string_bytes out.new)) }
-    ensures refused { IfErr result (λ e. Fails e (read_after context.now
+    requires level { D.leaves.level place.now ≤ deepest }
+    requires indent { IsLaidOut D.leaves place.now }
+    ensures printed { IfOk result (λ rest. Written (TextsAt D.leaves place.now) (read_after D.leaves place.now
+        (ItemHead.String head.0 head.1) bytes.now)
+        rest.now (string_bytes out.old) (string_bytes out.new)) }
+    ensures refused { IfErr result (λ e. Fails e (read_after D.leaves place.now
         (ItemHead.String head.0 head.1) bytes.now)) }
     ensures begun { OnErr result (StartsWith (string_bytes out.new) (string_bytes out.old)) }
 {
     let (kind, len) = head;
     match len {
-        Argument::Number(count, _) => {
+        Argument::Number(count, width) => {
             let (content, rest) = read_borrowed(kind, count, bytes)?;
-            push_definite(out, content, context)?;
+            push_definite::<D>(out, content, width, place)?;
             Ok(rest)
         }
-        Argument::Indefinite => push_chunks_front(out, kind, bytes, context),
+        Argument::Indefinite => push_chunks_front::<D>(out, kind, bytes, place),
     }
 }
 
 /// Writes a string of definite length.
 #[cycle(straight)]
-fn push_definite(
+fn push_definite<D: Dialect>(
     out: &mut String,
     content: StringContent<'_>,
-    context: &NotationContext,
+    width: IntegerWidth,
+    place: &D::Place,
 ) -> Result<(), AllocError>
-    requires level { context.now.level ≤ deepest }
-    requires indent { IsIndented context.now }
-    ensures { AppendsText result out.old out.new (string_there context.now content.entry) }
+    requires level { D.leaves.level place.now ≤ deepest }
+    requires indent { IsLaidOut D.leaves place.now }
+    ensures { Writes result out.old out.new (StringThere D.leaves place.now width content.entry) }
 {
     match content {
-        StringContent::Bytes(bytes) => push_content(out, bytes, context),
-        StringContent::Text(text) => push_text(out, text),
+        StringContent::Bytes(bytes) => push_content::<D>(out, bytes, width, place),
+        StringContent::Text(_) => D::string(out, content, width, place),
     }
 }
 
 /// Writes the bytes of a byte string, or the items that they are where these are shown and can
-/// be read.
+/// be read. Its length has this width.
 #[cycle(straight)]
-pub fn push_content(
+pub fn push_content<D: Dialect>(
     out: &mut String,
     bytes: &[u8],
-    context: &NotationContext,
+    width: IntegerWidth,
+    place: &D::Place,
 ) -> Result<(), AllocError>
-    requires level { context.now.level ≤ deepest }
-    requires indent { IsIndented context.now }
-    ensures { AppendsText result out.old out.new
-        (content_there context.now context.now.content bytes.now) }
+    requires level { D.leaves.level place.now ≤ deepest }
+    requires indent { IsLaidOut D.leaves place.now }
+    ensures { Writes result out.old out.new (ContentThere D.leaves (D.leaves.content place.now)
+        place.now (chunk width bytes.now)) }
 {
-    match context.content {
-        Content::Bytes => push_quoted(out, bytes, context.encoding),
-        Content::Item => push_embedded(out, bytes, context),
-        Content::Sequence => push_sequence(out, bytes, context),
+    match D::content(place) {
+        Content::Bytes => D::string(out, StringContent::Bytes(bytes), width, place),
+        Content::Item => push_embedded::<D>(out, bytes, width, place),
+        Content::Sequence => push_sequence::<D>(out, bytes, width, place),
     }
 }
 
 /// Writes the item that the bytes are, or the bytes where they are none.
 #[cycle(straight)]
 #[inline(never)]
-fn push_embedded(
+fn push_embedded<D: Dialect>(
     out: &mut String,
     bytes: &[u8],
-    context: &NotationContext,
+    width: IntegerWidth,
+    place: &D::Place,
 ) -> Result<(), AllocError>
-    requires level { context.now.level ≤ deepest }
-    requires indent { IsIndented context.now }
-    ensures { AppendsText result out.old out.new (content_there context.now shown.Item bytes.now) }
+    requires level { D.leaves.level place.now ≤ deepest }
+    requires indent { IsLaidOut D.leaves place.now }
+    ensures { Writes result out.old out.new (ContentThere D.leaves shown.Item place.now
+        (chunk width bytes.now)) }
 {
+    let container = Container::Embedded(Argument::Number(bytes.len() as u64, width));
+    let style = ContainerStyle::Compact;
     if bytes.is_empty() {
-        return out.push_str("<<>>");
+        D::opening(out, container, style, place)?;
+        return D::closing(out, container, style, place);
     }
     let start = out.len();
-    out.push_str("<<")?;
-    match push_front(out, bytes, &context.inside(context.layout)) {
+    D::opening(out, container, style, place)?;
+    match push_front::<D>(out, bytes, &D::inside(place, container, D::layout(place))) {
         Ok(rest) => {
             if rest.is_empty() {
-                return out.push_str(">>");
+                return D::closing(out, container, style, place);
             }
             out.truncate(start);
-            push_quoted(out, bytes, context.encoding)
+            D::string(out, StringContent::Bytes(bytes), width, place)
         }
         Err(error) => match error {
             Error::Memory => Err(AllocError),
             _ => {
                 out.truncate(start);
-                push_quoted(out, bytes, context.encoding)
+                D::string(out, StringContent::Bytes(bytes), width, place)
             }
         },
     }
@@ -279,27 +286,30 @@ fn push_embedded(
 /// Writes as many items as can be read one after the other, and the rest as bytes.
 #[cycle(straight)]
 #[inline(never)]
-fn push_sequence(
+fn push_sequence<D: Dialect>(
     out: &mut String,
     bytes: &[u8],
-    context: &NotationContext,
+    width: IntegerWidth,
+    place: &D::Place,
 ) -> Result<(), AllocError>
-    requires level { context.now.level ≤ deepest }
-    requires indent { IsIndented context.now }
-    ensures { AppendsText result out.old out.new
-        (content_there context.now shown.Sequence bytes.now) }
+    requires level { D.leaves.level place.now ≤ deepest }
+    requires indent { IsLaidOut D.leaves place.now }
+    ensures { Writes result out.old out.new (ContentThere D.leaves shown.Sequence place.now
+        (chunk width bytes.now)) }
 {
-    let style = sequence_style_ahead(context.layout, context.level + 1, bytes);
-    let inner = context.inside(style.members_layout());
-    out.push_str("<<")?;
+    let container = Container::Embedded(Argument::Number(bytes.len() as u64, width));
+    let style = sequence_style_ahead(D::layout(place), D::level(place) + 1, bytes);
+    let mut inner = D::inside(place, container, style.members_layout());
+    D::opening(out, container, style, place)?;
     let mut rest = bytes;
     let mut held: usize = 0;
     'items: loop {
         let start = out.len();
-        push_start(out, style, held == 0)?;
-        match push_front(out, rest, &inner) {
+        D::start(out, container, style, held == 0)?;
+        match push_front::<D>(out, rest, &inner) {
             Ok(after) => {
-                push_end(out, style)?;
+                D::end(out, container, style)?;
+                D::pass(&mut inner);
                 rest = after;
                 held += 1;
             }
@@ -307,89 +317,82 @@ fn push_sequence(
                 Error::Memory => return Err(AllocError),
                 _ => {
                     out.truncate(start);
-                    return push_sequence_end(out, rest, style, context);
+                    D::closing(out, container, style, place)?;
+                    return D::rest(out, container, rest, place);
                 }
             },
         }
     }
 }
 
-/// Writes what follows the items of a sequence: the closing brackets, and the bytes that begin with
-/// no item.
-fn push_sequence_end(
-    out: &mut String,
-    rest: &[u8],
-    style: ContainerStyle,
-    context: &NotationContext,
-) -> Result<(), AllocError>
-    ensures { AppendsText result out.old out.new (last_line style
-        ++ (codes ">>" ++ rest_text (context_view context.now) rest.now)) }
-{
-    push_closing(out, style, '>')?;
-    out.push('>')?;
-    push_rest(out, rest, context)
-}
-
 /// Writes an indefinite string after its opening byte.
 #[inline(never)]
-fn push_chunks_front<'a>(
+fn push_chunks_front<'a, D: Dialect>(
     out: &mut String,
     kind: StringKind,
     bytes: &'a [u8],
-    context: &NotationContext,
+    place: &D::Place,
 ) -> cbor_grammar::Result<&'a [u8]>
-    requires level { context.now.level ≤ deepest }
-    requires indent { IsIndented context.now }
-    ensures printed { IfOk result (λ rest. Printed (item_text context.now)
-        (read_after context.now (ItemHead.String kind Argument.Indefinite) bytes.now) rest.now
-        (string_bytes out.old) (string_bytes out.new)) }
-    ensures refused { IfErr result (λ e. Fails e
-        (read_after context.now (ItemHead.String kind Argument.Indefinite) bytes.now)) }
+    requires level { D.leaves.level place.now ≤ deepest }
+    requires indent { IsLaidOut D.leaves place.now }
+    ensures printed { IfOk result (λ rest. Written (TextsAt D.leaves place.now) (read_after D.leaves place.now
+        (ItemHead.String kind Argument.Indefinite) bytes.now)
+        rest.now (string_bytes out.old) (string_bytes out.new)) }
+    ensures refused { IfErr result (λ e. Fails e (read_after D.leaves place.now
+        (ItemHead.String kind Argument.Indefinite) bytes.now)) }
     ensures begun { OnErr result (StartsWith (string_bytes out.new) (string_bytes out.old)) }
 {
-    let style = chunks_style_ahead(context.layout, kind, bytes);
+    let container = Container::Chunks(kind);
+    let style = chunks_style_ahead(D::layout(place), kind, bytes);
     let mut rest = bytes;
     let mut held = 0;
     'chunks: loop {
         let (chunk, after) = next_chunk(kind, rest)?;
-        let Some((content, _)) = chunk else {
-            push_chunks_end(out, kind, held, style)?;
+        let Some((content, width)) = chunk else {
+            push_chunks_end::<D>(out, kind, held, style, place)?;
             return Ok(after);
         };
-        push_chunk_start(out, held, style)?;
-        push_string(out, content, context.encoding)?;
-        push_end(out, style)?;
+        push_chunk_start::<D>(out, kind, held, style, place)?;
+        D::part(out, content, width, place)?;
+        D::end(out, container, style)?;
         rest = after;
         held += 1;
     }
 }
 
 /// Writes what is before a chunk, after `held` others.
-fn push_chunk_start(out: &mut String, held: usize, style: ContainerStyle) -> Result<(), AllocError>
-    requires { style_indent style < 2 ^ 32 }
-    ensures { AppendsText result out.old out.new (before_chunk style held) }
-{
-    if held == 0 {
-        push_opening(out, '(', None, style)?;
-        push_start(out, style, true)
-    } else {
-        push_start(out, style, false)
-    }
-}
-
-/// Writes what is after the last of `held` chunks. A string without chunks keeps its kind.
-fn push_chunks_end(
+fn push_chunk_start<D: Dialect>(
     out: &mut String,
     kind: StringKind,
     held: usize,
     style: ContainerStyle,
+    place: &D::Place,
 ) -> Result<(), AllocError>
-    ensures { AppendsText result out.old out.new
-        (after_chunks style kind held) }
+    requires { style_indent style < 2 ^ 32 }
+    ensures { Writes result out.old out.new (BeforeChunk D.leaves place.now kind style held) }
+{
+    let container = Container::Chunks(kind);
+    if held == 0 {
+        D::opening(out, container, style, place)?;
+        D::start(out, container, style, true)
+    } else {
+        D::start(out, container, style, false)
+    }
+}
+
+/// Writes what is after the last of `held` chunks. A string without chunks keeps its kind.
+fn push_chunks_end<D: Dialect>(
+    out: &mut String,
+    kind: StringKind,
+    held: usize,
+    style: ContainerStyle,
+    place: &D::Place,
+) -> Result<(), AllocError>
+    ensures { Writes result out.old out.new (AfterChunks D.leaves place.now kind style held) }
 {
     if held == 0 {
-        push_no_chunks(out, kind)
+        D::no_parts(out, kind, place)
     } else {
-        push_closing(out, style, ')')
+        D::closing(out, Container::Chunks(kind), style, place)
     }
 }

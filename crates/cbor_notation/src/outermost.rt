@@ -14,17 +14,43 @@ ghost use Rattle.cbor_grammar.specs.Notation.{IsNotation};
 ghost use Rattle.cbor_grammar.specs.NotationText.{indent_of};
 ghost use Rattle.cbor_grammar.specs.Reading.{Fails, read_item};
 ghost use Rattle.cbor_grammar.specs.WellFormed.{deepest};
-ghost use Rattle.cbor_notation.specs.mirror.Straight.{Printed, text_in};
+ghost use Rattle.cbor_notation.specs.Dialect.{TextsAt};
+ghost use Rattle.cbor_notation.specs.mirror.Straight.{Printed, Written, IsLaidOut, text_in};
 
 use crate::context::NotationContext;
+use crate::diag::Diag;
+use crate::dialect::Dialect;
 use crate::from_bytes::push_front;
 use cbor_bytes::hex_text::{decode, uncommented};
 use cbor_grammar::Error;
 use cbor_grammar::layout::Layout;
 use std::alloc::Global;
 
-/// Writes the item at the front, and returns the bytes after it. After an error the text is what it
-/// was.
+/// Writes the item at the front in any dialect, from the outermost level, and returns the bytes
+/// after it. After an error the text is what it was.
+pub fn push_outermost<'a, D: Dialect>(
+    out: &mut String,
+    bytes: &'a [u8],
+    place: &D::Place,
+) -> cbor_grammar::Result<&'a [u8]>
+    requires level { D.leaves.level place.now ≡ 1 }
+    requires indent { IsLaidOut D.leaves place.now }
+    ensures written { IfOk result (λ rest. Written (TextsAt D.leaves place.now)
+        (read_item deepest bytes.now) rest.now (string_bytes out.old) (string_bytes out.new)) }
+    ensures refused { IfErr result (λ e. Fails e (read_item deepest bytes.now)) }
+    ensures unchanged { OnErr result (string_bytes out.new ≡ string_bytes out.old) }
+{
+    let start = out.len();
+    match push_front::<D>(out, bytes, place) {
+        Ok(rest) => Ok(rest),
+        Err(error) => {
+            out.truncate(start);
+            Err(error)
+        }
+    }
+}
+
+/// The same in the notation of `cbor_view`, in this layout.
 fn push_outermost_front<'a>(
     out: &mut String,
     bytes: &'a [u8],
@@ -36,14 +62,7 @@ fn push_outermost_front<'a>(
     ensures refused { IfErr result (λ e. Fails e (read_item deepest bytes.now)) }
     ensures unchanged { OnErr result (string_bytes out.new ≡ string_bytes out.old) }
 {
-    let start = out.len();
-    match push_front(out, bytes, &NotationContext::new(layout)) {
-        Ok(rest) => Ok(rest),
-        Err(error) => {
-            out.truncate(start);
-            Err(error)
-        }
-    }
+    push_outermost::<Diag>(out, bytes, &NotationContext::new(layout))
 }
 
 /// Writes the one item that the bytes are, all of them. After an error the text is what it was.

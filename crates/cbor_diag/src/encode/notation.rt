@@ -34,7 +34,7 @@ use crate::syntax::DataItem;
 use cbor_grammar::layout::{ContainerStyle, Layout};
 use cbor_grammar::{ByteString, Error, IntegerWidth, Tag, TextString};
 use cbor_notation::context::NotationContext;
-use cbor_notation::from_bytes::push_content;
+use cbor_notation::diag::push_content;
 use cbor_notation::members::{
     push_chunks, push_closing, push_colon, push_end, push_opening, push_start,
 };

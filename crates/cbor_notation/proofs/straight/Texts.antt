@@ -1,235 +1,425 @@
 -- Texts that are written as their parts are read.
-use Rattle.std.proofs.Common.{◌≡◌, ℕ, ◌+◌, ◌≤◌, Bool, true, false, eqb, List, [], ◌∷◌, ◌++◌, length, map, codes, Option}
-use Rattle.std.proofs.Common.{None, refl, sym, ap, ◌∙◌, append_assoc}
+use Rattle.std.proofs.Common.{◌≡◌, ℕ, zero, suc, ◌+◌, ◌-◌, ◌≤◌, Bool, true, false, eqb, List, [], ◌∷◌, ◌++◌}
+use Rattle.std.proofs.Common.{Some, None, Result, Ok, IfOk, IfErr, refl, sym, ap, subst, ◌∙◌, append_assoc, arith}
 use Rattle.std.specs.List.{flat_map}
-use Rattle.std.proofs.lemmas.List.{append-nil, map-append, length-map}
+use Rattle.std.proofs.lemmas.List.{append-nil}
 use Rattle.std.proofs.Math.Dec.{eqb-suc-zero}
 use Rattle.std.proofs.lemmas.Grind.{flat_map-append}
-use Rattle.cbor_grammar.specs.declared.width.IntegerWidth.{IntegerWidth}
-use Rattle.cbor_notation.specs.declared.context.NotationContext.{NotationContext}
+use Rattle.cbor_grammar.specs.declared.argument.Argument.{Argument}
+use Rattle.cbor_grammar.specs.declared.argument.Argument.TheVariants.{Number, Indefinite}
+use Rattle.cbor_grammar.specs.declared.error.Error.{Error}
+use Rattle.cbor_grammar.specs.declared.head.ItemHead.{ItemHead}
+use Rattle.cbor_grammar.specs.declared.layout.ContainerStyle.{ContainerStyle}
 use Rattle.cbor_grammar.specs.declared.strings.StringContent.{StringContent}
 use Rattle.cbor_grammar.specs.declared.strings.StringContent.TheVariants as content
-use Rattle.cbor_grammar.specs.declared.layout.ContainerStyle.TheVariants as style
-use Rattle.cbor_grammar.specs.declared.layout.ContainerStyle.{ContainerStyle}
-use Rattle.cbor_grammar.specs.declared.layout.ContainerStyle.TheVariants.{OneLine, MultiLine}
-use Rattle.cbor_grammar.specs.declared.encoding.Encoding.{Encoding}
+use Rattle.cbor_grammar.specs.declared.width.IntegerWidth.{IntegerWidth}
+use Rattle.cbor_grammar.specs.Estimate.{estimated_items, estimated_pairs}
 use Rattle.cbor_grammar.specs.Item as spec
-use Rattle.cbor_grammar.specs.Item.{Chunk, string, chunked_string, Item, atom, array, Items, no_items, item, item_count}
-use Rattle.cbor_grammar.specs.Item.{Pairs, no_pairs, pair, pair_count}
-use Rattle.cbor_grammar.specs.Context.{Context}
-use Rattle.cbor_grammar.specs.NotationText.{line, separated, members, members_layout, last_line, bracketed, opened}
-use Rattle.cbor_grammar.specs.NotationText.{colon}
-use Rattle.cbor_grammar.specs.NotationText.{container_style, inside, item_texts, pair_texts}
-use Rattle.cbor_grammar.specs.NotationText.{array_text, map_text, string_text, chunks_listed, chunks_text}
-use Rattle.cbor_grammar.specs.NotationText.{text_at_level}
-use Rattle.cbor_grammar.specs.Reading.{joined, joined_pairs}
-use Rattle.cbor_grammar.specs.declared.strings.StringKind.{StringKind}
-use Rattle.cbor_grammar.specs.declared.strings.StringKind.TheVariants.{Bytes, Text}
-use Rattle.cbor_grammar.specs.StringKind.{no_chunks}
-use Rattle.cbor_grammar.specs.Estimate.{estimated_items, estimated_pairs, estimated_chunks}
-use Rattle.cbor_notation.specs.mirror.LayoutView.{context_view, before_member, after_member, item_text}
-use Rattle.cbor_notation.specs.mirror.Straight.{string_there, before_chunk, after_chunks}
+use Rattle.cbor_grammar.specs.Item.{Chunk, string, chunked_string, Item, atom, array, tagged, Items, no_items, item}
+use Rattle.cbor_grammar.specs.Item.{item_count, Pairs, no_pairs, pair, pair_count}
+use Rattle.cbor_grammar.specs.NotationText.{container_style, members_layout}
+use Rattle.cbor_grammar.specs.Reading.{Fails, joined, joined_pairs, after_members, count_width, read_head}
+use Rattle.cbor_grammar.specs.WellFormed.{levels_left}
+use Rattle.cbor_grammar.specs.mirror.Lengths.{left_of}
 use Rattle.cbor_grammar.specs.mirror.StringView.{borrowed_chunk, kind_of}
-use Rattle.cbor_grammar.proofs.text.Parts.{write_below, opened_again, bracketed_written}
+use Rattle.cbor_notation.specs.declared.parts.Container.{Container}
+use Rattle.cbor_notation.specs.declared.parts.Container.TheVariants.{Array, Map}
+use Rattle.cbor_notation.specs.Dialect.{Leaves, Writer, listed, ItemTexts, PairText, PairTexts}
+use Rattle.cbor_notation.specs.Dialect.{count_of, TextWith, TextsOf, TextsAt, ItemsText, PairsText}
+use Rattle.cbor_notation.specs.mirror.Straight.{Written, TextsBelow, read_there, read_after, StringThere}
+use Rattle.cbor_bytes.proofs.reading.Levels.{head_reads}
+use Rattle.cbor_notation.proofs.straight.Levels.{after_head}
+
+-- ---- items
+
+-- an item by its parts
+pub texts_open : {P : Type 0} (d : Leaves P) (p : P) (i : Item) (t : List ℕ) → d.level p ≤ 128
+    → TextWith d (levels_left (d.level p + 1)) (TextsBelow d p) p i t → TextsAt d p i t
+unfolding TextsOf
+texts_open d p i t le h =
+    let levels : suc (levels_left (d.level p + 1)) ≡ levels_left (d.level p) = omega arith in
+    subst (λ n. TextsOf d n p i t) levels h
+
+-- what is written at that level
+pub texts_below : {P : Type 0} (d : Leaves P) (inner : P) (level : ℕ) (i : Item) (t : List ℕ) → d.level inner ≡ level
+    → TextsAt d inner i t → TextsOf d (levels_left level) inner i t
+texts_below d inner level i t same h = subst (λ n. TextsOf d (levels_left n) inner i t) same h
+
+-- an item that is its head
+pub leaf_written : {P : Type 0} (d : Leaves P) (p : P) (b : List ℕ) (h : ItemHead) (rest : List ℕ) (i : Item)
+    (old new : List ℕ) → d.level p ≤ 128 → read_head b ≡ Ok (h, rest) → read_after d p h rest ≡ Ok (i, rest)
+    → (t : List ℕ) × TextWith d (levels_left (d.level p + 1)) (TextsBelow d p) p i t × (new ≡ old ++ t)
+    → Written (TextsAt d p) (read_there d p b) rest old new
+leaf_written d p b h rest i old new le e is w =
+    (i, head_reads (d.level p) b h rest le e ∙ is, w.0, texts_open d p i w.0 le w.1, w.2)
+
+-- what holds of what is read after a head holds of what is read there
+pub front_so : {P A : Type 0} (d : Leaves P) (p : P) (r : Result A Error) (f : A → List ℕ) (b : List ℕ) (h : ItemHead)
+    (rest old new : List ℕ) → d.level p ≤ 128 → read_head b ≡ Ok (h, rest)
+    → IfOk r (λ x. Written (TextsAt d p) (read_after d p h rest) (f x) old new)
+    × IfErr r (λ e. Fails e (read_after d p h rest))
+    → IfOk r (λ x. Written (TextsAt d p) (read_there d p b) (f x) old new) × IfErr r (λ e. Fails e (read_there d p b))
+front_so d p r f b h rest old new le e both = after_head
+    (λ read. IfOk r (λ x. Written (TextsAt d p) read (f x) old new) × IfErr r (λ e. Fails e read)) (d.level p) b h
+    rest le e both
 
 -- ---- members
 
 -- none is written yet
-abbrev is_none : List (List ℕ) → Bool
+abbrev pub is_none : List (List ℕ) → Bool
 is_none [] = true
 is_none (m ∷ ms) = false
-
-members_none : (l : ContainerStyle) → members l [] ≡ []
-members_none style.Compact = refl
-members_none (OneLine indent) = refl
-members_none (MultiLine indent) = refl
-
-pub none_written : (l : ContainerStyle) (begun : List ℕ) → begun ≡ begun ++ members l []
-none_written l begun = sym (append-nil begun) ∙ ap (λ x. begun ++ x) (sym (members_none l))
 
 mapped_more : (f : List ℕ → List ℕ) (ms : List (List ℕ)) (m : List ℕ) → flat_map f (ms ++ m ∷ []) ≡ flat_map f ms ++ f m
 mapped_more f ms m = flat_map-append f ms (m ∷ []) ∙ ap (λ y. flat_map f ms ++ y) (append-nil (f m))
 
-separated_more : (s x : List ℕ) (ms : List (List ℕ)) (m : List ℕ)
-    → separated s (x ∷ ms ++ m ∷ []) ≡ separated s (x ∷ ms) ++ (s ++ (m ++ []))
-separated_more s x ms m =
-    let rest : List ℕ = flat_map (λ y. s ++ y) ms in
-    let joined : flat_map (λ y. s ++ y) (ms ++ m ∷ []) ≡ rest ++ (s ++ (m ++ [])) = mapped_more (λ y. s ++ y) ms m
-    ∙ ap (λ y. rest ++ (s ++ y)) (sym (append-nil m)) in
-    ap (λ y. x ++ y) joined ∙ sym (append_assoc x rest (s ++ (m ++ [])))
-
-members_more : (l : ContainerStyle) (ms : List (List ℕ)) (m : List ℕ)
-    → members l (ms ++ m ∷ []) ≡ members l ms ++ (before_member l (is_none ms) ++ (m ++ after_member l))
-members_more style.Compact [] m = refl
-members_more style.Compact (x ∷ ms) m = separated_more (codes ",") x ms m
-members_more (OneLine indent) [] m = refl
-members_more (OneLine indent) (x ∷ ms) m = separated_more (codes ", ") x ms m
-members_more (MultiLine indent) ms m = mapped_more (λ y. line (indent + 4) ++ (y ++ codes ",")) ms m
-
-item_texts_more : (write : Item → List ℕ) (is : Items) (i : Item)
-    → item_texts write (joined is (item i no_items)) ≡ item_texts write is ++ write i ∷ []
-item_texts_more write no_items i = refl
-item_texts_more write (item j is) i = ap (λ ms. write j ∷ ms) (item_texts_more write is i)
-
-pair_texts_more : (write : Item → List ℕ) (between : List ℕ) (ps : Pairs) (k v : Item)
-    → pair_texts write between (joined_pairs ps (pair k v no_pairs))
-    ≡ pair_texts write between ps ++ (write k ++ (between ++ write v)) ∷ []
-pair_texts_more write between no_pairs k v = refl
-pair_texts_more write between (pair j u ps) k v =
-    ap (λ ms. (write j ++ (between ++ write u)) ∷ ms) (pair_texts_more write between ps k v)
-
-items_first : (write : Item → List ℕ) (is : Items) (held : ℕ) → item_count is ≡ held
-    → eqb held 0 ≡ is_none (item_texts write is)
-items_first write no_items held is = ap (λ n. eqb n 0) (sym is)
-items_first write (item i more) held is = ap (λ n. eqb n 0) (sym is) ∙ eqb-suc-zero (item_count more)
-
-pairs_first : (write : Item → List ℕ) (between : List ℕ) (ps : Pairs) (held : ℕ) → pair_count ps ≡ held
-    → eqb held 0 ≡ is_none (pair_texts write between ps)
-pairs_first write between no_pairs held is = ap (λ n. eqb n 0) (sym is)
-pairs_first write between (pair k v more) held is = ap (λ n. eqb n 0) (sym is) ∙ eqb-suc-zero (pair_count more)
+pub listed_more : (start : Bool → List ℕ) (end : List ℕ) (ms : List (List ℕ)) (m : List ℕ)
+    → listed start end (ms ++ m ∷ []) ≡ listed start end ms ++ (start (is_none ms) ++ (m ++ end))
+listed_more start end [] m = append-nil (start true ++ (m ++ end))
+listed_more start end (x ∷ ms) m =
+    let f : List ℕ → List ℕ = λ y. start false ++ (y ++ end) in
+    let first : List ℕ = start true ++ (x ++ end) in
+    ap (λ y. first ++ y) (mapped_more f ms m) ∙ sym (append_assoc first (flat_map f ms) (f m))
 
 -- one member more is written
-more_written : (l : ContainerStyle) (ms : List (List ℕ)) (m : List ℕ) (first : Bool)
+more_written : (start : Bool → List ℕ) (end : List ℕ) (ms : List (List ℕ)) (m : List ℕ) (first : Bool)
     (begun out started written new : List ℕ) → first ≡ is_none ms
-    → out ≡ begun ++ members l ms → started ≡ out ++ before_member l first → written ≡ started ++ m
-    → new ≡ written ++ after_member l
-    → new ≡ begun ++ members l (ms ++ m ∷ [])
-more_written l ms m first begun out started written new is p q r s =
-    let before : List ℕ = members l ms in
-    let start : List ℕ = before_member l (is_none ms) in
-    let joined : (((begun ++ before) ++ start) ++ m) ++ after_member l
-    ≡ begun ++ (before ++ (start ++ (m ++ after_member l))) = simp append_assoc in
-    let begins : started ≡ (begun ++ before) ++ start =
-    q ∙ ap (λ x. x ++ before_member l first) p ∙ ap (λ f. (begun ++ before) ++ before_member l f) is in
-    s ∙ ap (λ x. x ++ after_member l) (r ∙ ap (λ x. x ++ m) begins) ∙ joined
-    ∙ ap (λ x. begun ++ x) (sym (members_more l ms m))
-
-pub item_more : (l : ContainerStyle) (write : Item → List ℕ) (is : Items) (i : Item) (held : ℕ)
-    (begun out started written new : List ℕ) → item_count is ≡ held → out ≡ begun ++ members l (item_texts write is)
-    → started ≡ out ++ before_member l (eqb held 0) → written ≡ started ++ write i → new ≡ written ++ after_member l
-    → new ≡ begun ++ members l (item_texts write (joined is (item i no_items)))
-item_more l write is i held begun out started written new count p q r s =
-    more_written l (item_texts write is) (write i) (eqb held 0) begun out started written new
-    (items_first write is held count) p q r s
-    ∙ ap (λ ms. begun ++ members l ms) (sym (item_texts_more write is i))
-
-pub pair_more : (l : ContainerStyle) (write : Item → List ℕ) (ps : Pairs) (k v : Item) (held : ℕ)
-    (begun out started key between written new : List ℕ) → pair_count ps ≡ held
-    → out ≡ begun ++ members l (pair_texts write (colon l) ps)
-    → started ≡ out ++ before_member l (eqb held 0) → key ≡ started ++ write k → between ≡ key ++ colon l
-    → written ≡ between ++ write v → new ≡ written ++ after_member l
-    → new ≡ begun ++ members l (pair_texts write (colon l) (joined_pairs ps (pair k v no_pairs)))
-pair_more l write ps k v held begun out started key between written new count p q r s t u =
-    let regroup : ((started ++ write k) ++ colon l) ++ write v ≡ started ++ (write k ++ (colon l ++ write v)) =
+    → out ≡ begun ++ listed start end ms → started ≡ out ++ start first → written ≡ started ++ m
+    → new ≡ written ++ end
+    → new ≡ begun ++ listed start end (ms ++ m ∷ [])
+more_written start end ms m first begun out started written new is p q r s =
+    let before : List ℕ = listed start end ms in
+    let here : List ℕ = start (is_none ms) in
+    let joined : (((begun ++ before) ++ here) ++ m) ++ end ≡ begun ++ (before ++ (here ++ (m ++ end))) =
     simp append_assoc in
-    let both : written ≡ started ++ (write k ++ (colon l ++ write v)) =
-    t ∙ ap (λ x. x ++ write v) (s ∙ ap (λ x. x ++ colon l) r) ∙ regroup in
-    more_written l (pair_texts write (colon l) ps) (write k ++ (colon l ++ write v)) (eqb held 0) begun out started
-    written new (pairs_first write (colon l) ps held count) p q both u
-    ∙ ap (λ ms. begun ++ members l ms) (sym (pair_texts_more write (colon l) ps k v))
+    let begins : started ≡ (begun ++ before) ++ here =
+    q ∙ ap (λ x. x ++ start first) p ∙ ap (λ f. (begun ++ before) ++ start f) is in
+    s ∙ ap (λ x. x ++ end) (r ∙ ap (λ x. x ++ m) begins) ∙ joined
+    ∙ ap (λ x. begun ++ x) (sym (listed_more start end ms m))
 
--- ---- containers
+none_listed : (old begun o : List ℕ) → begun ≡ old ++ o → begun ≡ (old ++ o) ++ []
+none_listed old begun o is = is ∙ sym (append-nil (old ++ o))
 
--- an item right below is written by its context, which is this one
-pub writes_inner : (inner : NotationContext) (level : ℕ) (c : Context) → inner.level ≡ level → context_view inner ≡ c
-    → item_text inner ≡ text_at_level level c
-writes_inner inner level c p q = ap (λ n. text_at_level n (context_view inner)) p ∙ ap (text_at_level level) q
+-- members between an opening and a closing
+between : (old begun out new o inner e : List ℕ) → out ≡ (old ++ o) ++ inner → new ≡ out ++ e
+    → new ≡ old ++ (o ++ (inner ++ e))
+between old begun out new o inner e p q = q ∙ ap (λ x. x ++ e) p ∙ simp append_assoc
 
--- the style of a container that is estimated so
-abbrev pub style_there : NotationContext → ℕ → ContainerStyle
-style_there c size = container_style c.layout size
+-- ---- how many members there are
 
-module _ (l : ContainerStyle) (c inner : NotationContext) (level : c.level ≤ 128) (deeper : inner.level ≡ c.level + 1)
-    (inside_it : context_view inner ≡ inside (members_layout l) (context_view c)) where
-  pub array_printed : (is : Items) (w : Option IntegerWidth) (old begun out new : List ℕ)
-      → l ≡ style_there c (4 + estimated_items is) → begun ≡ old ++ opened l (codes "[") w
-      → out ≡ begun ++ members l (item_texts (item_text inner) is) → new ≡ out ++ (last_line l ++ codes "]")
-      → new ≡ old ++ item_text c (array is w)
-  array_printed is w old begun out new same p q r =
-      opened_again c.level (context_view c) (array is w) old new level
-      (bracketed_written l (opened l (codes "[") w) (codes "]") (item_texts (item_text inner) is) old begun out new
-      p q r
-      ∙ ap (λ f. old ++ bracketed l (opened l (codes "[") w) (item_texts f is) (codes "]"))
-      (writes_inner inner (c.level + 1) (inside (members_layout l) (context_view c)) deeper inside_it)
-      ∙ ap (λ k. old ++ array_text (write_below c.level) (context_view c) k is w) same)
+-- no more are held than the count says
+abbrev pub Reached : Argument → ℕ → Type 0
+Reached (Number n w) held = held ≤ n
+Reached Indefinite held = Unit {0}
 
-  pub map_printed : (ps : Pairs) (w : Option IntegerWidth) (old begun out new : List ℕ)
-      → l ≡ style_there c (4 + estimated_pairs ps) → begun ≡ old ++ opened l (codes "{") w
-      → out ≡ begun ++ members l (pair_texts (item_text inner) (colon l) ps) → new ≡ out ++ (last_line l ++ codes "}")
-      → new ≡ old ++ item_text c (spec.map ps w)
-  map_printed ps w old begun out new same p q r =
-      opened_again c.level (context_view c) (spec.map ps w) old new level
-      (bracketed_written l (opened l (codes "{") w) (codes "}") (pair_texts (item_text inner) (colon l) ps) old
-      begun out new p q r
-      ∙ ap (λ f. old ++ bracketed l (opened l (codes "{") w) (pair_texts f (colon l) ps) (codes "}"))
-      (writes_inner inner (c.level + 1) (inside (members_layout l) (context_view c)) deeper inside_it)
-      ∙ ap (λ k. old ++ map_text (write_below c.level) (context_view c) k ps w) same)
+pub reached_none : (count : Argument) → Reached count 0
+reached_none (Number n w) = omega arith
+reached_none Indefinite = tt
 
--- ---- chunks
+still : (left : ℕ) (w : IntegerWidth) (b : List ℕ) → None ≡ after_members (Number left w) b → 1 ≤ left
+still zero w b none = absurd cc
+still (suc n) w b none = omega arith
 
--- the chunks so far
-abbrev pub chunks_begun : ContainerStyle → List (List ℕ) → List ℕ
-chunks_begun l [] = []
-chunks_begun l (m ∷ ms) = opened l (codes "(") None ++ members l (m ∷ ms)
+ended : (left : ℕ) (w : IntegerWidth) (b after : List ℕ) → Some after ≡ after_members (Number left w) b → left ≡ 0
+ended zero w b after some = refl
+ended (suc n) w b after some = absurd cc
 
-abbrev pub chunk_texts : StringKind → Encoding → List Chunk → List (List ℕ)
-chunk_texts kind e cs = map (λ (c : Chunk). string_text kind e c.bytes) cs
+pub reached_more : (count : Argument) (held : ℕ) (b : List ℕ) → None ≡ after_members (left_of count held) b
+    → Reached count (held + 1)
+reached_more (Number n w) held b none = omega (arith, still (n - held) w b none)
+reached_more Indefinite held b none = tt
 
-one_more : (l : ContainerStyle) (ms : List (List ℕ)) (m : List ℕ) (held : ℕ) → length ms ≡ held
-    → chunks_begun l (ms ++ m ∷ []) ≡ chunks_begun l ms ++ (before_chunk l held ++ (m ++ after_member l))
-one_more l [] m held is =
-    let opening : List ℕ = opened l (codes "(") None in
-    let more : List ℕ = m ++ after_member l in
-    rw (sym is) (ap (λ x. opening ++ x) (members_more l [] m
-    ∙ ap (λ x. x ++ (before_member l true ++ more)) (members_none l))
-    ∙ sym (append_assoc opening (before_member l true) more))
-one_more l (x ∷ ms) m held is =
-    let opening : List ℕ = opened l (codes "(") None in
-    rw (sym is) (ap (λ y. opening ++ y) (members_more l (x ∷ ms) m)
-    ∙ sym (append_assoc opening (members l (x ∷ ms)) (before_member l false ++ (m ++ after_member l))))
+pub reached_all : (count : Argument) (held : ℕ) (b after : List ℕ) → Reached count held
+    → Some after ≡ after_members (left_of count held) b → count ≡ count_of (count_width count) held
+reached_all (Number n w) held b after le some =
+    let same : n ≡ held = omega (arith, ended (n - held) w b after some, le) in
+    ap (λ k. Number k w) same
+reached_all Indefinite held b after le some = refl
 
-pub chunk_more : (l : ContainerStyle) (kind : StringKind) (e : Encoding) (cs : List Chunk) (x : Chunk) (held : ℕ)
-    (old out started written new : List ℕ) → length cs ≡ held → out ≡ old ++ chunks_begun l (chunk_texts kind e cs)
-    → started ≡ out ++ before_chunk l held → written ≡ started ++ string_text kind e x.bytes
-    → new ≡ written ++ after_member l
-    → new ≡ old ++ chunks_begun l (chunk_texts kind e (cs ++ x ∷ []))
-chunk_more l kind e cs x held old out started written new count p q r s =
-    let ms : List (List ℕ) = chunk_texts kind e cs in
-    let m : List ℕ = string_text kind e x.bytes in
-    let joined : (((old ++ chunks_begun l ms) ++ before_chunk l held) ++ m) ++ after_member l
-    ≡ old ++ (chunks_begun l ms ++ (before_chunk l held ++ (m ++ after_member l))) = simp append_assoc in
-    let one : chunk_texts kind e (cs ++ x ∷ []) ≡ ms ++ m ∷ [] =
-    map-append (λ (c : Chunk). string_text kind e c.bytes) cs (x ∷ []) in
-    let held_so : length ms ≡ held = length-map cs (λ (c : Chunk). string_text kind e c.bytes) ∙ count in
-    s ∙ ap (λ y. y ++ after_member l) (r ∙ ap (λ y. y ++ m) (q ∙ ap (λ y. y ++ before_chunk l held) p)) ∙ joined
-    ∙ ap (λ y. old ++ y) (sym (one_more l ms m held held_so)) ∙ ap (λ y. old ++ chunks_begun l y) (sym one)
+-- ---- items
 
-listed_so : (l : ContainerStyle) (kind : StringKind) (ms : List (List ℕ)) (held : ℕ) → length ms ≡ held
-    → chunks_begun l ms ++ after_chunks l kind held ≡ chunks_listed l (no_chunks kind) ms
-listed_so l kind [] held is = rw (sym is) refl
-listed_so l kind (m ∷ ms) held is = rw (sym is)
-    (append_assoc (opened l (codes "(") None) (members l (m ∷ ms)) (last_line l ++ codes ")"))
+-- the place after these items
+abbrev pub past_items : {P : Type 0} → Leaves P → P → Items → P
+past_items d p no_items = p
+past_items d p (item i is) = past_items d (d.next p) is
 
-pub chunks_printed : (l : ContainerStyle) (c : NotationContext) (kind : StringKind) (cs : List Chunk) (held : ℕ)
-    (old out new : List ℕ) → c.level ≤ 128 → l ≡ style_there c (4 + estimated_chunks kind cs) → length cs ≡ held
-    → out ≡ old ++ chunks_begun l (chunk_texts kind c.encoding cs)
-    → new ≡ out ++ after_chunks l kind held
-    → new ≡ old ++ item_text c (atom (chunked_string kind cs))
-chunks_printed l c kind cs held old out new level same count p q =
-    let ms : List (List ℕ) = chunk_texts kind c.encoding cs in
-    let held_so : length ms ≡ held =
-    length-map cs (λ (x : Chunk). string_text kind c.encoding x.bytes) ∙ count in
-    opened_again c.level (context_view c) (atom (chunked_string kind cs)) old new level
-    (q ∙ ap (λ y. y ++ after_chunks l kind held) p ∙ append_assoc old (chunks_begun l ms) (after_chunks l kind held)
-    ∙ ap (λ y. old ++ y) (listed_so l kind ms held held_so)
-    ∙ ap (λ k. old ++ chunks_text kind c.encoding k cs) same)
+past_more : {P : Type 0} (d : Leaves P) (p : P) (is : Items) (i : Item)
+    → past_items d p (joined is (item i no_items)) ≡ d.next (past_items d p is)
+past_more d p no_items i = refl
+past_more d p (item j is) i = past_more d (d.next p) is i
 
--- ---- strings of definite length
+items_more : {P : Type 0} (d : Leaves P) (write : Writer P) (p : P) (is : Items) (i : Item) (ms : List (List ℕ))
+    (m : List ℕ) → ItemTexts d write p is ms → write (past_items d p is) i m
+    → ItemTexts d write p (joined is (item i no_items)) (ms ++ m ∷ [])
+items_more d write p no_items i [] m each one = (one, tt)
+items_more d write p no_items i (x ∷ ms) m each one = absurd each
+items_more d write p (item j is) i [] m each one = absurd each
+items_more d write p (item j is) i (x ∷ ms) m each one =
+    (each.0, items_more d write (d.next p) is i ms m each.1 one)
 
-pub string_printed : (c : NotationContext) (w : IntegerWidth) (s : StringContent) (old new : List ℕ) → c.level ≤ 128
-    → new ≡ old ++ string_there c s → new ≡ old ++ item_text c (atom (string (kind_of s) (borrowed_chunk w s)))
-string_printed c w (content.Bytes b) old new level h =
-    opened_again c.level (context_view c) (atom (string Bytes (borrowed_chunk w (content.Bytes b))))
-    old new level h
-string_printed c w (content.Text t) old new level h =
-    opened_again c.level (context_view c) (atom (string Text (borrowed_chunk w (content.Text t)))) old new level h
+items_first : {P : Type 0} (d : Leaves P) (write : Writer P) (p : P) (is : Items) (ms : List (List ℕ)) (held : ℕ)
+    → ItemTexts d write p is ms → item_count is ≡ held → eqb held 0 ≡ is_none ms
+items_first d write p no_items [] held each is = ap (λ n. eqb n 0) (sym is)
+items_first d write p no_items (m ∷ ms) held each is = absurd each
+items_first d write p (item i more) [] held each is = absurd each
+items_first d write p (item i more) (m ∷ ms) held each is =
+    ap (λ n. eqb n 0) (sym is) ∙ eqb-suc-zero (item_count more)
+
+-- These items are written after the opening of their container, and the place of the next is this one.
+pub record ItemsWritten {P : Type 0} (d : Leaves P) (write : Writer P) (p first : P) (c : Container)
+    (l : ContainerStyle) (old out : List ℕ) (is : Items) (now : P) (held : ℕ) : Type 0 where
+  pub opening : List ℕ
+  pub texts : List (List ℕ)
+  pub opens : d.opening p c l opening
+  pub each : ItemTexts d write first is texts
+  pub place : now ≡ past_items d first is
+  pub text : out ≡ (old ++ opening) ++ listed (d.start c l) (d.end c l) texts
+  pub count : item_count is ≡ held
+
+pub no_items_written : {P : Type 0} (d : Leaves P) (write : Writer P) (p first now : P) (c : Container)
+    (l : ContainerStyle) (old out : List ℕ) → now ≡ first
+    → (o : List ℕ) × d.opening p c l o × (out ≡ old ++ o)
+    → ItemsWritten d write p first c l old out no_items now 0
+no_items_written d write p first now c l old out same o = record {
+  opening = o.0;
+  texts = [];
+  opens = o.1;
+  each = tt;
+  place = same;
+  text = none_listed old out o.0 o.2;
+  count = refl;
+}
+
+pub one_item_written : {P : Type 0} (d : Leaves P) (write : Writer P) (p first now next : P) (c : Container)
+    (l : ContainerStyle) (old out started written new : List ℕ) (is : Items) (i : Item) (held : ℕ) (m : List ℕ)
+    → ItemsWritten d write p first c l old out is now held → started ≡ out ++ d.start c l (eqb held 0)
+    → write now i m → written ≡ started ++ m → new ≡ written ++ d.end c l → next ≡ d.next now
+    → ItemsWritten d write p first c l old new (joined is (item i no_items)) next (held + 1)
+one_item_written d write p first now next c l old out started written new is i held m w q one r s pass = record {
+  opening = w.opening;
+  texts = w.texts ++ m ∷ [];
+  opens = w.opens;
+  each = items_more d write first is i w.texts m w.each (subst (λ x. write x i m) w.place one);
+  place = pass ∙ ap d.next w.place ∙ sym (past_more d first is i);
+  text = more_written (d.start c l) (d.end c l) w.texts m (eqb held 0) (old ++ w.opening) out started written new
+      (items_first d write first is w.texts held w.each w.count) w.text q r s;
+  count = omega (arith, count_one is i, w.count);
+}
+  where
+    count_one : (js : Items) (j : Item) → item_count (joined js (item j no_items)) ≡ item_count js + 1
+    count_one no_items j = refl
+    count_one (item k js) j = omega (arith, count_one js j)
+
+pub items_written : {P : Type 0} (d : Leaves P) (write : Writer P) (p first now : P) (c : Container)
+    (l : ContainerStyle) (old out new : List ℕ) (is : Items) (held : ℕ)
+    → ItemsWritten d write p first c l old out is now held → first ≡ d.inside c (members_layout l) p
+    → (e : List ℕ) × d.closing p c l e × (new ≡ out ++ e)
+    → (t : List ℕ) × ItemsText d write p c l is t × (new ≡ old ++ t)
+items_written d write p first now c l old out new is held w inside_it ends =
+    let inner : List ℕ = listed (d.start c l) (d.end c l) w.texts in
+    let each = subst (λ x. ItemTexts d write x is w.texts) inside_it w.each in (
+      w.opening ++ (inner ++ ends.0),
+      (w.texts, each, (w.opening, ends.0, w.opens, ends.1, refl)),
+      between old old out new w.opening inner ends.0 w.text ends.2,
+    )
+
+-- ---- pairs
+
+-- the place after these pairs
+abbrev pub past_pairs : {P : Type 0} → Leaves P → P → Pairs → P
+past_pairs d p no_pairs = p
+past_pairs d p (pair k v ps) = past_pairs d (d.next (d.value k p)) ps
+
+past_pair_more : {P : Type 0} (d : Leaves P) (p : P) (ps : Pairs) (k v : Item)
+    → past_pairs d p (joined_pairs ps (pair k v no_pairs)) ≡ d.next (d.value k (past_pairs d p ps))
+past_pair_more d p no_pairs k v = refl
+past_pair_more d p (pair j u ps) k v = past_pair_more d (d.next (d.value j p)) ps k v
+
+pairs_more : {P : Type 0} (d : Leaves P) (write : Writer P) (l : ContainerStyle) (p : P) (ps : Pairs) (k v : Item)
+    (ms : List (List ℕ)) (m : List ℕ) → PairTexts d write l p ps ms → PairText d write l (past_pairs d p ps) k v m
+    → PairTexts d write l p (joined_pairs ps (pair k v no_pairs)) (ms ++ m ∷ [])
+pairs_more d write l p no_pairs k v [] m each one = (one, tt)
+pairs_more d write l p no_pairs k v (x ∷ ms) m each one = absurd each
+pairs_more d write l p (pair j u ps) k v [] m each one = absurd each
+pairs_more d write l p (pair j u ps) k v (x ∷ ms) m each one =
+    (each.0, pairs_more d write l (d.next (d.value j p)) ps k v ms m each.1 one)
+
+pairs_first : {P : Type 0} (d : Leaves P) (write : Writer P) (l : ContainerStyle) (p : P) (ps : Pairs)
+    (ms : List (List ℕ)) (held : ℕ) → PairTexts d write l p ps ms → pair_count ps ≡ held → eqb held 0 ≡ is_none ms
+pairs_first d write l p no_pairs [] held each is = ap (λ n. eqb n 0) (sym is)
+pairs_first d write l p no_pairs (m ∷ ms) held each is = absurd each
+pairs_first d write l p (pair k v more) [] held each is = absurd each
+pairs_first d write l p (pair k v more) (m ∷ ms) held each is =
+    ap (λ n. eqb n 0) (sym is) ∙ eqb-suc-zero (pair_count more)
+
+-- These pairs are written after the opening of their map, and the place of the next key is this one.
+pub record PairsWritten {P : Type 0} (d : Leaves P) (write : Writer P) (p first : P) (c : Container)
+    (l : ContainerStyle) (old out : List ℕ) (ps : Pairs) (now : P) (held : ℕ) : Type 0 where
+  pub opening : List ℕ
+  pub texts : List (List ℕ)
+  pub opens : d.opening p c l opening
+  pub each : PairTexts d write l first ps texts
+  pub place : now ≡ past_pairs d first ps
+  pub text : out ≡ (old ++ opening) ++ listed (d.start c l) (d.end c l) texts
+  pub count : pair_count ps ≡ held
+
+pub no_pairs_written : {P : Type 0} (d : Leaves P) (write : Writer P) (p first now : P) (c : Container)
+    (l : ContainerStyle) (old out : List ℕ) → now ≡ first
+    → (o : List ℕ) × d.opening p c l o × (out ≡ old ++ o)
+    → PairsWritten d write p first c l old out no_pairs now 0
+no_pairs_written d write p first now c l old out same o = record {
+  opening = o.0;
+  texts = [];
+  opens = o.1;
+  each = tt;
+  place = same;
+  text = none_listed old out o.0 o.2;
+  count = refl;
+}
+
+-- a key, and its value after it
+pub pair_text : {P : Type 0} (d : Leaves P) (write : Writer P) (l : ContainerStyle) (now value : P) (k v : Item)
+    (a b started key between written : List ℕ) → write now k a → key ≡ started ++ a → value ≡ d.value k now
+    → between ≡ key ++ d.colon l → write value v b → written ≡ between ++ b
+    → (m : List ℕ) × PairText d write l now k v m × (written ≡ started ++ m)
+pair_text d write l now value k v a b started key between written one q pass r two s =
+    let regroup : ((started ++ a) ++ d.colon l) ++ b ≡ started ++ (a ++ (d.colon l ++ b)) = simp append_assoc in (
+      a ++ (d.colon l ++ b),
+      (a, b, one, subst (λ x. write x v b) pass two, refl),
+      s ∙ ap (λ x. x ++ b) (r ∙ ap (λ x. x ++ d.colon l) q) ∙ regroup,
+    )
+
+pub one_pair_written : {P : Type 0} (d : Leaves P) (write : Writer P) (p first now value next : P) (c : Container)
+    (l : ContainerStyle) (old out started written new : List ℕ) (ps : Pairs) (k v : Item) (held : ℕ)
+    → PairsWritten d write p first c l old out ps now held → started ≡ out ++ d.start c l (eqb held 0)
+    → (m : List ℕ) × PairText d write l now k v m × (written ≡ started ++ m) → new ≡ written ++ d.end c l
+    → value ≡ d.value k now → next ≡ d.next value
+    → PairsWritten d write p first c l old new (joined_pairs ps (pair k v no_pairs)) next (held + 1)
+one_pair_written d write p first now value next c l old out started written new ps k v held w q one s key pass = record {
+  opening = w.opening;
+  texts = w.texts ++ one.0 ∷ [];
+  opens = w.opens;
+  each = pairs_more d write l first ps k v w.texts one.0 w.each
+      (subst (λ x. PairText d write l x k v one.0) w.place one.1);
+  place = pass ∙ ap d.next (key ∙ ap (d.value k) w.place) ∙ sym (past_pair_more d first ps k v);
+  text = more_written (d.start c l) (d.end c l) w.texts one.0 (eqb held 0) (old ++ w.opening) out started written new
+      (pairs_first d write l first ps w.texts held w.each w.count) w.text q one.2 s;
+  count = omega (arith, count_one ps, w.count);
+}
+  where
+    count_one : (js : Pairs) → pair_count (joined_pairs js (pair k v no_pairs)) ≡ pair_count js + 1
+    count_one no_pairs = refl
+    count_one (pair j u js) = omega (arith, count_one js)
+
+pub pairs_written : {P : Type 0} (d : Leaves P) (write : Writer P) (p first now : P) (c : Container)
+    (l : ContainerStyle) (old out new : List ℕ) (ps : Pairs) (held : ℕ)
+    → PairsWritten d write p first c l old out ps now held → first ≡ d.inside c (members_layout l) p
+    → (e : List ℕ) × d.closing p c l e × (new ≡ out ++ e)
+    → (t : List ℕ) × PairsText d write p c l ps t × (new ≡ old ++ t)
+pairs_written d write p first now c l old out new ps held w inside_it ends =
+    let inner : List ℕ = listed (d.start c l) (d.end c l) w.texts in
+    let each = subst (λ x. PairTexts d write l x ps w.texts) inside_it w.each in (
+      w.opening ++ (inner ++ ends.0),
+      (w.texts, each, (w.opening, ends.0, w.opens, ends.1, refl)),
+      between old old out new w.opening inner ends.0 w.text ends.2,
+    )
+
+-- ---- whole containers
+
+-- an array of these items there, and a map of these pairs
+pub array_written : {P : Type 0} (d : Leaves P) (p : P) (l : ContainerStyle) (count : Argument) (is : Items) (held : ℕ)
+    (old new : List ℕ) → d.level p ≤ 128 → l ≡ container_style (d.layout p) (4 + estimated_items is)
+    → item_count is ≡ held → count ≡ count_of (count_width count) held
+    → (t : List ℕ) × ItemsText d (TextsBelow d p) p (Array count) l is t × (new ≡ old ++ t)
+    → (t : List ℕ) × TextsAt d p (array is (count_width count)) t × (new ≡ old ++ t)
+array_written d p l count is held old new level same holds counted w =
+    let w' = count_width count in
+    let whole : count ≡ count_of w' (item_count is) = counted ∙ ap (count_of w') (sym holds) in
+    let styled = subst (λ x. ItemsText d (TextsBelow d p) p (Array count) x is w.0) same w.1 in
+    let so = subst (λ a. ItemsText d (TextsBelow d p) p (Array a)
+    (container_style (d.layout p) (4 + estimated_items is)) is w.0) whole styled in
+    (w.0, texts_open d p (array is w') w.0 level so, w.2)
+
+pub map_written : {P : Type 0} (d : Leaves P) (p : P) (l : ContainerStyle) (count : Argument) (ps : Pairs) (held : ℕ)
+    (old new : List ℕ) → d.level p ≤ 128 → l ≡ container_style (d.layout p) (4 + estimated_pairs ps)
+    → pair_count ps ≡ held → count ≡ count_of (count_width count) held
+    → (t : List ℕ) × PairsText d (TextsBelow d p) p (Map count) l ps t × (new ≡ old ++ t)
+    → (t : List ℕ) × TextsAt d p (spec.map ps (count_width count)) t × (new ≡ old ++ t)
+map_written d p l count ps held old new level same holds counted w =
+    let w' = count_width count in
+    let whole : count ≡ count_of w' (pair_count ps) = counted ∙ ap (count_of w') (sym holds) in
+    let styled = subst (λ x. PairsText d (TextsBelow d p) p (Map count) x ps w.0) same w.1 in
+    let so = subst (λ a. PairsText d (TextsBelow d p) p (Map a)
+    (container_style (d.layout p) (4 + estimated_pairs ps)) ps w.0) whole styled in
+    (w.0, texts_open d p (spec.map ps w') w.0 level so, w.2)
+
+pub array_closed : {P : Type 0} (d : Leaves P) (p now : P) (l : ContainerStyle) (count : Argument) (is : Items)
+    (held : ℕ) (old out new rest after : List ℕ) → d.level p ≤ 128
+    → l ≡ container_style (d.layout p) (4 + estimated_items is)
+    → ItemsWritten d (TextsBelow d p) p (d.inside (Array count) (members_layout l) p) (Array count) l old out is now held
+    → Reached count held → Some after ≡ after_members (left_of count held) rest
+    → (e : List ℕ) × d.closing p (Array count) l e × (new ≡ out ++ e)
+    → (t : List ℕ) × TextsAt d p (array is (count_width count)) t × (new ≡ old ++ t)
+array_closed d p now l count is held old out new rest after level same w reached some ends =
+    array_written d p l count is held old new level same w.count (reached_all count held rest after reached some)
+    (items_written d (TextsBelow d p) p (d.inside (Array count) (members_layout l) p) now (Array count) l old out new is
+    held w refl ends)
+
+pub map_closed : {P : Type 0} (d : Leaves P) (p now : P) (l : ContainerStyle) (count : Argument) (ps : Pairs)
+    (held : ℕ) (old out new rest after : List ℕ) → d.level p ≤ 128
+    → l ≡ container_style (d.layout p) (4 + estimated_pairs ps)
+    → PairsWritten d (TextsBelow d p) p (d.inside (Map count) (members_layout l) p) (Map count) l old out ps now held
+    → Reached count held → Some after ≡ after_members (left_of count held) rest
+    → (e : List ℕ) × d.closing p (Map count) l e × (new ≡ out ++ e)
+    → (t : List ℕ) × TextsAt d p (spec.map ps (count_width count)) t × (new ≡ old ++ t)
+map_closed d p now l count ps held old out new rest after level same w reached some ends =
+    map_written d p l count ps held old new level same w.count (reached_all count held rest after reached some)
+    (pairs_written d (TextsBelow d p) p (d.inside (Map count) (members_layout l) p) now (Map count) l old out new ps
+    held w refl ends)
+
+-- ---- strings
+
+pub string_written : {P : Type 0} (d : Leaves P) (p : P) (w : IntegerWidth) (s : StringContent) (old new : List ℕ)
+    → d.level p ≤ 128 → (t : List ℕ) × StringThere d p w s t × (new ≡ old ++ t)
+    → (t : List ℕ) × TextsAt d p (atom (string (kind_of s) (borrowed_chunk w s))) t × (new ≡ old ++ t)
+string_written d p w (content.Bytes b) old new level h = (
+  h.0,
+  texts_open d p (atom (string (kind_of (content.Bytes b)) (borrowed_chunk w (content.Bytes b)))) h.0 level
+      h.1,
+  h.2,
+)
+string_written d p w (content.Text s) old new level h = (
+  h.0,
+  texts_open d p (atom (string (kind_of (content.Text s)) (borrowed_chunk w (content.Text s)))) h.0 level
+      h.1,
+  h.2,
+)
+
+-- ---- tags
+
+pub tag_written : {P : Type 0} (d : Leaves P) (p inner : P) (n : ℕ) (w : IntegerWidth) (i : Item) (m : List ℕ)
+    (old a b new : List ℕ) → d.level p ≤ 128 → (o : List ℕ) × d.tag p n w o × (a ≡ old ++ o)
+    → inner ≡ d.below n p → d.level inner ≡ d.level p + 1 → TextsAt d inner i m → b ≡ a ++ m
+    → (e : List ℕ) × d.tag_end p n e × (new ≡ b ++ e)
+    → (t : List ℕ) × TextsAt d p (tagged n w i) t × (new ≡ old ++ t)
+tag_written d p inner n w i m old a b new level o there deeper text is e =
+    let below : TextsOf d (levels_left (d.level p + 1)) inner i m =
+    texts_below d inner (d.level p + 1) i m deeper text in
+    let regroup : ((old ++ o.0) ++ m) ++ e.0 ≡ old ++ (o.0 ++ (m ++ e.0)) = simp append_assoc in (
+      o.0 ++ (m ++ e.0),
+      texts_open d p (tagged n w i) (o.0 ++ (m ++ e.0)) level (
+        o.0,
+        m,
+        e.0,
+        o.1,
+        subst (λ x. TextsOf d (levels_left (d.level p + 1)) x i m) there below,
+        e.1,
+        refl,
+      ),
+      e.2 ∙ ap (λ x. x ++ e.0) (is ∙ ap (λ x. x ++ m) o.2) ∙ regroup,
+    )
+
+-- the width of a count, however many members are left
+pub width_left : (count : Argument) (held : ℕ) → count_width (left_of count held) ≡ count_width count
+width_left (Number n w) held = refl
+width_left Indefinite held = refl

@@ -1,47 +1,71 @@
 -- What is printed from bytes, in one pass with their reading.
-use Rattle.std.specs.Prelude.{◌≡◌, ℕ, zero, suc, ◌+◌, List, ◌++◌, codes, true, false, None, Ok}
+use Rattle.std.specs.Prelude.{◌≡◌, ℕ, zero, suc, ◌+◌, ◌*◌, ◌≤◌, List, ◌++◌, true, false, Ok}
 use Rattle.cbor_grammar.specs.declared.layout.Layout.{Layout}
-use Rattle.cbor_notation.specs.declared.context.NotationContext.{NotationContext}
+use Rattle.cbor_grammar.specs.declared.encoding.Encoding.TheVariants.{Base16}
+use Rattle.cbor_grammar.specs.declared.head.ItemHead.{ItemHead}
 use Rattle.cbor_grammar.specs.declared.strings.StringContent.{StringContent}
 use Rattle.cbor_grammar.specs.declared.strings.StringContent.TheVariants as content
-use Rattle.cbor_grammar.specs.declared.encoding.Encoding.TheVariants.{Base16}
-use Rattle.cbor_grammar.specs.Item.{Item}
-use Rattle.cbor_grammar.specs.declared.head.ItemHead.{ItemHead}
-use Rattle.cbor_grammar.specs.declared.layout.ContainerStyle.{ContainerStyle}
-use Rattle.cbor_grammar.specs.NotationText.{text, in_encoding, last_line, text_at_level}
-use Rattle.cbor_grammar.specs.NotationText as shown
-use Rattle.cbor_grammar.specs.declared.strings.StringKind.{StringKind}
-use Rattle.cbor_grammar.specs.StringKind.{no_chunks}
-use Rattle.cbor_grammar.specs.Reading.{Read, opened, read_body, counted_item, read_item}
+use Rattle.cbor_grammar.specs.declared.strings.StringKind.TheVariants.{Text}
+use Rattle.cbor_grammar.specs.declared.width.IntegerWidth.{IntegerWidth}
+use Rattle.cbor_grammar.specs.Item.{Chunk, Item}
+use Rattle.cbor_grammar.specs.NotationText.{in_encoding, indent_of, text_at_level}
+use Rattle.cbor_grammar.specs.Reading.{Read}
 use Rattle.cbor_grammar.specs.WellFormed.{levels_left}
-use Rattle.cbor_notation.specs.mirror.LayoutView.{content_there, before_member}
+use Rattle.cbor_grammar.specs.mirror.AtLevel.{read_at, read_behind}
+use Rattle.cbor_grammar.specs.mirror.StringView.{borrowed_chunk}
+use Rattle.cbor_notation.specs.Dialect.{Leaves, Texts, ContentText, TextsOf}
+use Rattle.cbor_grammar.specs.declared.layout.Content.{Content}
+use Rattle.cbor_grammar.specs.declared.layout.ContainerStyle.{ContainerStyle}
+use Rattle.cbor_grammar.specs.declared.strings.StringKind.{StringKind}
+use Rattle.cbor_notation.specs.declared.parts.Container.TheVariants.{Chunks}
+use Rattle.cbor_grammar.specs.declared.layout.ContainerStyle.{ContainerStyle}
+use Rattle.cbor_grammar.specs.declared.strings.StringKind.{StringKind}
+use Rattle.cbor_notation.specs.declared.parts.Container.TheVariants.{Chunks}
 
--- Reading gives an item before the rest, and its text is written after the old one.
+-- Reading gives an item before the rest, and its text, or one of its texts, is written after the old one.
 abbrev pub Printed : (Item → List ℕ) → Read Item → List ℕ → List ℕ → List ℕ → Type 0
 Printed text read rest old new = (i : Item) × (read ≡ Ok (i, rest)) × (new ≡ old ++ text i)
 
--- what reading gives at this level
-abbrev pub read_there : NotationContext → List ℕ → Read Item
-read_there c b = read_item (levels_left c.level) b
+abbrev pub Written : (Item → Texts) → Read Item → List ℕ → List ℕ → List ℕ → Type 0
+Written texts read rest old new =
+    (i : Item) × (read ≡ Ok (i, rest)) × (t : List ℕ) × texts i t × (new ≡ old ++ t)
 
--- the same after a head
-abbrev pub read_after : NotationContext → ItemHead → List ℕ → Read Item
-read_after c h b = (read_body (counted_item (levels_left (c.level + 1))) (opened h) h b).1
+-- each level is indented by four blanks at most
+abbrev pub IsLaidOut : {Place : Type 0} → Leaves Place → Place → Type 0
+IsLaidOut d p = indent_of (d.layout p) ≤ 4 * d.level p
+
+-- what reading gives at this place, and after a head there
+abbrev pub read_there : {Place : Type 0} → Leaves Place → Place → List ℕ → Read Item
+read_there d p b = read_at (d.level p) b
+
+abbrev pub read_after : {Place : Type 0} → Leaves Place → Place → ItemHead → List ℕ → Read Item
+read_after d p h b = read_behind (d.level p) h b
+
+-- the texts of an item in a container there
+abbrev pub TextsBelow : {Place : Type 0} → Leaves Place → Place → Place → Item → Texts
+TextsBelow d p = TextsOf d (levels_left (d.level p + 1))
+
+-- a string of definite length, by its bytes
+abbrev pub chunk : IntegerWidth → List ℕ → Chunk
+chunk w b = record { bytes = b; width = w }
+
+-- the texts of the bytes of a byte string there, and of a string of definite length
+abbrev pub ContentThere : {Place : Type 0} → Leaves Place → Content → Place → Chunk → Texts
+ContentThere d shown p b = ContentText d (levels_left (d.level p + 1)) (TextsBelow d p) shown p b
+
+abbrev pub StringThere : {Place : Type 0} → Leaves Place → Place → IntegerWidth → StringContent → Texts
+StringThere d p w (content.Bytes bytes) = ContentThere d (d.content p) p (borrowed_chunk w (content.Bytes bytes))
+StringThere d p w (content.Text text) = d.string p Text (borrowed_chunk w (content.Text text))
+
+-- what is written before a chunk after this many others, and after the last
+abbrev pub BeforeChunk : {Place : Type 0} → Leaves Place → Place → StringKind → ContainerStyle → ℕ → Texts
+BeforeChunk d p kind l zero t = (o : List ℕ) × d.opening p (Chunks kind) l o × (t ≡ o ++ d.start (Chunks kind) l true)
+BeforeChunk d p kind l (suc held) t = t ≡ d.start (Chunks kind) l false
+
+abbrev pub AfterChunks : {Place : Type 0} → Leaves Place → Place → StringKind → ContainerStyle → ℕ → Texts
+AfterChunks d p kind l zero t = d.no_parts p kind t
+AfterChunks d p kind l (suc held) t = d.closing p (Chunks kind) l t
 
 -- the text of an item at the outermost level in this layout
 abbrev pub text_in : Layout → Item → List ℕ
 text_in layout i = text_at_level 1 (in_encoding layout Base16) i
-
--- the text of a string of definite length there
-abbrev pub string_there : NotationContext → StringContent → List ℕ
-string_there c (content.Bytes bytes) = content_there c c.content bytes.now
-string_there c (content.Text t) = text t.now
-
--- what is written before a chunk after this many others, and after the last
-abbrev pub before_chunk : ContainerStyle → ℕ → List ℕ
-before_chunk l zero = shown.opened l (codes "(") None ++ before_member l true
-before_chunk l (suc held) = before_member l false
-
-abbrev pub after_chunks : ContainerStyle → StringKind → ℕ → List ℕ
-after_chunks l kind zero = no_chunks kind
-after_chunks l kind (suc held) = last_line l ++ codes ")"
