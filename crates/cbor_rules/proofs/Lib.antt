@@ -1,0 +1,9 @@
+pub mod Turns
+pub mod Heads
+pub mod Found
+pub mod FoundParts
+pub mod FoundItems
+pub mod Again
+pub mod Opens
+pub mod BigNumbers
+pub mod AgainItems

@@ -1,0 +1,33 @@
+-- Reading goes on after each chunk, and stops where one of them does.
+use Rattle.std.proofs.Common.{suc, length, arith}
+use Rattle.std.proofs.lemmas.Result.{err_from_is_err_and}
+use Rattle.cbor_rules.specs.FirstBreach.{kept_chunks}
+use Rattle.cbor_rules.proofs.Turns.{chunks_stop, chunks_end, chunks_go}
+use Rattle.cbor_rules.proofs.check.Check.after_chunks.Goals as goal
+
+pub returns-in_err-chunk-clause-gives : goal.returns-in_err-chunk-clause-gives
+returns-in_err-chunk-clause-gives c =
+    let p = err_from_is_err_and c.from_residual.result c.from_residual.ensures.1 in
+    let i = c.chunks.invariant.1 in
+    let b = c.args.bytes.now in
+    rw (p.1, p.2) (chunks_stop c.args.self.rules c.args.self.len c.args.kind c.chunks.rest.now
+    (kept_chunks (suc (length b)) c.args.self.rules c.args.self.len c.args.kind b) i.0 c.in_err-chunk.field-0.0 i.1 i.2
+    c.in_err-chunk.ensures.gives)
+
+pub returns-in-Break-clause-gives : goal.returns-in-Break-clause-gives
+returns-in-Break-clause-gives c =
+    let i = c.chunks.invariant.1 in
+    let b = c.args.bytes.now in
+    chunks_end c.args.self.rules c.args.self.len c.args.kind c.chunks.rest.now
+    (kept_chunks (suc (length b)) c.args.self.rules c.args.self.len c.args.kind b) i.0 c.in_ok-chunk.after.now i.1 i.2
+    (rw c.in-Break.is at c.in_ok-chunk.ensures.gives)
+
+pub chunks-preserved : goal.chunks-preserved
+chunks-preserved c =
+    let i = c.chunks.invariant.1 in
+    let b = c.args.bytes.now in (
+      omega (arith, c.in_ok-chunk.ensures.shorter),
+      chunks_go c.args.self.rules c.args.self.len c.args.kind c.chunks.rest.now
+          (kept_chunks (suc (length b)) c.args.self.rules c.args.self.len c.args.kind b) i.0 c.in_ok-chunk.after.now i.1
+          i.2 (rw c.in-Content.is at c.in_ok-chunk.ensures.gives) c.in_ok-chunk.ensures.shorter,
+    )

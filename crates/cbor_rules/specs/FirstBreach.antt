@@ -1,0 +1,251 @@
+-- The first breach of the rules, as a function that reads the bytes from left to right, head by head. A head is looked
+-- at before what it opens, and a key is compared with the one before it where it ends. The clause
+-- `none` of `breach` says which bytes have no breach.
+use Rattle.std.specs.Prelude.{ℕ, zero, suc, ◌-◌, List, [], ◌∷◌, length, take, Option, Some, None}
+use Rattle.std.specs.Prelude.{Bool, ◌&&◌, ◌||◌, Result, Ok, Err, nat_lt, ◌==◌, if◌then◌else◌}
+use Rattle.std.specs.declared.cmp.Ordering.{Ordering}
+use Rattle.std.specs.declared.cmp.Ordering.TheVariants.{Less, Equal, Greater}
+use Rattle.cbor_grammar.specs.declared.width.IntegerWidth.{IntegerWidth}
+use Rattle.cbor_grammar.specs.declared.width.IntegerWidth.TheVariants.{Zero, Eight, Sixteen, ThirtyTwo}
+use Rattle.cbor_grammar.specs.declared.width.IntegerWidth.TheVariants.{SixtyFour}
+use Rattle.cbor_grammar.specs.declared.error.Error.{Error}
+use Rattle.cbor_grammar.specs.declared.error.Error.TheVariants as refusal
+use Rattle.cbor_grammar.specs.declared.argument.Argument.{Argument}
+use Rattle.cbor_grammar.specs.declared.argument.Argument.TheVariants.{Number, Indefinite}
+use Rattle.cbor_grammar.specs.declared.head.ItemHead.{ItemHead}
+use Rattle.cbor_grammar.specs.declared.head.ItemHead.TheVariants as item_head
+use Rattle.cbor_grammar.specs.declared.strings.StringKind.{StringKind}
+use Rattle.cbor_grammar.specs.declared.strings.StringKind.TheVariants.{Bytes}
+use Rattle.cbor_grammar.specs.StringKind.{major_of}
+use Rattle.cbor_grammar.specs.WellFormed.{deepest}
+use Rattle.cbor_grammar.specs.Reading.{Read, read_head, read_chunk_length, after_members, one_less, no_level_left}
+use Rattle.cbor_bytes.specs.mirror.Skipping.{skip_content}
+use Rattle.cbor_rules.specs.declared.rules.Rules.{Rules}
+use Rattle.cbor_rules.specs.declared.kind.Breach.{Breach}
+use Rattle.cbor_rules.specs.declared.kind.BreachKind.{BreachKind}
+use Rattle.cbor_rules.specs.declared.kind.BreachKind.TheVariants as kind
+use Rattle.cbor_rules.specs.declared.check.Chunk.{Chunk}
+use Rattle.cbor_rules.specs.declared.check.Chunk.TheVariants as chunk
+use Rattle.cbor_rules.specs.KeyOrder.{key_cmp}
+
+-- ---- one head
+
+-- a shorter width would hold the number
+abbrev pub is_long : IntegerWidth → ℕ → Bool
+is_long Eight n = nat_lt n 24
+is_long Sixteen n = nat_lt n 0x100
+is_long ThirtyTwo n = nat_lt n 0x10000
+is_long SixtyFour n = nat_lt n 0x100000000
+is_long w n = nat_lt n 0
+
+abbrev pub number_breach : Rules → ℕ → IntegerWidth → Option BreachKind
+number_breach rules n w =
+    if rules.shortest_heads && is_long w n then Some (kind.LongHead n w) else None
+
+-- of a length or a count
+abbrev pub argument_breach : Rules → Argument → Option BreachKind
+argument_breach rules (Number n w) = number_breach rules n w
+argument_breach rules Indefinite = if rules.definite_lengths then Some kind.Indefinite else None
+
+-- of the head of an array or a map at this level
+abbrev pub container_breach : Rules → ℕ → Argument → Option BreachKind
+container_breach rules level a = if nat_lt rules.deepest level then Some kind.TooDeep else argument_breach rules a
+
+-- a simple value in two bytes is not below 32
+abbrev pub simple_breach : List ℕ → Option BreachKind
+simple_breach (first ∷ n ∷ b) = if (first == 0xf8) && nat_lt n 32 then Some kind.LongSimple else None
+simple_breach b = None
+
+-- of the content of a big number, of this length, which begins with these bytes: an integer has up to 8 bytes
+abbrev pub content_breach : ℕ → List ℕ → Option BreachKind
+content_breach n (first ∷ b) =
+    if nat_lt n 9 then Some kind.SmallBigNumber
+    else if first == 0 then Some kind.LeadingZero
+    else None
+content_breach n [] = if nat_lt n 9 then Some kind.SmallBigNumber else None
+
+-- of the item of a tag for big numbers, by its head, if that is a byte string of definite length
+abbrev pub big_breach : Read ItemHead → Option BreachKind
+big_breach (Ok (item_head.String Bytes (Number n w), rest)) = content_breach n rest
+big_breach read = None
+
+-- of a tag before these bytes
+abbrev pub tag_breach : Rules → ℕ → List ℕ → Option BreachKind
+tag_breach rules t rest =
+    if rules.big_numbers && ((t == 2) || (t == 3)) then big_breach (read_head rest) else None
+
+abbrev pub breach_or_else : Option BreachKind → Option BreachKind → Option BreachKind
+breach_or_else (Some kind) other = Some kind
+breach_or_else None other = other
+
+-- of a head at this level; the bytes begin with it, and the rest comes after it
+abbrev pub head_breach : Rules → ℕ → List ℕ → ItemHead → List ℕ → Option BreachKind
+head_breach rules level b (item_head.Integer n w) rest = number_breach rules n w
+head_breach rules level b (item_head.Negative n w) rest = number_breach rules n w
+head_breach rules level b (item_head.String kind a) rest = argument_breach rules a
+head_breach rules level b (item_head.Array a) rest = container_breach rules level a
+head_breach rules level b (item_head.Map a) rest = container_breach rules level a
+head_breach rules level b (item_head.Tag n w) rest =
+    if rules.tags then breach_or_else (number_breach rules n w) (tag_breach rules n rest) else Some kind.Tag
+head_breach rules level b (item_head.Float bits w) rest = None
+head_breach rules level b (item_head.Simple n) rest = simple_breach b
+
+-- ---- keys
+
+-- an encoded key, and how many bytes are before it
+pub record KeyAt : Type 0 where
+  pub place : ℕ
+  pub bytes : List ℕ
+
+abbrev pub compared : Ordering → ℕ → Option BreachKind
+compared Less place = None
+compared Equal place = Some (kind.KeyTwice place)
+compared Greater place = Some (kind.KeyOrder place)
+
+-- of a key after the one before it in its map
+abbrev pub key_breach : Rules → Option KeyAt → List ℕ → Option BreachKind
+key_breach rules None key = None
+key_breach rules (Some last) key = compared (key_cmp rules.key_order last.bytes key) last.place
+
+-- ---- reading
+
+-- what was read, or the first breach
+abbrev pub Kept : Type 0 → Type 0
+Kept X = Result X Breach
+
+abbrev pub kept_then : {X Y : Type 0} → Kept X → (X → Kept Y) → Kept Y
+kept_then (Ok x) f = f x
+kept_then (Err e) f = Err e
+
+-- how many of all bytes are before these last ones
+abbrev pub place_of : ℕ → List ℕ → ℕ
+place_of total b = total - length b
+
+abbrev pub breach_at : ℕ → List ℕ → BreachKind → Breach
+breach_at total b kind = record { place = place_of total b; kind = kind }
+
+-- what was read after a head at these bytes, if no rule is broken there
+abbrev pub unless : {X : Type 0} → ℕ → List ℕ → Option BreachKind → X → Kept X
+unless total b None x = Ok x
+unless total b (Some kind) x = Err (breach_at total b kind)
+
+-- what was read there, if it could be read
+abbrev pub at : {X : Type 0} → ℕ → List ℕ → Result X Error → Kept X
+at total b (Ok x) = Ok x
+at total b (Err e) = Err (breach_at total b (kind.NoItem e))
+
+-- an item's head, and the bytes after it
+abbrev pub kept_head : Rules → ℕ → ℕ → List ℕ → Kept (ItemHead × List ℕ)
+kept_head rules total level b =
+    kept_then (at total b (read_head b)) (λ h. unless total b (head_breach rules level b h.0 h.1) h)
+
+-- what comes after the head of a chunk at these bytes: its content, or nothing after the break
+abbrev pub chunk_content : Rules → ℕ → StringKind → List ℕ → Option (ℕ × IntegerWidth) → List ℕ
+    → Kept (Chunk × List ℕ)
+chunk_content rules total kind b None rest = Ok (chunk.Break, rest)
+chunk_content rules total kind b (Some n) rest =
+    kept_then (unless total b (number_breach rules n.0 n.1) rest)
+    (λ r. kept_then (at total b (skip_content kind n.0 n.1 r)) (λ after. Ok (chunk.Content, after)))
+
+-- the next chunk of an indefinite string, or its break, and the bytes after it
+abbrev pub kept_chunk : Rules → ℕ → StringKind → List ℕ → Kept (Chunk × List ℕ)
+kept_chunk rules total kind b =
+    kept_then (at total b (read_chunk_length (major_of kind) b)) (λ c. chunk_content rules total kind b c.0 c.1)
+
+-- the bytes after the chunks that follow this one
+abbrev pub chunks_after : (List ℕ → Kept (List ℕ)) → Chunk → List ℕ → Kept (List ℕ)
+chunks_after read chunk.Content rest = read rest
+chunks_after read chunk.Break rest = Ok rest
+
+-- The bytes after the break of an indefinite string. The first number bounds how many chunks are looked for; no input
+-- has more than it has bytes.
+unfoldable pub kept_chunks : ℕ → Rules → ℕ → StringKind → List ℕ → Kept (List ℕ)
+kept_chunks zero rules total kind b = at total b (Err refusal.CutShort)
+kept_chunks (suc n) rules total kind b =
+    kept_then (kept_chunk rules total kind b) (λ c. chunks_after (kept_chunks n rules total kind) c.0 c.1)
+
+-- ---- containers
+
+-- What is still to come in an open container: this many members, or all up to a break; pairs, with keys after the last
+-- one; or the value of a key, and then pairs. A tag is a container of one member.
+pub data Open : Type 0 where
+  members : Argument → Open
+  pairs : Option KeyAt → Argument → Open
+  value : KeyAt → Argument → Open
+
+-- the container that a head opens, if it opens one
+abbrev pub opened : ItemHead → Option Open
+opened (item_head.Array a) = Some (members a)
+opened (item_head.Map a) = Some (pairs None a)
+opened (item_head.Tag n w) = Some (members (Number 1 Zero))
+opened _ = None
+
+-- the bytes after the container, if it ends here
+abbrev pub after_end : Open → List ℕ → Option (List ℕ)
+after_end (members left) b = after_members left b
+after_end (pairs last left) b = after_members left b
+after_end (value key left) b = None
+
+-- the bytes before these last ones
+abbrev pub front : List ℕ → List ℕ → List ℕ
+front b rest = take (length b - length rest) b
+
+-- what is to come after one part more, which was read up to the rest
+abbrev pub after_part : Rules → ℕ → Open → List ℕ → List ℕ → Kept Open
+after_part rules total (members left) b rest = Ok (members (one_less left))
+after_part rules total (pairs last left) b rest =
+    unless total b (key_breach rules last (front b rest))
+    (value (record { place = place_of total b; bytes = front b rest }) (one_less left))
+after_part rules total (value key left) b rest = Ok (pairs (Some key) left)
+
+abbrev pub ended_or : Option (List ℕ) → Kept (List ℕ) → Kept (List ℕ)
+ended_or (Some after) more = Ok after
+ended_or None more = more
+
+-- The bytes after the container. The first number bounds how many parts are looked for.
+unfoldable pub kept_parts : ℕ → Rules → ℕ → (List ℕ → Kept (List ℕ)) → Open → List ℕ → Kept (List ℕ)
+kept_parts zero rules total read o b = at total b (Err refusal.CutShort)
+kept_parts (suc n) rules total read o b =
+    ended_or (after_end o b)
+    (kept_then (read b)
+    (λ rest. kept_then (after_part rules total o b rest) (λ p. kept_parts n rules total read p rest)))
+
+-- ---- items
+
+-- the bytes after the content of a string; its head is at these bytes and is read already
+abbrev pub kept_string : Rules → ℕ → List ℕ → StringKind → Argument → List ℕ → Kept (List ℕ)
+kept_string rules total b kind (Number n w) rest = at total b (skip_content kind n w rest)
+kept_string rules total b kind Indefinite rest = kept_chunks (suc (length rest)) rules total kind rest
+
+-- the bytes after an item; its head is at these bytes and is read already
+abbrev pub kept_atom : Rules → ℕ → List ℕ → ItemHead → List ℕ → Kept (List ℕ)
+kept_atom rules total b (item_head.String kind a) rest = kept_string rules total b kind a rest
+kept_atom rules total b h rest = Ok rest
+
+abbrev pub kept_body : Rules → ℕ → List ℕ → (List ℕ → Kept (List ℕ)) → Option Open → ItemHead → List ℕ
+    → Kept (List ℕ)
+kept_body rules total b read (Some o) h rest = kept_parts (suc (length rest)) rules total read o rest
+kept_body rules total b read None h rest = kept_atom rules total b h rest
+
+-- the bytes after an item, with `left` levels left for it and the items in it
+unfoldable pub kept_item : ℕ → Rules → ℕ → List ℕ → Kept (List ℕ)
+kept_item zero rules total b = at total b (Err (no_level_left b))
+kept_item (suc left) rules total b =
+    kept_then (kept_head rules total (deepest - left) b)
+    (λ h. kept_body rules total b (kept_item left rules total) (opened h.0) h.0 h.1)
+
+-- ---- items one after the other
+
+abbrev pub breach_or : Kept (List ℕ) → (List ℕ → Option Breach) → Option Breach
+breach_or (Ok rest) more = more rest
+breach_or (Err breach) more = Some breach
+
+unfoldable pub breach_from : ℕ → Rules → ℕ → List ℕ → Option Breach
+breach_from zero rules total b = None
+breach_from (suc n) rules total [] = None
+breach_from (suc n) rules total (first ∷ b) =
+    breach_or (kept_item deepest rules total (first ∷ b)) (breach_from n rules total)
+
+-- the first breach in bytes that should be items one after the other
+abbrev pub first_breach : Rules → List ℕ → Option Breach
+first_breach rules b = breach_from (length b) rules (length b) b

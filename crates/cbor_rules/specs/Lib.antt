@@ -1,0 +1,4 @@
+pub mod KeyOrder
+pub mod FirstBreach
+pub mod Keeps
+pub mod mirror

@@ -1,0 +1,37 @@
+//! Where an encoding breaks a rule, and how.
+use cbor_grammar::{Error, IntegerWidth};
+
+/// The first place at which bytes break a rule.
+#[derive(Clone, Copy, PartialEq, Eq, Debug)]
+pub struct Breach {
+    /// How many bytes come before the head, or before the key, that breaks it.
+    pub place: usize,
+    /// What is wrong there.
+    pub kind: BreachKind,
+}
+
+/// What is wrong with a head or with a key.
+#[derive(Clone, Copy, PartialEq, Eq, Debug)]
+pub enum BreachKind {
+    /// No item begins there, or a string's content is cut or is not UTF-8. `CutShort` if the bytes
+    /// end before the item does.
+    NoItem(Error),
+    /// A simple value below 32 in two bytes, which RFC 8949 does not allow (section 3.3).
+    LongSimple,
+    /// The number of the head, as a value, a length, a count or a tag, fits a shorter width.
+    LongHead { number: u64, width: IntegerWidth },
+    /// A string, an array or a map of indefinite length.
+    Indefinite,
+    /// A tag.
+    Tag,
+    /// A big number (tags 2 and 3) whose content begins with a zero byte.
+    LeadingZero,
+    /// A big number (tags 2 and 3) that an integer can have, by the length of its content.
+    SmallBigNumber,
+    /// An array or a map below the deepest level.
+    TooDeep,
+    /// The key comes before the key at this place in the order of keys.
+    KeyOrder { previous: usize },
+    /// The key is the one at this place again.
+    KeyTwice { first: usize },
+}

@@ -1,0 +1,95 @@
+//! Sets of rules.
+ghost use Rattle.std.specs.Prelude.{◌≡◌};
+ghost use Rattle.cbor_rules.specs.KeyOrder.{key_cmp, major_type};
+
+use cbor_grammar::level::DEEPEST;
+use std::cmp::Ordering;
+
+/// In which order the keys of a map stand, by their encodings. An order other than `Any` also says
+/// that no key stands twice.
+#[derive(Clone, Copy, PartialEq, Eq, Debug)]
+pub enum KeyOrder {
+    /// In any order.
+    Any,
+    /// By their bytes (RFC 8949 section 4.2.1).
+    Bytes,
+    /// The shorter one first; those of one length by their bytes (RFC 8949 section 4.2.3).
+    Length,
+    /// The lower major type first; then as `Length` (CTAP2's canonical CBOR).
+    MajorType,
+}
+
+/// Rules that an encoding may keep. All of them include that the bytes are items of RFC 8949, one
+/// after the other, of which none is below level 128.
+#[derive(Clone, Copy, PartialEq, Eq, Debug)]
+pub struct Rules {
+    /// The number of each head is in the shortest width that it fits: values, lengths, also those
+    /// of chunks, counts and tags (RFC 8949 section 4.2.1).
+    pub shortest_heads: bool,
+    /// No string, array or map is of indefinite length (RFC 8949 section 4.2.1).
+    pub definite_lengths: bool,
+    /// A big number (tags 2 and 3) whose content is a byte string of definite length has no zero
+    /// byte in front and is not one that an integer can have (RFC 8949 section 3.4.3).
+    pub big_numbers: bool,
+    /// The order of the keys in each map.
+    pub key_order: KeyOrder,
+    /// There may be tags.
+    pub tags: bool,
+    /// The deepest level that an array or a map may have. The outermost item is at level 1; the
+    /// members of a container, its keys and values and the item of a tag are one level below it.
+    pub deepest: u8,
+}
+
+impl Rules {
+    /// The grammar of RFC 8949 alone: of RFC 7049's items, those without a simple value below 32 in
+    /// two bytes.
+    pub const RFC_8949: Rules = Rules {
+        shortest_heads: false,
+        definite_lengths: false,
+        big_numbers: false,
+        key_order: KeyOrder::Any,
+        tags: true,
+        deepest: DEEPEST,
+    };
+
+    /// CTAP2 canonical CBOR (CTAP 2.1 section 8): shortest heads, definite lengths, keys in the
+    /// order of their major types, then lengths, then bytes, no tags, and at most 4 levels of
+    /// arrays and maps.
+    pub const CTAP2: Rules = Rules {
+        shortest_heads: true,
+        definite_lengths: true,
+        big_numbers: true,
+        key_order: KeyOrder::MajorType,
+        tags: false,
+        deepest: 4,
+    };
+}
+
+/// The major type of the head at the front; 0 of no bytes.
+fn major_type(bytes: &[u8]) -> u8
+    ensures { result ≡ major_type bytes.now }
+{
+    match bytes {
+        [] => 0,
+        [first, ..] => *first / 32,
+    }
+}
+
+impl KeyOrder {
+    /// How two encoded keys compare. Under `Any` the first comes before the second.
+    pub fn compare(self, first: &[u8], second: &[u8]) -> Ordering
+        ensures { result ≡ key_cmp self first.now second.now }
+    {
+        let lengths = first.len().cmp(&second.len());
+        let bytes = first.cmp(second);
+        match self {
+            KeyOrder::Any => Ordering::Less,
+            KeyOrder::Bytes => bytes,
+            KeyOrder::Length => lengths.then(bytes),
+            KeyOrder::MajorType => {
+                let major_types = major_type(first).cmp(&major_type(second));
+                major_types.then(lengths.then(bytes))
+            }
+        }
+    }
+}

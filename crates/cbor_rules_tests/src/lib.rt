@@ -1,0 +1,13 @@
+//! Tests of `cbor_rules`: examples worked out by hand. `rt test` runs them.
+#![tactic(auto)]
+
+#[cfg(test)]
+mod big_numbers;
+#[cfg(test)]
+mod doc_examples;
+#[cfg(test)]
+mod heads;
+#[cfg(test)]
+mod keys;
+#[cfg(test)]
+mod levels;
