@@ -2,6 +2,7 @@ pub mod Sequences
 pub mod PathLemmas
 pub mod Fronts
 pub mod LooseLemmas
+pub mod InputLemmas
 pub mod HiddenLemmas
 pub mod BreakLemmas
 pub mod LineLemmas

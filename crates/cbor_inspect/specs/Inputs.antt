@@ -11,6 +11,7 @@ use Rattle.cbor_inspect.specs.declared.decode.Input.TheVariants as input
 use Rattle.cbor_inspect.specs.declared.loose.Mode.TheVariants.{Apart}
 use Rattle.cbor_inspect.specs.Loose.{loose}
 use Rattle.cbor_inspect.specs.Sequence.{IsSequence}
+use Rattle.cbor_inspect.specs.Texts.{IsText, unmarked}
 
 -- blanks and line ends
 abbrev pub is_blank : ℕ → Bool
@@ -20,13 +21,15 @@ is_blank b = (b == 32) || ((b == 9) || ((b == 13) || (b == 10)))
 abbrev pub unblanked : List ℕ → List ℕ
 unblanked text = filter (λ b. not (is_blank b)) text
 
--- the bytes that an input of this form stands for
+-- the bytes that an input of this form stands for; a byte order mark before a text is no part of it
 abbrev pub Stands : Input → List ℕ → List ℕ → Type 0
 Stands input.Bytes text bytes = bytes ≡ text
-Stands input.Hex text bytes = decode_of (loose Apart text) ≡ Ok bytes
-Stands input.Diag text bytes = (i : Item) × IsUtf8 text × IsNotation text i × (bytes ≡ encoded i)
+Stands input.Hex text bytes = decode_of (loose Apart (unmarked text)) ≡ Ok bytes
+Stands input.Diag text bytes =
+    (i : Item) × IsUtf8 (unmarked text) × IsNotation (unmarked text) i × (bytes ≡ encoded i)
 Stands input.Base64 text bytes =
-    AreBytes bytes × ((unblanked text ≡ url_safe bytes) ⊎ (unblanked text ≡ standard bytes))
+    AreBytes bytes
+    × ((unblanked (unmarked text) ≡ url_safe bytes) ⊎ (unblanked (unmarked text) ≡ standard bytes))
 
 -- the form reads all of the input, as items one after the other
 abbrev pub Reads : Input → List ℕ → Type 0
@@ -39,3 +42,21 @@ NoneBefore input.Diag text = ¬ (Reads input.Hex text)
 NoneBefore input.Base64 text = ¬ (Reads input.Hex text) × ¬ (Reads input.Diag text)
 NoneBefore input.Bytes text =
     ¬ (Reads input.Hex text) × ¬ (Reads input.Diag text) × ¬ (Reads input.Base64 text)
+
+-- the form is what the input may be taken for: it reads all of it, and no text is taken for bytes
+abbrev pub MayBe : Input → List ℕ → Type 0
+MayBe form text = Reads form text × (form ≡ input.Bytes → ¬ (IsText text))
+
+-- the forms of text that come after this one do not read the input
+abbrev pub NoneAfter : Input → List ℕ → Type 0
+NoneAfter input.Hex text = ¬ (Reads input.Diag text) × ¬ (Reads input.Base64 text)
+NoneAfter input.Diag text = ¬ (Reads input.Base64 text)
+NoneAfter input.Base64 text = Unit {0}
+NoneAfter input.Bytes text = Unit {0}
+
+-- this form of text comes after that one
+abbrev pub ComesAfter : Input → Input → Type 0
+ComesAfter input.Hex other = (other ≡ input.Diag) ⊎ (other ≡ input.Base64)
+ComesAfter input.Diag other = other ≡ input.Base64
+ComesAfter input.Base64 other = ⊥
+ComesAfter input.Bytes other = ⊥

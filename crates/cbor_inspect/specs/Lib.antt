@@ -6,5 +6,6 @@ pub mod Sequence
 pub mod Paths
 pub mod Parts
 pub mod Ends
+pub mod Texts
 pub mod Loose
 pub mod Inputs

@@ -1,4 +1,5 @@
--- Hex as people paste it: which characters of a text are kept.
+-- Hex as people paste it: which characters of a text are kept. A byte is two digits side by side: behind the first,
+-- every character is kept, so a blank there is a character that is no digit.
 use Rattle.std.specs.Prelude.{ℕ, ◌==◌, ◌&&◌, ◌||◌, Bool, true, false, List, [], ◌∷◌, if◌then◌else◌}
 use Rattle.hex.specs.Hex.{is_hex_digit}
 use Rattle.cbor_inspect.specs.declared.loose.Mode.{Mode}
@@ -20,12 +21,13 @@ plain_turn beside b next =
     else if b == 35 then (false, mode.Comment)
     else if (next == 120) && ((b == 92) || ((b == 48) && (if beside then false else true))) then (false, mode.Prefix)
     else if (b == 58) && (beside && is_hex_digit next) then (false, mode.Apart)
-    else (true, mode.Beside)
+    else (true, mode.Half)
 
 -- the same wherever the text is
 abbrev pub turn_of : Mode → ℕ → ℕ → Bool × Mode
 turn_of mode.Comment b next = (false, if b == 10 then mode.Apart else mode.Comment)
 turn_of mode.Prefix b next = (false, mode.Apart)
+turn_of mode.Half b next = (true, mode.Beside)
 turn_of mode.Apart b next = plain_turn false b next
 turn_of mode.Beside b next = plain_turn true b next
 

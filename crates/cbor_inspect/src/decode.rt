@@ -1,18 +1,21 @@
 //! The forms of an input, and which form one has.
 
-ghost use Rattle.std.specs.Prelude.{◌≡◌, ◌≢◌, ℕ, List, IfOk, IfErr};
+ghost use Rattle.std.specs.Prelude.{◌≡◌, ◌≢◌, ◌↔◌, ℕ, List, [], IfOk, IfErr, IfSome, None, IsTrue};
 ghost use Rattle.cbor_inspect.specs.declared.decode.Refusal.TheVariants as refusal;
 ghost use Rattle.cbor_inspect.specs.Sequence.{IsSequence};
-ghost use Rattle.cbor_inspect.specs.Inputs.{is_blank, unblanked, Stands, Reads, NoneBefore};
+ghost use Rattle.cbor_inspect.specs.Inputs.{is_blank, unblanked, Stands, Reads, MayBe};
+ghost use Rattle.cbor_inspect.specs.Inputs.{NoneBefore, NoneAfter, ComesAfter};
+ghost use Rattle.cbor_inspect.specs.Texts.{IsText, unmarked};
 
 use crate::items::{End, Shown, skip_items};
 use crate::loose::{HexFault, bytes_of_hex};
 use crate::scan::notation_fault;
+use crate::text::{is_text, unmarked};
 use cbor_diag::{Error, parse_diag};
 use cbor_tokens::base64_any_decode;
 use std::alloc::{AllocError, Global};
 
-/// A form of an input.
+/// A form of an input. A text may have a byte order mark before it, which is no part of it.
 #[derive(Clone, Copy, PartialEq, Eq, Debug)]
 pub enum Input {
     /// The bytes of items.
@@ -30,8 +33,9 @@ pub enum Input {
 pub enum Refusal {
     /// It is not hex.
     Hex(HexFault),
-    /// It is not notation, and why.
-    Diag(Error),
+    /// It is not notation: why, and the place of the first character that cannot stand where it
+    /// stands, or the end.
+    Diag { error: Error, at: usize },
     /// It is not base 64.
     Base64,
     /// It is bytes in this form, and they are no sequence of items.
@@ -76,19 +80,30 @@ impl Input {
         }
     }
 
-    /// Returns the bytes that an input of this form stands for, if they are items one after the
-    /// other.
-    fn read(self, alloc: Global, text: &[u8]) -> Result<Vec<u8>, Refusal>
-        ensures ok { IfOk result (λ bytes. Stands self text.now bytes.items) }
-        ensures items { IfOk result (λ bytes. IsSequence bytes.items) }
+    /// Returns what an input of this form stands for, if that is items one after the other.
+    fn read(self, alloc: Global, text: &[u8]) -> Result<Recognized, Refusal>
+        ensures form { IfOk result (λ found. found.form ≡ self) }
+        ensures ok { IfOk result (λ found. Stands self text.now found.bytes.items) }
+        ensures items { IfOk result (λ found. IsSequence found.bytes.items) }
         ensures refused { IfErr result (λ e. e ≢ refusal.Memory → ¬ (Reads self text.now)) }
     {
         let bytes = self.decode(alloc, text)?;
         let shown = skip_items(&bytes, false);
         if shown.end == End::Done {
-            Ok(bytes)
+            Ok(Recognized { form: self, bytes })
         } else {
             Err(Refusal::Items { form: self, shown })
+        }
+    }
+
+    /// Whether an input of this form stands for items one after the other.
+    fn reads(self, alloc: Global, text: &[u8]) -> Result<bool, AllocError>
+        ensures { IfOk result (λ yes. IsTrue yes ↔ Reads self text.now) }
+    {
+        match self.read(alloc, text) {
+            Ok(_) => Ok(true),
+            Err(Refusal::Memory) => Err(AllocError),
+            Err(_) => Ok(false),
         }
     }
 }
@@ -101,16 +116,28 @@ fn bytes_of_diag(alloc: Global, text: &[u8]) -> Result<Vec<u8>, Refusal>
     ensures refused { IfErr result (λ e. e ≢ refusal.Memory
         → (bytes : List ℕ) → ¬ (Stands Input.Diag text.now bytes)) }
 {
-    let Ok(text) = str::from_utf8(text) else {
-        return Err(Refusal::Diag(Error::Utf8));
+    let Ok(notation) = str::from_utf8(unmarked(text)) else {
+        return Err(diag_refusal(alloc, text, Error::Utf8));
     };
-    match parse_diag(alloc, text) {
+    match parse_diag(alloc, notation) {
         Ok(item) => match item.to_bytes(alloc) {
             Ok(bytes) => Ok(bytes),
             Err(_) => Err(Refusal::Memory),
         },
         Err(Error::Memory) => Err(Refusal::Memory),
-        Err(error) => Err(Refusal::Diag(error)),
+        Err(error) => Err(diag_refusal(alloc, text, error)),
+    }
+}
+
+/// Why a text is not notation, which has this error, and where.
+fn diag_refusal(alloc: Global, text: &[u8], error: Error) -> Refusal {
+    match notation_fault(alloc, text) {
+        Ok(Some((error, at))) => Refusal::Diag { error, at },
+        Ok(None) => Refusal::Diag {
+            error,
+            at: text.len(),
+        },
+        Err(_) => Refusal::Memory,
     }
 }
 
@@ -139,7 +166,7 @@ fn bytes_of_base64(alloc: Global, text: &[u8]) -> Result<Vec<u8>, Refusal>
     ensures refused { IfErr result (λ e. e ≢ refusal.Memory
         → (bytes : List ℕ) → ¬ (Stands Input.Base64 text.now bytes)) }
 {
-    let Ok(digits) = digits_of(alloc, text) else {
+    let Ok(digits) = digits_of(alloc, unmarked(text)) else {
         return Err(Refusal::Memory);
     };
     match base64_any_decode(alloc, &digits) {
@@ -149,10 +176,12 @@ fn bytes_of_base64(alloc: Global, text: &[u8]) -> Result<Vec<u8>, Refusal>
     }
 }
 
-/// Finds the form of an input: the first of hex, notation, base 64 and bytes that reads all of it,
-/// as items one after the other; notation is one item.
+/// Finds the form of an input: the first of hex, notation and base 64 that reads all of it, as
+/// items one after the other; notation is one item. An input that no form of text reads is bytes,
+/// if it is not all text: nearly every text would be bytes of some items, which nobody meant.
 ///
-/// If no form does, the error is that of the form that reads furthest.
+/// If no form does, the error is that of the form that reads furthest, of the forms of text if the
+/// input is text. Returns `Memory` if an allocation fails.
 ///
 /// ```rust
 /// use cbor_inspect::{Input, recognize};
@@ -168,98 +197,96 @@ pub fn recognize(alloc: Global, text: &[u8]) -> Result<Recognized, Refusal>
 
     // No form before it reads the input.
     ensures first { IfOk result (λ found. NoneBefore found.form text.now) }
+
+    // No text is taken for bytes.
+    ensures no_text { IfOk result (λ found. found.form ≡ Input.Bytes → ¬ (IsText text.now)) }
+
+    // An error, other than on memory, only where there is no form that it may be.
+    ensures refused { IfErr result (λ e. e ≢ refusal.Memory
+        → (form : Input) → ¬ (MayBe form text.now)) }
 {
     let hex = match Input::Hex.read(alloc, text) {
-        Ok(bytes) => return Ok(Recognized {
-            form: Input::Hex,
-            bytes,
-        }),
+        Ok(found) => return Ok(found),
         Err(Refusal::Memory) => return Err(Refusal::Memory),
         Err(refusal) => refusal,
     };
     let diag = match Input::Diag.read(alloc, text) {
-        Ok(bytes) => return Ok(Recognized {
-            form: Input::Diag,
-            bytes,
-        }),
+        Ok(found) => return Ok(found),
         Err(Refusal::Memory) => return Err(Refusal::Memory),
         Err(refusal) => refusal,
     };
     let base64 = match Input::Base64.read(alloc, text) {
-        Ok(bytes) => return Ok(Recognized {
-            form: Input::Base64,
-            bytes,
-        }),
+        Ok(found) => return Ok(found),
         Err(Refusal::Memory) => return Err(Refusal::Memory),
         Err(refusal) => refusal,
     };
+    let furthest = diag.or(hex, text).or(base64, text);
+    if is_text(text) {
+        return Err(furthest);
+    }
     match Input::Bytes.read(alloc, text) {
-        Ok(bytes) => Ok(Recognized {
-            form: Input::Bytes,
-            bytes,
-        }),
+        Ok(found) => Ok(found),
         Err(Refusal::Memory) => Err(Refusal::Memory),
-        Err(bytes) => Err(furthest(alloc, text, [hex, diag, base64, bytes])),
+        Err(bytes) => Err(furthest.or(bytes, text)),
     }
 }
 
 impl Recognized {
-    /// The next form of text that reads the input, too. Most texts are bytes of some items, so that
-    /// is not told.
-    pub fn also(&self, alloc: Global, text: &[u8]) -> Option<Input> {
-        if self.bytes.is_empty() {
-            return None;
-        }
-        let diag = self.form == Input::Hex;
-        let base64 = diag || self.form == Input::Diag;
-        if diag && Input::Diag.read(alloc, text).is_ok() {
-            Some(Input::Diag)
-        } else if base64 && Input::Base64.read(alloc, text).is_ok() {
-            Some(Input::Base64)
+    /// The next form of text that reads the input, too. That the input is bytes, too, is not told:
+    /// most texts are bytes of some items.
+    pub fn also(&self, alloc: Global, text: &[u8]) -> Result<Option<Input>, AllocError>
+        // What it names comes later, and reads the input.
+        ensures reads { IfOk result (λ found. IfSome found (λ other.
+            ComesAfter self.now.form other × Reads other text.now)) }
+
+        // None only if no later form does.
+        ensures none { IfOk result (λ found. found ≡ None → NoneAfter self.now.form text.now) }
+    {
+        let (diag, base64) = match self.form {
+            Input::Hex => (true, true),
+            Input::Diag => (false, true),
+            Input::Base64 | Input::Bytes => (false, false),
+        };
+        if diag && Input::Diag.reads(alloc, text)? {
+            Ok(Some(Input::Diag))
+        } else if base64 && Input::Base64.reads(alloc, text)? {
+            Ok(Some(Input::Base64))
         } else {
-            None
+            Ok(None)
         }
     }
 }
 
-/// Whether all bytes are characters of ASCII that texts have. Such a text is bytes by chance alone.
-fn is_text(text: &[u8]) -> bool {
-    text.iter().all(|byte| byte.is_ascii_graphic() || byte.is_ascii_whitespace())
-}
-
-/// How far a form reads an input that it does not read to its end.
-fn reach(alloc: Global, text: &[u8], refusal: Refusal) -> usize {
-    match refusal {
-        Refusal::Hex(HexFault::Digit(at)) => at,
-        Refusal::Hex(HexFault::Odd(at)) => at,
-        Refusal::Hex(HexFault::Memory) | Refusal::Memory => usize::MAX,
-        Refusal::Diag(_) => match notation_fault(alloc, text) {
-            Ok(Some((_, at))) => at,
-            _ => 0,
-        },
-        Refusal::Base64 => 0,
-        Refusal::Items {
-            form: Input::Bytes,
-            shown,
-        } => match shown.end {
-            _ if is_text(text) => 0,
-            End::Fault { end, .. } => shown.used.saturating_add(end),
-            _ => text.len(),
-        },
-        Refusal::Items { .. } => text.len(),
-    }
-}
-
-/// The refusal of the form that reads furthest, the first of them.
-fn furthest(alloc: Global, text: &[u8], refusals: [Refusal; 4]) -> Refusal {
-    let mut best = refusals[0];
-    let mut most = reach(alloc, text, best);
-    'refusals: for refusal in refusals {
-        let far = reach(alloc, text, refusal);
-        if far > most {
-            best = refusal;
-            most = far;
+impl Refusal {
+    /// How far a form reads this text that it refuses so. Words with blanks between them are digits
+    /// of base 64 by chance.
+    fn reach(self, text: &[u8]) -> usize {
+        match self {
+            Refusal::Hex(HexFault::Digit(at)) => at,
+            Refusal::Hex(HexFault::Odd(at)) => at.saturating_add(1),
+            Refusal::Diag { at, .. } => at,
+            Refusal::Hex(HexFault::Memory) | Refusal::Base64 | Refusal::Memory => 0,
+            Refusal::Items {
+                form: Input::Bytes,
+                shown,
+            } => match shown.end {
+                End::Fault { end, .. } => shown.used.saturating_add(end),
+                _ => text.len(),
+            },
+            Refusal::Items {
+                form: Input::Base64,
+                ..
+            } if text.trim_ascii().contains(&b' ') => 0,
+            Refusal::Items { .. } => text.len(),
         }
     }
-    best
+
+    /// This refusal, or the other one if its form reads further.
+    fn or(self, other: Refusal, text: &[u8]) -> Refusal {
+        if other.reach(text) > self.reach(text) {
+            other
+        } else {
+            self
+        }
+    }
 }

@@ -1,9 +1,11 @@
-//! Hex as people paste it: digits, also with blanks, commas, `0x`, `\x`, and `:` between digits,
-//! and comments from `#` to the end of a line.
-ghost use Rattle.std.specs.Prelude.{◌≡◌, ◌≤◌, length, slice_index, IfOk, IfErr, Ok, ◌≢◌, ℕ, List};
+//! Hex as people paste it: pairs of digits, also with blanks, commas, `0x`, `\x`, and `:` between
+//! pairs, and comments from `#` to the end of a line.
+ghost use Rattle.std.specs.Prelude.{◌≡◌, ◌≤◌, length, IfOk, IfErr, Ok, ◌≢◌, ℕ, List};
 ghost use Rattle.hex.specs.Hex.{decode_of};
-ghost use Rattle.cbor_inspect.specs.Loose.{turn_of, loose};
+ghost use Rattle.cbor_inspect.specs.Loose.{turn_of, loose, is_gap};
+ghost use Rattle.cbor_inspect.specs.Texts.{unmarked};
 
+use crate::text::{byte_at, mark_len, unmarked};
 use hex::FromHexError;
 use std::alloc::{AllocError, Global};
 
@@ -12,7 +14,10 @@ use std::alloc::{AllocError, Global};
 pub(crate) enum Mode {
     /// A character that is kept does not come right before.
     Apart,
-    /// A character that is kept comes right before.
+    /// The first digit of a byte comes right before. What follows is kept, whatever it is: no byte
+    /// is one digit, and none has a blank or the like between its digits.
+    Half,
+    /// The second digit of a byte comes right before.
     Beside,
     /// In a comment.
     Comment,
@@ -25,7 +30,7 @@ pub(crate) enum Mode {
 pub enum HexFault {
     /// The character at this place of the text is not a digit.
     Digit(usize),
-    /// The last digit, at this place of the text, has no other beside it.
+    /// The digit at this place of the text has no other beside it.
     Odd(usize),
     /// Memory ran out.
     Memory,
@@ -49,7 +54,10 @@ impl Mode {
         if self == Mode::Prefix {
             return (false, Mode::Apart);
         }
-        if byte == b' ' || byte == b'\t' || byte == b'\r' || byte == b'\n' || byte == b',' {
+        if self == Mode::Half {
+            return (true, Mode::Beside);
+        }
+        if is_gap(byte) {
             return (false, Mode::Apart);
         }
         if byte == b'#' {
@@ -61,18 +69,15 @@ impl Mode {
         if byte == b':' && self == Mode::Beside && next.is_ascii_hexdigit() {
             return (false, Mode::Apart);
         }
-        (true, Mode::Beside)
+        (true, Mode::Half)
     }
 }
 
-/// The byte at a place, or 0 past the end.
-fn byte_at(text: &[u8], at: usize) -> u8
-    ensures { result ≡ slice_index text.now at }
+/// Whether a byte is a blank or a comma or ends a line.
+fn is_gap(byte: u8) -> bool
+    ensures { result ≡ is_gap byte }
 {
-    match text.get(at) {
-        Some(byte) => *byte,
-        None => 0,
-    }
+    byte == b' ' || byte == b'\t' || byte == b'\r' || byte == b'\n' || byte == b','
 }
 
 /// What is kept of a text.
@@ -106,7 +111,7 @@ pub fn place_of_digit(text: &[u8], count: usize) -> usize
 {
     let mut mode = Mode::Apart;
     let mut left = count;
-    let mut at = 0;
+    let mut at = mark_len(text);
     'text: while at < text.len() {
         let (keeps, after) = mode.turn(text[at], byte_at(text, at + 1));
         if keeps {
@@ -121,22 +126,21 @@ pub fn place_of_digit(text: &[u8], count: usize) -> usize
     at
 }
 
-/// The bytes of a text in hex.
+/// The bytes of a text in hex, which may have a byte order mark before it.
 pub fn bytes_of_hex(alloc: Global, text: &[u8]) -> Result<Vec<u8>, HexFault>
-    ensures ok { IfOk result (λ bytes. decode_of (loose Mode.Apart text.now) ≡ Ok bytes.items) }
+    ensures ok { IfOk result (λ bytes. decode_of (loose Mode.Apart (unmarked text.now))
+        ≡ Ok bytes.items) }
     ensures refused { IfErr result (λ e. e ≢ HexFault.Memory
-        → (b : List ℕ) → decode_of (loose Mode.Apart text.now) ≢ Ok b) }
+        → (b : List ℕ) → decode_of (loose Mode.Apart (unmarked text.now)) ≢ Ok b) }
 {
-    let Ok(digits) = kept(alloc, text) else {
+    let Ok(digits) = kept(alloc, unmarked(text)) else {
         return Err(HexFault::Memory);
     };
     let wrong = first_wrong(&digits);
-    let count = digits.len();
     match hex::decode(alloc, digits) {
         Ok(bytes) => Ok(bytes),
         Err(FromHexError::OutOfMemory) => Err(HexFault::Memory),
-        Err(_) if wrong < count => Err(HexFault::Digit(place_of_digit(text, wrong))),
-        Err(_) => Err(HexFault::Odd(place_of_digit(text, count.saturating_sub(1)))),
+        Err(_) => Err(fault_of(text, wrong)),
     }
 }
 
@@ -147,4 +151,22 @@ fn first_wrong(digits: &[u8]) -> usize {
         at += 1;
     }
     at
+}
+
+/// Why a text is not hex of which this many characters, and no more, are digits of the first that
+/// are kept. A digit has no other beside it if the text ends there, or what may be between bytes
+/// follows it.
+fn fault_of(text: &[u8], count: usize) -> HexFault
+    ensures { result ≢ HexFault.Memory }
+{
+    let at = place_of_digit(text, count);
+    let ends = match text.get(at) {
+        Some(byte) => is_gap(*byte) || matches!(*byte, b'#' | b':' | b'\\'),
+        None => true,
+    };
+    if ends && count % 2 == 1 {
+        HexFault::Odd(place_of_digit(text, count - 1))
+    } else {
+        HexFault::Digit(at)
+    }
 }

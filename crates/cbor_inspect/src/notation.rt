@@ -13,7 +13,7 @@ ghost use Rattle.cbor_inspect.specs.Hidden.{IsShown};
 
 mod cost;
 mod embedded;
-mod heads;
+pub(crate) mod heads;
 mod leaves;
 mod notes;
 mod print;

@@ -1,12 +1,17 @@
 //! Where a text stops being notation, and what its author may have meant. It serves messages alone:
 //! whether a text is notation is what `parse_diag` says.
 use crate::breaks::Within;
+use crate::notation::heads::{argument_len, step};
+use crate::text::mark_len;
+use cbor_bytes::utf8_fault;
 use cbor_diag::{Error, diag_fault};
 use std::alloc::{AllocError, Global};
 
 /// Finds the error of a text that is not notation, and the place of the first character that cannot
 /// stand where it stands, or that ends a string that is wrong. If the text may only end too early,
-/// the error is `CutShort`, and the place is after its last character that is no blank.
+/// the error is `CutShort`, and the place is after its last character that is no blank. If it is
+/// not UTF-8, the error is `Utf8`, and the place is that of the first byte with which no UTF-8 goes
+/// on.
 ///
 /// ```rust
 /// use cbor_diag::Error;
@@ -16,18 +21,57 @@ use std::alloc::{AllocError, Global};
 /// assert_eq!(rt; fault, Some((Error::Notation, 3)));
 /// ```
 pub fn notation_fault(alloc: Global, text: &[u8]) -> Result<Option<(Error, usize)>, AllocError> {
-    let text = match str::from_utf8(text) {
-        Ok(text) => text,
-        Err(error) => return Ok(Some((Error::Utf8, error.valid_up_to()))),
+    let mark = mark_len(text);
+    let rest = &text[mark..];
+    let Ok(notation) = str::from_utf8(rest) else {
+        let at = utf8_fault(rest).unwrap_or(0);
+        return Ok(Some((Error::Utf8, mark.saturating_add(at))));
     };
-    match diag_fault(alloc, text) {
-        Ok(Some((Error::CutShort, _))) => {
-            let len = text.as_bytes().trim_ascii_end().len();
-            Ok(Some((Error::CutShort, len)))
+    let (error, at) = match diag_fault(alloc, notation) {
+        Ok(Some((Error::CutShort, _))) => (Error::CutShort, rest.trim_ascii_end().len()),
+        Ok(Some((error, end))) => (error, last_character(rest, end)),
+        Ok(None) => return Ok(None),
+        Err(_) => return Err(AllocError),
+    };
+    Ok(Some((error, mark.saturating_add(at))))
+}
+
+/// The place of the byte that is at fault in bytes that are no item, of which the first `end` have
+/// this error: the last of these; of a text that is not UTF-8, the first with which no UTF-8 goes
+/// on.
+///
+/// ```rust
+/// use cbor_diag::Error;
+/// use cbor_inspect::place_of_fault;
+///
+/// assert_eq!(rt; place_of_fault(b"\x63a\xffb", Error::Utf8, 4), 2);
+/// ```
+pub fn place_of_fault(bytes: &[u8], error: Error, end: usize) -> usize {
+    let last = end.saturating_sub(1);
+    if error != Error::Utf8 {
+        return last;
+    }
+    let mut at = 0usize;
+    'heads: while at < end {
+        let next = at.saturating_add(step(bytes, at));
+        if next >= end {
+            return last.min(first_wrong(bytes, at, end));
         }
-        Ok(Some((error, end))) => Ok(Some((error, last_character(text.as_bytes(), end)))),
-        Ok(None) => Ok(None),
-        Err(_) => Err(AllocError),
+        at = next;
+    }
+    last
+}
+
+/// The place of the first byte with which no UTF-8 goes on, in the text whose head is at a place
+/// and whose end at another; that end, if there is none.
+fn first_wrong(bytes: &[u8], at: usize, end: usize) -> usize {
+    let Some(first) = bytes.get(at) else {
+        return end;
+    };
+    let begins = at.saturating_add(argument_len(*first)).saturating_add(1);
+    match utf8_fault(bytes.get(begins..end).unwrap_or(b"")) {
+        Some(place) => begins.saturating_add(place),
+        None => end,
     }
 }
 

@@ -27,7 +27,7 @@ pub struct Conversion<'a> {
     /// How many of the bytes that come next are skipped.
     skip: usize,
     /// Whether an item was converted.
-    any: bool,
+    pub any: bool,
     /// What is written next.
     out: Vec<u8>,
 }

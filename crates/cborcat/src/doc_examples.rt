@@ -3,8 +3,8 @@
 
 use cbor_diag::{Error, parse_hex};
 use cbor_inspect::{
-    End, Form, Hint, Input, Show, Stream, hint_of, is_shown, notation_fault, place_of_digit,
-    recognize, show_items, skip_items, steps_of,
+    End, Form, Hint, Input, Pasted, Show, Stream, hint_of, is_shown, is_text, looks_like,
+    notation_fault, place_of_digit, place_of_fault, recognize, show_items, skip_items, steps_of,
 };
 use std::test::Fail;
 
@@ -73,5 +73,13 @@ fn places_are_found(rt: HostRuntime) -> Result<(), Fail> {
     let fault = notation_fault(alloc, b"[1,]")?;
     assert_eq!(rt; fault, Some((Error::Notation, 3)));
     assert_eq!(rt; hint_of(b"[1,]", 3), Hint::Comma);
+    assert_eq!(rt; place_of_fault(b"\x63a\xffb", Error::Utf8, 4), 2);
     Ok(())
+}
+
+#[test]
+fn texts_are_told(rt: HostRuntime) {
+    assert!(rt; is_text(b"two\nlines"));
+    assert!(rt; !is_text(b"a\x1b"));
+    assert_eq!(rt; looks_like(b"82-01"), Some(Pasted::Dashes));
 }

@@ -27,15 +27,17 @@ Output:
 
 Forms:
   bytes   CBOR
-  hex     input: digits, also with blanks , : 0x \\x, and comments after #
+  hex     input: pairs of digits, also with blanks , : 0x \\x, and comments
+          after #
           output: a dump with comments
   digits  hex on one line (output)
   diag    diagnostic notation; pretty is diag over several lines
   base64  either alphabet (input)
 
-Without -f, an input is bytes if no text can begin with its first byte.
-Otherwise it is the first of hex, diag, base64 and bytes that reads all of it.
-Bytes are shown as they arrive; other input is read to its end first.
+Without -f, an input is bytes as soon as a byte comes that no text has, and is
+shown as it arrives. Text is read to its end. It is the first of hex, diag and
+base64 that reads all of it, and never bytes, but in a file .cbor, .cose or
+.cwt that none of these reads.
 
 A PATH has steps joined by /: an index of an array, a key of a map in
 notation or as a plain word, or @ for the item inside a byte string.

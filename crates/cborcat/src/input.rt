@@ -1,5 +1,6 @@
 //! Inputs, as they are read.
 
+use cbor_inspect::{Input, text_fault};
 use std::io::{ErrorKind, Read};
 use std::{fs, io};
 
@@ -36,7 +37,7 @@ pub fn read_into<R: Read>(input: &mut R, free: &mut [u8]) -> io::Result<usize> {
 
 /// Reads what the input has, up to `most` bytes, after the bytes that are there; returns how many
 /// came, 0 at the end.
-pub fn read_block<R: Read>(input: &mut R, bytes: &mut Vec<u8>, most: usize) -> io::Result<usize> {
+fn read_block<R: Read>(input: &mut R, bytes: &mut Vec<u8>, most: usize) -> io::Result<usize> {
     let start = bytes.len();
     bytes.resize(start.saturating_add(most), 0)?;
     match read_into(input, &mut bytes[start..]) {
@@ -52,7 +53,7 @@ pub fn read_block<R: Read>(input: &mut R, bytes: &mut Vec<u8>, most: usize) -> i
 }
 
 /// Reads all that the input has, after the bytes that are there.
-pub fn read_all<R: Read>(input: &mut R, bytes: &mut Vec<u8>) -> io::Result<()> {
+fn read_all<R: Read>(input: &mut R, bytes: &mut Vec<u8>) -> io::Result<()> {
     for _ in 0..u64::MAX {
         if read_block(input, bytes, BLOCK)? == 0 {
             break;
@@ -61,11 +62,57 @@ pub fn read_all<R: Read>(input: &mut R, bytes: &mut Vec<u8>) -> io::Result<()> {
     Ok(())
 }
 
-/// Whether a text can begin so: with a blank, or with a character that begins hex, notation or base
-/// 64.
-pub fn may_be_text(bytes: &[u8]) -> bool {
-    match bytes.first() {
-        Some(byte) => byte.is_ascii_graphic() || byte.is_ascii_whitespace(),
-        None => true,
+/// Reads on until a byte has come that no text has, or the input ends; returns the place of that
+/// byte, if there is one.
+fn read_text<R: Read>(
+    input: &mut R,
+    bytes: &mut Vec<u8>,
+    most: usize,
+) -> io::Result<Option<usize>> {
+    let mut looked = 0usize;
+    for _ in 0..u64::MAX {
+        if read_block(input, bytes, most)? == 0 {
+            break;
+        }
+        let from = character_before(bytes, looked);
+        if let Some(at) = text_fault(bytes.get(from..).unwrap_or(b"")) {
+            return Ok(Some(from.saturating_add(at)));
+        }
+        looked = bytes.len();
+    }
+    Ok(None)
+}
+
+/// Where a character begins in a text, at most four bytes before this place: what is there may be
+/// a character that was cut.
+fn character_before(text: &[u8], at: usize) -> usize {
+    let mut from = at.saturating_sub(4);
+    for _ in 0..4 {
+        match text.get(from) {
+            Some(byte) if from < at && *byte & 0xc0 == 0x80 => from = from.saturating_add(1),
+            _ => break,
+        }
+    }
+    from
+}
+
+/// Reads an input until it is known to be bytes, or to its end. Returns the place of the byte by
+/// which it is known, if it is bytes: the first that no text has, unless the arguments say so.
+pub fn read_first<R: Read>(
+    input: &mut R,
+    bytes: &mut Vec<u8>,
+    from: Option<Input>,
+    most: usize,
+) -> io::Result<Option<usize>> {
+    match from {
+        None => read_text(input, bytes, most),
+        Some(Input::Bytes) => {
+            read_block(input, bytes, most)?;
+            Ok(Some(0))
+        }
+        Some(_) => {
+            read_all(input, bytes)?;
+            Ok(None)
+        }
     }
 }

@@ -14,6 +14,9 @@ mod lost;
 mod messages;
 mod notation;
 mod output;
+#[cfg(test)]
+mod recognition_tests;
+mod recognized;
 mod run;
 mod status;
 mod words;

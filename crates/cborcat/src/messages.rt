@@ -4,7 +4,10 @@ use crate::excerpt::{place_of, show_bytes, show_line};
 use crate::notation::report_notation;
 use crate::status::Status;
 use cbor_diag::Error;
-use cbor_inspect::{End, HexFault, Input, Refusal, is_shown, place_of_digit};
+use cbor_inspect::{
+    End, HexFault, Input, Pasted, Refusal, Shown, is_shown, looks_like, place_of_digit,
+    place_of_fault,
+};
 use std::io;
 
 /// Where the data of an input comes from.
@@ -63,7 +66,7 @@ pub fn say_at(rt: &HostRuntime, input: (&str, &[u8]), at: usize, what: &str) {
 }
 
 /// The word of a form.
-fn word_of(form: Input) -> &'static str {
+pub fn word_of(form: Input) -> &'static str {
     match form {
         Input::Bytes => "bytes",
         Input::Hex => "hex",
@@ -72,16 +75,9 @@ fn word_of(form: Input) -> &'static str {
     }
 }
 
-/// Says which form was taken, if another one reads the input, too.
-pub fn taken(rt: &HostRuntime, name: &str, form: Input, also: Option<Input>) {
-    if let Some(other) = also {
-        let _ = eprintln!(rt;
-            "cborcat: {}: read as {}; -f {} reads it, too",
-            label(name),
-            word_of(form),
-            word_of(other)
-        );
-    }
+/// Says why an input was read as bytes: what begins as a text does may have been meant as one.
+pub fn say_no_text(rt: &HostRuntime, at: usize) {
+    let _ = eprintln!(rt; "  it is read as bytes, because no text has byte {at} (0x{at:x})");
 }
 
 impl Place<'_> {
@@ -98,8 +94,18 @@ impl Place<'_> {
         match self.digits(byte) {
             Some(at) => say_at(rt, (self.name, self.text), at, what),
             None => {
-                let _ = eprintln!(rt; "cborcat: {}: byte {byte}: {what}", label(self.name));
+                let name = label(self.name);
+                let _ = eprintln!(rt; "cborcat: {name}: byte {byte}{}: {what}", self.within());
             }
+        }
+    }
+
+    /// What its bytes are counted in, if that is not the input.
+    fn within(&self) -> &'static str {
+        if self.form == Input::Base64 {
+            " of the base 64"
+        } else {
+            ""
         }
     }
 }
@@ -126,8 +132,8 @@ pub fn report_end(rt: &HostRuntime, place: &Place, left: Left, end: End) -> Stat
 /// left.
 fn report_fault(rt: &HostRuntime, place: &Place, left: Left, fault: (Error, usize)) {
     let (error, end) = fault;
-    let last = end.saturating_sub(1);
-    let byte = left.begins.saturating_add(last);
+    let at_fault = place_of_fault(left.bytes, error, end);
+    let byte = left.begins.saturating_add(at_fault);
     match place.digits(byte) {
         Some(at) => {
             say_at(rt, (place.name, place.text), at, error.text());
@@ -135,10 +141,11 @@ fn report_fault(rt: &HostRuntime, place: &Place, left: Left, fault: (Error, usiz
         }
         None => {
             let _ = eprintln!(rt;
-                "cborcat: {}: byte {byte} (0x{byte:x}): {error}",
-                label(place.name)
+                "cborcat: {}: byte {byte} (0x{byte:x}){}: {error}",
+                label(place.name),
+                place.within()
             );
-            show_bytes(rt, left.bytes, last);
+            show_bytes(rt, left.bytes, at_fault);
         }
     }
 }
@@ -171,39 +178,57 @@ pub fn report_long(rt: &HostRuntime, place: &Place, begins: usize, limit: usize)
     );
 }
 
-/// Says why a text does not have its form.
+/// Says why a text does not have its form, and what it may be.
 pub fn report_refusal(rt: &HostRuntime, name: &str, text: &[u8], refusal: Refusal) -> Status {
-    match refusal {
-        Refusal::Memory | Refusal::Hex(HexFault::Memory) => return say_out_of_memory(rt, name),
-        Refusal::Hex(HexFault::Digit(at)) => report_digit(rt, name, text, at),
+    let status = match refusal {
+        Refusal::Memory | Refusal::Hex(HexFault::Memory) => say_out_of_memory(rt, name),
+        Refusal::Hex(HexFault::Digit(at)) => {
+            say_at(rt, (name, text), at, "not a hex digit");
+            show_line(rt, text, at, "^");
+            Status::Bad
+        }
         Refusal::Hex(HexFault::Odd(at)) => {
             say_at(rt, (name, text), at, "an odd number of hex digits");
+            Status::Bad
         }
-        Refusal::Diag(error) => return report_notation(rt, name, text, error),
+        Refusal::Diag { error, at } => report_notation(rt, name, text, (error, at)),
         Refusal::Base64 => {
             let _ = eprintln!(rt; "cborcat: {}: not base 64", label(name));
+            Status::Bad
         }
-        Refusal::Items { form, shown } => {
-            let place = Place { name, form, text };
-            let bytes = match text.get(shown.used..) {
-                Some(rest) if form != Input::Base64 => rest,
-                _ => b"",
-            };
-            let left = Left {
-                begins: shown.used,
-                bytes,
-            };
-            return report_end(rt, &place, left, shown.end);
-        }
+        Refusal::Items { form, shown } => report_data(rt, (name, text), form, shown),
+    };
+    if status == Status::Bad {
+        say_pasted(rt, text);
     }
-    Status::Bad
+    status
 }
 
-/// Says which character is no hex digit.
-fn report_digit(rt: &HostRuntime, name: &str, text: &[u8], at: usize) {
-    say_at(rt, (name, text), at, "not a hex digit");
-    show_line(rt, text, at, "^");
-    if place_of(text, at).column == 9 && text.get(at) == Some(&b':') {
-        let _ = eprintln!(rt; "  a dump of xxd? Use xxd -r FILE | cborcat");
-    }
+/// Says what to do with a text that is no form, if that is known.
+fn say_pasted(rt: &HostRuntime, text: &[u8]) {
+    let Some(what) = looks_like(text) else {
+        return;
+    };
+    let hint = match what {
+        Pasted::DataUrl => "a data URL? Give the base 64 after its comma alone",
+        Pasted::Dashes => "hex? Write blanks in place of - ( )",
+        Pasted::Braces => "an array of C? Leave out the braces",
+        Pasted::Literal => "bytes of a program? Give their hex; in Python that is b'..'.hex()",
+        Pasted::Hexdump => "a dump of hexdump -C? Use xxd -p FILE, or the file itself",
+        Pasted::Xxd => "a dump of xxd? Use xxd -r FILE | cborcat",
+    };
+    let _ = eprintln!(rt; "  {hint}");
+}
+
+/// Says why the data that a text stands for in a form are no items.
+fn report_data(rt: &HostRuntime, input: (&str, &[u8]), form: Input, shown: Shown) -> Status {
+    let (name, text) = input;
+    let Ok(data) = form.decode(rt.alloc(), text) else {
+        return say_out_of_memory(rt, name);
+    };
+    let left = Left {
+        begins: shown.used,
+        bytes: data.get(shown.used..).unwrap_or(b""),
+    };
+    report_end(rt, &Place { name, form, text }, left, shown.end)
 }

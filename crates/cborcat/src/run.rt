@@ -1,12 +1,13 @@
 //! A run: each input, one after the other.
 
 use crate::conversion::Conversion;
-use crate::input::{block_len, may_be_text, read_all, read_block};
-use crate::messages::{Place, report_refusal, say, taken};
+use crate::input::{block_len, read_first};
+use crate::messages::{Place, say, say_no_text};
 use crate::output::{Target, close, open};
+use crate::recognized::data_of;
 use crate::status::{Next, Status};
 use crate::words::Job;
-use cbor_inspect::{Form, Input, recognize};
+use cbor_inspect::{Form, Input};
 use std::fs::File;
 use std::io;
 use std::io::{IsTerminal, Read};
@@ -94,61 +95,42 @@ impl Runner<'_> {
         Next::NextInput
     }
 
-    /// Converts an input. Its first bytes decide whether it is read as it arrives.
+    /// Converts an input: as it arrives, once it is known to be bytes.
     fn input<R: Read>(&mut self, name: &str, input: &mut R) -> Next {
         let mut bytes = Vec::new(self.rt.alloc());
-        if let Err(error) = read_block(input, &mut bytes, block_len(self.rt, name)) {
-            return self.cannot_read(name, &error);
-        }
-        let arrives = match self.job.from {
-            Some(form) => form == Input::Bytes,
-            None => !may_be_text(&bytes),
+        let most = block_len(self.rt, name);
+        let at = match read_first(input, &mut bytes, self.job.from, most) {
+            Ok(Some(at)) => at,
+            Ok(None) => return self.text(name, &bytes),
+            Err(error) => return self.cannot_read(name, &error),
         };
-        if arrives {
-            let (form, text) = (Input::Bytes, b"".as_slice());
-            let place = Place { name, form, text };
-            return self.items(&place, bytes, input);
+        let (form, text) = (Input::Bytes, b"".as_slice());
+        let (next, begins) = self.items(&Place { name, form, text }, bytes, input);
+        if !begins && at > 0 {
+            say_no_text(self.rt, at);
         }
-        match read_all(input, &mut bytes) {
-            Ok(()) => self.text(name, &bytes),
-            Err(error) => self.cannot_read(name, &error),
-        }
+        next
     }
 
-    /// Converts the items of these bytes, and of those that the input still has.
-    fn items<R: Read>(&mut self, place: &Place, first: Vec<u8>, input: &mut R) -> Next {
+    /// Converts the items of these bytes, and of those that the input still has. Also returns
+    /// whether the input begins with an item, or has none.
+    fn items<R: Read>(&mut self, place: &Place, first: Vec<u8>, input: &mut R) -> (Next, bool) {
         let mut conversion = Conversion::new(self, place, first);
         let next = conversion.all(input);
-        let status = conversion.status;
+        let (status, any) = (conversion.status, conversion.any);
         drop(conversion);
         self.ended(status);
-        next
+        (next, any || status != Status::Bad)
     }
 
     /// Converts an input that was read to its end, in the form that is named or recognized.
     fn text(&mut self, name: &str, text: &[u8]) -> Next {
-        let alloc = self.rt.alloc();
-        let decoded = match self.job.from {
-            Some(form) => match form.decode(alloc, text) {
-                Ok(bytes) => Ok((form, bytes)),
-                Err(refusal) => Err(refusal),
-            },
-            None => match recognize(alloc, text) {
-                Ok(found) => {
-                    taken(self.rt, name, found.form, found.also(alloc, text));
-                    Ok((found.form, found.bytes))
-                }
-                Err(refusal) => Err(refusal),
-            },
-        };
-        match decoded {
+        match data_of(self.rt, self.job.from, (name, text)) {
             Ok((form, bytes)) => {
-                let place = Place { name, form, text };
                 let mut none = b"".as_slice();
-                self.items(&place, bytes, &mut none)
+                self.items(&Place { name, form, text }, bytes, &mut none).0
             }
-            Err(refusal) => {
-                let status = report_refusal(self.rt, name, text, refusal);
+            Err(status) => {
                 self.ended(status);
                 Next::NextInput
             }

@@ -31,7 +31,7 @@ fn head_wants(bytes: &[u8], at: usize, notes: bool) -> bool {
 }
 
 /// How many bytes after the head at this place the next one is: strings are passed.
-fn step(bytes: &[u8], at: usize) -> usize
+pub(crate) fn step(bytes: &[u8], at: usize) -> usize
     ensures { 1 ≤ result }
 {
     let byte = byte_at(bytes, at);
@@ -54,7 +54,7 @@ fn byte_at(bytes: &[u8], at: usize) -> u8 {
 }
 
 /// How many bytes follow the first of a head.
-fn argument_len(byte: u8) -> usize
+pub(crate) fn argument_len(byte: u8) -> usize
     ensures { result ≤ 8 }
 {
     match byte & 31 {

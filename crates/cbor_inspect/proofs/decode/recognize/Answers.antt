@@ -1,0 +1,34 @@
+use Rattle.std.proofs.Common.{rules, ◌≡◌, ◌≢◌, ℕ, List, arith}
+use Rattle.cbor_inspect.specs.declared.decode.Input.TheVariants as input
+use Rattle.cbor_inspect.specs.declared.decode.Refusal.TheVariants as refusal
+use Rattle.cbor_inspect.specs.Inputs.{Reads, NoneBefore}
+use Rattle.cbor_inspect.specs.Texts.{IsText}
+use Rattle.cbor_inspect.proofs.InputLemmas.{text_is_none, none_is_read}
+use Rattle.cbor_inspect.proofs.decode.recognize.Goals as goal
+
+pub returns-then-is_text-clause-refused : goal.returns-then-is_text-clause-refused
+returns-then-is_text-clause-refused c =
+    let text = c.args.text.now in
+    let hex : ¬ (Reads input.Hex text) = search rules in
+    let diag : ¬ (Reads input.Diag text) = search rules in
+    let base64 : ¬ (Reads input.Base64 text) = search rules in
+    let all : IsText text = search rules in
+    λ _ form. text_is_none text all hex diag base64 form
+
+pub returns-in-Ok-read-3-clause-first : goal.returns-in-Ok-read-3-clause-first
+returns-in-Ok-read-3-clause-first c =
+    let text = c.args.text.now in
+    let hex : ¬ (Reads input.Hex text) = search rules in
+    let diag : ¬ (Reads input.Diag text) = search rules in
+    let base64 : ¬ (Reads input.Base64 text) = search rules in
+    let named : c.in-Ok-read-3.found.form ≡ input.Bytes = search rules in
+    rw named (hex, diag, base64)
+
+pub returns-in-Err-read-3-clause-refused : goal.returns-in-Err-read-3-clause-refused
+returns-in-Err-read-3-clause-refused c =
+    let text = c.args.text.now in
+    let hex : ¬ (Reads input.Hex text) = search rules in
+    let diag : ¬ (Reads input.Diag text) = search rules in
+    let base64 : ¬ (Reads input.Base64 text) = search rules in
+    let bytes : ¬ (Reads input.Bytes text) = search rules in
+    λ _ form. none_is_read text bytes hex diag base64 form

@@ -1,0 +1,113 @@
+//! The form of an input, if the arguments do not name it.
+
+use crate::messages::{label, report_refusal, say_out_of_memory, word_of};
+use crate::status::Status;
+use cbor_inspect::{End, Input, Recognized, Refusal, is_text, recognize, skip_items};
+use std::alloc::{AllocError, Global};
+
+/// The data of an input that was read to its end, and the form that it was read in: the form that
+/// is named, or the one that is recognized. A message says why there is none.
+pub fn data_of(
+    rt: &HostRuntime,
+    from: Option<Input>,
+    input: (&str, &[u8]),
+) -> Result<(Input, Vec<u8>), Status> {
+    let (name, text) = input;
+    let Some(form) = from else {
+        return recognized(rt, name, text);
+    };
+    match form.decode(rt.alloc(), text) {
+        Ok(bytes) => Ok((form, bytes)),
+        Err(refusal) => Err(report_refusal(rt, name, text, refusal)),
+    }
+}
+
+/// The data of an input in the form that it has.
+fn recognized(rt: &HostRuntime, name: &str, text: &[u8]) -> Result<(Input, Vec<u8>), Status> {
+    let alloc = rt.alloc();
+    let refusal = match recognize(alloc, text) {
+        Ok(found) => {
+            return match say_taken(rt, name, text, &found) {
+                Ok(()) => Ok((found.form, found.bytes)),
+                Err(_) => Err(say_out_of_memory(rt, name)),
+            };
+        }
+        Err(refusal) => refusal,
+    };
+    if refusal != Refusal::Memory && is_named_bytes(name) {
+        return match Vec::from_slice(alloc, text) {
+            Ok(bytes) => Ok((Input::Bytes, bytes)),
+            Err(_) => Err(say_out_of_memory(rt, name)),
+        };
+    }
+    let status = report_refusal(rt, name, text, refusal);
+    if status == Status::Bad && is_text(text) {
+        say_count(rt, text);
+    }
+    Err(status)
+}
+
+/// Whether the name of a file says that it has bytes.
+fn is_named_bytes(name: &str) -> bool {
+    name.ends_with(".cbor") || name.ends_with(".cose") || name.ends_with(".cwt")
+}
+
+/// Says which form was taken, if another one reads the input, too, or would if more had come.
+fn say_taken(
+    rt: &HostRuntime,
+    name: &str,
+    text: &[u8],
+    found: &Recognized,
+) -> Result<(), AllocError> {
+    if found.bytes.is_empty() {
+        return Ok(());
+    }
+    let alloc = rt.alloc();
+    if let Some(other) = found.also(alloc, text)? {
+        let _ = eprintln!(rt;
+            "cborcat: {}: read as {}; -f {} reads it, too",
+            label(name),
+            word_of(found.form),
+            word_of(other)
+        );
+    }
+    if found.form == Input::Diag
+        && let Some(at) = cut_as_hex(alloc, text)?
+    {
+        let _ = eprintln!(rt;
+            "cborcat: {}: read as notation; as hex it is cut short at byte {at}",
+            label(name)
+        );
+    }
+    Ok(())
+}
+
+/// Where the bytes end that a text is in hex, if these are cut short.
+fn cut_as_hex(alloc: Global, text: &[u8]) -> Result<Option<usize>, AllocError> {
+    let bytes = match Input::Hex.decode(alloc, text) {
+        Ok(bytes) => bytes,
+        Err(Refusal::Memory) => return Err(AllocError),
+        Err(_) => return Ok(None),
+    };
+    match skip_items(&bytes, false).end {
+        End::Cut => Ok(Some(bytes.len())),
+        _ => Ok(None),
+    }
+}
+
+/// Says how many items a text is as bytes, if it is items.
+fn say_count(rt: &HostRuntime, text: &[u8]) {
+    let mut count = 0u64;
+    let mut used = 0usize;
+    for _ in 0..u64::MAX {
+        let shown = skip_items(text.get(used..).unwrap_or(b""), true);
+        match shown.end {
+            End::Full => count = count.saturating_add(1),
+            End::Done => break,
+            _ => return,
+        }
+        used = used.saturating_add(shown.used);
+    }
+    let items = if count == 1 { "item" } else { "items" };
+    let _ = eprintln!(rt; "  as bytes it is {count} {items}: -f bytes");
+}
