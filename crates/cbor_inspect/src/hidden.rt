@@ -3,8 +3,11 @@ ghost use Rattle.std.specs.Prelude.{◌≡◌, ◌↔◌, ℕ, ◌+◌, ◌<◌,
 ghost use Rattle.cbor_inspect.specs.Hidden.{Hides, NeverHides, IsShown};
 ghost use Rattle.cbor_inspect.specs.Hidden.{HidesNone, ShownBetween};
 
+use std::alloc::AllocError;
+
 /// Whether three bytes of UTF-8 begin with a character that is not shown as it is: a control
-/// character, but for a line feed where `lines` are allowed; U+2028 to U+202E, or U+2066 to U+2069.
+/// character, but for a line feed where `lines` are allowed; U+061C, U+200E, U+200F, U+2028 to
+/// U+202E, U+2066 to U+2069, or U+FEFF.
 pub(crate) fn hides(lines: bool, a: u8, b: u8, c: u8) -> bool
     ensures { IsTrue result ↔ Hides lines a b c }
 {
@@ -14,7 +17,10 @@ pub(crate) fn hides(lines: bool, a: u8, b: u8, c: u8) -> bool
     match a {
         127 => true,
         0xc2 => b < 0xa0,
-        0xe2 => (b == 0x80 && 0xa8 <= c && c <= 0xae) || (b == 0x81 && 0xa6 <= c && c <= 0xa9),
+        0xd8 => b == 0x9c,
+        0xe2 if b == 0x80 => (0x8e <= c && c <= 0x8f) || (0xa8 <= c && c <= 0xae),
+        0xe2 => b == 0x81 && 0xa6 <= c && c <= 0xa9,
+        0xef => b == 0xbb && c == 0xbf,
         _ => false,
     }
 }
@@ -34,7 +40,8 @@ fn byte_at(text: &[u8], at: usize) -> u8
 fn never_hides(lines: bool, a: u8) -> bool
     ensures { IsTrue result → NeverHides lines a }
 {
-    ((a >= 32) | (lines & (a == 10))) & (a != 127) & (a != 0xc2) & (a != 0xe2)
+    let plain = (a != 127) & (a != 0xc2) & (a != 0xd8) & (a != 0xe2) & (a != 0xef);
+    ((a >= 32) | (lines & (a == 10))) & plain
 }
 
 /// Whether no such character begins with a byte from one place of a text to another. The loop has
@@ -75,8 +82,8 @@ fn is_shown_between(lines: bool, text: &[u8], from: usize, to: usize) -> bool
 /// How many bytes of a text are looked at together.
 const BLOCK: usize = 256;
 
-/// Whether all characters of a text may be shown as they are: none is a control character or ends a
-/// line or turns the direction of a text. With `lines`, line feeds may.
+/// Whether all characters of a text may be shown as they are: none is a control character, ends a
+/// line or turns the direction of a text, or is a byte order mark. With `lines`, line feeds may.
 ///
 /// ```rust
 /// use cbor_inspect::is_shown;
@@ -96,4 +103,41 @@ pub fn is_shown(lines: bool, text: &[u8]) -> bool
         at = end;
     }
     true
+}
+
+/// Whether a character is not shown as it is.
+pub(crate) fn is_hidden(c: char) -> bool {
+    match u32::from(c) {
+        0..=31
+        | 127..=159
+        | 0x061c
+        | 0x200e
+        | 0x200f
+        | 0x2028..=0x202e
+        | 0x2066..=0x2069
+        | 0xfeff => { true }
+        _ => false,
+    }
+}
+
+/// Appends lines of text in which each character that is not shown as it is, but for line feeds, is
+/// escaped: as `\u{202e}`.
+///
+/// ```rust
+/// use cbor_inspect::push_shown;
+///
+/// let mut out = String::new(alloc);
+/// push_shown(&mut out, "a\u{202e}b\n")?;
+/// assert_eq!(rt; out.as_str(), "a\\u{202e}b\n");
+/// ```
+pub fn push_shown(out: &mut String, text: &str) -> Result<(), AllocError> {
+    for c in text.chars() {
+        if c != '\n' && is_hidden(c) {
+            let code = u32::from(c);
+            write!(out, "\\u{{{code:x}}}")?;
+        } else {
+            out.push(c)?;
+        }
+    }
+    Ok(())
 }

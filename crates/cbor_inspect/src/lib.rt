@@ -31,7 +31,7 @@ mod text;
 
 pub use decode::{Input, Recognized, Refusal, recognize};
 pub use form::{Form, Style};
-pub use hidden::is_shown;
+pub use hidden::{is_shown, push_shown};
 pub use items::{End, Show, Shown, show_items, skip_items};
 pub use loose::{HexFault, place_of_digit};
 pub use pasted::{Pasted, looks_like};

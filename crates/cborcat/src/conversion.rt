@@ -3,11 +3,12 @@
 use crate::input::{block_len, read_into};
 use crate::lost::report_lost;
 use crate::messages::{Left, Place, report_end, report_long, say};
-use crate::output::{Target, Written, write};
+use crate::output::{Target, Written, escape_hidden, write};
 use crate::run::Runner;
 use crate::status::{Next, Status};
 use crate::words::Job;
-use cbor_inspect::{End, Stream};
+use cbor_diag::Error;
+use cbor_inspect::{End, Form, Stream};
 use std::io;
 use std::io::Read;
 
@@ -146,6 +147,10 @@ impl<'a> Conversion<'a> {
         } else {
             self.stream.show(show, &mut self.out)
         };
+        if show.style.form == Form::Hex && escape_hidden(&mut self.out).is_err() {
+            self.out.clear();
+            return End::Failed(Error::Memory);
+        }
         self.any |= self.stream.rest().len() < before;
         end
     }

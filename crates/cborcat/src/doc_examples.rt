@@ -4,7 +4,8 @@
 use cbor_diag::{Error, parse_hex};
 use cbor_inspect::{
     End, Form, Hint, Input, Pasted, Show, Stream, hint_of, is_shown, is_text, looks_like,
-    notation_fault, place_of_digit, place_of_fault, recognize, show_items, skip_items, steps_of,
+    notation_fault, place_of_digit, place_of_fault, push_shown, recognize, show_items, skip_items,
+    steps_of,
 };
 use std::test::Fail;
 
@@ -62,6 +63,10 @@ fn items_come_in_pieces(rt: HostRuntime) -> Result<(), Fail> {
 fn texts_hide_characters(rt: HostRuntime) -> Result<(), Fail> {
     assert!(rt; is_shown(true, b"two\nlines"));
     assert!(rt; !is_shown(false, b"two\nlines"));
+    let alloc = rt.alloc();
+    let mut out = String::new(alloc);
+    push_shown(&mut out, "a\u{202e}b\n")?;
+    assert_eq!(rt; out.as_str(), "a\\u{202e}b\n");
     Ok(())
 }
 

@@ -1,6 +1,8 @@
 //! Where the output goes.
 
 use crate::messages::say;
+use cbor_inspect::{is_shown, push_shown};
+use std::alloc::AllocError;
 use std::fs::{File, OpenOptions};
 use std::io::{ErrorKind, Write};
 use std::{fs, io};
@@ -58,6 +60,20 @@ fn open_file(rt: &HostRuntime, name: &str) -> io::Result<Target> {
         }
     }
     Err(io::Error::from(ErrorKind::AlreadyExists))
+}
+
+/// Escapes what no terminal and no log is given as it is in the comments of a dump, which are all
+/// that has such characters.
+pub fn escape_hidden(dump: &mut Vec<u8>) -> Result<(), AllocError> {
+    if is_shown(true, dump) {
+        return Ok(());
+    }
+    let mut escaped = String::new(*dump.allocator());
+    if let Ok(text) = str::from_utf8(dump) {
+        push_shown(&mut escaped, text)?;
+    }
+    *dump = escaped.into_bytes();
+    Ok(())
 }
 
 /// Writes bytes, all of them.

@@ -1,4 +1,5 @@
 //! The parts of notation that hold no item.
+use crate::hidden::is_hidden;
 use crate::notation::notes::push_float_value;
 use base64::engine::general_purpose::{STANDARD, URL_SAFE_NO_PAD};
 use cbor_diag::{FloatWidth, IntegerWidth, Simple};
@@ -62,15 +63,6 @@ pub(super) fn push_quoted(out: &mut String, bytes: &[u8], base: Base) -> Result<
         }
     }
     out.push('\'')
-}
-
-/// Whether a character is not shown as it is.
-fn is_hidden(c: char) -> bool {
-    let code = u32::from(c);
-    code < 32
-        || (127..160).contains(&code)
-        || (0x2028..0x202f).contains(&code)
-        || (0x2066..0x206a).contains(&code)
 }
 
 /// Appends a text: pieces between quotes, where a quote and a backslash are escaped, and pieces in
