@@ -162,9 +162,9 @@ check-docs: check-pages check-commands
 check-cat: $(DIST)/bin/cborcat
 	checks/cborcat $<
 
-# Failing allocations in the program, and in single calls, which tests make that the gate builds.
-check-allocations: $(PROGRAM)
-	checks/allocations/faults $(PROGRAM)
+# Failing allocations in the programs, and in single calls, which tests make that the gate builds.
+check-allocations: $(PROGRAM_FILES)
+	checks/allocations/faults $(DIST)/bin
 	@if test -x crates/cbor_diag_tests/out/cbor_diag_tests_tests; then checks/allocations/failing_calls; \
 	    else echo "no single call was tried, because the tests are not built: make test builds them"; fi
 

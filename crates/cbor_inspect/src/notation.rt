@@ -90,9 +90,12 @@ fn reads_alike(alloc: Global, text: &str, known: &str) -> Result<bool, Error>
     ensures { IfOk result (λ same. IsTrue same
         → (i : Item) → IsNotation known.now i → IsNotation text.now i) }
 {
-    let Ok(item) = parse_diag(alloc, text) else {
-        return Ok(false);
-    };
-    let wanted = parse_diag(alloc, known)?;
-    Ok(item == wanted)
+    match parse_diag(alloc, text) {
+        Ok(item) => {
+            let wanted = parse_diag(alloc, known)?;
+            Ok(item == wanted)
+        }
+        Err(Error::Memory) => Err(Error::Memory),
+        Err(_) => Ok(false),
+    }
 }

@@ -178,8 +178,8 @@ impl<'a> Conversion<'a> {
     fn pass_lost(&mut self, len: usize) {
         let rest = self.stream.rest();
         let item = &rest[..len.min(rest.len())];
-        report_lost(self.rt, self.job, self.place, item);
-        self.ended(Status::Bad);
+        let status = report_lost(self.rt, self.job, self.place, item);
+        self.ended(status);
         let _ = self.stream.skip(true);
         self.any = true;
     }

@@ -1,4 +1,7 @@
-//! The part of an input that a message shows, with a mark below what is wrong.
+//! The part of an input that a message shows, with a mark below what is wrong. It takes no memory.
+
+use arrayvec::ArrayString;
+use std::fmt::Write;
 
 /// A place in a text.
 #[derive(Clone, Copy)]
@@ -46,17 +49,20 @@ const BYTES_BEFORE: usize = 11;
 /// How many bytes are shown.
 const BYTES: usize = 16;
 
+/// How many characters these take: two digits and a blank each.
+const DIGITS: usize = 3 * BYTES;
+
 /// Prints the bytes round a place in hex, and a mark below the one at it.
 pub fn show_bytes(rt: &HostRuntime, bytes: &[u8], at: usize) {
     if at >= bytes.len() {
         return;
     }
     let from = at.saturating_sub(BYTES_BEFORE);
-    let mut digits = String::new(rt.alloc());
+    let mut digits = ArrayString::<DIGITS>::new();
     for byte in bytes.iter().skip(from).take(BYTES) {
         let gap = if digits.is_empty() { "" } else { " " };
         if write!(digits, "{gap}{byte:02x}").is_err() {
-            return;
+            break;
         }
     }
     let before = at.saturating_sub(from).saturating_mul(3);
@@ -89,7 +95,7 @@ pub fn show_line(rt: &HostRuntime, text: &[u8], at: usize, mark: &str) {
     } else {
         begins
     };
-    let mut line = String::new(rt.alloc());
+    let mut line = ArrayString::<CHARACTERS>::new();
     let mut before = 0usize;
     for (index, byte) in text.iter().enumerate().skip(from).take(CHARACTERS) {
         if *byte == b'\n' || text[index..].starts_with(b"\r\n") {
@@ -98,8 +104,8 @@ pub fn show_line(rt: &HostRuntime, text: &[u8], at: usize, mark: &str) {
         if !begins_character(*byte) {
             continue;
         }
-        if line.push(shown(*byte)).is_err() {
-            return;
+        if line.try_push(shown(*byte)).is_err() {
+            break;
         }
         if index < at {
             before = before.saturating_add(1);
@@ -110,11 +116,6 @@ pub fn show_line(rt: &HostRuntime, text: &[u8], at: usize, mark: &str) {
 
 /// Prints a line, and below it a mark after this many blanks.
 fn show_marked(rt: &HostRuntime, line: &str, mark: (usize, &str)) {
-    let mut below = String::new(rt.alloc());
-    for _ in 0..mark.0 {
-        if below.push(' ').is_err() {
-            return;
-        }
-    }
-    let _ = eprintln!(rt; "    {line}\n    {below}{}", mark.1);
+    let (before, mark) = mark;
+    let _ = eprintln!(rt; "    {line}\n    {:before$}{mark}", "");
 }

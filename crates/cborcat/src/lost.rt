@@ -1,36 +1,36 @@
 //! Where a path leads nowhere.
 
-use crate::messages::{Place, label, say_out_of_memory};
+use crate::messages::{Place, label};
+use crate::status::Status;
 use crate::words::Job;
-use cbor_diag::{DataItem, parse_bytes_partial};
+use cbor_diag::{DataItem, Error, parse_bytes_partial};
 use cbor_inspect::{is_shown, lost_at};
 use std::alloc::{AllocError, Global};
 
 /// Says where the path of an item leads nowhere, and what is there.
-pub fn report_lost(rt: &HostRuntime, job: &Job, place: &Place, bytes: &[u8]) {
-    let alloc = rt.alloc();
-    let Ok(Some((item, _))) = parse_bytes_partial(alloc, bytes) else {
-        return;
-    };
-    let said = match lost_at(alloc, &item, &job.show.steps) {
-        Ok(lost) => {
-            let path = first_steps(alloc, job.path, lost.steps.saturating_add(1));
-            let there = there(alloc, job.path, lost.steps);
-            match (path, there) {
-                (Ok(path), Ok(there)) => say_lost(alloc, &lost.item, (&path, &there)),
-                _ => Err(AllocError),
-            }
+pub fn report_lost(rt: &HostRuntime, job: &Job, place: &Place, bytes: &[u8]) -> Status {
+    match lost_words(rt.alloc(), job, bytes) {
+        Ok(words) => {
+            let _ = eprintln!(rt; "cborcat: {}: {words}", label(place.name));
+            Status::Bad
         }
-        Err(_) => Err(AllocError),
-    };
-    match said {
-        Ok(said) => {
-            let _ = eprintln!(rt; "cborcat: {}: {said}", label(place.name));
-        }
-        Err(_) => {
-            let _ = say_out_of_memory(rt, place.name);
+        Err(error) => {
+            let _ = eprintln!(rt; "cborcat: {}: {error}", label(place.name));
+            Status::Trouble
         }
     }
+}
+
+/// What is said of the item at the front of the bytes, which does not have the part.
+fn lost_words(alloc: Global, job: &Job, bytes: &[u8]) -> Result<String, Error> {
+    let Some((item, _)) = parse_bytes_partial(alloc, bytes)? else {
+        return Err(Error::CutShort);
+    };
+    let lost = lost_at(alloc, &item, &job.show.steps)?;
+    let path = first_steps(alloc, job.path, lost.steps.saturating_add(1))?;
+    let there = there(alloc, job.path, lost.steps)?;
+    let words = say_lost(alloc, &lost.item, (&path, &there))?;
+    Ok(words)
 }
 
 /// What is said of an item that does not have the next step of a path: `path` ends with that step,

@@ -17,6 +17,8 @@ mod output;
 #[cfg(test)]
 mod recognition_tests;
 mod recognized;
+#[cfg(test)]
+mod refused_memory;
 mod run;
 mod status;
 mod words;
@@ -24,6 +26,7 @@ mod words;
 use crate::run::run;
 use crate::words::{Asked, read_words};
 use std::env;
+use std::io::ErrorKind;
 use std::process::ExitCode;
 
 fn main(rt: HostRuntime) -> ExitCode {
@@ -33,6 +36,9 @@ fn main(rt: HostRuntime) -> ExitCode {
             Ok(words) => words,
             Err(_) => return trouble(&rt, "out of memory"),
         },
+        Err(error) if error.kind() == ErrorKind::OutOfMemory => {
+            return trouble(&rt, "out of memory");
+        }
         Err(_) => {
             return trouble(
                 &rt,

@@ -1,5 +1,6 @@
 //! Messages on standard error.
 
+use crate::excerpt;
 use crate::excerpt::{place_of, show_bytes, show_line};
 use crate::notation::report_notation;
 use crate::status::Status;
@@ -8,6 +9,7 @@ use cbor_inspect::{
     End, HexFault, Input, Pasted, Refusal, Shown, is_shown, looks_like, place_of_digit,
     place_of_fault,
 };
+use std::fmt::Display;
 use std::io;
 
 /// Where the data of an input comes from.
@@ -54,7 +56,7 @@ pub fn say_out_of_memory(rt: &HostRuntime, name: &str) -> Status {
 }
 
 /// Says what is wrong at a byte of a text, by its line and column.
-pub fn say_at(rt: &HostRuntime, input: (&str, &[u8]), at: usize, what: &str) {
+pub fn say_at<T: Display + Drop>(rt: &HostRuntime, input: (&str, &[u8]), at: usize, what: T) {
     let (name, text) = input;
     let place = place_of(text, at);
     let _ = eprintln!(rt;
@@ -90,7 +92,7 @@ impl Place<'_> {
     }
 
     /// Says what is wrong at a byte of the data.
-    fn say_at_byte(&self, rt: &HostRuntime, byte: usize, what: &str) {
+    fn say_at_byte<T: Display + Drop>(&self, rt: &HostRuntime, byte: usize, what: T) {
         match self.digits(byte) {
             Some(at) => say_at(rt, (self.name, self.text), at, what),
             None => {
@@ -152,22 +154,19 @@ fn report_fault(rt: &HostRuntime, place: &Place, left: Left, fault: (Error, usiz
 
 /// Says that an item is not whole.
 fn report_cut(rt: &HostRuntime, place: &Place, left: Left) {
-    let alloc = rt.alloc();
-    let what = match place.digits(left.begins) {
+    let end = left.begins.saturating_add(left.bytes.len());
+    match place.digits(left.begins) {
         Some(at) => {
-            let begins = place_of(place.text, at);
-            format!(in alloc;
-                "cut short; the item begins at {}:{}",
-                begins.line, begins.column
-            )
+            let excerpt::Place { line, column, .. } = place_of(place.text, at);
+            let what = format_args!("cut short; the item begins at {line}:{column}");
+            place.say_at_byte(rt, end, what);
         }
-        None => format!(in alloc; "cut short; the item begins at byte {}", left.begins),
-    };
-    let what = match &what {
-        Ok(what) => what.as_str(),
-        Err(_) => "cut short",
-    };
-    place.say_at_byte(rt, left.begins.saturating_add(left.bytes.len()), what);
+        None => {
+            let begins = left.begins;
+            let what = format_args!("cut short; the item begins at byte {begins}");
+            place.say_at_byte(rt, end, what);
+        }
+    }
 }
 
 /// Says that an item that is not whole is longer than is allowed.

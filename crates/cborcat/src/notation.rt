@@ -60,12 +60,8 @@ fn report_escape(rt: &HostRuntime, name: &str, text: &[u8], backslash: usize) {
         Some(byte) if byte.is_ascii_graphic() => char::from(*byte),
         _ => '?',
     };
-    match format!(in rt.alloc(); "\\{next} is no escape; only \\\\ and \\\" are") {
-        Ok(what) => say_at(rt, (name, text), backslash, &what),
-        Err(_) => {
-            let _ = say_out_of_memory(rt, name);
-        }
-    }
+    let what = format_args!("\\{next} is no escape; only \\\\ and \\\" are");
+    say_at(rt, (name, text), backslash, what);
 }
 
 /// Says how a float is written.

@@ -45,11 +45,13 @@ pub fn open(rt: &HostRuntime, output: Option<&str>) -> Option<Target> {
 
 /// Opens a file for the output.
 fn open_file(rt: &HostRuntime, name: &str) -> io::Result<Target> {
-    if let Ok(known) = fs::metadata(rt, name) {
-        if !known.is_file() {
+    match fs::metadata(rt, name) {
+        Ok(known) if !known.is_file() => {
             let file = OpenOptions::new().write(true).open(rt, name)?;
             return Ok(Target::Direct(file));
         }
+        Err(error) if error.kind() == ErrorKind::OutOfMemory => return Err(error),
+        _ => {}
     }
     for number in 0..1000u32 {
         let beside = format!(in rt.alloc(); "{name}.{number}.part")?;

@@ -51,6 +51,7 @@ pub fn read_words<'a>(rt: &HostRuntime, words: &'a [String]) -> Asked<'a> {
     };
     match command.try_get_matches_from(words) {
         Ok(matches) => job_of(rt, &matches),
+        Err(error) if error.kind() == ErrorKind::OutOfMemory => out_of_memory(rt),
         Err(error) => {
             let _ = error.print(rt);
             if error.kind() == ErrorKind::DisplayHelp || error.kind() == ErrorKind::DisplayVersion {
