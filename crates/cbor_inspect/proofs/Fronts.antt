@@ -15,6 +15,9 @@ use Rattle.cbor_diag.specs.Item.{tagged}
 use Rattle.cbor_diag.specs.Head.{HeadThen}
 use Rattle.cbor_diag.specs.Bytes.{any, SpellsFloat, SpellsSimple, MembersThen}
 use Rattle.cbor_diag.specs.Facts.{IsItem, BeginsWithItem}
+use Rattle.cbor_grammar.specs.Reading.{read_item}
+use Rattle.cbor_grammar.proofs.bytes.Heads.{ok_is}
+use Rattle.cbor_grammar.proofs.bytes.FoundAgain.{item_again}
 use Rattle.cbor_inspect.specs.Sequence.{ItemsThen, IsSequence}
 use Rattle.cbor_inspect.proofs.Sequences.{item_then, items_then}
 
@@ -56,15 +59,15 @@ not_empty (tagged t w i) h = no_head 6 t w _ h.1
 
 -- ---- the front of a sequence
 
-front_length : (front : List ℕ) (i : Item) → IsItem front i → 1 ≤ length front
+pub front_length : (front : List ℕ) (i : Item) → IsItem front i → 1 ≤ length front
 front_length [] i h = absurd (not_empty i h)
 front_length (b ∷ bs) i h = omega arith
 
-take_front : (front after : List ℕ) → take (length front) (front ++ after) ≡ front
+pub take_front : (front after : List ℕ) → take (length front) (front ++ after) ≡ front
 take_front [] after = refl
 take_front (b ∷ bs) after = ap (λ (x : List ℕ). b ∷ x) (take_front bs after)
 
-drop_front : (front after : List ℕ) → drop (length front) (front ++ after) ≡ after
+pub drop_front : (front after : List ℕ) → drop (length front) (front ++ after) ≡ after
 drop_front [] after = refl
 drop_front (b ∷ bs) after = drop_front bs after
 
@@ -127,3 +130,28 @@ some_front b used within so_far whole =
     let rest = so_far whole in
     let front = front_of (drop used b) rest.0 (rest_some b used within) rest.1 in
     (front.item, front.length, front.begins)
+
+-- ---- the bytes after some items
+
+-- two items at the front of the same bytes end at the same place
+same_rest : (x y r s : List ℕ) (i j : Item) → IsItem x i → IsItem y j → x ++ r ≡ y ++ s → r ≡ s
+same_rest x y r s i j h k e =
+    let first = item_again 1 128 x i r refl h in
+    let other = item_again 1 128 y j s refl k in
+    ap (λ (p : Item × List ℕ). p.1) (ok_is (i, r) (j, s) (sym first ∙ ap (read_item 128) e ∙ other))
+
+-- if the bytes are items, so are those after the first of them
+pub rest_of_items : (b rest : List ℕ) (before all : List Item) → ItemsThen b before rest → ItemsThen b all []
+    → IsSequence rest
+rest_of_items b rest [] all first whole = (all, subst (λ (x : List ℕ). ItemsThen x all []) first whole)
+rest_of_items b rest (i ∷ is) [] first whole =
+    let none : length first.0 + length first.1 ≡ 0 =
+    sym (length-append first.0 first.1) ∙ ap length (sym first.2 ∙ whole) in
+    absurd (omega (arith, none, front_length first.0 i first.3))
+rest_of_items b rest (i ∷ is) (j ∷ js) first whole =
+    let same = same_rest whole.0 first.0 whole.1 first.1 j i whole.3 first.3 (sym whole.2 ∙ first.2) in
+    rest_of_items first.1 rest is js first.4 (subst (λ (x : List ℕ). ItemsThen x js []) same whole.4)
+
+pub sequence_with : (b rest : List ℕ) (before : List Item) → ItemsThen b before rest → IsSequence rest → IsSequence b
+sequence_with b rest before first later =
+    (before ++ later.0, items_then b before later.0 rest [] first later.1)

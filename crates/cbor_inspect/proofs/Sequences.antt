@@ -46,7 +46,7 @@ item_then b used i h = (take used b, drop used b, sym (take-append-drop used b),
 
 -- ---- bytes that come later
 
-came_later : (came more : List ℕ) (items : List Item) (rest : List ℕ) → ItemsThen came items rest
+pub came_later : (came more : List ℕ) (items : List Item) (rest : List ℕ) → ItemsThen came items rest
     → ItemsThen (came ++ more) items (rest ++ more)
 came_later came more [] rest h = ap (λ (x : List ℕ). x ++ more) h
 came_later came more (i ∷ is) rest h = (

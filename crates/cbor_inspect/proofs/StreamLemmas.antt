@@ -13,7 +13,7 @@ use Rattle.cbor_diag.specs.Scanning.{HasScanned}
 use Rattle.cbor_diag.specs.Facts.{BeginsWithItem}
 use Rattle.cbor_inspect.specs.Sequence.{ItemsThen, IsSequence, IsShownOfFirst}
 use Rattle.cbor_inspect.proofs.Fronts.{front_of}
-use Rattle.cbor_inspect.proofs.Sequences.{item_then, items_then, shown_later}
+use Rattle.cbor_inspect.proofs.Sequences.{item_then, items_then, shown_later, came_later}
 
 -- the first bytes of those that are kept were scanned
 abbrev pub IsScanned : Scanner → ℕ → List ℕ → Type 0
@@ -40,6 +40,13 @@ shown_if_came (Ok u) Shows came written old bytes new is = λ h.
     subst (λ (x : List ℕ). IsShownOfFirst Shows (came ++ bytes) written x) (sym is)
     (shown_later Shows came bytes written old h)
 shown_if_came (Err e) Shows came written old bytes new is = tt
+
+-- so it is with items that were passed
+pub passed_if_came : (r : Result (Unit {0}) AllocError) (came : List ℕ) (items : List Item) (old bytes new : List ℕ)
+    → OnOk r (new ≡ old ++ bytes) → OnOk r (ItemsThen came items old → ItemsThen (came ++ bytes) items new)
+passed_if_came (Ok u) came items old bytes new is = λ h.
+    subst (λ (x : List ℕ). ItemsThen (came ++ bytes) items x) (sym is) (came_later came bytes items old h)
+passed_if_came (Err e) came items old bytes new is = tt
 
 -- one more item is passed
 pub one_passed : (b rest new : List ℕ) (n : ℕ) → (items : List Item) × ItemsThen b items rest

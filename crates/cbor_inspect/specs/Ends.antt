@@ -22,13 +22,18 @@ Shows show i output = ShowsPart show.style.form (steps_of show) i output
 abbrev pub FaultAt : List ℕ → Error → ℕ → Type 0
 FaultAt rest error shown = FaultEnds rest error shown × ((n : ℕ) → n < shown → IsCut (take n rest))
 
--- what an end says of the bytes that remain
+-- what an end says of the bytes that remain, where they were looked at
+abbrev pub StopsSo : List Step → List ℕ → End → Type 0
+StopsSo steps rest end.Full = ⊥
+StopsSo steps rest end.Done = rest ≡ []
+StopsSo steps rest end.Cut = (rest ≢ []) × IsCut rest
+StopsSo steps rest (end.Fault error shown) = FaultAt rest error shown
+StopsSo steps rest (end.Lost len) =
+    (i : Item) × BeginsWithItem rest i len × HasNoPart steps i
+StopsSo steps rest (end.Failed error) = Unit {0}
+StopsSo steps rest end.Remaining = ⊥
+
+-- the same; nothing where they were not
 abbrev pub EndsSo : List Step → List ℕ → End → Type 0
 EndsSo steps rest end.Full = Unit {0}
-EndsSo steps rest end.Done = rest ≡ []
-EndsSo steps rest end.Cut = (rest ≢ []) × IsCut rest
-EndsSo steps rest (end.Fault error shown) = FaultAt rest error shown
-EndsSo steps rest (end.Lost len) =
-    (i : Item) × BeginsWithItem rest i len × HasNoPart steps i
-EndsSo steps rest (end.Failed error) = Unit {0}
-EndsSo steps rest end.Remaining = ⊥
+EndsSo steps rest other = StopsSo steps rest other

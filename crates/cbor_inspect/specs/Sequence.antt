@@ -1,5 +1,5 @@
 -- Items one after the other (RFC 8742), what is written of them, and where they end.
-use Rattle.std.specs.Prelude.{◌≡◌, ℕ, List, [], ◌∷◌, ◌++◌}
+use Rattle.std.specs.Prelude.{◌≡◌, ◌⊎◌, ℕ, List, [], ◌∷◌, ◌++◌}
 use Rattle.cbor_diag.specs.Item.{Item}
 use Rattle.cbor_diag.specs.Facts.{IsItem, BeginsWithItem}
 
@@ -8,6 +8,14 @@ abbrev pub ItemsThen : List ℕ → List Item → List ℕ → Type 0
 ItemsThen input [] rest = input ≡ rest
 ItemsThen input (i ∷ is) rest =
     (front after : List ℕ) × (input ≡ front ++ after) × IsItem front i × ItemsThen after is rest
+
+-- the input is one item, and then the rest
+abbrev pub OneThen : List ℕ → List ℕ → Type 0
+OneThen input rest = (i : Item) × (front : List ℕ) × (input ≡ front ++ rest) × IsItem front i
+
+-- the input is the rest, or one item and then the rest
+abbrev pub OneAtMost : List ℕ → List ℕ → Type 0
+OneAtMost input rest = (input ≡ rest) ⊎ OneThen input rest
 
 -- the input is items, one after the other, and nothing else
 abbrev pub IsSequence : List ℕ → Type 0

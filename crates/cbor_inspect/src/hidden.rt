@@ -63,7 +63,7 @@ fn is_harmless(lines: bool, text: &[u8], from: usize, to: usize) -> bool
 /// Whether no character that is not shown as it is begins from one place of a text to another.
 fn is_shown_between(lines: bool, text: &[u8], from: usize, to: usize) -> bool
     requires { to ≤ length text.now }
-    ensures { IsTrue result → ShownBetween lines text.now from to }
+    ensures { IsTrue result ↔ ShownBetween lines text.now from to }
 {
     if is_harmless(lines, text, from, to) {
         return true;
@@ -92,7 +92,7 @@ const BLOCK: usize = 256;
 /// assert!(rt; !is_shown(false, b"two\nlines"));
 /// ```
 pub fn is_shown(lines: bool, text: &[u8]) -> bool
-    ensures { IsTrue result → IsShown lines text.now }
+    ensures { IsTrue result ↔ IsShown lines text.now }
 {
     let mut at = 0;
     'parts: while at < text.len() {

@@ -1,6 +1,7 @@
 //! Items one after the other, as far as they have come.
 ghost use Rattle.std.specs.Prelude.{◌≡◌, ◌↔◌, ℕ, ◌+◌, ◌-◌, ◌<◌, ◌≤◌, ◌++◌, [], List, length, drop};
-ghost use Rattle.std.specs.Prelude.{IfOk, IfErr, IfSome, OnErr, false, Ok, None, Some};
+ghost use Rattle.std.specs.Prelude.{IfOk, IfErr, IfSome, OnErr, IsTrue, true, false, Ok, None};
+ghost use Rattle.std.specs.Prelude.{Some};
 ghost use Rattle.cbor_diag.specs.Item.{Item};
 ghost use Rattle.cbor_diag.specs.View.{view};
 ghost use Rattle.std.specs.String.{string_bytes};
@@ -11,8 +12,10 @@ ghost use Rattle.cbor_diag.specs.Facts.{diag_of, pretty_of};
 ghost use Rattle.cbor_diag.specs.Written.{encoded};
 ghost use Rattle.cbor_inspect.specs.Forms.{IsForm};
 ghost use Rattle.cbor_inspect.specs.declared.path.Step.{Step};
+ghost use Rattle.cbor_grammar.specs.declared.error.Error.{Error};
 ghost use Rattle.cbor_inspect.specs.Sequence.{IsSequence, ItemsThen, IsShownOfFirst, ShowsFront};
-ghost use Rattle.cbor_inspect.specs.Ends.{EndsSo, Shows, steps_of};
+ghost use Rattle.cbor_inspect.specs.Sequence.{OneAtMost};
+ghost use Rattle.cbor_inspect.specs.Ends.{EndsSo, StopsSo, Shows, steps_of};
 
 use crate::breaks::may_be_written;
 use crate::form::{Form, Style, line_of};
@@ -35,7 +38,7 @@ pub struct Show {
     pub style: Style,
     /// The path to the part that is written. Nothing is written of an item without that part.
     pub steps: Vec<Step>,
-    /// Whether a call stops after one item, with `Full`. No clause says so: it is tested.
+    /// Whether a call passes at most one item, and stops after it with `Full`.
     pub one: bool,
 }
 
@@ -45,6 +48,9 @@ impl Show {
     pub fn new(alloc: Global, form: Form) -> Show
         ensures form { result.style.form ≡ form }
         ensures whole { steps_of result ≡ [] }
+        ensures bytes { result.style.embedded ≡ false }
+        ensures notes { result.style.notes ≡ true }
+        ensures all { result.one ≡ false }
     {
         let style = Style {
             form,
@@ -63,7 +69,8 @@ impl Show {
 #[derive(Clone, Copy, PartialEq, Eq, Debug)]
 pub enum End {
     /// The call stopped without a look at what remains, which may be nothing: a block of output was
-    /// appended, or one item was to be written or skipped, and was. Write the output, and go on.
+    /// appended, or one item was to be written or skipped, and was. At least one byte was passed,
+    /// so a loop over such calls ends. Write the output, and go on.
     Full,
     /// No bytes remain.
     Done,
@@ -76,8 +83,8 @@ pub enum End {
     /// The item that follows, of this many bytes, does not have the part.
     Lost { len: usize },
     /// Nothing was made of what remains: memory ran out (`Memory`), or no notation of the next item
-    /// was made that is read back and has no hidden character (`Notation`). No clause says when
-    /// this is returned, nor what remains.
+    /// was made that is read back and has no hidden character (`Notation`). A call that takes no
+    /// memory never returns this. No clause says when another one does, nor what remains.
     Failed(Error),
 }
 
@@ -91,8 +98,8 @@ pub struct Shown {
 }
 
 /// Appends what is written of one item after the other, from the front of the bytes, until no whole
-/// item is there, an item does not have the part, or a block is full. After `Failed` the items
-/// before are written.
+/// item is there, an item does not have the part, or a block is full; with `one`, of one item at
+/// most. After `Failed` the items before are written.
 pub fn show_items(show: &Show, bytes: &[u8], out: &mut Vec<u8>) -> Shown
     ensures used { result.used ≤ length bytes.now }
 
@@ -102,18 +109,26 @@ pub fn show_items(show: &Show, bytes: &[u8], out: &mut Vec<u8>) -> Shown
 
     // Why none is written of the bytes after them.
     ensures ends { EndsSo (steps_of show.now) (drop result.used bytes.now) result.end }
+
+    // At least one byte is passed before a call stops without a look at what remains.
+    ensures full { result.end ≡ End.Full → 1 ≤ result.used }
+
+    // One item at most is passed, if so asked.
+    ensures one { IsTrue show.now.one → OneAtMost bytes.now (drop result.used bytes.now) }
 {
     let limit = out.len().saturating_add(BLOCK);
     let mut used = 0;
-    'items: while out.len() < limit && !(show.one && used > 0) {
+    'items: loop {
         match show_first(show, &bytes[used..], None, out) {
             Ok(count) => used += count,
             Err(end) => return Shown { used, end },
         }
-    }
-    Shown {
-        used,
-        end: End::Full,
+        if show.one || out.len() >= limit {
+            return Shown {
+                used,
+                end: End::Full,
+            };
+        }
     }
 }
 
@@ -126,13 +141,13 @@ pub(crate) fn show_first(
     out: &mut Vec<u8>,
 ) -> Result<usize, End>
     requires { IfSome known (λ n. (i : Item) × BeginsWithItem bytes.now i n) }
-    ensures used { IfOk result (λ used. (1 ≤ used) × (used ≤ length bytes.now)) }
+    ensures item { IfOk result (λ used. (i : Item) × BeginsWithItem bytes.now i used) }
 
     // The output of that item, or nothing and the reason.
     ensures written { IfOk result (λ used. (written : List ℕ)
         × (out.new.items ≡ out.old.items ++ written)
         × IsShownOfFirst (Shows show.now) bytes.now written (drop used bytes.now)) }
-    ensures ends { IfErr result (EndsSo (steps_of show.now) bytes.now) }
+    ensures ends { IfErr result (StopsSo (steps_of show.now) bytes.now) }
     ensures unchanged { OnErr result (out.new.items ≡ out.old.items) }
 {
     let alloc = *out.allocator();
@@ -155,7 +170,7 @@ fn first_written(
 ) -> Result<(Vec<u8>, usize), End>
     requires { IfSome known (λ n. (i : Item) × BeginsWithItem bytes.now i n) }
     ensures written { IfOk result (λ x. ShowsFront (Shows show.now) bytes.now x.0.items x.1) }
-    ensures ends { IfErr result (EndsSo (steps_of show.now) bytes.now) }
+    ensures ends { IfErr result (StopsSo (steps_of show.now) bytes.now) }
 {
     if !show.steps.is_empty() {
         return first_part(alloc, show, bytes);
@@ -172,7 +187,7 @@ fn first_written(
 /// The same of the part that the path leads to.
 fn first_part(alloc: Global, show: &Show, bytes: &[u8]) -> Result<(Vec<u8>, usize), End>
     ensures written { IfOk result (λ x. ShowsFront (Shows show.now) bytes.now x.0.items x.1) }
-    ensures ends { IfErr result (EndsSo (steps_of show.now) bytes.now) }
+    ensures ends { IfErr result (StopsSo (steps_of show.now) bytes.now) }
 {
     let (item, used) = match first_item(alloc, bytes) {
         Ok(found) => found,
@@ -189,7 +204,7 @@ fn first_part(alloc: Global, show: &Show, bytes: &[u8]) -> Result<(Vec<u8>, usiz
 fn first_whole(alloc: Global, style: Style, bytes: &[u8]) -> Result<(Vec<u8>, usize), End>
     ensures written { IfOk result (λ x.
         ShowsFront (IsForm style.form) bytes.now x.0.items x.1) }
-    ensures ends { (steps : List Step) → IfErr result (EndsSo steps bytes.now) }
+    ensures ends { (steps : List Step) → IfErr result (StopsSo steps bytes.now) }
 {
     let (item, used) = match first_item(alloc, bytes) {
         Ok(found) => found,
@@ -210,7 +225,7 @@ fn first_encoding(
     requires { IfSome known (λ n. (i : Item) × BeginsWithItem bytes.now i n) }
     ensures written { IfOk result (λ x.
         ShowsFront (IsForm Form.Bytes) bytes.now x.0.items x.1) }
-    ensures ends { (steps : List Step) → IfErr result (EndsSo steps bytes.now) }
+    ensures ends { (steps : List Step) → IfErr result (StopsSo steps bytes.now) }
 {
     let used = match first_len(bytes, known) {
         Ok(used) => used,
@@ -227,7 +242,7 @@ fn first_encoding(
 fn first_len(bytes: &[u8], known: Option<usize>) -> Result<usize, End>
     requires { IfSome known (λ n. (i : Item) × BeginsWithItem bytes.now i n) }
     ensures found { IfOk result (λ n. (i : Item) × BeginsWithItem bytes.now i n) }
-    ensures ends { (steps : List Step) → IfErr result (EndsSo steps bytes.now) }
+    ensures ends { (steps : List Step) → IfErr result (StopsSo steps bytes.now) }
 {
     if let Some(len) = known {
         return Ok(len);
@@ -254,7 +269,7 @@ fn first_line(alloc: Global, style: Style, bytes: &[u8]) -> Result<(Vec<u8>, usi
     requires { style.form ≡ Form.Diag }
     ensures written { IfOk result (λ x.
         ShowsFront (IsForm Form.Diag) bytes.now x.0.items x.1) }
-    ensures ends { (steps : List Step) → IfErr result (EndsSo steps bytes.now) }
+    ensures ends { (steps : List Step) → IfErr result (StopsSo steps bytes.now) }
 {
     let mut text = String::new(alloc);
     let found = push_bytes_to_diag_partial(alloc, bytes, &mut text);
@@ -277,7 +292,7 @@ fn first_lines(alloc: Global, style: Style, bytes: &[u8]) -> Result<(Vec<u8>, us
     requires { style.form ≡ Form.Pretty }
     ensures written { IfOk result (λ x.
         ShowsFront (IsForm Form.Pretty) bytes.now x.0.items x.1) }
-    ensures ends { (steps : List Step) → IfErr result (EndsSo steps bytes.now) }
+    ensures ends { (steps : List Step) → IfErr result (StopsSo steps bytes.now) }
 {
     let mut text = String::new(alloc);
     let found = push_bytes_to_diag_pretty_partial(alloc, bytes, &mut text);
@@ -298,7 +313,7 @@ fn first_lines(alloc: Global, style: Style, bytes: &[u8]) -> Result<(Vec<u8>, us
 fn first_dump(alloc: Global, bytes: &[u8]) -> Result<(Vec<u8>, usize), End>
     ensures written { IfOk result (λ x.
         ShowsFront (IsForm Form.Hex) bytes.now x.0.items x.1) }
-    ensures ends { (steps : List Step) → IfErr result (EndsSo steps bytes.now) }
+    ensures ends { (steps : List Step) → IfErr result (StopsSo steps bytes.now) }
 {
     let mut text = String::new(alloc);
     let found = push_bytes_to_hex_partial(alloc, bytes, &mut text);
@@ -313,7 +328,7 @@ fn len_of(bytes: &[u8], found: cbor_diag::Result<Option<usize>>) -> Result<usize
     requires cut { found ≡ Ok None → IsCut bytes.now }
     requires refused { RefusedSo found (HasFault bytes.now) }
     ensures found { IfOk result (λ used. found ≡ Ok (Some used)) }
-    ensures ends { (steps : List Step) → IfErr result (EndsSo steps bytes.now) }
+    ensures ends { (steps : List Step) → IfErr result (StopsSo steps bytes.now) }
 {
     match found {
         Ok(Some(used)) => Ok(used),
@@ -328,7 +343,7 @@ fn len_of(bytes: &[u8], found: cbor_diag::Result<Option<usize>>) -> Result<usize
 fn first_item(alloc: Global, bytes: &[u8]) -> Result<(DataItem, usize), End>
     ensures found { IfOk result (λ x. BeginsWithItem bytes.now (view x.0) x.1) }
     ensures well_formed { IfOk result (λ x. IsWellFormed (view x.0)) }
-    ensures ends { (steps : List Step) → IfErr result (EndsSo steps bytes.now) }
+    ensures ends { (steps : List Step) → IfErr result (StopsSo steps bytes.now) }
 {
     match parse_bytes_partial(alloc, bytes) {
         Ok(Some(found)) => Ok(found),
@@ -342,7 +357,7 @@ fn first_item(alloc: Global, bytes: &[u8]) -> Result<(DataItem, usize), End>
 /// The place of the fault of the bytes.
 fn fault_of(bytes: &[u8], error: Error) -> End
     requires { HasFault bytes.now error }
-    ensures { (steps : List Step) → EndsSo steps bytes.now result }
+    ensures { (steps : List Step) → StopsSo steps bytes.now result }
 {
     match extent(bytes) {
         Extent::Fault { error, end } => End::Fault { error, end },
@@ -351,7 +366,7 @@ fn fault_of(bytes: &[u8], error: Error) -> End
 }
 
 /// Goes past one item after the other, from the front of the bytes, until no whole item is there,
-/// without memory.
+/// without memory; with `one`, past one item at most.
 ///
 /// ```rust
 /// use cbor_inspect::{End, skip_items};
@@ -371,6 +386,15 @@ pub fn skip_items(bytes: &[u8], one: bool) -> Shown
 
     // The bytes are items alone exactly if none remain at the end.
     ensures clean { (one ≡ false) → (result.end ≡ End.Done) ↔ IsSequence bytes.now }
+
+    // It stops without a look at what remains only after the one item that it was asked to pass.
+    ensures full { result.end ≡ End.Full → IsTrue one × (1 ≤ result.used) }
+
+    // One item at most is passed, if so asked.
+    ensures one { IsTrue one → OneAtMost bytes.now (drop result.used bytes.now) }
+
+    // It takes no memory, so none runs out.
+    ensures failed { (error : Error) → ¬ (result.end ≡ End.Failed error) }
 {
     let mut used = 0;
     'items: while used < bytes.len() {

@@ -1,13 +1,15 @@
 //! Items one after the other that come in pieces.
-ghost use Rattle.std.specs.Prelude.{◌≡◌, ◌↔◌, ℕ, ◌≤◌, ◌++◌, List, length, drop, false};
-ghost use Rattle.std.specs.Prelude.{IfErr, OnOk, OnErr};
+ghost use Rattle.std.specs.Prelude.{◌≡◌, ◌↔◌, ℕ, ◌<◌, ◌≤◌, ◌++◌, List, length, drop, false};
+ghost use Rattle.std.specs.Prelude.{IfErr, OnOk, OnErr, IsTrue};
+ghost use Rattle.cbor_grammar.specs.declared.error.Error.{Error};
 ghost use Rattle.cbor_bytes.specs.declared.skip.answer.Extent.{Extent};
 ghost use Rattle.cbor_diag.specs.Item.{Item};
 ghost use Rattle.cbor_diag.specs.Extent.{IsExtent};
 ghost use Rattle.cbor_inspect.specs.declared.items.Show.{Show};
 ghost use Rattle.cbor_inspect.specs.declared.path.Step.{Step};
-ghost use Rattle.cbor_inspect.specs.Sequence.{ItemsThen, IsSequence, IsShownOfFirst};
-ghost use Rattle.cbor_inspect.specs.Ends.{EndsSo, Shows, steps_of};
+ghost use Rattle.cbor_inspect.specs.Sequence.{ItemsThen, IsSequence, IsShownOfFirst, OneThen};
+ghost use Rattle.cbor_inspect.specs.Sequence.{OneAtMost};
+ghost use Rattle.cbor_inspect.specs.Ends.{EndsSo, StopsSo, Shows, steps_of};
 
 use crate::items::{End, Show, show_first, show_items};
 use cbor_diag::{Extent, Scanner};
@@ -82,6 +84,10 @@ impl Stream {
         ensures joined { (show : Show) (came written : List ℕ) → OnOk result (
             IsShownOfFirst (Shows show) came written self.old
             → IsShownOfFirst (Shows show) (came ++ bytes.now) written self.new) }
+
+        // So it is with items that were passed.
+        ensures passed { (came : List ℕ) (items : List Item) → OnOk result (
+            ItemsThen came items self.old → ItemsThen (came ++ bytes.now) items self.new) }
     {
         if self.start == 0 {
             return self.kept.extend_from_slice(bytes);
@@ -121,13 +127,48 @@ impl Stream {
 
         // Why nothing is written of the bytes that are kept.
         ensures ends { EndsSo (steps_of show.now) self.new result }
+
+        // At least one byte is passed before a call stops without a look at what remains.
+        ensures full { result ≡ End.Full → length self.new < length self.old }
+
+        // One item at most is passed, if so asked.
+        ensures one { IsTrue show.now.one → OneAtMost self.old self.new }
     {
         self.show_next(show, out)
     }
 
     /// Goes past the next items without memory and writes nothing, and tells why it goes no
-    /// further.
+    /// further; with `one`, past one item at most.
     pub fn skip(&mut self, one: bool) -> End
+        // Items are passed.
+        ensures items { (items : List Item) × ItemsThen self.old items self.new }
+
+        // So of all bytes that came, those are items that all calls passed, and these bytes are
+        // items alone exactly if none remain at the end.
+        ensures joined { (came : List ℕ) (before : List Item) → ItemsThen came before self.old
+            → (more : List Item) × ItemsThen came (before ++ more) self.new
+            × ((one ≡ false) → (result ≡ End.Done) ↔ IsSequence came) }
+
+        // Why none of the bytes that are kept are.
+        ensures ends { (steps : List Step) → EndsSo steps self.new result }
+
+        // The bytes are items alone exactly if none remain at the end.
+        ensures clean { (one ≡ false) → (result ≡ End.Done) ↔ IsSequence self.old }
+
+        // It stops without a look at what remains only after the one item that it was to pass.
+        ensures full { result ≡ End.Full → IsTrue one × (length self.new < length self.old) }
+
+        // One item at most is passed, if so asked.
+        ensures one { IsTrue one → OneAtMost self.old self.new }
+
+        // It takes no memory, so none runs out.
+        ensures failed { (error : Error) → ¬ (result ≡ End.Failed error) }
+    {
+        self.skip_next(one)
+    }
+
+    /// The same as `skip`.
+    fn skip_next(&mut self, one: bool) -> End
         // Items are passed.
         ensures items { (items : List Item) × ItemsThen self.old items self.new }
 
@@ -136,6 +177,9 @@ impl Stream {
 
         // The bytes are items alone exactly if none remain at the end.
         ensures clean { (one ≡ false) → (result ≡ End.Done) ↔ IsSequence self.old }
+        ensures full { result ≡ End.Full → IsTrue one × (length self.new < length self.old) }
+        ensures one { IsTrue one → OneAtMost self.old self.new }
+        ensures failed { (error : Error) → ¬ (result ≡ End.Failed error) }
     {
         'items: while !self.rest().is_empty() {
             match self.scan() {
@@ -178,6 +222,8 @@ impl Stream {
         ensures written { (written : List ℕ) × (out.new.items ≡ out.old.items ++ written)
             × IsShownOfFirst (Shows show.now) self.old written self.new }
         ensures ends { EndsSo (steps_of show.now) self.new result }
+        ensures full { result ≡ End.Full → length self.new < length self.old }
+        ensures one { IsTrue show.now.one → OneAtMost self.old self.new }
     {
         if self.scanned == 0 {
             return self.show_others(show, out);
@@ -199,7 +245,9 @@ impl Stream {
         ensures written { OnOk result ((written : List ℕ)
             × (out.new.items ≡ out.old.items ++ written)
             × IsShownOfFirst (Shows show.now) self.old written self.new) }
-        ensures ends { IfErr result (EndsSo (steps_of show.now) self.new) }
+        ensures passed { OnOk result (OneThen self.old self.new) }
+        ensures shorter { OnOk result (length self.new < length self.old) }
+        ensures ends { IfErr result (StopsSo (steps_of show.now) self.new) }
         ensures unchanged { OnErr result (out.new.items ≡ out.old.items) }
         ensures kept { OnErr result (self.new ≡ self.old) }
     {
@@ -222,6 +270,8 @@ impl Stream {
         ensures written { (written : List ℕ) × (out.new.items ≡ out.old.items ++ written)
             × IsShownOfFirst (Shows show.now) self.old written self.new }
         ensures ends { EndsSo (steps_of show.now) self.new result }
+        ensures full { result ≡ End.Full → length self.new < length self.old }
+        ensures one { IsTrue show.now.one → OneAtMost self.old self.new }
     {
         let shown = show_items(show, self.rest(), out);
         self.pass(shown.used);

@@ -4,8 +4,8 @@ use Rattle.cbor_inspect.proofs.breaks.may_be_written.Goals as goal
 
 pub returns-then-is_shown-clause-shown : goal.returns-then-is_shown-clause-shown
 returns-then-is_shown-clause-shown c = λ yes.
-    shown_with c.args.lines c.args.text.now (c.is_shown.ensures c.if-is_shown.true)
+    shown_with c.args.lines c.args.text.now (c.is_shown.ensures.0 c.if-is_shown.true)
 
 pub returns-then-is_shown-clause-breaks : goal.returns-then-is_shown-clause-breaks
 returns-then-is_shown-clause-breaks c = λ yes.
-    apart_if_shown within.Nothing c.args.text.now (c.is_shown.ensures c.if-is_shown.true)
+    apart_if_shown within.Nothing c.args.text.now (c.is_shown.ensures.0 c.if-is_shown.true)

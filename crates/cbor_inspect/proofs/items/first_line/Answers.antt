@@ -11,4 +11,4 @@ returns-in-Ok-line_of-clause-written c =
     line_shown c.args.bytes.now c.in-Ok.used found.0
     (string_bytes c.push_bytes_to_diag_partial-found.new.out) c.in-Ok-line_of.line.items
     (λ n. omega (arith, c.type_inv.bytes n)) found.1 is
-    (rw c.as_bytes.ensures.value at (c.is_shown.ensures c.if-not-is_shown.false)) c.in-Ok-line_of.ensures
+    (rw c.as_bytes.ensures.value at (c.is_shown.ensures.0 c.if-not-is_shown.false)) c.in-Ok-line_of.ensures

@@ -1,5 +1,5 @@
 -- What was written is the output of the items so far.
-use Rattle.std.proofs.Common.{◌≡◌, ℕ, List, ◌++◌, ◌-◌, ◌≤◌, length, drop, vec_items}
+use Rattle.std.proofs.Common.{◌≡◌, ℕ, List, ◌++◌, ◌-◌, ◌≤◌, length, drop, vec_items, IsTrue}
 use Rattle.cbor_inspect.specs.Sequence.{IsShownOfFirst}
 use Rattle.cbor_inspect.specs.Ends.{Shows}
 use Rattle.cbor_inspect.proofs.items.show_items.Given as goal
@@ -9,6 +9,7 @@ invariant-items l = record {
   within : l.used ≤ length l.bytes;
   output : (written : List ℕ) × (vec_items l.out ≡ vec_items l.initial.out ++ written)
       × IsShownOfFirst (Shows l.show) l.bytes written (drop l.used l.bytes);
+  first : IsTrue l.show.one → l.used ≡ 0;
 }
 
 abbrev pub decreases-items : goal.decreases-items

@@ -1,5 +1,6 @@
 use Rattle.std.proofs.Common.{◌<◌, length, arith}
-use Rattle.std.proofs.lemmas.List.{take_rest, length-drop}
+use Rattle.std.proofs.lemmas.List.{take_rest, length-drop, drop-drop}
+use Rattle.cbor_inspect.proofs.EndLemmas.{none_if_first, one_if_first}
 use Rattle.cbor_inspect.proofs.Fronts.{one_more, later_too, some_front}
 use Rattle.cbor_inspect.proofs.items.skip_items.Goals as goal
 
@@ -29,6 +30,23 @@ returns-in-Fault-clause-clean c =
           let bad : ⊥ = cc (every front.0 front.1 front.2) in absurd bad,
     )
 
+pub returns-in-Cut-clause-one : goal.returns-in-Cut-clause-one
+returns-in-Cut-clause-one c = λ one. none_if_first c.args.bytes.now c.items.used (c.items.invariant.first one)
+
+pub returns-in-Fault-clause-one : goal.returns-in-Fault-clause-one
+returns-in-Fault-clause-one c = λ one. none_if_first c.args.bytes.now c.items.used (c.items.invariant.first one)
+
+pub returns-clause-one : goal.returns-clause-one
+returns-clause-one c = λ one. none_if_first c.args.bytes.now c.items.used (c.items.invariant.first one)
+
+pub returns-then-one-clause-one : goal.returns-then-one-clause-one
+returns-then-one-clause-one c = λ one.
+    let bytes = c.args.bytes.now in
+    let used = c.items.used in
+    let found = rw (take_rest bytes used) at c.in-Item.ensures.item in
+    rw (drop-drop c.in-Item.count used bytes) at
+    (one_if_first bytes used c.in-Item.count (c.items.invariant.first one) found)
+
 pub returns-then-one-clause-items : goal.returns-then-one-clause-items
 returns-then-one-clause-items c =
     let bytes = c.args.bytes.now in
@@ -46,4 +64,5 @@ items-preserved c =
       within = omega (arith, length-drop used bytes, found.1.1);
       items = one_more bytes used c.in-Item.count c.items.invariant.items found;
       later = later_too bytes used c.in-Item.count before c.items.invariant.later every;
+      first = λ one. let bad : ⊥ = cc in absurd bad;
     }

@@ -1,5 +1,5 @@
 -- The items so far are those of the bytes before.
-use Rattle.std.proofs.Common.{List, ◌-◌, ◌≤◌, length, drop}
+use Rattle.std.proofs.Common.{◌≡◌, List, ◌-◌, ◌≤◌, length, drop, IsTrue}
 use Rattle.cbor_diag.specs.Item.{Item}
 use Rattle.cbor_inspect.specs.Sequence.{ItemsThen, IsSequence}
 use Rattle.cbor_inspect.proofs.items.skip_items.Given as goal
@@ -9,6 +9,7 @@ invariant-items l = record {
   within : l.used ≤ length l.bytes;
   items : (items : List Item) × ItemsThen l.bytes items (drop l.used l.bytes);
   later : IsSequence l.bytes → IsSequence (drop l.used l.bytes);
+  first : IsTrue l.one → l.used ≡ 0;
 }
 
 abbrev pub decreases-items : goal.decreases-items

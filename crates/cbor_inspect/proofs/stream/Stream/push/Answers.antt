@@ -1,8 +1,8 @@
 use Rattle.std.proofs.Common.{◌≡◌, ◌++◌, subst, sym, rules, is_ok}
 use Rattle.cbor_inspect.specs.Ends.{Shows}
-use Rattle.cbor_inspect.specs.Sequence.{IsShownOfFirst}
-use Rattle.cbor_inspect.proofs.Sequences.{shown_later}
-use Rattle.cbor_inspect.proofs.StreamLemmas.{still_scanned, shown_if_came}
+use Rattle.cbor_inspect.specs.Sequence.{IsShownOfFirst, ItemsThen}
+use Rattle.cbor_inspect.proofs.Sequences.{shown_later, came_later}
+use Rattle.cbor_inspect.proofs.StreamLemmas.{still_scanned, shown_if_came, passed_if_came}
 use Rattle.cbor_inspect.proofs.stream.Stream.push.Goals as goal
 
 pub invariant_of-self : goal.invariant_of-self
@@ -15,6 +15,16 @@ invariant_of-self c =
 pub returns-then-self-eq0-clause-joined : goal.returns-then-self-eq0-clause-joined
 returns-then-self-eq0-clause-joined c = λ show came written.
     shown_if_came c.extend_from_slice.result (Shows show) came written c.args.self.now c.args.bytes.now _ (search rules)
+
+pub returns-then-self-eq0-clause-passed : goal.returns-then-self-eq0-clause-passed
+returns-then-self-eq0-clause-passed c = λ came items.
+    passed_if_came c.extend_from_slice.result came items c.args.self.now c.args.bytes.now _ (search rules)
+
+pub returns-clause-passed : goal.returns-clause-passed
+returns-clause-passed c = λ came items h.
+    let is : c.extend_from_slice-2.new.self.items ≡ c.args.self.now ++ c.args.bytes.now = search rules in
+    subst (λ x. ItemsThen (came ++ c.args.bytes.now) items x) (sym is)
+    (came_later came c.args.bytes.now items c.args.self.now h)
 
 pub returns-clause-joined : goal.returns-clause-joined
 returns-clause-joined c = λ show came written h.
