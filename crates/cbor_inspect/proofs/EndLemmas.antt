@@ -18,6 +18,7 @@ ends_so steps rest end.Done h = h
 ends_so steps rest end.Cut h = h
 ends_so steps rest (end.Fault error shown) h = h
 ends_so steps rest end.Remaining h = h
+ends_so steps rest (end.TwoByteSimple at) h = h
 ends_so steps rest (end.Lost len) h = h
 ends_so steps rest (end.Failed error) h = h
 

@@ -2,6 +2,7 @@ pub mod Sequences
 pub mod PathLemmas
 pub mod Fronts
 pub mod EndLemmas
+pub mod SimpleLemmas
 pub mod LooseLemmas
 pub mod InputLemmas
 pub mod HiddenLemmas

@@ -9,6 +9,7 @@ use Rattle.cbor_inspect.specs.declared.items.End.TheVariants as end
 use Rattle.cbor_inspect.specs.declared.items.Show.{Show}
 use Rattle.cbor_inspect.specs.declared.path.Step.{Step}
 use Rattle.cbor_inspect.specs.Parts.{ShowsPart, HasNoPart}
+use Rattle.cbor_inspect.specs.Simple.{BeginsNo8949}
 
 -- the path to the part that is written
 abbrev pub steps_of : Show → List Step
@@ -31,9 +32,15 @@ StopsSo steps rest (end.Fault error shown) = FaultAt rest error shown
 StopsSo steps rest (end.Lost len) =
     (i : Item) × BeginsWithItem rest i len × HasNoPart steps i
 StopsSo steps rest (end.Failed error) = Unit {0}
+StopsSo steps rest (end.TwoByteSimple at) = ⊥
 StopsSo steps rest end.Remaining = ⊥
 
 -- the same; nothing where they were not
 abbrev pub EndsSo : List Step → List ℕ → End → Type 0
 EndsSo steps rest end.Full = Unit {0}
 EndsSo steps rest other = StopsSo steps rest other
+
+-- the same of a check by RFC 8949: the next item may also be none by it
+abbrev pub ChecksSo : List ℕ → End → Type 0
+ChecksSo rest (end.TwoByteSimple at) = BeginsNo8949 rest at
+ChecksSo rest other = EndsSo [] rest other

@@ -5,6 +5,7 @@ pub mod Forms
 pub mod Sequence
 pub mod Paths
 pub mod Parts
+pub mod Simple
 pub mod Ends
 pub mod Texts
 pub mod Loose

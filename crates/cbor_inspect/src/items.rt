@@ -82,6 +82,9 @@ pub enum End {
     Remaining,
     /// The item that follows, of this many bytes, does not have the part.
     Lost { len: usize },
+    /// The item that follows is none by RFC 8949: at its byte `at` is a simple value below 32 in
+    /// two bytes. Only [`Stream::check`](crate::Stream::check) returns this.
+    TwoByteSimple { at: usize },
     /// Nothing was made of what remains: memory ran out (`Memory`), or no notation of the next item
     /// was made that is read back and has no hidden character (`Notation`). A call that takes no
     /// memory never returns this. No clause says when another one does, nor what remains.

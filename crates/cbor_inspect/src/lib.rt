@@ -26,6 +26,7 @@ mod notation;
 mod pasted;
 mod path;
 mod scan;
+mod simple;
 mod stream;
 mod text;
 
@@ -37,5 +38,6 @@ pub use loose::{HexFault, place_of_digit};
 pub use pasted::{Pasted, looks_like};
 pub use path::{Lost, Step, lost_at, steps_of, untagged};
 pub use scan::{Hint, float_of, hint_of, notation_fault, place_of_fault};
+pub use simple::two_byte_simple;
 pub use stream::Stream;
 pub use text::{is_text, text_fault};

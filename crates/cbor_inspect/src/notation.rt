@@ -22,7 +22,7 @@ mod wanted;
 use crate::breaks::may_be_written;
 use crate::form::Style;
 use cbor_diag::{DataItem, Error, parse_diag};
-pub(crate) use heads::may_want;
+pub(crate) use heads::{may_want, step as head_step};
 use leaves::Base;
 use print::{Content, Look, Spot, push_item};
 use std::alloc::Global;

@@ -1,6 +1,8 @@
 //! Items one after the other that come in pieces.
-ghost use Rattle.std.specs.Prelude.{◌≡◌, ◌↔◌, ℕ, ◌<◌, ◌≤◌, ◌++◌, List, length, drop, false};
-ghost use Rattle.std.specs.Prelude.{IfErr, OnOk, OnErr, IsTrue};
+ghost use Rattle.std.specs.Prelude.{◌≡◌, ◌↔◌, ◌⊎◌, ℕ, ◌<◌, ◌≤◌, ◌++◌, List, length, take, drop};
+ghost use Rattle.std.specs.Prelude.{false, IfOk, IfErr, IfSome, IfNone, OnOk, OnErr, IsTrue};
+ghost use Rattle.cbor_diag.specs.Facts.{BeginsWithItem};
+ghost use Rattle.cbor_inspect.specs.Simple.{ItemsThen8949, IsSequence8949, Is8949, BeginsNo8949};
 ghost use Rattle.cbor_grammar.specs.declared.error.Error.{Error};
 ghost use Rattle.cbor_bytes.specs.declared.skip.answer.Extent.{Extent};
 ghost use Rattle.cbor_diag.specs.Item.{Item};
@@ -9,10 +11,11 @@ ghost use Rattle.cbor_inspect.specs.declared.items.Show.{Show};
 ghost use Rattle.cbor_inspect.specs.declared.path.Step.{Step};
 ghost use Rattle.cbor_inspect.specs.Sequence.{ItemsThen, IsSequence, IsShownOfFirst, OneThen};
 ghost use Rattle.cbor_inspect.specs.Sequence.{OneAtMost};
-ghost use Rattle.cbor_inspect.specs.Ends.{EndsSo, StopsSo, Shows, steps_of};
+ghost use Rattle.cbor_inspect.specs.Ends.{EndsSo, StopsSo, ChecksSo, Shows, steps_of};
 
 use crate::items::{End, Show, show_first, show_items};
-use cbor_diag::{Extent, Scanner};
+use crate::simple::fault_8949;
+use cbor_diag::{Error, Extent, Scanner};
 use std::alloc::{AllocError, Global};
 use std::marker::Model;
 
@@ -192,6 +195,69 @@ impl Stream {
             }
         }
         End::Done
+    }
+
+    /// Goes past the next items as [`Stream::skip`] does, but only past items by RFC 8949: those
+    /// without a simple value below 32 in two bytes. Memory is taken only if a byte below 32
+    /// follows `f8` somewhere in an item.
+    ///
+    /// ```rust
+    /// use cbor_inspect::{End, Stream};
+    ///
+    /// let mut stream = Stream::new(Vec::from_slice(alloc, b"\x01\x81\xf8\x14")?);
+    /// assert_eq!(rt; stream.check(alloc, false), End::TwoByteSimple { at: 1 });
+    /// assert_eq!(rt; stream.rest(), b"\x81\xf8\x14".as_slice());
+    /// ```
+    pub fn check(&mut self, alloc: Global, one: bool) -> End
+        // Items by RFC 8949 are passed.
+        ensures items { (items : List Item) × ItemsThen8949 self.old items self.new }
+
+        // Why none of the bytes that are kept are.
+        ensures ends { ChecksSo self.new result }
+
+        // The bytes are such items alone exactly if none remain at the end, unless memory ran out.
+        ensures clean { (one ≡ false) → result ≡ End.Done → IsSequence8949 self.old }
+        ensures refused { (one ≡ false) → IsSequence8949 self.old
+            → (result ≡ End.Done) ⊎ (error : Error) × (result ≡ End.Failed error) }
+
+        // It stops without a look at what remains only after the one item that it was to pass.
+        ensures full { result ≡ End.Full → IsTrue one × (length self.new < length self.old) }
+    {
+        'items: while !self.rest().is_empty() {
+            match self.scan() {
+                Extent::Item(len) => match self.fault_within(alloc, len) {
+                    Ok(None) => self.pass(len),
+                    Ok(Some(at)) => return End::TwoByteSimple { at },
+                    Err(error) => return End::Failed(error),
+                },
+                Extent::Cut => return End::Cut,
+                Extent::Fault { error, end } => return End::Fault { error, end },
+            }
+            if one {
+                return End::Full;
+            }
+        }
+        End::Done
+    }
+
+    /// The place in the item of this length that the bytes begin with where RFC 8949 forbids it, if
+    /// it does.
+    fn fault_within(&self, alloc: Global, len: usize) -> Result<Option<usize>, Error>
+        requires { (i : Item) × BeginsWithItem self.now i len }
+        ensures none { IfOk result (λ found. IfNone found (Is8949 (take len self.now))) }
+        ensures some { IfOk result (λ found. IfSome found (λ at. BeginsNo8949 self.now at)) }
+    {
+        fault_8949(alloc, &self.rest()[..len])
+    }
+
+    /// Returns the last of the bytes that were passed, at most `count`, and none that were passed
+    /// before the last bytes were pushed. No clause says which.
+    pub fn passed(&self, count: usize) -> &[u8] {
+        let passed = match self.kept.get(..self.start) {
+            Some(passed) => passed,
+            None => b"",
+        };
+        bytes_from(passed, passed.len().saturating_sub(count))
     }
 
     /// Scans the bytes that are left and were not scanned, and reports how those that are left

@@ -2,13 +2,13 @@
 
 use crate::input::{block_len, read_into};
 use crate::lost::report_lost;
-use crate::messages::{Left, Place, report_end, report_long, say};
+use crate::messages::{Left, Place, TWO_BYTES, report_end, report_long, say};
 use crate::output::{Target, Written, escape_hidden, write};
 use crate::run::Runner;
 use crate::status::{Next, Status};
 use crate::words::Job;
 use cbor_diag::Error;
-use cbor_inspect::{End, Form, Stream};
+use cbor_inspect::{End, Form, Stream, two_byte_simple};
 use std::io;
 use std::io::Read;
 
@@ -29,6 +29,8 @@ pub struct Conversion<'a> {
     skip: usize,
     /// Whether an item was converted.
     pub any: bool,
+    /// Whether a simple value in two bytes was named.
+    noted: bool,
     /// What is written next.
     out: Vec<u8>,
 }
@@ -62,6 +64,7 @@ impl<'a> Conversion<'a> {
             came,
             skip: job.offset - skipped,
             any: false,
+            noted: false,
             out: Vec::new(rt.alloc()),
         }
     }
@@ -127,7 +130,11 @@ impl<'a> Conversion<'a> {
                 End::Done | End::Cut if !at_end => return self.wait(),
                 End::Done => return self.done(),
                 End::Lost { len } => self.pass_lost(len),
-                End::Cut | End::Fault { .. } | End::Remaining | End::Failed(_) => {
+                End::Cut
+                | End::Fault { .. }
+                | End::TwoByteSimple { .. }
+                | End::Remaining
+                | End::Failed(_) => {
                     return self.stop(end);
                 }
             }
@@ -143,7 +150,7 @@ impl<'a> Conversion<'a> {
             return End::Remaining;
         }
         let end = if self.job.check {
-            self.stream.skip(show.one)
+            self.stream.check(self.rt.alloc(), show.one)
         } else {
             self.stream.show(show, &mut self.out)
         };
@@ -151,8 +158,27 @@ impl<'a> Conversion<'a> {
             self.out.clear();
             return End::Failed(Error::Memory);
         }
-        self.any |= self.stream.rest().len() < before;
+        let passed = before - self.stream.rest().len().min(before);
+        self.any |= passed > 0;
+        self.note_simple(passed);
         end
+    }
+
+    /// Says where the first simple value below 32 in two bytes is, if it is in the bytes that were
+    /// passed last.
+    fn note_simple(&mut self, passed: usize) {
+        if self.noted || self.job.check || passed == 0 {
+            return;
+        }
+        if let Some(at) = two_byte_simple(self.stream.passed(passed)) {
+            let byte = self
+                .begins()
+                .saturating_sub(passed)
+                .saturating_add(at)
+                .saturating_add(1);
+            self.place.say_at_byte(self.rt, byte, TWO_BYTES);
+            self.noted = true;
+        }
     }
 
     /// Says why no further item is converted.

@@ -5,7 +5,7 @@ use cbor_diag::{Error, parse_hex};
 use cbor_inspect::{
     End, Form, Hint, Input, Pasted, Show, Stream, hint_of, is_shown, is_text, looks_like,
     notation_fault, place_of_digit, place_of_fault, push_shown, recognize, show_items, skip_items,
-    steps_of,
+    steps_of, two_byte_simple,
 };
 use std::test::Fail;
 
@@ -56,6 +56,16 @@ fn items_come_in_pieces(rt: HostRuntime) -> Result<(), Fail> {
     stream.push(alloc, b"\x03")?;
     assert_eq!(rt; stream.show(&show, &mut out), End::Done);
     assert_eq!(rt; out.as_slice(), b"1\n[2,3]\n".as_slice());
+    Ok(())
+}
+
+#[test]
+fn items_are_checked(rt: HostRuntime) -> Result<(), Fail> {
+    let alloc = rt.alloc();
+    let mut stream = Stream::new(Vec::from_slice(alloc, b"\x01\x81\xf8\x14")?);
+    assert_eq!(rt; stream.check(alloc, false), End::TwoByteSimple { at: 1 });
+    assert_eq!(rt; stream.rest(), b"\x81\xf8\x14".as_slice());
+    assert_eq!(rt; two_byte_simple(b"\x82\xf8\xff\xf8\x14"), Some(3));
     Ok(())
 }
 

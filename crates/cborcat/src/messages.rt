@@ -92,7 +92,7 @@ impl Place<'_> {
     }
 
     /// Says what is wrong at a byte of the data.
-    fn say_at_byte<T: Display + Drop>(&self, rt: &HostRuntime, byte: usize, what: T) {
+    pub fn say_at_byte<T: Display + Drop>(&self, rt: &HostRuntime, byte: usize, what: T) {
         match self.digits(byte) {
             Some(at) => say_at(rt, (self.name, self.text), at, what),
             None => {
@@ -125,6 +125,9 @@ pub fn report_end(rt: &HostRuntime, place: &Place, left: Left, end: End) -> Stat
             let _ = eprintln!(rt; "cborcat: {}: {error}", label(place.name));
             return Status::Trouble;
         }
+        End::TwoByteSimple { at } => {
+            report_byte(rt, place, left, at.saturating_add(1), TWO_BYTES);
+        }
         End::Full | End::Done | End::Lost { .. } => {}
     }
     Status::Bad
@@ -134,16 +137,24 @@ pub fn report_end(rt: &HostRuntime, place: &Place, left: Left, end: End) -> Stat
 /// left.
 fn report_fault(rt: &HostRuntime, place: &Place, left: Left, fault: (Error, usize)) {
     let (error, end) = fault;
-    let at_fault = place_of_fault(left.bytes, error, end);
+    let at = place_of_fault(left.bytes, error, end);
+    report_byte(rt, place, left, at, error.text());
+}
+
+/// What is said of a simple value below 32 in two bytes.
+pub const TWO_BYTES: &str = "a simple value below 32 in two bytes, which RFC 8949 forbids";
+
+/// Says what is wrong at one of the bytes that are left.
+fn report_byte(rt: &HostRuntime, place: &Place, left: Left, at_fault: usize, what: &str) {
     let byte = left.begins.saturating_add(at_fault);
     match place.digits(byte) {
         Some(at) => {
-            say_at(rt, (place.name, place.text), at, error.text());
+            say_at(rt, (place.name, place.text), at, what);
             show_line(rt, place.text, at, "^^");
         }
         None => {
             let _ = eprintln!(rt;
-                "cborcat: {}: byte {byte} (0x{byte:x}){}: {error}",
+                "cborcat: {}: byte {byte} (0x{byte:x}){}: {what}",
                 label(place.name),
                 place.within()
             );
