@@ -10,7 +10,10 @@ use Rattle.cbor_bytes.specs.declared.skip.answer.Extent.TheVariants as extent
 use Rattle.cbor_diag.specs.Extent.{IsExtent}
 use Rattle.cbor_diag.specs.Item.{Item}
 use Rattle.cbor_diag.specs.Scanning.{HasScanned}
-use Rattle.cbor_diag.specs.Facts.{BeginsWithItem}
+use Rattle.cbor_diag.specs.Facts.{BeginsWithItem, IsCut}
+use Rattle.cbor_diag.specs.Extent.{IfItem, IfFault, FaultEnds}
+use Rattle.std.specs.Prelude.{◌↔◌}
+use Rattle.std.proofs.Common.{◌<◌, refl}
 use Rattle.cbor_inspect.specs.Sequence.{ItemsThen, IsSequence, IsShownOfFirst}
 use Rattle.cbor_inspect.proofs.Fronts.{front_of}
 use Rattle.cbor_inspect.proofs.Sequences.{item_then, items_then, shown_later, came_later}
@@ -75,3 +78,11 @@ begins_so b rest so_far some whole =
     let later = so_far whole in
     let front = front_of rest later.0 some later.1 in
     (front.length, (front.item, front.begins))
+
+-- what `extent` reports of bytes is how they begin
+pub found : (b : List ℕ) (x : Extent) → IfItem x (λ n. (i : Item) × BeginsWithItem b i n) → ((x ≡ extent.Cut) ↔ IsCut b)
+    → IfFault x (λ error end. FaultEnds b error end) → IfFault x (λ error end. (n : ℕ) → n < end → IsCut (take n b))
+    → IsExtent b x
+found b (extent.Item n) item cut shown fronts = item
+found b extent.Cut item cut shown fronts = cut.0 refl
+found b (extent.Fault error end) item cut shown fronts = (shown, fronts)

@@ -15,13 +15,13 @@ ghost use Rattle.cbor_inspect.specs.Ends.{EndsSo, StopsSo, ChecksSo, Shows, step
 
 use crate::items::{End, Show, show_first, show_items};
 use crate::simple::fault_8949;
-use cbor_diag::{Error, Extent, Scanner};
+use cbor_diag::{Error, Extent, Scanner, extent};
 use std::alloc::{AllocError, Global};
 use std::marker::Model;
 
 /// Items one after the other that come in pieces, as from a pipe. It keeps the bytes of the item
-/// that is not whole yet, and scans them as they come: of the pieces before, at most eight bytes
-/// are looked at again.
+/// that is not whole yet, and scans them as they come: those of its first piece twice, and of the
+/// pieces after it at most eight bytes again.
 #[derive(Drop)]
 pub struct Stream {
     /// The bytes that came, but for some that were passed.
@@ -55,6 +55,14 @@ fn bytes_from(bytes: &[u8], start: usize) -> &[u8]
         Some(rest) => rest,
         None => b"",
     }
+}
+
+/// How bytes begin, as `extent` reports it.
+fn how_begun(bytes: &[u8]) -> Extent
+    ensures begins { IsExtent bytes.now result }
+    ensures only { (answer : Extent) → IsExtent bytes.now answer → result ≡ answer }
+{
+    extent(bytes)
 }
 
 impl Stream {
@@ -260,9 +268,25 @@ impl Stream {
         bytes_from(passed, passed.len().saturating_sub(count))
     }
 
+    /// Reports how the bytes that are left begin. An item that is whole needs no scanner, and a new
+    /// one takes longer than most items.
+    fn scan(&mut self) -> Extent
+        ensures same { self.new ≡ self.old }
+        ensures begins { IsExtent self.new result }
+        ensures only { (answer : Extent) → IsExtent self.new answer → result ≡ answer }
+    {
+        if self.scanned > 0 {
+            return self.scan_more();
+        }
+        match how_begun(self.rest()) {
+            Extent::Cut => self.scan_more(),
+            answer => answer,
+        }
+    }
+
     /// Scans the bytes that are left and were not scanned, and reports how those that are left
     /// begin.
-    fn scan(&mut self) -> Extent
+    fn scan_more(&mut self) -> Extent
         ensures same { self.new ≡ self.old }
         ensures begins { IsExtent self.new result }
         ensures only { (answer : Extent) → IsExtent self.new answer → result ≡ answer }
@@ -279,8 +303,10 @@ impl Stream {
         ensures { self.new ≡ drop len self.old }
     {
         self.start += len;
-        self.scanned = 0;
-        self.scanner = Scanner::new();
+        if self.scanned > 0 {
+            self.scanned = 0;
+            self.scanner = Scanner::new();
+        }
     }
 
     /// The same as `show`.
