@@ -1,0 +1,155 @@
+-- Items: containers, tags, simple values, and which of all of them a text begins with.
+use Rattle.std.specs.Prelude.{ℕ, zero, suc, List, [], ◌∷◌, length, codes, Option, Some, None, Bool, true, false}
+use Rattle.std.specs.Prelude.{◌==◌, if◌then◌else◌, nat_lt, bytes_eq}
+use Rattle.cbor_grammar.specs.declared.width.IntegerWidth.{IntegerWidth}
+use Rattle.cbor_grammar.specs.declared.width.IntegerWidth.TheVariants.{Unknown}
+use Rattle.cbor_grammar.specs.declared.strings.StringKind.{StringKind}
+use Rattle.cbor_grammar.specs.declared.strings.StringKind.TheVariants.{Bytes, Text}
+use Rattle.cbor_grammar.specs.Item as spec
+use Rattle.cbor_grammar.specs.Item.{Atom, integer, simple, string, chunked_string, Chunk, Item, atom, array, tagged}
+use Rattle.cbor_grammar.specs.Item.{items_of, pairs_of}
+use Rattle.cbor_grammar.specs.Written.{encoded_items}
+use Rattle.cbor_edn.specs.declared.close.Close.TheVariants.{Bracket, Brace, Parenthesis, Angles}
+use Rattle.cbor_edn.specs.declared.close.Close.{Close}
+use Rattle.cbor_edn.specs.declared.opening.Opening.{Opening}
+use Rattle.cbor_edn.specs.Reading.{Read, ◌>>=◌, after_byte}
+use Rattle.cbor_edn.specs.Blank.{skip_blank}
+use Rattle.cbor_edn.specs.Word.{word_of, after_word, begins_number}
+use Rattle.cbor_edn.specs.Number.{fits, integer_of, tag_number, unsigned}
+use Rattle.cbor_edn.specs.Strings.{opening_of, begins_string, kind_of, read_content, chunk_of, read_string}
+use Rattle.cbor_edn.specs.Lists.{separated, read_length, read_members}
+
+-- a string of definite length, which a comma keeps apart from the next one
+abbrev pub is_string : Item → Bool
+is_string (atom (string kind chunk)) = true
+is_string item = false
+
+-- a member of a list, by itself, and whether another one follows
+abbrev pub item_turn : (List ℕ → Read Item) → Close → List ℕ → Option (List Item × Bool × List ℕ)
+item_turn read close text =
+    read text >>= λ i. separated close (is_string i.0) i.1 >>= λ s. Some (i.0 ∷ [], s.0, s.1)
+
+-- a key, `:` and its value, and whether another key follows
+abbrev pub pair_turn : (List ℕ → Read Item) → List ℕ → Option (List (Item × Item) × Bool × List ℕ)
+pair_turn read text =
+    read text >>= λ k. after_byte 58 (skip_blank k.1) >>= λ colon. read (skip_blank colon)
+    >>= λ v. separated Brace (is_string v.0) v.1 >>= λ s. Some ((k.0, v.0) ∷ [], s.0, s.1)
+
+-- the bytes of the items of `<<`, up to `>>`
+abbrev pub read_embedded : (List ℕ → Read Item) → List ℕ → Read (List ℕ)
+read_embedded read text = read_members (item_turn read Angles) Angles text
+    >>= λ is. Some (encoded_items (items_of is.0), is.1)
+
+abbrev pub same_kind : StringKind → StringKind → Bool
+same_kind Bytes Bytes = true
+same_kind Text Text = true
+same_kind a b = false
+
+-- a chunk: a string of definite length of this kind
+abbrev pub chunk_from : StringKind → StringKind → List ℕ → Option IntegerWidth → Option Chunk
+chunk_from kind found bytes None = None
+chunk_from kind found bytes (Some width) = if same_kind kind found then chunk_of kind bytes width else None
+
+abbrev pub chunk_turn : (List ℕ → Read Item) → StringKind → List ℕ → Option (List Chunk × Bool × List ℕ)
+chunk_turn read kind text =
+    read_content (read_embedded read) text >>= λ c. chunk_from kind c.0.0 c.0.1 c.0.2
+    >>= λ chunk. separated Parenthesis true c.1 >>= λ s. Some (chunk ∷ [], s.0, s.1)
+
+-- an indefinite string is of the kind of its first chunk, and one of bytes without any
+abbrev pub kind_from : Read Opening → StringKind
+kind_from None = Bytes
+kind_from (Some o) = kind_of o.0
+
+abbrev pub first_kind : List ℕ → StringKind
+first_kind text = kind_from (opening_of (skip_blank text))
+
+abbrev pub chunks_after : (List ℕ → Read Item) → Option IntegerWidth → List ℕ → Read Item
+chunks_after read (Some width) text = None
+chunks_after read None text = read_members (chunk_turn read (first_kind text)) Parenthesis text
+    >>= λ cs. Some (atom (chunked_string (first_kind text) cs.0), cs.1)
+
+-- the count of a container fits the width that is stated for it
+abbrev pub fits_count : Option IntegerWidth → ℕ → Bool
+fits_count None n = true
+fits_count (Some width) n = fits width n
+
+abbrev pub array_of : Option IntegerWidth → List Item → Option Item
+array_of width items = if fits_count width (length items) then Some (array (items_of items) width) else None
+
+abbrev pub map_of : Option IntegerWidth → List (Item × Item) → Option Item
+map_of width pairs = if fits_count width (length pairs) then Some (spec.map (pairs_of pairs) width) else None
+
+abbrev pub read_array : (List ℕ → Read Item) → List ℕ → Read Item
+read_array read text =
+    read_length Bracket text >>= λ w. read_members (item_turn read Bracket) Bracket w.1
+    >>= λ is. array_of w.0 is.0 >>= λ i. Some (i, is.1)
+
+abbrev pub read_map : (List ℕ → Read Item) → List ℕ → Read Item
+read_map read text =
+    read_length Brace text >>= λ w. read_members (pair_turn read) Brace w.1
+    >>= λ ps. map_of w.0 ps.0 >>= λ i. Some (i, ps.1)
+
+abbrev pub read_chunks : (List ℕ → Read Item) → List ℕ → Read Item
+read_chunks read text = read_length Parenthesis text >>= λ w. chunks_after read w.0 w.1
+
+-- what is in the parenthesis of a tag, after that opened
+abbrev pub read_tagged : (List ℕ → Read Item) → ℕ → IntegerWidth → List ℕ → Read Item
+read_tagged read n width text =
+    read (skip_blank text) >>= λ i. after_byte 41 (skip_blank i.1) >>= λ rest. Some (tagged n width i.0, rest)
+
+abbrev pub integer_item : List ℕ → Option Item
+integer_item word = integer_of word >>= λ a. Some (atom a)
+
+-- an integer, or a tag where a parenthesis follows
+abbrev pub number_or_tag : (List ℕ → Read Item) → List ℕ → List ℕ → Option (List ℕ) → Read Item
+number_or_tag read word rest None = integer_item word >>= λ i. Some (i, rest)
+number_or_tag read word rest (Some inner) = tag_number word >>= λ t. read_tagged read t.0 t.1 inner
+
+abbrev pub read_number : (List ℕ → Read Item) → List ℕ → Read Item
+read_number read text = number_or_tag read (word_of text) (after_word text) (after_byte 40 (after_word text))
+
+-- a simple value that has a name
+abbrev pub named : List ℕ → Option ℕ
+named word =
+    if bytes_eq word (codes "false") then Some 20
+    else if bytes_eq word (codes "true") then Some 21
+    else if bytes_eq word (codes "null") then Some 22
+    else if bytes_eq word (codes "undefined") then Some 23
+    else None
+
+-- a simple value's number, of no stated width and below 256
+abbrev pub simple_number : ℕ → IntegerWidth → Option ℕ
+simple_number n Unknown = if nat_lt n 256 then Some n else None
+simple_number n width = None
+
+-- what is in the parentheses of `simple(..)`, after they opened
+abbrev pub read_simple : List ℕ → Read Item
+read_simple text =
+    unsigned (word_of text) >>= λ u. simple_number u.0 u.1 >>= λ n. after_byte 41 (skip_blank (after_word text))
+    >>= λ rest. Some (atom (simple n), rest)
+
+abbrev pub name_or_simple : List ℕ → List ℕ → Read Item
+name_or_simple word rest =
+    if bytes_eq word (codes "simple") then (after_byte 40 rest >>= λ inner. read_simple (skip_blank inner))
+    else (named word >>= λ n. Some (atom (simple n), rest))
+
+abbrev pub read_name : List ℕ → Read Item
+read_name text = name_or_simple (word_of text) (after_word text)
+
+-- an item that is no string, by its first byte
+abbrev pub other_item : (List ℕ → Read Item) → List ℕ → Read Item
+other_item read [] = None
+other_item read (b ∷ text) =
+    if b == 91 then read_array read text
+    else if b == 123 then read_map read text
+    else if b == 40 then read_chunks read text
+    else if begins_number (b ∷ text) then read_number read (b ∷ text)
+    else read_name (b ∷ text)
+
+unfoldable pub read_core : (List ℕ → Read Item) → List ℕ → Read Item
+read_core read text = if begins_string text then read_string (read_embedded read) text else other_item read text
+
+-- an item without blanks round it, with `left` levels left for it and the items in it, those in `<<` `>>` too
+unfoldable pub read_item : ℕ → List ℕ → Read Item
+read_item zero text = None
+read_item (suc left) text = read_core (read_item left) text

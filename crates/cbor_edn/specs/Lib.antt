@@ -1,0 +1,12 @@
+pub mod Reading
+pub mod Blank
+pub mod Word
+pub mod Number
+pub mod Quoted
+pub mod Digits
+pub mod Strings
+pub mod Lists
+pub mod Chunks
+pub mod Items
+pub mod Edn
+pub mod Expectations

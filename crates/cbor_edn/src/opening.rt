@@ -1,0 +1,64 @@
+//! What a piece of a string begins with.
+ghost use Rattle.std.specs.Prelude.{◌≡◌, ◌<◌, length, option_map, IfSome};
+ghost use Rattle.cbor_edn.specs.Strings.{opening_of, kind_of, begins_string};
+
+use crate::cursor::after_bytes;
+use crate::digits::Base;
+use cbor_grammar::strings::StringKind;
+
+/// What a piece of a string begins with.
+#[derive(Clone, Copy)]
+pub(crate) enum Opening {
+    /// `"`, of a text.
+    Quote,
+    /// `'`, of the bytes of a text.
+    Apostrophe,
+    /// `<<`, of the bytes of items.
+    Angles,
+    /// A prefix and `'`, of digits.
+    Digits(Base),
+}
+
+impl Opening {
+    /// The kind of a string whose first piece begins so.
+    pub(crate) fn kind(self) -> StringKind
+        ensures { result ≡ kind_of self }
+    {
+        match self {
+            Opening::Quote => StringKind::Text,
+            _ => StringKind::Bytes,
+        }
+    }
+}
+
+/// The opening of a piece at the front, and the text after it.
+#[tactic(auto, unfolding(crate::specs::Strings::opening_of))]
+pub(crate) fn opening_at(text: &[u8]) -> Option<(Opening, &[u8])>
+    ensures gives { option_map (λ x. (x.0, x.1.now)) result ≡ opening_of text.now }
+    ensures shorter { IfSome result (λ x. length x.1.now < length text.now) }
+{
+    if let Some(rest) = after_bytes(text, b"\"") {
+        Some((Opening::Quote, rest))
+    } else if let Some(rest) = after_bytes(text, b"'") {
+        Some((Opening::Apostrophe, rest))
+    } else if let Some(rest) = after_bytes(text, b"<<") {
+        Some((Opening::Angles, rest))
+    } else if let Some(rest) = after_bytes(text, b"h'") {
+        Some((Opening::Digits(Base::Hex), rest))
+    } else if let Some(rest) = after_bytes(text, b"b64'") {
+        Some((Opening::Digits(Base::Base64), rest))
+    } else if let Some(rest) = after_bytes(text, b"b32'") {
+        Some((Opening::Digits(Base::Base32), rest))
+    } else if let Some(rest) = after_bytes(text, b"h32'") {
+        Some((Opening::Digits(Base::Base32Hex), rest))
+    } else {
+        None
+    }
+}
+
+/// Whether a string begins here.
+pub(crate) fn begins_string(text: &[u8]) -> bool
+    ensures { result ≡ begins_string text.now }
+{
+    opening_at(text).is_some()
+}

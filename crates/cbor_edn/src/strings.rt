@@ -1,0 +1,172 @@
+//! What joins the pieces of a string, what follows the last, and the string that they are.
+ghost use Rattle.std.specs.Prelude.{◌≡◌, ℕ, ◌≤◌, length, map, [], IfOk};
+ghost use Rattle.std.specs.List.{AllByRecursion};
+ghost use Rattle.cbor_grammar.specs.Item.{atom, chunked_string};
+ghost use Rattle.cbor_grammar.specs.WellFormed.{deepest, IsChunk, WellFormed};
+ghost use Rattle.cbor_diag.specs.View.{view};
+ghost use Rattle.cbor_edn.specs.Reading.{Gives};
+ghost use Rattle.cbor_edn.specs.Strings.{is_sign_of, joined, width_after, chunk_of, string_item};
+ghost use Rattle.cbor_edn.specs.Chunks.{chunk_list, list_kind, PushGives};
+ghost use Rattle.cbor_edn.specs.Items.{chunk_from};
+
+use crate::cursor::Cursor;
+use crate::error::{Expected, Stop};
+use crate::word::{is_digit, stated_by};
+use cbor_diag::DataItem;
+use cbor_grammar::strings::{DefiniteString, StringKind};
+use cbor_grammar::{ByteString, Error, IntegerWidth, TextString};
+use std::alloc::Global;
+
+/// Whether a `+` before this text is the sign of a number.
+fn is_sign_of(text: &[u8]) -> bool
+    ensures { result ≡ is_sign_of text.now }
+{
+    match text {
+        [first, ..] => is_digit(*first) || *first == b'.',
+        [] => false,
+    }
+}
+
+/// Takes a `+` that joins the next piece to the one before, and the blanks around it.
+pub(crate) fn take_plus(text: &mut Cursor<'_>) -> bool
+    ensures takes { (result, text.new) ≡ joined text.old }
+    ensures within { length text.new ≤ length text.old }
+{
+    let mut next = Cursor::new(text.rest());
+    next.skip_blank();
+    if let [b'+', rest @ ..] = next.rest() {
+        if !is_sign_of(rest) {
+            *text = Cursor::new(rest);
+            text.skip_blank();
+            return true;
+        }
+    }
+    false
+}
+
+/// Takes the width right after a string; without one it is unstated, and after `_` alone there is
+/// none.
+pub(crate) fn width_after(text: &mut Cursor<'_>) -> Result<Option<IntegerWidth>, Stop>
+    ensures gives { Gives (λ x. (x, text.new)) result (width_after text.old) }
+    ensures within { length text.new ≤ length text.old }
+{
+    let [b'_', ..] = text.rest() else {
+        return Ok(Some(IntegerWidth::Unknown));
+    };
+    match stated_by(text.word()) {
+        Some(width) => {
+            text.skip_word();
+            Ok(width)
+        }
+        None => Err(Stop::At(Expected::Indicator)),
+    }
+}
+
+/// The string of definite length with these bytes.
+fn make_chunk<S: DefiniteString>(bytes: Vec<u8>, width: IntegerWidth) -> Result<S, Stop>
+    ensures gives { Gives S.chunk result (chunk_of S.kind bytes.items width) }
+    ensures well { IfOk result (λ x. IsChunk S.kind (S.chunk x)) }
+{
+    if !width.fits(bytes.len() as u64) {
+        return Err(Stop::At(Expected::FittingWidth));
+    }
+    match S::new(bytes, width) {
+        Ok(string) => Ok(string),
+        Err(Error::Memory) => Err(Stop::Memory),
+        Err(_) => Err(Stop::At(Expected::Utf8)),
+    }
+}
+
+/// Adds the string of definite length with these bytes to some chunks.
+#[tactic(auto, using(std::proofs::lemmas::List::map_push))]
+fn push_chunk<S: DefiniteString>(
+    chunks: &mut Vec<S>,
+    bytes: Vec<u8>,
+    width: IntegerWidth,
+) -> Result<(), Stop>
+    ensures gives { PushGives result (map S.chunk chunks.old.items) (map S.chunk chunks.new.items)
+        (chunk_of S.kind bytes.items width) }
+    ensures well { IfOk result (λ _.
+        AllByRecursion (IsChunk S.kind) (map S.chunk chunks.old.items)
+        → AllByRecursion (IsChunk S.kind) (map S.chunk chunks.new.items)) }
+{
+    let chunk = make_chunk(bytes, width)?;
+    chunks.push(chunk)?;
+    Ok(())
+}
+
+/// The item that a string is, of definite length or, where it has no width, of no chunks.
+pub(crate) fn string_item(
+    alloc: Global,
+    kind: StringKind,
+    bytes: Vec<u8>,
+    width: Option<IntegerWidth>,
+) -> Result<DataItem, Stop>
+    ensures gives { Gives view result (string_item kind bytes.items width) }
+    ensures well { IfOk result (λ x. (level : ℕ) → level ≤ deepest → WellFormed level (view x)) }
+{
+    let Some(width) = width else {
+        if !bytes.is_empty() {
+            return Err(Stop::At(Expected::NoContent));
+        }
+        return Ok(Chunks::new(alloc, kind).into_item());
+    };
+    match kind {
+        StringKind::Bytes => Ok(DataItem::ByteString(make_chunk(bytes, width)?)),
+        StringKind::Text => Ok(DataItem::TextString(make_chunk(bytes, width)?)),
+    }
+}
+
+/// The chunks of an indefinite string.
+#[derive(Drop)]
+pub(crate) enum Chunks {
+    Bytes(Vec<ByteString>),
+    Text(Vec<TextString>),
+}
+
+impl Chunks {
+    /// No chunks yet, of a string of this kind.
+    pub(crate) fn new(alloc: Global, kind: StringKind) -> Chunks
+        ensures none { chunk_list result ≡ [] }
+        ensures kind { list_kind result ≡ kind }
+    {
+        match kind {
+            StringKind::Bytes => Chunks::Bytes(Vec::new(alloc)),
+            StringKind::Text => Chunks::Text(Vec::new(alloc)),
+        }
+    }
+
+    /// Adds a chunk of this kind, where it has a width.
+    pub(crate) fn push(
+        &mut self,
+        kind: StringKind,
+        bytes: Vec<u8>,
+        width: Option<IntegerWidth>,
+    ) -> Result<(), Stop>
+        ensures gives { PushGives result (chunk_list self.old) (chunk_list self.new)
+            (chunk_from (list_kind self.old) kind bytes.items width) }
+        ensures kind { IfOk result (λ _. list_kind self.new ≡ list_kind self.old) }
+        ensures well { IfOk result (λ _.
+            AllByRecursion (IsChunk (list_kind self.old)) (chunk_list self.old)
+            → AllByRecursion (IsChunk (list_kind self.old)) (chunk_list self.new)) }
+    {
+        let Some(width) = width else {
+            return Err(Stop::At(Expected::Chunk));
+        };
+        match (self, kind) {
+            (Chunks::Bytes(chunks), StringKind::Bytes) => push_chunk(chunks, bytes, width),
+            (Chunks::Text(chunks), StringKind::Text) => push_chunk(chunks, bytes, width),
+            _ => Err(Stop::At(Expected::Chunk)),
+        }
+    }
+
+    /// The string of these chunks.
+    pub(crate) fn into_item(self) -> DataItem
+        ensures { view result ≡ atom (chunked_string (list_kind self) (chunk_list self)) }
+    {
+        match self {
+            Chunks::Bytes(chunks) => DataItem::IndefiniteByteString(chunks),
+            Chunks::Text(chunks) => DataItem::IndefiniteTextString(chunks),
+        }
+    }
+}

@@ -1,0 +1,8 @@
+//! Tests of the calls of `cbor_edn`: EDN of each kind with the bytes that it is, and texts that are
+//! none, with the place of the error. `rt test` runs them.
+#![tactic(auto)]
+
+#[cfg(test)]
+mod read;
+#[cfg(test)]
+mod refused;
