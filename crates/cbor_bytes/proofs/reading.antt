@@ -1,3 +1,4 @@
 pub mod Readings
 pub mod ChunksRead
 pub mod Levels
+pub mod ChunkLengths

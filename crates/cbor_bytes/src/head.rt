@@ -9,6 +9,7 @@ ghost use Rattle.cbor_grammar.specs.Reading.{simple_or_float, head_of, read_head
 ghost use Rattle.std.specs.Prelude.{◌-◌, ◌*◌};
 ghost use Rattle.cbor_grammar.specs.WellFormed.{deepest};
 ghost use Rattle.cbor_grammar.specs.Reading.{no_level_left};
+ghost use Rattle.cbor_grammar.specs.mirror.Counting.{read_item_head};
 
 use cbor_grammar::argument::Argument;
 use cbor_grammar::head::ItemHead;
@@ -167,4 +168,19 @@ pub fn no_level_left(bytes: &[u8]) -> Error
     } else {
         Error::TooDeep
     }
+}
+
+/// The head of an item with `levels` left for it. Inlined into the loop of each reader.
+#[inline(always)]
+pub fn read_item_head(bytes: &[u8], levels: usize) -> Result<(ItemHead, &[u8])>
+    ensures gives { read_item_head levels bytes.now
+        ≡ result_map_both (λ x. (x.0, x.1.now)) (λ e. e) result }
+    ensures level { IfOk result (λ x. 0 < levels) }
+    ensures refused { IfErr result (λ e. e ≢ Error.Memory) }
+    ensures shorter { IfOk result (λ x. length x.1.now < length bytes.now) }
+{
+    if levels == 0 {
+        return Err(no_level_left(bytes));
+    }
+    read_head(bytes)
 }

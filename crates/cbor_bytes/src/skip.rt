@@ -23,17 +23,17 @@ ghost use Rattle.cbor_grammar.specs.Facts.{BeginsWithItem, IsCut, HasFault};
 ghost use Rattle.cbor_bytes.specs.Extent.{IfItem, IfFault, FaultEnds, IsExtent};
 ghost use Rattle.cbor_grammar.specs.Reading.{opened, read_item};
 ghost use Rattle.cbor_bytes.specs.mirror.Skipping.{here, Goes, StopsSo, stop_of};
-ghost use Rattle.cbor_bytes.specs.mirror.Skipping.{skip_content, skip_chunks, after_chunk};
+ghost use Rattle.cbor_bytes.specs.mirror.Skipping.{skip_content, skip_chunks};
 ghost use Rattle.cbor_bytes.specs.mirror.Skipping.{after_chunk_length};
 ghost use Rattle.cbor_bytes.specs.mirror.Skipping.{skip_item, skip_body, skip_parts, begun};
 
-use crate::head::{read_argument, read_head};
+use crate::{head, strings};
 pub use answer::Extent;
-use cbor_grammar::Error;
 use cbor_grammar::argument::Argument;
 use cbor_grammar::head::ItemHead;
 use cbor_grammar::level::DEEPEST;
 use cbor_grammar::strings::StringKind;
+use cbor_grammar::{Error, IntegerWidth};
 use outer::Outer;
 pub use scanner::Scanner;
 use to_come::ToCome;
@@ -48,24 +48,18 @@ enum Stop {
 }
 
 impl Stop {
-    /// The reason for this error, with `after` bytes after those that have it.
-    fn new(error: Error, after: usize) -> Stop
-        ensures { result ≡ stop_of error after }
+    /// The reason for an error in the head at the front of these bytes, which its first byte shows.
+    fn in_head(error: Error, bytes: &[u8]) -> Stop
+        ensures { result ≡ stop_of error (length bytes.now - 1) }
     {
         match error {
             Error::CutShort => Stop::Cut,
-            _ => Stop::Fault { error, after },
+            _ => {
+                let after = bytes.len().saturating_sub(1);
+                Stop::Fault { error, after }
+            }
         }
     }
-}
-
-/// What the next chunk of an indefinite string is.
-#[derive(Clone, Copy)]
-enum Chunk {
-    /// A string of definite length.
-    Content,
-    /// The break.
-    Break,
 }
 
 /// The bytes after a string of that length; its head is read already.
@@ -90,44 +84,20 @@ fn after_content(kind: StringKind, count: u64, bytes: &[u8]) -> Result<&[u8], St
 
 /// The length of the next chunk of an indefinite string, or `None` at its break, and the bytes
 /// after this head.
-fn read_chunk_length(kind: StringKind, bytes: &[u8]) -> Result<(Option<u64>, &[u8]), Stop>
+fn read_chunk_length(
+    kind: StringKind,
+    bytes: &[u8],
+) -> Result<(Option<(u64, IntegerWidth)>, &[u8]), Stop>
     ensures goes { IfOk result (λ x. Goes (skip_chunks kind)
         (after_chunk_length kind x.0) bytes.now x.1.now) }
     ensures stops { IfErr result (λ stop. StopsSo (skip_chunks kind) bytes.now stop) }
     ensures shorter { IfOk result (λ x. length x.1.now < length bytes.now) }
     ensures few { IfErr result (λ stop. stop ≡ Stop.Cut → length bytes.now ≤ 8) }
 {
-    match bytes {
-        [] => Err(Stop::Cut),
-        [0xff, rest @ ..] => Ok((None, rest)),
-        [first, rest @ ..] => {
-            let after = rest.len();
-            let error = Error::Head;
-            if *first / 32 != kind.major().number() {
-                return Err(Stop::Fault { error, after });
-            }
-            match read_argument(*first % 32, rest) {
-                Ok((Argument::Number(count, _), rest)) => Ok((Some(count), rest)),
-                Ok((Argument::Indefinite, _)) => Err(Stop::Fault { error, after }),
-                Err(error) => Err(Stop::new(error, after)),
-            }
-        }
+    match strings::read_chunk_length(kind.major(), bytes) {
+        Ok(read) => Ok(read),
+        Err(error) => Err(Stop::in_head(error, bytes)),
     }
-}
-
-/// The next chunk of an indefinite string, or its break, and the bytes after it.
-fn read_chunk(kind: StringKind, bytes: &[u8]) -> Result<(Chunk, &[u8]), Stop>
-    ensures goes { IfOk result (λ x.
-        Goes (skip_chunks kind) (after_chunk kind x.0) bytes.now x.1.now) }
-    ensures stops { IfErr result (λ stop. StopsSo (skip_chunks kind) bytes.now stop) }
-    ensures shorter { IfOk result (λ x. length x.1.now < length bytes.now) }
-{
-    let (len, rest) = read_chunk_length(kind, bytes)?;
-    let Some(count) = len else {
-        return Ok((Chunk::Break, rest));
-    };
-    let rest = after_content(kind, count, rest)?;
-    Ok((Chunk::Content, rest))
 }
 
 /// The bytes after the break of an indefinite string; its opening byte is read already.
@@ -138,11 +108,11 @@ fn after_chunks(kind: StringKind, bytes: &[u8]) -> Result<&[u8], Stop>
 {
     let mut rest = bytes;
     'chunks: loop {
-        let (chunk, after) = read_chunk(kind, rest)?;
-        match chunk {
-            Chunk::Break => return Ok(after),
-            Chunk::Content => rest = after,
-        }
+        let (len, after) = read_chunk_length(kind, rest)?;
+        let Some((count, _)) = len else {
+            return Ok(after);
+        };
+        rest = after_content(kind, count, after)?;
     }
 }
 
@@ -156,22 +126,14 @@ fn read_item_head(bytes: &[u8], levels: usize) -> Result<(ItemHead, &[u8]), Stop
     ensures level { IfOk result (λ x. 0 < levels) }
     ensures few { IfErr result (λ stop. stop ≡ Stop.Cut → length bytes.now ≤ 8) }
 {
-    let [_, after_first @ ..] = bytes else {
-        return Err(Stop::Cut);
-    };
-    let after = after_first.len();
-    if levels == 0 {
-        let error = Error::TooDeep;
-        return Err(Stop::Fault { error, after });
-    }
-    match read_head(bytes) {
+    match head::read_item_head(bytes, levels) {
         Ok(read) => Ok(read),
-        Err(error) => Err(Stop::new(error, after)),
+        Err(error) => Err(Stop::in_head(error, bytes)),
     }
 }
 
 /// The bytes after a string of that length, or one in chunks; its head is read already.
-#[inline(never)]
+#[inline(always)]
 fn after_string(kind: StringKind, len: Argument, bytes: &[u8]) -> Result<&[u8], Stop>
     ensures goes { (left : ℕ) → IfOk result (λ rest. Goes (skip_body left
         (ItemHead.String kind len)) here bytes.now rest.now) }

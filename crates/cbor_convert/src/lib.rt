@@ -10,6 +10,8 @@
 
 mod conversion;
 mod form;
+mod front;
 
 pub use conversion::{convert, read_item, write_item};
 pub use form::{Source, To};
+pub use front::push_front;

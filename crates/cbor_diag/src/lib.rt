@@ -37,5 +37,5 @@ pub use cbor_notation::{
 pub use parse::{
     diag_fault, parse_bytes, parse_bytes_counted, parse_bytes_partial, parse_diag, parse_hex,
 };
-pub use rewrite::{bytes_to_bytes, hex_to_bytes};
+pub use rewrite::{bytes_to_bytes, hex_to_bytes, push_bytes_to_bytes_partial};
 pub use syntax::DataItem;

@@ -1,9 +1,11 @@
 //! Encodes items anew, from their bytes: the bytes themselves, but where a simple value below 24
 //! takes two of them.
-ghost use Rattle.std.specs.Prelude.{◌≡◌, ◌<◌, ℕ, slice_index, IfOk, IfErr, IsTrue, MatchResult};
+ghost use Rattle.std.specs.Prelude.{◌≡◌, ◌<◌, ◌++◌, ℕ, slice_index, None, Ok, IfSome, IsTrue};
+ghost use Rattle.std.specs.Prelude.{IfOk, IfErr, OnOk, OnErr, MatchResult};
 ghost use Rattle.cbor_grammar.specs.Item.{Item};
-ghost use Rattle.cbor_grammar.specs.Answer.{GaveRefusal, RefusedSo};
-ghost use Rattle.cbor_grammar.specs.Facts.{IsItem, IsNoItem};
+ghost use Rattle.cbor_grammar.specs.Answer.{Outcome, GaveText, GaveRefusal, RefusedSo};
+ghost use Rattle.cbor_grammar.specs.Facts.{IsItem, IsNoItem, BeginsWithItem, IsCut, HasFault};
+ghost use Rattle.cbor_grammar.specs.Facts.{BeginsSo, BeginsInOneWay};
 ghost use Rattle.cbor_grammar.specs.HexText.{IsHexOf, IsHexRefused};
 ghost use Rattle.cbor_grammar.specs.Written.{encoded};
 
@@ -75,6 +77,73 @@ pub fn bytes_to_bytes(alloc: Global, bytes: Vec<u8>) -> Result<Vec<u8>>
     ensures every_refusal { (e : Error) → IsNoItem bytes.items e → GaveRefusal result e }
 {
     encoding_of(alloc, bytes)
+}
+
+/// Appends the encoding of the item at the front of the bytes to `out`, and returns the number of
+/// bytes that the item takes. More bytes may follow.
+///
+/// It returns what [`parse_bytes_partial`] returns, and appends what [`DataItem::push_bytes`]
+/// appends: `Ok(None)` if the bytes end before the item does and before any error, and otherwise
+/// the first error from the left. In both cases, and if an allocation fails, `out` is unchanged. An
+/// item is built only where [`bytes_to_bytes`] builds one.
+///
+/// ```rust
+/// use cbor_diag::push_bytes_to_bytes_partial;
+///
+/// // A simple value that takes a byte too many, and after it an integer that is cut.
+/// let mut out = Vec::new(alloc);
+/// let used = push_bytes_to_bytes_partial(alloc, b"\xf8\x14\x19", &mut out)?;
+/// assert_eq!(rt; used, Some(2));
+/// let cut = push_bytes_to_bytes_partial(alloc, b"\x19", &mut out)?;
+/// assert_eq!(rt; cut, None);
+/// assert_eq!(rt; out.as_slice(), b"\xf4".as_slice());
+/// ```
+///
+/// [`parse_bytes_partial`]: crate::parse_bytes_partial
+/// [`DataItem::push_bytes`]: crate::DataItem::push_bytes
+pub fn push_bytes_to_bytes_partial(
+    alloc: Global,
+    bytes: &[u8],
+    out: &mut Vec<u8>,
+) -> Result<Option<usize>>
+    // Each of the three results, only if it is true.
+    ensures found { IfOk result (λ o. IfSome o (λ n. (i : Item) × BeginsWithItem bytes.now i n
+        × (out.new.items ≡ out.old.items ++ encoded i))) }
+    ensures cut { result ≡ Ok None → IsCut bytes.now }
+    ensures fault { RefusedSo result (HasFault bytes.now) }
+
+    // Bytes begin in exactly one of the three ways, and that one is returned.
+    ensures exact { (o : Outcome) → BeginsSo bytes.now o
+        → GaveText encoded result out.old.items out.new.items o }
+    ensures one_of_three { BeginsInOneWay bytes.now }
+
+    // Nothing is appended without an item.
+    ensures cut_unchanged { result ≡ Ok None → out.new.items ≡ out.old.items }
+    ensures unchanged { OnErr result (out.new.items ≡ out.old.items) }
+{
+    match extent(bytes) {
+        Extent::Item(len) => {
+            push_encoding(alloc, &bytes[..len], out)?;
+            Ok(Some(len))
+        }
+        Extent::Cut => Ok(None),
+        Extent::Fault { error, .. } => Err(error),
+    }
+}
+
+/// Appends the encoding of the item that the bytes are.
+fn push_encoding(alloc: Global, bytes: &[u8], out: &mut Vec<u8>) -> Result<()>
+    ensures bytes { (i : Item) → IsItem bytes.now i
+        → OnOk result (out.new.items ≡ out.old.items ++ encoded i) }
+    ensures unchanged { OnErr result (out.new.items ≡ out.old.items) }
+    ensures memory { (i : Item) → IsItem bytes.now i → IfErr result (λ e. e ≡ Error.Memory) }
+{
+    if is_strict(bytes) {
+        out.extend_from_slice(bytes)?;
+        Ok(())
+    } else {
+        parse_bytes(alloc, bytes)?.push_bytes(out)
+    }
 }
 
 /// Reads one item from hex with comments, and returns its encoding: what [`parse_hex`] and

@@ -6,8 +6,8 @@ use cbor_diag::{
     Error, Extent, Scanner, bytes_to_bytes, bytes_to_diag, bytes_to_diag_pretty, bytes_to_hex,
     diag_fault, extent, hex_bytes, hex_fault, hex_place, hex_to_bytes, hex_to_diag,
     hex_to_diag_pretty, hex_to_hex, parse_bytes, parse_bytes_partial, parse_diag, parse_hex,
-    push_bytes_to_diag_partial, push_bytes_to_diag_pretty_partial, push_bytes_to_hex_partial,
-    utf8_fault,
+    push_bytes_to_bytes_partial, push_bytes_to_diag_partial, push_bytes_to_diag_pretty_partial,
+    push_bytes_to_hex_partial, utf8_fault,
 };
 use std::alloc::Global;
 use std::process::Abort;
@@ -148,6 +148,17 @@ fn of_encodings(rt: &impl Abort, alloc: Global) -> Result<(), Fail> {
     Ok(())
 }
 
+fn of_encoded_parts(rt: &impl Abort, alloc: Global) -> Result<(), Fail> {
+    // A simple value that takes a byte too many, and after it an integer that is cut.
+    let mut out = Vec::new(alloc);
+    let used = push_bytes_to_bytes_partial(alloc, b"\xf8\x14\x19", &mut out)?;
+    assert_eq!(rt; used, Some(2));
+    let cut = push_bytes_to_bytes_partial(alloc, b"\x19", &mut out)?;
+    assert_eq!(rt; cut, None);
+    assert_eq!(rt; out.as_slice(), b"\xf4".as_slice());
+    Ok(())
+}
+
 fn of_extents(rt: &impl Abort) {
     assert_eq!(rt; extent(b"\x82\x01\x02\xff"), Extent::Item(3));
     assert_eq!(rt; extent(b"\x82\x01"), Extent::Cut);
@@ -215,6 +226,7 @@ fn examples_of_doc_comments(rt: HostRuntime) -> Result<(), Fail> {
     of_dumped_hex(&rt, rt.alloc())?;
     of_shown_lines(&rt, rt.alloc())?;
     of_encodings(&rt, rt.alloc())?;
+    of_encoded_parts(&rt, rt.alloc())?;
     of_places_in_notation(&rt, rt.alloc())?;
     of_extents(&rt);
     of_pieces(&rt);

@@ -1,7 +1,6 @@
 pub mod Ahead
 pub mod StringsAhead
 pub mod SequencesAhead
-pub mod Levels
 pub mod Sequences
 pub mod Texts
 pub mod ChunkTexts

@@ -34,10 +34,11 @@ Texts = List ℕ → Type 0
 -- A place is what decides how an item there is written, beside the item itself. A text that is written for a leaf, an
 -- opening or a closing is one of several, as a dialect may add notes; what is between members is one text.
 pub record Leaves (Place : Type 0) : Type 1 where
-  -- the level there, the outermost being 1; how containers are laid out; what byte strings are shown as
+  -- the level there, the outermost being 1; how containers are laid out; what a byte string of these
+  -- bytes is shown as
   pub level : Place → ℕ
   pub layout : Place → Layout
-  pub content : Place → Content
+  pub content : Place → List ℕ → Content
   -- the place of the first member of a container whose members are laid out so; of the member after this one; of the
   -- value of this key; of what is below this tag
   pub inside : Container → Layout → Place → Place
@@ -168,7 +169,7 @@ ChunksText d p kind l (c ∷ cs) t =
     (ms : List (List ℕ)) × ChunkTexts d p kind (c ∷ cs) ms × Listed d p (Chunks kind) l ms t
 
 abbrev pub AtomText : {Place : Type 0} → Leaves Place → ℕ → Writer Place → Place → Atom → Texts
-AtomText d left write p (string kind.Bytes b) t = ContentText d left write (d.content p) p b t
+AtomText d left write p (string kind.Bytes b) t = ContentText d left write (d.content p b.bytes) p b t
 AtomText d left write p (string kind.Text s) t = d.string p kind.Text s t
 AtomText d left write p (chunked_string kind cs) t =
     ChunksText d p kind (style_at d p (atom (chunked_string kind cs))) cs t

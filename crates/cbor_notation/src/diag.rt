@@ -40,7 +40,7 @@ impl Dialect for Diag {
     }
 
     #[inline(always)]
-    fn content(place: &NotationContext) -> Content {
+    fn content(place: &NotationContext, _bytes: &[u8]) -> Content {
         place.content
     }
 
@@ -66,7 +66,7 @@ impl Dialect for Diag {
             Leaf::Integer(value, width) => push_number(out, value, width),
             Leaf::Negative(value, width) => push_negative(out, value, width),
             Leaf::Float(bits, width) => push_float(out, bits, width),
-            Leaf::Simple(value) => push_simple(out, Simple(value)),
+            Leaf::Simple(value, _) => push_simple(out, Simple(value)),
         }
     }
 

@@ -36,9 +36,9 @@ pub trait Dialect {
     fn layout(place: &Self::Place) -> Layout
         ensures { result ≡ leaves.layout place.now };
 
-    /// What the bytes of a byte string there are shown as.
-    fn content(place: &Self::Place) -> Content
-        ensures { result ≡ leaves.content place.now };
+    /// What the bytes of this byte string there are shown as.
+    fn content(place: &Self::Place, bytes: &[u8]) -> Content
+        ensures { result ≡ leaves.content place.now bytes.now };
 
     /// The place of the first member of a container there, whose members are laid out so.
     fn inside(place: &Self::Place, container: Container, layout: Layout) -> Self::Place

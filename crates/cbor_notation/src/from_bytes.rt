@@ -1,6 +1,6 @@
 //! Writes an item straight from its bytes, in any dialect of notation: each part is written as soon
-//! as it is read, and no item is built. How long a container would be on one line is found by a look
-//! ahead (`ahead.rt`).
+//! as it is read, and no item is built. How long a container would be on one line is found by a
+//! look ahead (`ahead.rt`).
 //!
 //! Each function takes the remaining bytes and returns those after what it wrote. What was written
 //! before an error stays. Items that are embedded in a byte string are written by the same
@@ -15,7 +15,8 @@ ghost use Rattle.cbor_grammar.specs.NotationText.{style_indent};
 ghost use Rattle.cbor_grammar.specs.Reading.{Fails};
 ghost use Rattle.cbor_grammar.specs.WellFormed.{deepest};
 ghost use Rattle.cbor_notation.specs.Dialect.{Writes, TextsAt};
-ghost use Rattle.cbor_notation.specs.mirror.Straight.{Written, IsLaidOut, read_there, read_after};
+ghost use Rattle.cbor_grammar.specs.mirror.AtLevel.{read_at, read_behind};
+ghost use Rattle.cbor_notation.specs.mirror.Straight.{Written, IsLaidOut};
 ghost use Rattle.cbor_notation.specs.mirror.Straight.{chunk, ContentThere, StringThere};
 ghost use Rattle.cbor_notation.specs.mirror.Straight.{BeforeChunk, AfterChunks};
 
@@ -32,6 +33,12 @@ use cbor_grammar::strings::{StringContent, StringKind};
 use cbor_grammar::{Error, IntegerWidth};
 use std::alloc::AllocError;
 
+/// Whether the simple value at the front takes two bytes.
+#[inline(always)]
+fn takes_two(bytes: &[u8]) -> bool {
+    matches!(bytes.first(), Some(0xf8))
+}
+
 /// Writes the item at the front.
 #[cycle(straight)]
 pub fn push_front<'a, D: Dialect>(
@@ -41,9 +48,11 @@ pub fn push_front<'a, D: Dialect>(
 ) -> cbor_grammar::Result<&'a [u8]>
     requires level { D.leaves.level place.now ≤ deepest + 1 }
     requires indent { IsLaidOut D.leaves place.now }
-    ensures printed { IfOk result (λ rest. Written (TextsAt D.leaves place.now) (read_there D.leaves place.now bytes.now)
+    ensures printed { IfOk result (λ rest. Written (TextsAt D.leaves place.now)
+        (read_at (D.leaves.level place.now) bytes.now)
         rest.now (string_bytes out.old) (string_bytes out.new)) }
-    ensures refused { IfErr result (λ e. Fails e (read_there D.leaves place.now bytes.now)) }
+    ensures refused { IfErr result
+        (λ e. Fails e (read_at (D.leaves.level place.now) bytes.now)) }
     ensures begun { OnErr result (StartsWith (string_bytes out.new) (string_bytes out.old)) }
 {
     if D::level(place) > DEEPEST {
@@ -68,7 +77,7 @@ pub fn push_front<'a, D: Dialect>(
             Ok(rest)
         }
         ItemHead::Simple(value) => {
-            D::leaf(out, Leaf::Simple(value), place)?;
+            D::leaf(out, Leaf::Simple(value, takes_two(bytes)), place)?;
             Ok(rest)
         }
     }
@@ -85,10 +94,10 @@ fn push_array_front<'a, D: Dialect>(
 ) -> cbor_grammar::Result<&'a [u8]>
     requires level { D.leaves.level place.now ≤ deepest }
     requires indent { IsLaidOut D.leaves place.now }
-    ensures printed { IfOk result (λ rest. Written (TextsAt D.leaves place.now) (read_after D.leaves place.now
-        (ItemHead.Array count) bytes.now)
+    ensures printed { IfOk result (λ rest. Written (TextsAt D.leaves place.now)
+        (read_behind (D.leaves.level place.now) (ItemHead.Array count) bytes.now)
         rest.now (string_bytes out.old) (string_bytes out.new)) }
-    ensures refused { IfErr result (λ e. Fails e (read_after D.leaves place.now
+    ensures refused { IfErr result (λ e. Fails e (read_behind (D.leaves.level place.now)
         (ItemHead.Array count) bytes.now)) }
     ensures begun { OnErr result (StartsWith (string_bytes out.new) (string_bytes out.old)) }
 {
@@ -122,10 +131,10 @@ fn push_map_front<'a, D: Dialect>(
 ) -> cbor_grammar::Result<&'a [u8]>
     requires level { D.leaves.level place.now ≤ deepest }
     requires indent { IsLaidOut D.leaves place.now }
-    ensures printed { IfOk result (λ rest. Written (TextsAt D.leaves place.now) (read_after D.leaves place.now
-        (ItemHead.Map count) bytes.now)
+    ensures printed { IfOk result (λ rest. Written (TextsAt D.leaves place.now)
+        (read_behind (D.leaves.level place.now) (ItemHead.Map count) bytes.now)
         rest.now (string_bytes out.old) (string_bytes out.new)) }
-    ensures refused { IfErr result (λ e. Fails e (read_after D.leaves place.now
+    ensures refused { IfErr result (λ e. Fails e (read_behind (D.leaves.level place.now)
         (ItemHead.Map count) bytes.now)) }
     ensures begun { OnErr result (StartsWith (string_bytes out.new) (string_bytes out.old)) }
 {
@@ -162,10 +171,10 @@ fn push_tag_front<'a, D: Dialect>(
 ) -> cbor_grammar::Result<&'a [u8]>
     requires level { D.leaves.level place.now ≤ deepest }
     requires indent { IsLaidOut D.leaves place.now }
-    ensures printed { IfOk result (λ rest. Written (TextsAt D.leaves place.now) (read_after D.leaves place.now
-        (ItemHead.Tag head.0 head.1) bytes.now)
+    ensures printed { IfOk result (λ rest. Written (TextsAt D.leaves place.now)
+        (read_behind (D.leaves.level place.now) (ItemHead.Tag head.0 head.1) bytes.now)
         rest.now (string_bytes out.old) (string_bytes out.new)) }
-    ensures refused { IfErr result (λ e. Fails e (read_after D.leaves place.now
+    ensures refused { IfErr result (λ e. Fails e (read_behind (D.leaves.level place.now)
         (ItemHead.Tag head.0 head.1) bytes.now)) }
     ensures begun { OnErr result (StartsWith (string_bytes out.new) (string_bytes out.old)) }
 {
@@ -186,10 +195,10 @@ fn push_string_front<'a, D: Dialect>(
 ) -> cbor_grammar::Result<&'a [u8]>
     requires level { D.leaves.level place.now ≤ deepest }
     requires indent { IsLaidOut D.leaves place.now }
-    ensures printed { IfOk result (λ rest. Written (TextsAt D.leaves place.now) (read_after D.leaves place.now
-        (ItemHead.String head.0 head.1) bytes.now)
+    ensures printed { IfOk result (λ rest. Written (TextsAt D.leaves place.now)
+        (read_behind (D.leaves.level place.now) (ItemHead.String head.0 head.1) bytes.now)
         rest.now (string_bytes out.old) (string_bytes out.new)) }
-    ensures refused { IfErr result (λ e. Fails e (read_after D.leaves place.now
+    ensures refused { IfErr result (λ e. Fails e (read_behind (D.leaves.level place.now)
         (ItemHead.String head.0 head.1) bytes.now)) }
     ensures begun { OnErr result (StartsWith (string_bytes out.new) (string_bytes out.old)) }
 {
@@ -233,10 +242,10 @@ pub fn push_content<D: Dialect>(
 ) -> Result<(), AllocError>
     requires level { D.leaves.level place.now ≤ deepest }
     requires indent { IsLaidOut D.leaves place.now }
-    ensures { Writes result out.old out.new (ContentThere D.leaves (D.leaves.content place.now)
-        place.now (chunk width bytes.now)) }
+    ensures { Writes result out.old out.new (ContentThere D.leaves (D.leaves.content place.now
+        bytes.now) place.now (chunk width bytes.now)) }
 {
-    match D::content(place) {
+    match D::content(place, bytes) {
         Content::Bytes => D::string(out, StringContent::Bytes(bytes), width, place),
         Content::Item => push_embedded::<D>(out, bytes, width, place),
         Content::Sequence => push_sequence::<D>(out, bytes, width, place),
@@ -335,10 +344,11 @@ fn push_chunks_front<'a, D: Dialect>(
 ) -> cbor_grammar::Result<&'a [u8]>
     requires level { D.leaves.level place.now ≤ deepest }
     requires indent { IsLaidOut D.leaves place.now }
-    ensures printed { IfOk result (λ rest. Written (TextsAt D.leaves place.now) (read_after D.leaves place.now
+    ensures printed { IfOk result (λ rest. Written (TextsAt D.leaves place.now)
+        (read_behind (D.leaves.level place.now)
         (ItemHead.String kind Argument.Indefinite) bytes.now)
         rest.now (string_bytes out.old) (string_bytes out.new)) }
-    ensures refused { IfErr result (λ e. Fails e (read_after D.leaves place.now
+    ensures refused { IfErr result (λ e. Fails e (read_behind (D.leaves.level place.now)
         (ItemHead.String kind Argument.Indefinite) bytes.now)) }
     ensures begun { OnErr result (StartsWith (string_bytes out.new) (string_bytes out.old)) }
 {

@@ -14,8 +14,8 @@ pub enum Leaf {
     Negative(u64, IntegerWidth),
     /// A float by its bits, which fit this width.
     Float(u64, FloatWidth),
-    /// A simple value.
-    Simple(u8),
+    /// A simple value, and whether it takes two bytes.
+    Simple(u8, bool),
 }
 
 /// What has members.

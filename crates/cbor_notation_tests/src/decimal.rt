@@ -49,8 +49,8 @@ impl Dialect for Decimal {
         Diag::layout(place)
     }
 
-    fn content(place: &NotationContext) -> Content {
-        Diag::content(place)
+    fn content(place: &NotationContext, bytes: &[u8]) -> Content {
+        Diag::content(place, bytes)
     }
 
     fn inside(place: &NotationContext, container: Container, layout: Layout) -> NotationContext {

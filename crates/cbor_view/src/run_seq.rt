@@ -11,11 +11,8 @@ use crate::counted::Counted;
 use crate::error::ViewError;
 use crate::run::{read_to_end, write_whole};
 use crate::words::To;
-use cbor_convert::write_item;
-use cbor_diag::{
-    Error, parse_bytes_partial, push_bytes_to_diag_partial, push_bytes_to_diag_pretty_partial,
-    push_bytes_to_hex_partial,
-};
+use cbor_convert::push_front;
+use cbor_diag::Error;
 use std::alloc::Global;
 use std::io::{Read, Write};
 
@@ -161,74 +158,8 @@ fn append_first(alloc: Global, to: To, bytes: &[u8], block: &mut Vec<u8>) -> Res
     ensures refused { RefusedSo result (EndsTheItems bytes.now) }
     ensures unchanged { OnErr result (block.new.items ≡ block.old.items) }
 {
-    match to {
-        To::Bytes => {}
-        To::Hex => return append_dump(alloc, bytes, block),
-        To::Diag => return append_line(alloc, bytes, block),
-        To::Pretty => return append_pretty(alloc, bytes, block),
-    }
-    let Some((item, used)) = parse_bytes_partial(alloc, bytes)? else {
+    let Some(used) = push_front(alloc, to, bytes, block)? else {
         return Err(Error::CutShort);
     };
-    let written = write_item(alloc, to, &item, Vec::new(alloc))?;
-    block.extend_from_slice(&written)?;
-    Ok(used)
-}
-
-/// Appends the dump of the item at the front of the bytes, as [`append_first`] does. No item is
-/// built.
-fn append_dump(alloc: Global, bytes: &[u8], block: &mut Vec<u8>) -> Result<usize, Error>
-    requires { 0 < length bytes.now }
-    ensures used { IfOk result (λ used. (1 ≤ used) × (used ≤ length bytes.now)) }
-    ensures output { IfOk result (λ used. (written : List ℕ)
-        × IsOutputOfFirst To.Hex bytes.now written (drop used bytes.now)
-        × (block.new.items ≡ block.old.items ++ written)) }
-    ensures refused { RefusedSo result (EndsTheItems bytes.now) }
-    ensures unchanged { OnErr result (block.new.items ≡ block.old.items) }
-{
-    let mut dump = String::new(alloc);
-    let Some(used) = push_bytes_to_hex_partial(alloc, bytes, &mut dump)? else {
-        return Err(Error::CutShort);
-    };
-    block.extend_from_slice(dump.as_bytes())?;
-    Ok(used)
-}
-
-/// Appends the notation of the item at the front of the bytes and a line feed, as [`append_first`]
-/// does. No item is built.
-fn append_line(alloc: Global, bytes: &[u8], block: &mut Vec<u8>) -> Result<usize, Error>
-    requires { 0 < length bytes.now }
-    ensures used { IfOk result (λ used. (1 ≤ used) × (used ≤ length bytes.now)) }
-    ensures output { IfOk result (λ used. (written : List ℕ)
-        × IsOutputOfFirst To.Diag bytes.now written (drop used bytes.now)
-        × (block.new.items ≡ block.old.items ++ written)) }
-    ensures refused { RefusedSo result (EndsTheItems bytes.now) }
-    ensures unchanged { OnErr result (block.new.items ≡ block.old.items) }
-{
-    let mut line = String::new(alloc);
-    let Some(used) = push_bytes_to_diag_partial(alloc, bytes, &mut line)? else {
-        return Err(Error::CutShort);
-    };
-    line.push('\n')?;
-    block.extend_from_slice(line.as_bytes())?;
-    Ok(used)
-}
-
-/// The same over several lines where it is long.
-fn append_pretty(alloc: Global, bytes: &[u8], block: &mut Vec<u8>) -> Result<usize, Error>
-    requires { 0 < length bytes.now }
-    ensures used { IfOk result (λ used. (1 ≤ used) × (used ≤ length bytes.now)) }
-    ensures output { IfOk result (λ used. (written : List ℕ)
-        × IsOutputOfFirst To.Pretty bytes.now written (drop used bytes.now)
-        × (block.new.items ≡ block.old.items ++ written)) }
-    ensures refused { RefusedSo result (EndsTheItems bytes.now) }
-    ensures unchanged { OnErr result (block.new.items ≡ block.old.items) }
-{
-    let mut lines = String::new(alloc);
-    let Some(used) = push_bytes_to_diag_pretty_partial(alloc, bytes, &mut lines)? else {
-        return Err(Error::CutShort);
-    };
-    lines.push('\n')?;
-    block.extend_from_slice(lines.as_bytes())?;
     Ok(used)
 }

@@ -1,5 +1,5 @@
 -- What reading gives after a head, and of containers part by part, its turns left aside.
-use Rattle.std.proofs.Common.{◌≡◌, ℕ, suc, ◌+◌, ◌-◌, ◌≤◌, List, [], Some, None, Result, Ok, Err, refl, sym, ap}
+use Rattle.std.proofs.Common.{◌≡◌, ◌≢◌, ℕ, suc, ◌+◌, ◌-◌, ◌≤◌, List, [], Some, None, Result, Ok, Err, refl, sym, ap}
 use Rattle.std.proofs.Common.{subst, ◌∙◌, arith}
 use Rattle.cbor_grammar.specs.declared.width.IntegerWidth.{IntegerWidth}
 use Rattle.cbor_grammar.specs.declared.width.FloatWidth.{FloatWidth}
@@ -36,6 +36,11 @@ use Rattle.cbor_grammar.proofs.bytes.Heads.{then_ok}
 pub fails_is : {X : Type 0} (e d : Error) (read : Result X Error) → e ≡ d → read ≡ Err d → Fails e read
 fails_is refusal.Memory d read same is = tt
 fails_is {X = X} e d read same is = let P : Error → Result X Error = λ x. Err x in is ∙ ap P (sym same)
+
+-- and the other way round, if it is not that memory ran out
+pub failed : {X : Type 0} (e : Error) (read : Result X Error) → e ≢ refusal.Memory → Fails e read → read ≡ Err e
+failed refusal.Memory read other fails = absurd (other refl)
+failed e read other fails = fails
 
 -- an error of a step is one of all
 pub fails_bind : {A B : Type 0} (e : Error) (r : Result A Error) (f : A → Result B Error) → Fails e r

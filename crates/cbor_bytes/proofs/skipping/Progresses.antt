@@ -1,8 +1,8 @@
 -- Skipping over an item piece by piece: what every byte adds.
-use Rattle.std.proofs.Common.{◌≡◌, ℕ, ◌+◌, ◌-◌, ◌<◌, ◌≤◌, List, [], ◌∷◌, ◌++◌, length, get_or, drop, Some, sym, ap}
-use Rattle.std.proofs.Common.{subst, ◌∙◌}
+use Rattle.std.proofs.Common.{◌≡◌, ℕ, ◌+◌, ◌-◌, ◌<◌, ◌≤◌, List, [], ◌∷◌, ◌++◌, length, get_or, take, drop}
+use Rattle.std.proofs.Common.{Some, refl, sym, ap, subst, ◌∙◌}
 use Rattle.std.proofs.Common.{append_assoc, arith}
-use Rattle.std.proofs.lemmas.List.{append-nil, length-append, length-take}
+use Rattle.std.proofs.lemmas.List.{append-nil, length-append, length-take, take_all}
 use Rattle.cbor_grammar.specs.declared.error.Error.{Error}
 use Rattle.cbor_bytes.specs.declared.skip.Stop.{Stop}
 use Rattle.cbor_bytes.specs.declared.skip.Stop.TheVariants as stops
@@ -15,7 +15,7 @@ use Rattle.cbor_grammar.specs.WellFormed.{deepest}
 use Rattle.cbor_bytes.specs.mirror.Skipping.{Skip, here, Goes, FailsAt, skip_item, frame_of, argument_of}
 use Rattle.cbor_bytes.specs.mirror.Scanning.{skip_from, Waits}
 use Rattle.cbor_bytes.specs.mirror.Scanned.{EndsBefore, StopsAt}
-use Rattle.cbor_bytes.proofs.skipping.Skips.{goes_at, goes_then, shows_then, no_item, behind_first, first_is, empty_is}
+use Rattle.cbor_bytes.proofs.skipping.Skips.{goes_at, goes_then, shows_then, no_item}
 use Rattle.cbor_bytes.proofs.skipping.SkippedParts.{first_goes}
 use Rattle.cbor_bytes.proofs.skipping.Scans.{waits_then}
 use Rattle.cbor_bytes.proofs.skipping.ScannedParts.{goes_more, shows_more}
@@ -35,6 +35,18 @@ first_waits outer top held none is empty =
 -- no more bytes follow than there are
 pub ends_within : {f : List ℕ → Skip} (b : List ℕ) (after : ℕ) → EndsBefore f b after → after ≤ length b
 ends_within b after e = omega (arith, ap length e.1.parts, length-append e.1.over e.0, e.2)
+
+-- the first byte, and the bytes after it
+abbrev pub behind_first : List ℕ → List ℕ
+behind_first b = take (length b - 1) (drop 1 b)
+
+first_is : (b : List ℕ) → 1 ≤ length b → b ≡ get_or b 0 0 ∷ behind_first b
+first_is [] some = absurd (omega arith)
+first_is (first ∷ b) some = ap (λ (x : List ℕ). first ∷ x) (sym (take_all (length (first ∷ b) - 1) b (omega arith)))
+
+empty_is : (b : List ℕ) → length b < 1 → b ≡ []
+empty_is [] none = refl
+empty_is (first ∷ b) none = absurd (omega arith)
 
 pub behind_within : (b : List ℕ) → length (behind_first b) ≤ length b
 behind_within b = omega (arith, length-take (length b - 1) (drop 1 b))

@@ -1,8 +1,7 @@
 -- Contents of strings that come in pieces, and what is due after some of their bytes.
-use Rattle.std.proofs.Common.{◌≡◌, ℕ, zero, suc, ◌+◌, ◌-◌, ◌^◌, ◌<◌, ◌≤◌, Bool, true, false, if◌then◌else◌, List, []}
-use Rattle.std.proofs.Common.{◌∷◌, ◌++◌}
-use Rattle.std.proofs.Common.{length, get_or, take, drop, Ok, Err, ◌⊎◌, inl, inr, refl, sym, ap, subst, ◌∙◌}
-use Rattle.std.proofs.Common.{arith, ltb}
+use Rattle.std.proofs.Common.{◌≡◌, ℕ, zero, suc, ◌+◌, ◌-◌, ◌^◌, ◌<◌, ◌≤◌, Bool, true, false, if◌then◌else◌, ◌%◌}
+use Rattle.std.proofs.Common.{List, [], ◌∷◌, ◌++◌, length, get_or, take, drop, Ok, Err, ◌⊎◌, inl, inr, refl}
+use Rattle.std.proofs.Common.{sym, ap, subst, ◌∙◌, arith, ltb}
 use Rattle.std.specs.Prelude.{IsUtf8}
 use Rattle.std.specs.Str.{is_utf8, IsValidUpTo}
 use Rattle.std.specs.Char.{len_utf8}
@@ -25,7 +24,10 @@ use Rattle.cbor_bytes.specs.declared.skip.Stop.TheVariants as stops
 use Rattle.cbor_bytes.specs.declared.skip.due.Due.TheVariants as due
 use Rattle.cbor_bytes.specs.declared.skip.due.Pause.{Pause}
 use Rattle.cbor_bytes.specs.declared.skip.due.Pause.TheVariants as pause
-use Rattle.cbor_grammar.specs.Reading.{◌>>=◌, read_head, read_argument}
+use Rattle.cbor_grammar.specs.Reading.{Read, ◌>>=◌, read_head, read_argument, length_of, read_chunk_length}
+use Rattle.cbor_grammar.specs.declared.argument.Argument.{Argument}
+use Rattle.cbor_grammar.specs.declared.argument.Argument.TheVariants.{Number, Indefinite}
+use Rattle.cbor_grammar.specs.mirror.Counting.{read_item_head}
 use Rattle.cbor_bytes.specs.mirror.Skipping.{Skip, rest_of, Goes, FailsAt, skip_content, skip_chunks, stop_of}
 use Rattle.cbor_bytes.specs.mirror.Scanning.{WholeChars, then_chunks, skip_bad, skip_due, Waits, Pauses}
 use Rattle.cbor_grammar.proofs.bytes.Heads.{IsBytes}
@@ -34,7 +36,7 @@ use Rattle.cbor_grammar.proofs.bytes.HeadRefusals.{InfoRefusal, cut_info, bad_in
 use Rattle.cbor_grammar.proofs.bytes.HeadRefusals.{HeadRefusal, no_head, short_head, bad_head, head_refused}
 use Rattle.cbor_grammar.specs.Refused.{CutHead, cut_head}
 use Rattle.cbor_bytes.proofs.skipping.Skips.{goes_at, goes_then, shows_then, content_cut, content_goes, stops_within}
-use Rattle.cbor_bytes.proofs.skipping.Skips.{more_keeps}
+use Rattle.cbor_bytes.proofs.skipping.Skips.{more_keeps, length_ways}
 
 -- ---- contents
 
@@ -294,6 +296,11 @@ refused_few (bad_head h) is = absurd cc
 pub head_few : (b : List ℕ) → IsBytes b → read_head b ≡ Err refusal.CutShort → length b ≤ 8
 head_few b fits e = refused_few (head_refused b refusal.CutShort fits e) refl
 
+pub item_head_few : (left : ℕ) (b : List ℕ) → IsBytes b → read_item_head left b ≡ Err refusal.CutShort → length b ≤ 8
+item_head_few zero [] fits e = omega arith
+item_head_few zero (first ∷ b) fits e = absurd cc
+item_head_few (suc left) b fits e = head_few b fits e
+
 info_few : {bits : ℕ} {b : List ℕ} {e : refusal.the_data} → InfoRefusal bits b e → e ≡ refusal.CutShort
     → length b < 8
 info_few (cut_info {b = b} k small is short) e = at k small short
@@ -306,8 +313,25 @@ info_few (cut_info {b = b} k small is short) e = at k small short
     at (suc (suc (suc (suc k)))) small short = absurd (omega arith)
 info_few (bad_info least most) e = absurd cc
 
-pub argument_few : (bits : ℕ) (b : List ℕ) → bits < 32 → read_argument bits b ≡ Err refusal.CutShort → length b < 8
-argument_few bits b small e = info_few (info_refused bits b refusal.CutShort small e) refl
+pub length_few : (major : ℕ) (b : List ℕ) → read_chunk_length major b ≡ Err refusal.CutShort → length b ≤ 8
+length_few major [] e = omega arith
+length_few major (first ∷ b) e =
+    elim (length_ways major first) [
+      | inl way ↦ absurd (let wrong = sym (way b) ∙ e in cc)
+      | inr ways ↦ elim ways [
+        | inl way ↦ of_argument (read_argument (first % 32) b) refl (sym (way b) ∙ e)
+        | inr way ↦ absurd (let wrong = sym (way b) ∙ e in cc)
+      ]
+    ]
+  where
+    of_argument : (r : Read Argument) → read_argument (first % 32) b ≡ r
+        → (r >>= λ a. length_of a.0 a.1) ≡ Err refusal.CutShort → length (first ∷ b) ≤ 8
+    of_argument (Ok (Number n w, c)) is h = absurd cc
+    of_argument (Ok (Indefinite, c)) is h = absurd cc
+    of_argument (Err d) is h =
+        let same : d ≡ refusal.CutShort = cc in
+        let short = info_few (info_refused (first % 32) b d (omega arith) is) same in
+        omega (arith, short)
 
 -- a stop that is a cut
 pub stop_few : (e : refusal.the_data) (after : ℕ) → stop_of e after ≡ stops.Cut → e ≡ refusal.CutShort

@@ -1,9 +1,10 @@
 -- Steps of skipping, and what they skip: contents, chunks and heads.
-use Rattle.std.proofs.Common.{◌≡◌, ◌≢◌, ℕ, zero, suc, ◌-◌, ◌/◌, ◌%◌, ◌<◌, ◌≤◌, List, [], ◌∷◌, ◌++◌, length, get_or}
+use Rattle.std.proofs.Common.{◌≡◌, ◌≢◌, ℕ, zero, suc, ◌-◌, ◌/◌, ◌%◌, ◌<◌, ◌≤◌, List, [], ◌∷◌, ◌++◌, length}
 use Rattle.std.proofs.Common.{take, drop, Option, Some, None, Ok, Err, ◌⊎◌, inl, inr, refl, sym, ap, subst, ◌∙◌}
 use Rattle.std.proofs.Common.{append_assoc, arith}
 use Rattle.std.specs.Prelude.{IsUtf8}
-use Rattle.std.proofs.lemmas.List.{append-nil, length-append, length-take, take-append-drop, take_all}
+use Rattle.std.proofs.lemmas.Bool.{cases_eq, eq-eqb, ne_eqb}
+use Rattle.std.proofs.lemmas.List.{append-nil, length-append, length-take, take-append-drop}
 use Rattle.std.proofs.lemmas.Str.{IsUtf8-nil}
 use Rattle.cbor_grammar.specs.declared.width.IntegerWidth.{IntegerWidth}
 use Rattle.cbor_grammar.specs.declared.error.Error.{Error}
@@ -19,17 +20,19 @@ use Rattle.cbor_grammar.specs.declared.strings.StringKind.{StringKind}
 use Rattle.cbor_grammar.specs.declared.strings.StringKind.TheVariants.{Bytes, Text}
 use Rattle.cbor_grammar.specs.StringKind.{major_of, IsContent}
 use Rattle.cbor_grammar.specs.Refused.{BadHead, no_info, no_length}
-use Rattle.cbor_grammar.specs.Reading.{Read, ◌>>=◌, read_argument, head_of, read_head, read_content, chunk_of}
-use Rattle.cbor_grammar.specs.Reading.{read_chunk}
+use Rattle.cbor_grammar.specs.Reading.{Read, ◌>>=◌, read_argument, head_of, read_head, read_content, length_of}
+use Rattle.cbor_grammar.specs.Reading.{read_chunk_length, read_chunk}
 use Rattle.cbor_grammar.specs.Reading.{Counted, go_on, ◌>>-◌, more_chunks, read_chunks, opened, read_body, counted_item}
 use Rattle.cbor_bytes.specs.mirror.Skipping.{Skip, rest_of, here, Goes, FailsAt, StopsSo, stop_of, skip_content}
-use Rattle.cbor_bytes.specs.mirror.Skipping.{skip_chunks, skip_item, skip_body}
+use Rattle.cbor_bytes.specs.mirror.Skipping.{skip_chunks, after_chunk_length, skip_item, skip_body}
+use Rattle.cbor_grammar.specs.mirror.Counting.{read_item_head}
+use Rattle.cbor_bytes.proofs.reading.ChunkLengths.{after_length, by_length}
 use Rattle.cbor_grammar.proofs.bytes.Heads.{IsBytes, IsBytes-rest, bind_ok, ok_is, number_bytes, ArgumentIs, info_takes}
 use Rattle.cbor_grammar.proofs.bytes.Heads.{info_again}
 use Rattle.cbor_grammar.proofs.bytes.Shorter.{Leaves, chunk_leaves}
-use Rattle.cbor_grammar.proofs.bytes.Chunks.{content_again, chunk_ways}
+use Rattle.cbor_grammar.proofs.bytes.Chunks.{content_again}
 use Rattle.cbor_grammar.proofs.bytes.HeadRefusals.{InfoRefusal, cut_info, bad_info, info_refused, info_refuses}
-use Rattle.cbor_grammar.proofs.bytes.HeadRefusals.{info_opens}
+use Rattle.cbor_grammar.proofs.bytes.HeadRefusals.{info_opens, err_is}
 use Rattle.cbor_grammar.proofs.bytes.HeadRefusals.{HeadRefusal, no_head, short_head, bad_head, head_refused, head_bad}
 use Rattle.cbor_grammar.proofs.bytes.StringRefusals.{short_content, bad_content, content_refuses}
 use Rattle.cbor_grammar.proofs.bytes.Refusals.{item_nothing}
@@ -98,18 +101,24 @@ stops_from f g b stop same s = stops_then stop (goes_here b same) s
 
 -- the first byte shows it
 pub shows_first : (f : List ℕ → Skip) (first : ℕ) (b : List ℕ) (e : Error) → f [] ≡ Err refusal.CutShort
-    → f (first ∷ []) ≡ Err e → e ≢ refusal.CutShort → FailsAt f (first ∷ b) e (length b)
+    → f (first ∷ []) ≡ Err e → e ≢ refusal.CutShort → FailsAt f (first ∷ b) e (length (first ∷ b) - 1)
 shows_first f first b e cut fails other = record {
   before = [];
   last = first;
   behind = b;
   parts = refl;
-  count =
-      refl;
+  count = omega arith;
   cut = cut;
   fails = fails;
   other = other;
 }
+
+-- a stop is a cut, or an error
+stop_either : (from : List ℕ → Skip) (b : List ℕ) (e : Error) (after : ℕ)
+    → (e ≡ refusal.CutShort → from b ≡ Err refusal.CutShort) → (e ≢ refusal.CutShort → FailsAt from b e after)
+    → StopsSo from b (stop_of e after)
+stop_either from b refusal.CutShort after cut shows = cut refl
+stop_either from b e after cut shows = shows (λ same. absurd cc)
 
 -- ---- what is forgotten
 
@@ -234,10 +243,38 @@ unfolding read_chunks
 chunks_next kind [] = none_next kind
 chunks_next kind (first ∷ b) = next_then kind (length b) (read_chunk kind (first ∷ b)) (chunk_leaves kind (first ∷ b))
 
--- a break
-pub break_goes : (kind : StringKind) (b : List ℕ) → Goes (skip_chunks kind) here (break_byte ∷ b) b
-unfolding read_chunk
-break_goes kind b = record { over = break_byte ∷ []; parts = refl; along = λ c. chunks_next kind (break_byte ∷ c) }
+-- the same by the length of the next one
+chunks_by_length : (kind : StringKind) (b : List ℕ)
+    → skip_chunks kind b ≡ (read_chunk_length (major_of kind) b >>= λ n. after_chunk_length kind n.0 n.1)
+chunks_by_length kind b = chunks_next kind b ∙ ap (chunks_after kind) (by_length kind b)
+    ∙ then_more (read_chunk_length (major_of kind) b)
+  where
+    content_then : (read : Read Chunk) → chunks_after kind (read >>= λ c. Ok (Some c.0, c.1))
+        ≡ (rest_of read >>= skip_chunks kind)
+    content_then (Ok x) = refl
+    content_then (Err e) = refl
+
+    then_more : (read : Read (Option (ℕ × IntegerWidth)))
+        → chunks_after kind (read >>= λ n. after_length kind n.0 n.1)
+        ≡ (read >>= λ n. after_chunk_length kind n.0 n.1)
+    then_more (Ok (None, c)) = refl
+    then_more (Ok (Some n, c)) = content_then (read_content kind n.0 n.1 c)
+    then_more (Err e) = refl
+
+-- the three ways of a first byte, whatever is after it: a break, a head of that major type, and what can't be there
+pub length_ways : (major first : ℕ)
+    → ((c : List ℕ) → read_chunk_length major (first ∷ c) ≡ Ok (None, c))
+    ⊎ (((c : List ℕ) → read_chunk_length major (first ∷ c) ≡ (read_argument (first % 32) c >>= λ a. length_of a.0 a.1))
+    ⊎ ((c : List ℕ) → read_chunk_length major (first ∷ c) ≡ Err refusal.Head))
+unfolding read_chunk_length
+length_ways major first =
+    elim (cases_eq first break_byte) [
+      | inl is ↦ inl (λ c. rw (eq-eqb first break_byte is) refl)
+      | inr no_break ↦ elim (cases_eq (first / 32) major) [
+        | inl is ↦ inr (inl (λ c. rw (ne_eqb first break_byte no_break, eq-eqb (first / 32) major is) refl))
+        | inr other ↦ inr (inr (λ c. rw (ne_eqb first break_byte no_break, ne_eqb (first / 32) major other) refl))
+      ]
+    ]
 
 -- the number after five bits of info, whatever is after it
 info_over : (bits : ℕ) (i : Argument) (b rest : List ℕ) → ArgumentIs bits i b rest
@@ -246,100 +283,106 @@ info_over bits (Number n w) b rest is =
     (number_bytes w n, is.2, λ c. ap (λ k. read_argument k (number_bytes w n ++ c)) is.1 ∙ info_again w n c is.0)
 info_over bits Indefinite b rest is = ([], is.1, λ c. info_opens bits c is.0)
 
--- a chunk's head, with its content and more chunks after it
-content_then : (kind : StringKind) (n : ℕ) (w : IntegerWidth) (c : List ℕ)
-    → chunks_after kind (chunk_of kind (Number n w) c) ≡ (skip_content kind n w c >>= skip_chunks kind)
-content_then kind n w c = after (read_content kind n w c)
-  where
-    after : (read : Read Chunk) → chunks_after kind (read >>= λ c. Ok (Some c.0, c.1))
-        ≡ (rest_of read >>= skip_chunks kind)
-    after (Ok x) = refl
-    after (Err e) = refl
-
--- what a chunk is where its info is read so
-chunk_reads : (kind : StringKind) (first : ℕ) (b : List ℕ) (read : Read Argument) → first ≢ break_byte
-    → first / 32 ≡ major_of kind → read_argument (first % 32) b ≡ read
-    → read_chunk kind (first ∷ b) ≡ (read >>= λ i. chunk_of kind i.0 i.1)
-chunk_reads kind first b read no_break major e =
-    elim (chunk_ways kind first b) [
-      | inl way ↦ absurd (no_break way.0)
+-- the head of a chunk, whatever is after it
+length_over : (major : ℕ) (o : Option (ℕ × IntegerWidth)) (b rest : List ℕ) → IsBytes b
+    → read_chunk_length major b ≡ Ok (o, rest)
+    → (x : List ℕ) × (b ≡ x ++ rest) × ((c : List ℕ) → read_chunk_length major (x ++ c) ≡ Ok (o, c))
+unfolding read_chunk_length
+length_over major o [] rest fits e = absurd cc
+length_over major o (first ∷ b) rest fits e =
+    elim (length_ways major first) [
+      | inl way ↦
+          let is = ok_is (None, b) (o, rest) (sym (way b) ∙ e) in (
+            first ∷ [],
+            ap (λ (p : Option (ℕ × IntegerWidth) × List ℕ). first ∷ p.1) is,
+            λ c. way c ∙ ap (λ (p : Option (ℕ × IntegerWidth) × List ℕ). Ok (p.0, c)) is,
+          )
       | inr ways ↦ elim ways [
-        | inl way ↦ way.2 ∙ ap (λ r. r >>= λ i. chunk_of kind i.0 i.1) e
-        | inr way ↦ absurd (way.1 major)
+        | inl way ↦
+            let a = bind_ok (read_argument (first % 32) b) (λ a. length_of a.0 a.1) (o, rest) (sym (way b) ∙ e) in
+            let at = number_at a.0.0 a.0.1 a.2 in
+            let f = info_over (first % 32) a.0.0 b rest
+            (info_takes (first % 32) b rest a.0.0 (IsBytes-rest first b fits)
+            (a.1 ∙ ap (λ (r : List ℕ). Ok (a.0.0, r)) at.0)) in (
+              first ∷ f.0,
+              ap (λ (z : List ℕ). first ∷ z) f.1,
+              λ c. way (f.0 ++ c) ∙ ap (λ q. q >>= λ a. length_of a.0 a.1) (f.2 c) ∙ at.1 c,
+            )
+        | inr way ↦ absurd (let wrong = sym (way b) ∙ e in cc)
       ]
     ]
+  where
+    number_at : (i : Argument) (r : List ℕ) → length_of i r ≡ Ok (o, rest)
+        → (r ≡ rest) × ((c : List ℕ) → length_of i c ≡ Ok (o, c))
+    number_at (Number n w) r e =
+        let is = ok_is (Some (n, w), r) (o, rest) e in (
+          ap (λ (p : Option (ℕ × IntegerWidth) × List ℕ). p.1) is,
+          λ c. ap (λ (p : Option (ℕ × IntegerWidth) × List ℕ). Ok (p.0, c)) is,
+        )
+    number_at Indefinite r e = absurd cc
 
-pub chunk_goes : (kind : StringKind) (first n : ℕ) (w : IntegerWidth) (b rest : List ℕ) → IsBytes b → first ≢ break_byte
-    → first / 32 ≡ major_of kind → read_argument (first % 32) b ≡ Ok (Number n w, rest)
-    → Goes (skip_chunks kind) (λ c. skip_content kind n w c >>= skip_chunks kind) (first ∷ b) rest
-chunk_goes kind first n w b rest fits no_break major e =
-    let f = info_over (first % 32) (Number n w) b rest (info_takes (first % 32) b rest (Number n w) fits e) in
+pub length_goes : (kind : StringKind) (o : Option (ℕ × IntegerWidth)) (b rest : List ℕ) → IsBytes b
+    → read_chunk_length (major_of kind) b ≡ Ok (o, rest) → Goes (skip_chunks kind) (after_chunk_length kind o) b rest
+length_goes kind o b rest fits e =
+    let f = length_over (major_of kind) o b rest fits e in
     record {
-      over = first ∷ f.0;
-      parts = ap (λ (z : List ℕ). first ∷ z) f.1;
-      along = λ c. chunks_next kind (first ∷ (f.0 ++ c))
-          ∙ ap (chunks_after kind) (chunk_reads kind first (f.0 ++ c) (Ok (Number n w, c)) no_break major (f.2 c))
-          ∙ content_then kind n w c;
+      over = f.0;
+      parts = f.1;
+      along = λ c. chunks_by_length kind (f.0 ++ c) ∙ ap (λ q. q >>= λ n. after_chunk_length kind n.0 n.1) (f.2 c);
     }
-
--- no chunk begins so, which the first byte shows
-chunk_shows : (kind : StringKind) (first : ℕ) (b : List ℕ) → read_chunk kind (first ∷ []) ≡ Err refusal.Head
-    → FailsAt (skip_chunks kind) (first ∷ b) refusal.Head (length b)
-unfolding read_chunks
-chunk_shows kind first b e = shows_first (skip_chunks kind) first b refusal.Head refl
-    (chunks_next kind (first ∷ []) ∙ ap (chunks_after kind) e) (λ same. absurd cc)
-
-pub kind_shows : (kind : StringKind) (first : ℕ) (b : List ℕ) → first ≢ break_byte → first / 32 ≢ major_of kind
-    → FailsAt (skip_chunks kind) (first ∷ b) refusal.Head (length b)
-kind_shows kind first b no_break other =
-    chunk_shows kind first b (elim (chunk_ways kind first []) [
-      | inl way ↦ absurd (no_break way.0)
-      | inr ways ↦ elim ways [
-        | inl way ↦ absurd (other way.1)
-        | inr way ↦ way.2
-      ]
-    ])
-
--- a stop is a cut, or an error
-stop_either : (from : List ℕ → Skip) (b : List ℕ) (e : Error) (after : ℕ)
-    → (e ≡ refusal.CutShort → from b ≡ Err refusal.CutShort) → (e ≢ refusal.CutShort → FailsAt from b e after)
-    → StopsSo from b (stop_of e after)
-stop_either from b refusal.CutShort after cut shows = cut refl
-stop_either from b e after cut shows = shows (λ same. absurd cc)
 
 bad_info_from : {bits : ℕ} {b : List ℕ} {e : Error} → InfoRefusal bits b e → e ≢ refusal.CutShort
     → InfoRefusal bits [] refusal.Head × (refusal.Head ≡ e)
 bad_info_from (cut_info k small is short) other = absurd (other refl)
 bad_info_from (bad_info least most) other = (bad_info least most, refl)
 
-info_shows : (kind : StringKind) (first : ℕ) (b : List ℕ) (e : Error) → first ≢ break_byte → first / 32 ≡ major_of kind
-    → read_argument (first % 32) b ≡ Err e → e ≢ refusal.CutShort → FailsAt (skip_chunks kind) (first ∷ b) e (length b)
-info_shows kind first b e no_break major h other =
-    let bad = bad_info_from (info_refused (first % 32) b e (omega arith) h) other in
-    subst (λ d. FailsAt (skip_chunks kind) (first ∷ b) d (length b)) bad.1
-    (chunk_shows kind first b (chunk_reads kind first [] (Err refusal.Head) no_break major
-    (info_refuses (first % 32) [] refusal.Head bad.0)))
+-- no chunk begins so, which the first byte shows
+bad_length : (major first : ℕ) (b : List ℕ) (e : Error) → IsBytes b → read_chunk_length major (first ∷ b) ≡ Err e
+    → e ≢ refusal.CutShort → (read_chunk_length major (first ∷ []) ≡ Err refusal.Head) × (refusal.Head ≡ e)
+bad_length major first b e fits h other =
+    elim (length_ways major first) [
+      | inl way ↦ absurd (let wrong = sym (way b) ∙ h in cc)
+      | inr ways ↦ elim ways [
+        | inl way ↦
+            let bad = alone (read_argument (first % 32) b) refl (sym (way b) ∙ h) in
+            (way [] ∙ bad.0, bad.1)
+        | inr way ↦ (way [], err_is (read_chunk_length major (first ∷ b)) refusal.Head e (way b) h)
+      ]
+    ]
+  where
+    alone : (r : Read Argument) → read_argument (first % 32) b ≡ r → (r >>= λ a. length_of a.0 a.1) ≡ Err e
+        → ((read_argument (first % 32) [] >>= λ a. length_of a.0 a.1) ≡ Err refusal.Head) × (refusal.Head ≡ e)
+    alone (Ok (Number n w, c)) is h = absurd cc
+    alone (Ok (Indefinite, c)) is h =
+        let at = info_takes (first % 32) b c Indefinite fits is in
+        (ap (λ q. q >>= λ a. length_of a.0 a.1) (info_opens (first % 32) [] at.0), cc)
+    alone (Err d) is h =
+        let same : d ≡ e = cc in
+        let bad = bad_info_from
+        (info_refused (first % 32) b e (omega arith) (is ∙ ap (λ (x : Error). Err x) same)) other in
+        (ap (λ q. q >>= λ a. length_of a.0 a.1) (info_refuses (first % 32) [] refusal.Head bad.0), bad.1)
 
-pub indefinite_shows : (kind : StringKind) (first : ℕ) (b rest : List ℕ) → IsBytes b → first ≢ break_byte
-    → first / 32 ≡ major_of kind → read_argument (first % 32) b ≡ Ok (Indefinite, rest)
-    → FailsAt (skip_chunks kind) (first ∷ b) refusal.Head (length b)
-indefinite_shows kind first b rest fits no_break major e =
-    let is = info_takes (first % 32) b rest Indefinite fits e in
-    chunk_shows kind first b (chunk_reads kind first [] (Ok (Indefinite, [])) no_break major
-    (info_opens (first % 32) [] is.0))
+none_length : (major : ℕ) → read_chunk_length major [] ≡ Err refusal.CutShort
+unfolding read_chunk_length
+none_length major = refl
 
-info_cut : (kind : StringKind) (first : ℕ) (b : List ℕ) → first ≢ break_byte → first / 32 ≡ major_of kind
-    → read_argument (first % 32) b ≡ Err refusal.CutShort → skip_chunks kind (first ∷ b) ≡ Err refusal.CutShort
-info_cut kind first b no_break major e = chunks_next kind (first ∷ b)
-    ∙ ap (chunks_after kind) (chunk_reads kind first b (Err refusal.CutShort) no_break major e)
+pub length_stops : (kind : StringKind) (b : List ℕ) (e : Error) → IsBytes b
+    → read_chunk_length (major_of kind) b ≡ Err e → StopsSo (skip_chunks kind) b (stop_of e (length b - 1))
+length_stops kind b e fits is =
+    stop_either (skip_chunks kind) b e (length b - 1)
+    (λ cut. refuses b refusal.CutShort (is ∙ ap (λ (d : Error). Err d) cut)) (shows b fits is)
+  where
+    refuses : (c : List ℕ) (d : Error) → read_chunk_length (major_of kind) c ≡ Err d → skip_chunks kind c ≡ Err d
+    refuses c d h = chunks_by_length kind c ∙ ap (λ q. q >>= λ n. after_chunk_length kind n.0 n.1) h
 
-pub info_stops : (kind : StringKind) (first : ℕ) (b : List ℕ) (e : Error) → first ≢ break_byte
-    → first / 32 ≡ major_of kind → read_argument (first % 32) b ≡ Err e
-    → StopsSo (skip_chunks kind) (first ∷ b) (stop_of e (length b))
-info_stops kind first b e no_break major is =
-    stop_either (skip_chunks kind) (first ∷ b) e (length b)
-    (λ cut. info_cut kind first b no_break major (is ∙ ap (λ d. Err d) cut))
-    (info_shows kind first b e no_break major is)
+    shows : (b : List ℕ) → IsBytes b → read_chunk_length (major_of kind) b ≡ Err e → e ≢ refusal.CutShort
+        → FailsAt (skip_chunks kind) b e (length b - 1)
+    shows [] fits h other =
+        absurd (other (err_is (read_chunk_length (major_of kind) []) e refusal.CutShort h (none_length (major_of kind))))
+    shows (first ∷ b) fits h other =
+        let bad = bad_length (major_of kind) first b e (IsBytes-rest first b fits) h other in
+        shows_first (skip_chunks kind) first b e (refuses [] refusal.CutShort (none_length (major_of kind)))
+        (refuses (first ∷ []) e (bad.0 ∙ ap (λ (d : Error). Err d) bad.1)) other
 
 pub no_chunks : (kind : StringKind) → skip_chunks kind [] ≡ Err refusal.CutShort
 unfolding read_chunks
@@ -373,11 +416,12 @@ head_over h first b rest fits e =
     (info_takes (first % 32) b rest a.0.0 (IsBytes-rest first b fits) info) in
     (f.0, f.1, λ c. head_reads h first (f.0 ++ c) c a.0.0 named (f.2 c))
 
-pub head_goes : (left : ℕ) (h : ItemHead) (first : ℕ) (b rest : List ℕ) → 0 < left → IsBytes (first ∷ b)
-    → read_head (first ∷ b) ≡ Ok (h, rest) → Goes (skip_item left) (skip_body (left - 1) h) (first ∷ b) rest
-unfolding counted_item
-head_goes zero h first b rest some fits e = absurd (omega arith)
-head_goes (suc left) h first b rest some fits e =
+pub head_goes : (left : ℕ) (h : ItemHead) (b rest : List ℕ) → IsBytes b → read_item_head left b ≡ Ok (h, rest)
+    → Goes (skip_item left) (skip_body (left - 1) h) b rest
+unfolding counted_item read_head
+head_goes zero h b rest fits e = absurd cc
+head_goes (suc left) h [] rest fits e = absurd cc
+head_goes (suc left) h (first ∷ b) rest fits e =
     let f = head_over h first b rest fits e in
     let same : left ≡ suc left - 1 = omega arith in
     record {
@@ -397,60 +441,33 @@ bad_alone : {first : ℕ} {b : List ℕ} → BadHead (first ∷ b) → BadHead (
 bad_alone (no_info least most) = no_info least most
 bad_alone (no_length is major) = no_length is major
 
-bad_shows : (left first : ℕ) (b : List ℕ) → 0 < left → BadHead (first ∷ b)
-    → FailsAt (skip_item left) (first ∷ b) refusal.Head (length b)
-unfolding counted_item
-bad_shows zero first b some bad = absurd (omega arith)
-bad_shows (suc left) first b some bad = shows_first (skip_item (suc left)) first b refusal.Head
-    (ap rest_of (item_nothing (suc left)))
-    (ap (λ r. rest_of (go_on 1 r (λ h. read_body (counted_item left) (opened h.0) h.0 h.1)).1)
-    (head_bad (first ∷ []) (bad_alone bad))) (λ same. absurd cc)
-
-head_shows : (left first : ℕ) (b : List ℕ) (e : Error) → 0 < left → IsBytes (first ∷ b) → read_head (first ∷ b) ≡ Err e
-    → e ≢ refusal.CutShort → FailsAt (skip_item left) (first ∷ b) e (length b)
-head_shows left first b e some fits h other =
+-- the first byte shows that no item begins so, or that it would be too deep
+head_shows : (left : ℕ) (b : List ℕ) (e : Error) → IsBytes b → read_item_head left b ≡ Err e → e ≢ refusal.CutShort
+    → FailsAt (skip_item left) b e (length b - 1)
+unfolding counted_item read_head
+head_shows zero [] e fits h other = absurd (let same : e ≡ refusal.CutShort = cc in other same)
+head_shows zero (first ∷ b) e fits h other =
+    let same : refusal.TooDeep ≡ e = cc in
+    shows_first (skip_item 0) first b e refl (ap (λ (d : Error). Err d) same) other
+head_shows (suc left) [] e fits h other = absurd (let same : e ≡ refusal.CutShort = cc in other same)
+head_shows (suc left) (first ∷ b) e fits h other =
     let bad = bad_head_from (head_refused (first ∷ b) e fits h) other in
-    subst (λ d. FailsAt (skip_item left) (first ∷ b) d (length b)) bad.1 (bad_shows left first b some bad.0)
+    shows_first (skip_item (suc left)) first b e (ap rest_of (item_nothing (suc left)))
+    (ap (λ r. rest_of (go_on 1 r (λ h. read_body (counted_item left) (opened h.0) h.0 h.1)).1)
+    (head_bad (first ∷ []) (bad_alone bad.0) ∙ ap (λ (d : Error). Err d) bad.1)) other
 
-head_short : (left : ℕ) (b : List ℕ) → 0 < left → read_head b ≡ Err refusal.CutShort
+head_short : (left : ℕ) (b : List ℕ) → read_item_head left b ≡ Err refusal.CutShort
     → skip_item left b ≡ Err refusal.CutShort
 unfolding counted_item
-head_short zero b some e = absurd (omega arith)
-head_short (suc left) b some e =
+head_short zero b e = ap rest_of e
+head_short (suc left) b e =
     ap (λ r. rest_of (go_on 1 r (λ h. read_body (counted_item left) (opened h.0) h.0 h.1)).1) e
 
-pub head_stops : (left first : ℕ) (b : List ℕ) (e : Error) → 0 < left → IsBytes (first ∷ b)
-    → read_head (first ∷ b) ≡ Err e → StopsSo (skip_item left) (first ∷ b) (stop_of e (length b))
-head_stops left first b e some fits is =
-    stop_either (skip_item left) (first ∷ b) e (length b)
-    (λ cut. head_short left (first ∷ b) some (is ∙ ap (λ d. Err d) cut)) (head_shows left first b e some fits is)
+pub head_stops : (left : ℕ) (b : List ℕ) (e : Error) → IsBytes b → read_item_head left b ≡ Err e
+    → StopsSo (skip_item left) b (stop_of e (length b - 1))
+head_stops left b e fits is =
+    stop_either (skip_item left) b e (length b - 1)
+    (λ cut. head_short left b (is ∙ ap (λ (d : Error). Err d) cut)) (head_shows left b e fits is)
 
 pub no_item : (left : ℕ) → skip_item left [] ≡ Err refusal.CutShort
 no_item left = ap rest_of (item_nothing left)
-
-pub deep_shows : (left first : ℕ) (b : List ℕ) → left ≡ 0
-    → FailsAt (skip_item left) (first ∷ b) refusal.TooDeep (length b)
-unfolding counted_item
-deep_shows zero first b none = shows_first (skip_item 0) first b refusal.TooDeep refl refl (λ same. absurd cc)
-deep_shows (suc left) first b none = absurd (omega arith)
-
--- ---- bytes that are not empty
-
--- the first byte, and the bytes after it
-abbrev pub behind_first : List ℕ → List ℕ
-behind_first b = take (length b - 1) (drop 1 b)
-
-pub first_is : (b : List ℕ) → 1 ≤ length b → b ≡ get_or b 0 0 ∷ behind_first b
-first_is [] some = absurd (omega arith)
-first_is (first ∷ b) some = ap (λ (x : List ℕ). first ∷ x) (sym (take_all (length (first ∷ b) - 1) b (omega arith)))
-
--- a fact of such bytes, from that of their first byte and those after it
-pub at_first : (Fact : List ℕ → Type 0) (b : List ℕ) → 1 ≤ length b → Fact (get_or b 0 0 ∷ behind_first b) → Fact b
-at_first Fact b some holds = subst Fact (sym (first_is b some)) holds
-
-pub fits_first : (b : List ℕ) → 1 ≤ length b → IsBytes b → IsBytes (get_or b 0 0 ∷ behind_first b)
-fits_first b some fits = subst IsBytes (first_is b some) fits
-
-pub empty_is : (b : List ℕ) → length b < 1 → b ≡ []
-empty_is [] none = refl
-empty_is (first ∷ b) none = absurd (omega arith)

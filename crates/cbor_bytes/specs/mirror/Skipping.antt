@@ -7,8 +7,6 @@ use Rattle.cbor_grammar.specs.declared.error.Error.{Error}
 use Rattle.cbor_grammar.specs.declared.error.Error.TheVariants.{CutShort}
 use Rattle.cbor_bytes.specs.declared.skip.Stop.{Stop}
 use Rattle.cbor_bytes.specs.declared.skip.Stop.TheVariants as stops
-use Rattle.cbor_bytes.specs.declared.skip.Chunk.{Chunk}
-use Rattle.cbor_bytes.specs.declared.skip.Chunk.TheVariants as chunks
 use Rattle.cbor_bytes.specs.declared.skip.to_come.ToCome.{ToCome}
 use Rattle.cbor_bytes.specs.declared.skip.to_come.ToCome.TheVariants as to_come
 use Rattle.cbor_grammar.specs.Item.{Item, atom, simple, no_items, no_pairs}
@@ -77,13 +75,9 @@ abbrev pub stop_of : Error → ℕ → Stop
 stop_of CutShort after = stops.Cut
 stop_of error after = stops.Fault error after
 
-abbrev pub after_chunk : StringKind → Chunk → List ℕ → Skip
-after_chunk kind chunks.Content b = skip_chunks kind b
-after_chunk kind chunks.Break b = here b
-
--- the same after its length, or after the break
-abbrev pub after_chunk_length : StringKind → Option ℕ → List ℕ → Skip
-after_chunk_length kind (Some n) b = skip_content kind n Zero b >>= skip_chunks kind
+-- a chunk and those after it, after its length; or what is after the break
+abbrev pub after_chunk_length : StringKind → Option (ℕ × IntegerWidth) → List ℕ → Skip
+after_chunk_length kind (Some n) b = skip_content kind n.0 n.1 b >>= skip_chunks kind
 after_chunk_length kind None b = here b
 
 -- ---- what is still to come

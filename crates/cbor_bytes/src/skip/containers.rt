@@ -74,23 +74,21 @@ impl Containers {
                     return Ok(rest);
                 };
                 top = open;
-            } else {
-                match read_part(rest, usize::from(DEEPEST) - self.outer.len()) {
-                    Ok((parts, after)) => {
-                        rest = after;
-                        top = top.after_part();
-                        if let Some(parts) = parts {
-                            self.outer.push(top);
-                            top = parts;
-                        }
-                    }
-                    // Once for each piece: the same part again, to find what is due.
-                    Err(_) => {
-                        self.top = top;
-                        rest = self.after_part(rest)?;
-                        top = self.top;
-                    }
-                }
+                continue;
+            }
+            let levels = usize::from(DEEPEST) - self.outer.len();
+            let Ok((parts, after)) = read_part(rest, levels) else {
+                // Once for each piece: the same part again, to find what is due.
+                self.top = top;
+                rest = self.after_part(rest)?;
+                top = self.top;
+                continue;
+            };
+            rest = after;
+            top = top.after_part();
+            if let Some(parts) = parts {
+                self.outer.push(top);
+                top = parts;
             }
         }
     }

@@ -100,10 +100,10 @@ fn after_break_due(kind: StringKind, bytes: &[u8]) -> Result<&[u8], Pause>
     'chunks: loop {
         match read_chunk_length(kind, rest) {
             Ok((len, after)) => {
-                let Some(len) = len else {
+                let Some((count, _)) = len else {
                     return Ok(after);
                 };
-                rest = after_rest(kind, len, true, after)?;
+                rest = after_rest(kind, count, true, after)?;
             }
             Err(Stop::Cut) => return Err(Pause::Cut(Due::Chunk(kind), rest)),
             Err(Stop::Fault { error, after }) => return Err(Pause::Fault { error, after }),

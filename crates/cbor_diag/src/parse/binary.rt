@@ -21,14 +21,14 @@ ghost use Rattle.cbor_diag.specs.mirror.BytesAnswer.{WholeAnswer, FrontAnswer, F
 ghost use Rattle.cbor_grammar.specs.Turns.{item_turns, cut_spent, fault_spent};
 ghost use Rattle.cbor_grammar.specs.Facts.{IsItem, IsStrictItem, BeginsWithItem, IsCut, HasFault};
 ghost use Rattle.cbor_grammar.specs.Facts.{IsNoItem, BeginsSo, BeginsInOneWay, IsWellFormed};
-ghost use Rattle.cbor_grammar.specs.Reading.{Gives, later, no_level_left, read_atom, counted_item};
+ghost use Rattle.cbor_grammar.specs.Reading.{later, read_atom, counted_item};
 ghost use Rattle.cbor_grammar.specs.mirror.Counting.{HoldsContent, GivesIn, FailsIn};
-ghost use Rattle.cbor_grammar.specs.mirror.Counting.{read_item_head, resume, resume_with};
+ghost use Rattle.cbor_grammar.specs.mirror.Counting.{resume, resume_with};
 ghost use Rattle.cbor_diag.specs.mirror.Stack.{frames};
 
 use crate::syntax::DataItem;
 use cbor_bytes::Turns;
-use cbor_bytes::head::{no_level_left, read_head};
+use cbor_bytes::head::read_item_head;
 use cbor_bytes::strings::{read_chunks, read_string};
 use cbor_grammar::argument::Argument;
 use cbor_grammar::head::ItemHead;
@@ -38,20 +38,6 @@ use cbor_grammar::{ByteString, Error, Result, Simple, TextString};
 use frame::Frame;
 use stack::Stack;
 use std::alloc::Global;
-
-/// The head of an item at `level`, from 1 to 129. No item is allowed at level 129.
-fn read_item_head(bytes: &[u8], level: usize) -> Result<(ItemHead, &[u8])>
-    requires { level ≤ deepest + 1 }
-    ensures gives { Gives (λ x. (x.0, x.1.now)) result
-        (read_item_head (levels_left level) bytes.now) }
-    ensures shorter { IfOk result (λ x. length x.1.now < length bytes.now) }
-    ensures memory { result ≢ Err Error.Memory }
-{
-    if level > usize::from(DEEPEST) {
-        return Err(no_level_left(bytes));
-    }
-    read_head(bytes)
-}
 
 /// The item without parts after its head. The heads of containers are handled by `Frame::new`
 /// before.
@@ -126,7 +112,8 @@ fn turn<'a>(
     if let Some(rest) = stack.after_end(bytes) {
         return Ok((Some(stack.close()?), rest));
     }
-    let (head, rest) = read_item_head(bytes, usize::from(level) + stack.depth())?;
+    let levels = usize::from(DEEPEST) + 1 - usize::from(level) - stack.depth();
+    let (head, rest) = read_item_head(bytes, levels)?;
     match Frame::new(stack.alloc(), head, rest.len())? {
         Some(container) => {
             stack.open(container)?;

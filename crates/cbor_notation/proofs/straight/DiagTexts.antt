@@ -41,7 +41,8 @@ further separator [] = refl
 further separator (m ∷ ms) = rw (append-nil m, further separator ms) refl
 
 -- the members between their brackets
-pub listed_so : (l : ContainerStyle) (ms : List (List ℕ)) → listed (before_member l) (after_member l) ms ≡ text.members l ms
+pub listed_so : (l : ContainerStyle) (ms : List (List ℕ))
+    → listed (before_member l) (after_member l) ms ≡ text.members l ms
 listed_so style.Compact [] = refl
 listed_so style.Compact (m ∷ ms) = rw (append-nil m, further (codes ",") ms) refl
 listed_so (OneLine indent) [] = refl

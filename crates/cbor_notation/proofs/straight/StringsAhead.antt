@@ -1,32 +1,25 @@
 -- A look at a string finds how long it is, its content read or not.
-use Rattle.std.proofs.Common.{◌≡◌, ℕ, zero, suc, ◌+◌, ◌-◌, ◌≤◌, List, [], ◌∷◌, length, Option, Some, None, Result}
-use Rattle.std.proofs.Common.{◌≢◌, Ok, Err, Bool, true, false, cond, refl, sym, ap, subst, ◌∙◌, arith, ◌/◌, ◌%◌}
-use Rattle.std.specs.Prelude.{◌==◌}
+use Rattle.std.proofs.Common.{◌≡◌, ℕ, zero, suc, ◌+◌, ◌-◌, ◌≤◌, List, [], ◌∷◌, length, Option, Some, None}
+use Rattle.std.proofs.Common.{Ok, Err, refl, sym, ap, subst, ◌∙◌, arith}
 use Rattle.std.specs.Str.{is_utf8}
 use Rattle.std.proofs.lemmas.List.Sums.{sum_by-cons}
 use Rattle.cbor_grammar.specs.declared.width.IntegerWidth.{IntegerWidth}
 use Rattle.cbor_grammar.specs.declared.error.Error.{Error}
 use Rattle.cbor_grammar.specs.declared.error.Error.TheVariants as refusal
 use Rattle.cbor_notation.specs.declared.ahead.Ahead.{Ahead}
-use Rattle.cbor_grammar.specs.declared.argument.Argument.{Argument}
 use Rattle.cbor_grammar.specs.declared.argument.Argument.TheVariants.{Number, Indefinite}
 use Rattle.cbor_grammar.specs.Estimate.{estimated_length, estimated_chunks, estimated_string}
-use Rattle.cbor_grammar.specs.Head.{break_byte}
 use Rattle.cbor_grammar.specs.Item.{Chunk, string, chunked_string, Item, atom}
 use Rattle.cbor_grammar.specs.declared.head.ItemHead.TheVariants as item_head
-use Rattle.cbor_grammar.specs.Reading.{Fails, Read, ◌>>=◌, split_at, checked_chunk, read_content, read_argument}
-use Rattle.cbor_grammar.specs.Reading.{length_of, chunk_of, read_chunk_length, read_chunk, more_chunks, read_chunks}
+use Rattle.cbor_grammar.specs.Reading.{◌>>=◌, split_at, checked_chunk, read_content}
+use Rattle.cbor_grammar.specs.Reading.{read_chunk_length, read_chunk, more_chunks, read_chunks}
 use Rattle.cbor_grammar.specs.declared.strings.StringKind.{StringKind}
 use Rattle.cbor_grammar.specs.declared.strings.StringKind.TheVariants.{Bytes, Text}
 use Rattle.cbor_grammar.specs.StringKind.{major_of}
 use Rattle.cbor_notation.specs.mirror.Ahead.{Leaves, Estimates}
 use Rattle.cbor_grammar.specs.mirror.AtLevel.{body_read}
 use Rattle.cbor_grammar.proofs.bytes.Heads.{bind_ok, then_ok, ok_is, guard_held}
-
--- an error that is not that memory ran out is one of reading
-pub failed : {X : Type 0} (e : Error) (read : Result X Error) → e ≢ refusal.Memory → Fails e read → read ≡ Err e
-failed refusal.Memory read other fails = absurd (other refl)
-failed e read other fails = fails
+use Rattle.cbor_bytes.proofs.reading.ChunkLengths.{after_length, by_length}
 
 -- ---- strings of definite length
 
@@ -68,31 +61,6 @@ string_found found budget kind n w b finds levels i rest is =
     (ok_is (atom (string kind a.0.0), a.0.1) (i, rest) a.2) (finds a.0.0 a.0.1 a.1)
 
 -- ---- chunks
-
--- a chunk is read in two steps, its length first
-abbrev after_length : StringKind → Option (ℕ × IntegerWidth) → List ℕ → Read (Option Chunk)
-after_length kind None b = Ok (None, b)
-after_length kind (Some n) b = read_content kind n.0 n.1 b >>= λ c. Ok (Some c.0, c.1)
-
-by_length : (kind : StringKind) (b : List ℕ)
-    → read_chunk kind b ≡ (read_chunk_length (major_of kind) b >>= λ n. after_length kind n.0 n.1)
-unfolding read_chunk read_chunk_length
-by_length kind [] = refl
-by_length kind (first ∷ b) = go (first == break_byte) (first / 32 == major_of kind) (read_argument (first % 32) b)
-  where
-    at : (a : Argument) (b : List ℕ)
-        → chunk_of kind a b ≡ (length_of a b >>= λ n. after_length kind n.0 n.1)
-    at (Number n w) b = refl
-    at Indefinite b = refl
-
-    go : (ends same : Bool) (r : Read Argument)
-        → cond ends (Ok (None, b)) (cond same (r >>= λ a. chunk_of kind a.0 a.1) (Err refusal.Head))
-        ≡ (cond ends (Ok (None, b)) (cond same (r >>= λ a. length_of a.0 a.1) (Err refusal.Head))
-        >>= λ n. after_length kind n.0 n.1)
-    go true same r = refl
-    go false false r = refl
-    go false true (Ok a) = at a.0 a.1
-    go false true (Err e) = refl
 
 -- reading chunks takes up the next one, or the break
 next_read : (kind : StringKind) (n : ℕ) (b : List ℕ) (y : List Chunk × List ℕ) → (read_chunks n kind b).1 ≡ Ok y

@@ -26,9 +26,9 @@ use Rattle.cbor_notation.specs.declared.parts.Container.{Container}
 use Rattle.cbor_notation.specs.declared.parts.Container.TheVariants.{Array, Map}
 use Rattle.cbor_notation.specs.Dialect.{Leaves, Writer, listed, ItemTexts, PairText, PairTexts}
 use Rattle.cbor_notation.specs.Dialect.{count_of, TextWith, TextsOf, TextsAt, ItemsText, PairsText}
-use Rattle.cbor_notation.specs.mirror.Straight.{Written, TextsBelow, read_there, read_after, StringThere}
+use Rattle.cbor_notation.specs.mirror.Straight.{Written, TextsBelow, StringThere}
+use Rattle.cbor_grammar.specs.mirror.AtLevel.{read_at, read_behind}
 use Rattle.cbor_bytes.proofs.reading.Levels.{head_reads}
-use Rattle.cbor_notation.proofs.straight.Levels.{after_head}
 
 -- ---- items
 
@@ -47,21 +47,22 @@ texts_below d inner level i t same h = subst (λ n. TextsOf d (levels_left n) in
 
 -- an item that is its head
 pub leaf_written : {P : Type 0} (d : Leaves P) (p : P) (b : List ℕ) (h : ItemHead) (rest : List ℕ) (i : Item)
-    (old new : List ℕ) → d.level p ≤ 128 → read_head b ≡ Ok (h, rest) → read_after d p h rest ≡ Ok (i, rest)
+    (old new : List ℕ) → d.level p ≤ 128 → read_head b ≡ Ok (h, rest) → read_behind (d.level p) h rest ≡ Ok (i, rest)
     → (t : List ℕ) × TextWith d (levels_left (d.level p + 1)) (TextsBelow d p) p i t × (new ≡ old ++ t)
-    → Written (TextsAt d p) (read_there d p b) rest old new
+    → Written (TextsAt d p) (read_at (d.level p) b) rest old new
 leaf_written d p b h rest i old new le e is w =
     (i, head_reads (d.level p) b h rest le e ∙ is, w.0, texts_open d p i w.0 le w.1, w.2)
 
 -- what holds of what is read after a head holds of what is read there
 pub front_so : {P A : Type 0} (d : Leaves P) (p : P) (r : Result A Error) (f : A → List ℕ) (b : List ℕ) (h : ItemHead)
     (rest old new : List ℕ) → d.level p ≤ 128 → read_head b ≡ Ok (h, rest)
-    → IfOk r (λ x. Written (TextsAt d p) (read_after d p h rest) (f x) old new)
-    × IfErr r (λ e. Fails e (read_after d p h rest))
-    → IfOk r (λ x. Written (TextsAt d p) (read_there d p b) (f x) old new) × IfErr r (λ e. Fails e (read_there d p b))
-front_so d p r f b h rest old new le e both = after_head
-    (λ read. IfOk r (λ x. Written (TextsAt d p) read (f x) old new) × IfErr r (λ e. Fails e read)) (d.level p) b h
-    rest le e both
+    → IfOk r (λ x. Written (TextsAt d p) (read_behind (d.level p) h rest) (f x) old new)
+    × IfErr r (λ e. Fails e (read_behind (d.level p) h rest))
+    → IfOk r (λ x. Written (TextsAt d p) (read_at (d.level p) b) (f x) old new)
+    × IfErr r (λ e. Fails e (read_at (d.level p) b))
+front_so d p r f b h rest old new le e both =
+    subst (λ read. IfOk r (λ x. Written (TextsAt d p) read (f x) old new) × IfErr r (λ e. Fails e read))
+    (sym (head_reads (d.level p) b h rest le e)) both
 
 -- ---- members
 
@@ -295,14 +296,14 @@ pub one_pair_written : {P : Type 0} (d : Leaves P) (write : Writer P) (p first n
     → (m : List ℕ) × PairText d write l now k v m × (written ≡ started ++ m) → new ≡ written ++ d.end c l
     → value ≡ d.value k now → next ≡ d.next value
     → PairsWritten d write p first c l old new (joined_pairs ps (pair k v no_pairs)) next (held + 1)
-one_pair_written d write p first now value next c l old out started written new ps k v held w q one s key pass = record {
+one_pair_written d write p first now value next c l old out begun written new ps k v held w q one s key pass = record {
   opening = w.opening;
   texts = w.texts ++ one.0 ∷ [];
   opens = w.opens;
   each = pairs_more d write l first ps k v w.texts one.0 w.each
       (subst (λ x. PairText d write l x k v one.0) w.place one.1);
   place = pass ∙ ap d.next (key ∙ ap (d.value k) w.place) ∙ sym (past_pair_more d first ps k v);
-  text = more_written (d.start c l) (d.end c l) w.texts one.0 (eqb held 0) (old ++ w.opening) out started written new
+  text = more_written (d.start c l) (d.end c l) w.texts one.0 (eqb held 0) (old ++ w.opening) out begun written new
       (pairs_first d write l first ps w.texts held w.each w.count) w.text q one.2 s;
   count = omega (arith, count_one ps, w.count);
 }
@@ -356,7 +357,8 @@ map_written d p l count ps held old new level same holds counted w =
 pub array_closed : {P : Type 0} (d : Leaves P) (p now : P) (l : ContainerStyle) (count : Argument) (is : Items)
     (held : ℕ) (old out new rest after : List ℕ) → d.level p ≤ 128
     → l ≡ container_style (d.layout p) (4 + estimated_items is)
-    → ItemsWritten d (TextsBelow d p) p (d.inside (Array count) (members_layout l) p) (Array count) l old out is now held
+    → ItemsWritten d (TextsBelow d p) p (d.inside (Array count) (members_layout l) p) (Array count) l old out is now
+    held
     → Reached count held → Some after ≡ after_members (left_of count held) rest
     → (e : List ℕ) × d.closing p (Array count) l e × (new ≡ out ++ e)
     → (t : List ℕ) × TextsAt d p (array is (count_width count)) t × (new ≡ old ++ t)

@@ -36,7 +36,7 @@ abbrev pub diag_leaves : Leaves NotationContext
 diag_leaves = record {
   level = λ p. p.level;
   layout = λ p. p.layout;
-  content = λ p. p.content;
+  content = λ p b. p.content;
   inside = λ c layout p. record {
     level = p.level + 1;
     layout = layout;

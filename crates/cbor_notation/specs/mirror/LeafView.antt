@@ -8,7 +8,7 @@ abbrev pub atom_of : Leaf → Atom
 atom_of (leaf.Integer value width) = integer value width
 atom_of (leaf.Negative value width) = negative value width
 atom_of (leaf.Float bits width) = float bits width
-atom_of (leaf.Simple value) = simple value
+atom_of (leaf.Simple value takes_two) = simple value
 
 -- the bits of a float fit its width
 abbrev pub FitsLeaf : Leaf → Type 0

@@ -2,7 +2,6 @@
 use Rattle.std.specs.Prelude.{◌≡◌, ℕ, zero, suc, ◌+◌, ◌*◌, ◌≤◌, List, ◌++◌, true, false, Ok}
 use Rattle.cbor_grammar.specs.declared.layout.Layout.{Layout}
 use Rattle.cbor_grammar.specs.declared.encoding.Encoding.TheVariants.{Base16}
-use Rattle.cbor_grammar.specs.declared.head.ItemHead.{ItemHead}
 use Rattle.cbor_grammar.specs.declared.strings.StringContent.{StringContent}
 use Rattle.cbor_grammar.specs.declared.strings.StringContent.TheVariants as content
 use Rattle.cbor_grammar.specs.declared.strings.StringKind.TheVariants.{Text}
@@ -11,7 +10,6 @@ use Rattle.cbor_grammar.specs.Item.{Chunk, Item}
 use Rattle.cbor_grammar.specs.NotationText.{in_encoding, indent_of, text_at_level}
 use Rattle.cbor_grammar.specs.Reading.{Read}
 use Rattle.cbor_grammar.specs.WellFormed.{levels_left}
-use Rattle.cbor_grammar.specs.mirror.AtLevel.{read_at, read_behind}
 use Rattle.cbor_grammar.specs.mirror.StringView.{borrowed_chunk}
 use Rattle.cbor_notation.specs.Dialect.{Leaves, Texts, ContentText, TextsOf}
 use Rattle.cbor_grammar.specs.declared.layout.Content.{Content}
@@ -34,13 +32,6 @@ Written texts read rest old new =
 abbrev pub IsLaidOut : {Place : Type 0} → Leaves Place → Place → Type 0
 IsLaidOut d p = indent_of (d.layout p) ≤ 4 * d.level p
 
--- what reading gives at this place, and after a head there
-abbrev pub read_there : {Place : Type 0} → Leaves Place → Place → List ℕ → Read Item
-read_there d p b = read_at (d.level p) b
-
-abbrev pub read_after : {Place : Type 0} → Leaves Place → Place → ItemHead → List ℕ → Read Item
-read_after d p h b = read_behind (d.level p) h b
-
 -- the texts of an item in a container there
 abbrev pub TextsBelow : {Place : Type 0} → Leaves Place → Place → Place → Item → Texts
 TextsBelow d p = TextsOf d (levels_left (d.level p + 1))
@@ -54,7 +45,8 @@ abbrev pub ContentThere : {Place : Type 0} → Leaves Place → Content → Plac
 ContentThere d shown p b = ContentText d (levels_left (d.level p + 1)) (TextsBelow d p) shown p b
 
 abbrev pub StringThere : {Place : Type 0} → Leaves Place → Place → IntegerWidth → StringContent → Texts
-StringThere d p w (content.Bytes bytes) = ContentThere d (d.content p) p (borrowed_chunk w (content.Bytes bytes))
+StringThere d p w (content.Bytes bytes) =
+    let b = borrowed_chunk w (content.Bytes bytes) in ContentThere d (d.content p b.bytes) p b
 StringThere d p w (content.Text text) = d.string p Text (borrowed_chunk w (content.Text text))
 
 -- what is written before a chunk after this many others, and after the last

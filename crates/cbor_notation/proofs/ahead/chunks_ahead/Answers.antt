@@ -3,7 +3,8 @@ use Rattle.std.proofs.Common.{arith}
 use Rattle.cbor_grammar.specs.Reading.{read_chunk_length}
 use Rattle.cbor_grammar.specs.mirror.MajorNumber.{major_number}
 use Rattle.cbor_notation.proofs.straight.Ahead.{at_most}
-use Rattle.cbor_notation.proofs.straight.StringsAhead.{failed, no_chunks_yet, one_chunk_more, chunk_takes_all}
+use Rattle.cbor_notation.proofs.straight.StringsAhead.{no_chunks_yet, one_chunk_more, chunk_takes_all}
+use Rattle.cbor_bytes.proofs.reading.Readings.{failed}
 use Rattle.cbor_notation.proofs.straight.StringsAhead.{chunks_found}
 use Rattle.cbor_notation.proofs.straight.StringsAhead.{chunk_unread}
 use Rattle.cbor_notation.proofs.ahead.chunks_ahead.Goals as goal

@@ -49,35 +49,42 @@ push_front-returns-then-level-gt-DEEPEST-clause-refused g t c =
 pub push_front-returns-in_err-head-clause-refused : goal.push_front-returns-in_err-head-clause-refused
 push_front-returns-in_err-head-clause-refused g t c =
     let p = err_from_is_err_and c.from_residual.result c.from_residual.ensures.1 in
-    rw p.1 (head_fails (g.D.Dialect.leaves.level c.args.place.now) c.args.bytes.now p.0 (omega (arith, c.level.ensures, c.if-level-gt-DEEPEST.false))
+    rw p.1 (head_fails (g.D.Dialect.leaves.level c.args.place.now) c.args.bytes.now p.0
+    (omega (arith, c.level.ensures, c.if-level-gt-DEEPEST.false))
     (fails_is p.0 _ (read_head c.args.bytes.now) p.2 c.in_err-head.ensures.gives))
 
 pub push_front-returns-in-String : goal.push_front-returns-in-String
 push_front-returns-in-String g t c =
-    let so = front_so g.D.Dialect.leaves c.args.place.now c.push_string_front.result (λ rest. rest.now) c.args.bytes.now _
+    let so = front_so g.D.Dialect.leaves c.args.place.now c.push_string_front.result (λ rest. rest.now)
+    c.args.bytes.now _
     c.in_ok-head.rest.now _ _ (omega (arith, c.level.ensures, c.if-level-gt-DEEPEST.false))
-    (rw c.in-String.is at c.in_ok-head.ensures.gives) (c.push_string_front.ensures.printed, c.push_string_front.ensures.refused) in
+    (rw c.in-String.is at c.in_ok-head.ensures.gives)
+    (c.push_string_front.ensures.printed, c.push_string_front.ensures.refused) in
     record { printed = so.0; refused = so.1; begun = c.push_string_front.ensures.begun }
 
 pub push_front-returns-in-Array : goal.push_front-returns-in-Array
 push_front-returns-in-Array g t c =
-    let so = front_so g.D.Dialect.leaves c.args.place.now c.push_array_front.result (λ rest. rest.now) c.args.bytes.now _
+    let so = front_so g.D.Dialect.leaves c.args.place.now c.push_array_front.result (λ rest. rest.now)
+    c.args.bytes.now _
     c.in_ok-head.rest.now _ _ (omega (arith, c.level.ensures, c.if-level-gt-DEEPEST.false))
-    (rw c.in-Array.is at c.in_ok-head.ensures.gives) (c.push_array_front.ensures.printed, c.push_array_front.ensures.refused) in
+    (rw c.in-Array.is at c.in_ok-head.ensures.gives)
+    (c.push_array_front.ensures.printed, c.push_array_front.ensures.refused) in
     record { printed = so.0; refused = so.1; begun = c.push_array_front.ensures.begun }
 
 pub push_front-returns-in-Map : goal.push_front-returns-in-Map
 push_front-returns-in-Map g t c =
     let so = front_so g.D.Dialect.leaves c.args.place.now c.push_map_front.result (λ rest. rest.now) c.args.bytes.now _
     c.in_ok-head.rest.now _ _ (omega (arith, c.level.ensures, c.if-level-gt-DEEPEST.false))
-    (rw c.in-Map.is at c.in_ok-head.ensures.gives) (c.push_map_front.ensures.printed, c.push_map_front.ensures.refused) in
+    (rw c.in-Map.is at c.in_ok-head.ensures.gives)
+    (c.push_map_front.ensures.printed, c.push_map_front.ensures.refused) in
     record { printed = so.0; refused = so.1; begun = c.push_map_front.ensures.begun }
 
 pub push_front-returns-in-Tag : goal.push_front-returns-in-Tag
 push_front-returns-in-Tag g t c =
     let so = front_so g.D.Dialect.leaves c.args.place.now c.push_tag_front.result (λ rest. rest.now) c.args.bytes.now _
     c.in_ok-head.rest.now _ _ (omega (arith, c.level.ensures, c.if-level-gt-DEEPEST.false))
-    (rw c.in-Tag.is at c.in_ok-head.ensures.gives) (c.push_tag_front.ensures.printed, c.push_tag_front.ensures.refused) in
+    (rw c.in-Tag.is at c.in_ok-head.ensures.gives)
+    (c.push_tag_front.ensures.printed, c.push_tag_front.ensures.refused) in
     record { printed = so.0; refused = so.1; begun = c.push_tag_front.ensures.begun }
 
 pub push_front-leaf-requires-in-Float : goal.push_front-leaf-requires-in-Float
@@ -88,7 +95,8 @@ push_front-leaf-requires-in-Float g t c =
 pub push_front-returns-in_ok-leaf-in-Integer-clause-printed
     : goal.push_front-returns-in_ok-leaf-in-Integer-clause-printed
 push_front-returns-in_ok-leaf-in-Integer-clause-printed g t c =
-    leaf_written g.D.Dialect.leaves c.args.place.now c.args.bytes.now (item_head.Integer c.in-Integer.value c.in-Integer.width)
+    leaf_written g.D.Dialect.leaves c.args.place.now c.args.bytes.now
+    (item_head.Integer c.in-Integer.value c.in-Integer.width)
     c.in_ok-head.rest.now (atom (integer c.in-Integer.value c.in-Integer.width)) (string_bytes c.args.out.now)
     (string_bytes c.leaf.new.out) (omega (arith, c.level.ensures, c.if-level-gt-DEEPEST.false))
     (rw c.in-Integer.is at c.in_ok-head.ensures.gives) refl c.in_ok-leaf-in-Integer.ensures
@@ -96,7 +104,8 @@ push_front-returns-in_ok-leaf-in-Integer-clause-printed g t c =
 pub push_front-returns-in_ok-leaf-in-Negative-clause-printed
     : goal.push_front-returns-in_ok-leaf-in-Negative-clause-printed
 push_front-returns-in_ok-leaf-in-Negative-clause-printed g t c =
-    leaf_written g.D.Dialect.leaves c.args.place.now c.args.bytes.now (item_head.Negative c.in-Negative.value c.in-Negative.width)
+    leaf_written g.D.Dialect.leaves c.args.place.now c.args.bytes.now
+    (item_head.Negative c.in-Negative.value c.in-Negative.width)
     c.in_ok-head.rest.now (atom (negative c.in-Negative.value c.in-Negative.width)) (string_bytes c.args.out.now)
     (string_bytes c.leaf-in-Negative.new.out) (omega (arith, c.level.ensures, c.if-level-gt-DEEPEST.false))
     (rw c.in-Negative.is at c.in_ok-head.ensures.gives) refl c.in_ok-leaf-in-Negative.ensures
@@ -152,7 +161,8 @@ push_array_front-returns-in-Some-clause-printed g t c =
     (ap (λ x. Some (array i.found x)) (width_left count held)) (sym c.in-Some.ensures) in
     let same = c.array_style_ahead-style.ensures.style left i.found (count_width count) after read
     ∙ ap (λ x. container_style x (4 + estimated_items i.found)) c.layout.ensures in
-    let text = array_closed d place c.items.inner l count i.found held _ _ _ c.items.rest.now after c.requires.level same
+    let text = array_closed d place c.items.inner l count i.found held _ _ _ c.items.rest.now after
+    c.requires.level same
     i.written i.reached c.in-Some.ensures c.in_ok-closing.ensures in
     (whole, read, text.0, text.1, text.2)
 
@@ -389,7 +399,8 @@ push_embedded-returns-then-is_empty-2 g t c =
     let none = eqb-true (length rest) 0 (sym c.is_empty-in-Ok.ensures ∙ c.if-is_empty-2.true) in
     let read = same_read (d.level c.inside.result) level bytes rest p.0 c.inside.ensures.level p.1 in
     let there = c.inside.ensures.place ∙ ap (λ x. d.inside (embedding b) x place) c.layout.ensures in
-    embedded_written c.closing-then-is_empty-2.result d place c.inside.result b p.0 p.2 old (string_bytes c.opening-2.new.out)
+    embedded_written c.closing-then-is_empty-2.result d place c.inside.result b p.0 p.2 old
+    (string_bytes c.opening-2.new.out)
     (string_bytes c.push_front.new.out) (string_bytes c.closing-then-is_empty-2.new.out) (omega (arith, some))
     (whole_item (levels_left level) bytes rest p.0 read none) c.in_ok-opening-2.ensures there
     (texts_below d c.inside.result level p.0 p.2 c.inside.ensures.level p.3) p.4 c.closing-then-is_empty-2.ensures
@@ -485,7 +496,8 @@ push_sequence-returns-in_default g t c =
     let same = sequence_style d place l c.layout.result c.level.result bytes i.found rest
     c.sequence_style_ahead-style.ensures.style c.layout.ensures c.level.ensures whole in
     let back = c.truncate.ensures.bytes ∙ (cut_back c.items.out c.push_front.new.out c.len-start.result
-    c.len-start.ensures (begun_member (string_bytes c.items.out) (string_bytes c.start.new.out) (string_bytes c.push_front.new.out) _
+    c.len-start.ensures (begun_member (string_bytes c.items.out) (string_bytes c.start.new.out)
+    (string_bytes c.push_front.new.out) _
     c.in_ok-start.ensures c.in-Err.ensures.begun)).1 in
     let e = c.in_ok-closing-in_default.ensures in
     let ended : mid ≡ out ++ e.0 = e.2 ∙ ap (λ x. x ++ e.0) back in

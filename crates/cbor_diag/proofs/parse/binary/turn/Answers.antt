@@ -1,4 +1,4 @@
-use Rattle.std.proofs.Common.{Err, ◌-◌, length, ap, sym, subst, ◌∙◌, arith}
+use Rattle.std.proofs.Common.{Err, ◌-◌, refl, length, ap, sym, subst, ◌∙◌, arith}
 use Rattle.std.specs.Prelude.{option_map}
 use Rattle.std.proofs.lemmas.List.{length-map}
 use Rattle.std.proofs.lemmas.Result.{err_from_is_err_and}
@@ -11,6 +11,7 @@ use Rattle.cbor_grammar.proofs.bytes.HeadRefusals.{err_is}
 use Rattle.cbor_grammar.proofs.turns.Turning.{closes, turn_wants, wanted_stops, wanted_opens, opened_holds, some_holds}
 use Rattle.cbor_grammar.proofs.turns.Turning.{head_opens, opens, atom_stops, atom_whole}
 use Rattle.cbor_grammar.proofs.bytes.Steps.{later_later}
+use Rattle.cbor_bytes.proofs.reading.Readings.{fails_is}
 use Rattle.cbor_diag.proofs.parse.binary.turn.Goals as goal
 
 pub returns-in-Some-clause-gives : goal.returns-in-Some-clause-gives
@@ -42,9 +43,10 @@ returns-in_err-open-in-Some-2-clause-stops c =
 pub returns-in_err-head-clause-stops : goal.returns-in_err-head-clause-stops
 returns-in_err-head-clause-stops c =
     let p = err_from_is_err_and c.from_residual-in_err-head.result c.from_residual-in_err-head.ensures.1 in
-    rw (p.1, p.2, c.rise.ensures) (wanted_stops c.in_err-head.field-0.0 (129 - c.args.level) c.args.turns.now _
+    let e = c.in_err-head.field-0.0 in
+    rw (p.1, p.2, c.rise.ensures) (wanted_stops e (129 - c.args.level) c.args.turns.now _
     (frames c.args.stack.now) c.args.bytes.now (omega (arith, length-map c.args.stack.now frame)) c.in_default.ensures
-    c.in_err-head.ensures.gives)
+    (fails_is e e _ refl c.in_err-head.ensures.gives))
 
 pub returns-in_err-container-clause-memory : goal.returns-in_err-container-clause-memory
 returns-in_err-container-clause-memory c = λ e none.

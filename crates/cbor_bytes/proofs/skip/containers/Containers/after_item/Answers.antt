@@ -21,13 +21,13 @@ turns-preserved-in-Some c = record {
       c.turns.invariant.goes c.in-Some-pop.ensures.some c.in-Some.ensures;
 }
 
-pub returns-in_err-rest-in-Err-clause-pauses : goal.returns-in_err-rest-in-Err-clause-pauses
-returns-in_err-rest-in-Err-clause-pauses c =
+pub returns-in_err-rest-clause-pauses : goal.returns-in_err-rest-clause-pauses
+returns-in_err-rest-clause-pauses c =
     let p = err_from_is_err_and c.from_residual.result c.from_residual.ensures.1 in
     rw (p.1, p.2) (pauses_then (skip_from c.after_part.new.self.outer c.after_part.new.self.top)
     (skip_open c.args.self.now.outer c.args.self.now.top)
-    (skip_open c.turns.self.outer c.turns.top) c.args.bytes.now c.turns.rest.now c.in_err-rest-in-Err.field-0.0
-    c.turns.invariant.goes c.in_err-rest-in-Err.ensures.pauses)
+    (skip_open c.turns.self.outer c.turns.top) c.args.bytes.now c.turns.rest.now c.in_err-rest.field-0.0
+    c.turns.invariant.goes c.in_err-rest.ensures.pauses)
 
 pub turns-preserved-in-Some-parts : goal.turns-preserved-in-Some-parts
 turns-preserved-in-Some-parts c =
@@ -43,8 +43,8 @@ turns-preserved-in-Some-parts c =
     c.in-Ok.ensures.shorter (rw c.in-Some-parts.is at part) in
     record { goes = goes_then c.turns.invariant.goes (rw c.push.ensures next) }
 
-pub turns-preserved-in_default-parts : goal.turns-preserved-in_default-parts
-turns-preserved-in_default-parts c =
+pub turns-preserved : goal.turns-preserved
+turns-preserved c =
     let outer = c.turns.self.outer in
     let top = c.turns.top in
     let rest = c.turns.rest.now in
@@ -55,5 +55,5 @@ turns-preserved-in_default-parts c =
     c.in-Ok.ensures.shorter (rw c.in_default-parts.is at part) in
     record { goes = goes_then c.turns.invariant.goes next }
 
-pub turns-preserved : goal.turns-preserved
-turns-preserved c = record { goes = goes_then c.turns.invariant.goes c.in_ok-rest-in-Err.ensures.goes }
+pub turns-preserved-in_default-read_part : goal.turns-preserved-in_default-read_part
+turns-preserved-in_default-read_part c = record { goes = goes_then c.turns.invariant.goes c.in_ok-rest.ensures.goes }
