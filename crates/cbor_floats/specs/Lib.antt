@@ -1,4 +1,5 @@
 pub mod Decimal
 pub mod Nearest
+pub mod Preferred
 pub mod Value
 pub mod mirror

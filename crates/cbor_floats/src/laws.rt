@@ -2,6 +2,7 @@
 ghost use Rattle.std.specs.Prelude.{◌≡◌, ℕ, List};
 ghost use Rattle.std.specs.Float.Ieee.{Float};
 ghost use Rattle.cbor_floats.specs.Decimal.{IsNumber, IsReadAs};
+ghost use Rattle.cbor_floats.specs.Preferred.{widened, FitsWidth, IsPreferred};
 ghost use Rattle.cbor_floats.specs.Value.{IsEncodingOf, IsShortest, width_of};
 ghost use Rattle.cbor_floats.specs.declared.float.EncodedFloat.{EncodedFloat};
 ghost use Rattle.cbor_floats.specs.declared.float.Width.{Width};
@@ -32,4 +33,10 @@ fn one_reading()
 fn read_back()
     ensures { (text : List ℕ) (x : Float) (a : EncodedFloat) → IsNumber text x
         → IsEncodingOf a x → IsReadAs text (width_of a) a }
+{}
+
+/// One width is preferred for a float.
+fn one_preferred()
+    ensures { (a b : EncodedFloat) → FitsWidth a → FitsWidth b → IsPreferred a → IsPreferred b
+        → widened a ≡ widened b → a ≡ b }
 {}

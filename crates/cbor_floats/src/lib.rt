@@ -21,6 +21,7 @@ mod float;
 mod half;
 mod laws;
 mod nearest;
+mod preferred;
 mod single;
 
 pub use decimal::{NumberError, parse_in_width, parse_number, push_number};

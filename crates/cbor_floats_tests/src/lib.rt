@@ -7,4 +7,6 @@ mod decimals;
 #[cfg(test)]
 mod doc_examples;
 #[cfg(test)]
+mod preferred;
+#[cfg(test)]
 mod widths;

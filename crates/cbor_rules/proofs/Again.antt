@@ -30,6 +30,8 @@ use Rattle.cbor_rules.specs.FirstBreach.{head_breach, number_breach, simple_brea
 use Rattle.cbor_rules.specs.FirstBreach.{at, unless, chunk_content}
 use Rattle.cbor_rules.specs.FirstBreach.{kept_chunk, chunks_after, kept_chunks, kept_body, kept_item}
 use Rattle.cbor_rules.specs.Keeps.{KeepsChunk, KeepsAtom}
+use Rattle.cbor_floats.specs.declared.float.EncodedFloat.TheVariants.{Half, Single, Double}
+use Rattle.cbor_rules.proofs.Floats.{float_again}
 use Rattle.cbor_rules.proofs.Heads.{test_kept, number_again}
 use Rattle.cbor_rules.proofs.Found.{by_length, chunk_at, content_width}
 
@@ -171,13 +173,13 @@ module _ (rules : Rules) (total level left : ℕ) (sum : level + suc left ≡ 12
   atom_again (float bits float_width.Unknown) x c h keeps = absurd h
   atom_again (float bits float_width.Sixteen) x c h keeps =
       number_alone 7 bits Sixteen (x ++ c) c (item_head.Float bits float_width.Sixteen) (omega arith)
-      (h.0, c, ap (λ (y : List ℕ). y ++ c) h.1, refl) refl refl refl
+      (h.0, c, ap (λ (y : List ℕ). y ++ c) h.1, refl) refl (float_again rules (Half bits) keeps) refl
   atom_again (float bits float_width.ThirtyTwo) x c h keeps =
       number_alone 7 bits ThirtyTwo (x ++ c) c (item_head.Float bits float_width.ThirtyTwo) (omega arith)
-      (h.0, c, ap (λ (y : List ℕ). y ++ c) h.1, refl) refl refl refl
+      (h.0, c, ap (λ (y : List ℕ). y ++ c) h.1, refl) refl (float_again rules (Single bits) keeps) refl
   atom_again (float bits float_width.SixtyFour) x c h keeps =
       number_alone 7 bits SixtyFour (x ++ c) c (item_head.Float bits float_width.SixtyFour) (omega arith)
-      (h.0, c, ap (λ (y : List ℕ). y ++ c) h.1, refl) refl refl refl
+      (h.0, c, ap (λ (y : List ℕ). y ++ c) h.1, refl) refl (float_again rules (Double bits) keeps) refl
   atom_again (simple n) x c (inl h) keeps =
       number_alone 7 n Zero (x ++ c) c (item_head.Simple n) (omega arith)
       (h.0, c, ap (λ (y : List ℕ). y ++ c) h.1, refl) refl

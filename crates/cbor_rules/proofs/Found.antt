@@ -34,7 +34,8 @@ use Rattle.cbor_rules.specs.declared.kind.BreachKind.TheVariants as kind_of_brea
 use Rattle.cbor_rules.specs.FirstBreach.{kept_then, opened}
 use Rattle.cbor_rules.specs.FirstBreach.{head_breach, number_breach, at, unless, chunk_content}
 use Rattle.cbor_rules.specs.FirstBreach.{kept_chunk, kept_chunks, chunks_after, kept_atom, simple_breach}
-use Rattle.cbor_rules.specs.Keeps.{KeepsChunk, KeepsAtom, Keeps}
+use Rattle.cbor_rules.specs.Keeps.{float_of, KeepsChunk, KeepsAtom, Keeps}
+use Rattle.cbor_rules.proofs.Floats.{float_found}
 use Rattle.cbor_rules.proofs.Heads.{then_kept, unless_kept, at_kept, kept_is, test_none, number_found, simple_found}
 
 -- the bytes begin with an item that keeps the rules
@@ -243,7 +244,7 @@ module _ (rules : Rules) (total level left : ℕ) (b r rest : List ℕ) (sum : l
   atom_found (item_head.Float bits w) head breach none e =
       made (float bits w)
       (by_head left b r (item_head.Float bits w) head ∙ ap (λ x. Ok (atom (float bits w), x)) (kept_is r rest e))
-      (λ s. (s.spells.1, tt))
+      (λ s. (s.spells.1, float_found rules (float_of bits w) breach))
   atom_found (item_head.Simple n) head breach none e =
       made (simple n)
       (by_head left b r (item_head.Simple n) head ∙ ap (λ x. Ok (atom (simple n), x)) (kept_is r rest e))

@@ -1,5 +1,6 @@
 pub mod Turns
 pub mod Heads
+pub mod Floats
 pub mod Found
 pub mod FoundParts
 pub mod FoundItems
@@ -7,3 +8,5 @@ pub mod Again
 pub mod Opens
 pub mod BigNumbers
 pub mod AgainItems
+pub mod SortedPairs
+pub mod Deterministic

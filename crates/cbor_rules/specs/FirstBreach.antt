@@ -20,6 +20,9 @@ use Rattle.cbor_grammar.specs.StringKind.{major_of}
 use Rattle.cbor_grammar.specs.WellFormed.{deepest}
 use Rattle.cbor_grammar.specs.Reading.{Read, read_head, read_chunk_length, after_members, one_less, no_level_left}
 use Rattle.cbor_bytes.specs.mirror.Skipping.{skip_content}
+use Rattle.cbor_floats.specs.Preferred.{shorter}
+use Rattle.cbor_floats.specs.declared.float.EncodedFloat.{EncodedFloat}
+use Rattle.cbor_rules.specs.Keeps.{float_of}
 use Rattle.cbor_rules.specs.declared.rules.Rules.{Rules}
 use Rattle.cbor_rules.specs.declared.kind.Breach.{Breach}
 use Rattle.cbor_rules.specs.declared.kind.BreachKind.{BreachKind}
@@ -50,6 +53,13 @@ argument_breach rules Indefinite = if rules.definite_lengths then Some kind.Inde
 -- of the head of an array or a map at this level
 abbrev pub container_breach : Rules → ℕ → Argument → Option BreachKind
 container_breach rules level a = if nat_lt rules.deepest level then Some kind.TooDeep else argument_breach rules a
+
+abbrev pub long_float : EncodedFloat → Option EncodedFloat → Option BreachKind
+long_float float None = None
+long_float float (Some shortest) = Some (kind.LongFloat float shortest)
+
+abbrev pub float_breach : Rules → EncodedFloat → Option BreachKind
+float_breach rules float = if rules.shortest_floats then long_float float (shorter float) else None
 
 -- a simple value in two bytes is not below 32
 abbrev pub simple_breach : List ℕ → Option BreachKind
@@ -87,7 +97,7 @@ head_breach rules level b (item_head.Array a) rest = container_breach rules leve
 head_breach rules level b (item_head.Map a) rest = container_breach rules level a
 head_breach rules level b (item_head.Tag n w) rest =
     if rules.tags then breach_or_else (number_breach rules n w) (tag_breach rules n rest) else Some kind.Tag
-head_breach rules level b (item_head.Float bits w) rest = None
+head_breach rules level b (item_head.Float bits w) rest = float_breach rules (float_of bits w)
 head_breach rules level b (item_head.Simple n) rest = simple_breach b
 
 -- ---- keys

@@ -5,6 +5,8 @@ use Rattle.std.specs.Prelude.{◌⊎◌}
 use Rattle.std.specs.List.{AllByRecursion}
 use Rattle.std.specs.declared.cmp.Ordering.TheVariants.{Less}
 use Rattle.cbor_grammar.specs.declared.width.IntegerWidth.{IntegerWidth}
+use Rattle.cbor_grammar.specs.declared.width.FloatWidth.{FloatWidth}
+use Rattle.cbor_grammar.specs.declared.width.FloatWidth.TheVariants as float_width
 use Rattle.cbor_grammar.specs.declared.strings.StringKind.TheVariants.{Bytes}
 use Rattle.cbor_grammar.specs.Head.{shortest}
 use Rattle.cbor_grammar.specs.Written.{encoded}
@@ -12,6 +14,9 @@ use Rattle.cbor_grammar.specs.Bytes.{strict, SpellsItems}
 use Rattle.cbor_grammar.specs.Item as spec
 use Rattle.cbor_grammar.specs.Item.{Chunk, Atom, integer, negative, string, chunked_string, float, simple, Item, atom}
 use Rattle.cbor_grammar.specs.Item.{array, tagged, Items, no_items, item, Pairs, no_pairs, pair, item_count, pair_count}
+use Rattle.cbor_floats.specs.Preferred.{IsPreferred}
+use Rattle.cbor_floats.specs.declared.float.EncodedFloat.{EncodedFloat}
+use Rattle.cbor_floats.specs.declared.float.EncodedFloat.TheVariants.{Half, Single, Double}
 use Rattle.cbor_rules.specs.declared.rules.Rules.{Rules}
 use Rattle.cbor_rules.specs.declared.rules.KeyOrder.{KeyOrder}
 use Rattle.cbor_rules.specs.KeyOrder.{key_cmp}
@@ -29,12 +34,23 @@ KeepsCount rules n None = ¬ (IsTrue rules.definite_lengths)
 abbrev pub KeepsChunk : Rules → Chunk → Type 0
 KeepsChunk rules c = KeepsNumber rules (length c.bytes) c.width
 
+-- the float of these bits
+abbrev pub float_of : ℕ → FloatWidth → EncodedFloat
+float_of bits float_width.Sixteen = Half bits
+float_of bits float_width.ThirtyTwo = Single bits
+float_of bits float_width.SixtyFour = Double bits
+float_of bits float_width.Unknown = Double bits
+
+-- The float is in the shortest width that has it (RFC 8949 sections 4.1 and 4.2.2).
+abbrev pub KeepsFloat : Rules → EncodedFloat → Type 0
+KeepsFloat rules f = IsTrue rules.shortest_floats → IsPreferred f
+
 abbrev pub KeepsAtom : Rules → Atom → Type 0
 KeepsAtom rules (integer n w) = KeepsNumber rules n w
 KeepsAtom rules (negative n w) = KeepsNumber rules n w
 KeepsAtom rules (string kind c) = KeepsChunk rules c
 KeepsAtom rules (chunked_string kind cs) = (¬ (IsTrue rules.definite_lengths)) × AllByRecursion (KeepsChunk rules) cs
-KeepsAtom rules (float bits w) = Unit {0}
+KeepsAtom rules (float bits w) = KeepsFloat rules (float_of bits w)
 -- RFC 8949 section 3.3 reserves 24 to 31
 KeepsAtom rules (simple n) = (n < 24) ⊎ (32 ≤ n)
 

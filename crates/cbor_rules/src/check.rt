@@ -7,20 +7,23 @@ ghost use Rattle.cbor_grammar.specs.declared.width.IntegerWidth.{IntegerWidth};
 ghost use Rattle.cbor_grammar.specs.Reading.{after_members, one_less, read_head};
 ghost use Rattle.cbor_grammar.specs.WellFormed.{deepest};
 ghost use Rattle.cbor_bytes.specs.mirror.Skipping.{skip_content};
-ghost use Rattle.cbor_rules.specs.FirstBreach.{is_long, number_breach, argument_breach};
+ghost use Rattle.cbor_rules.specs.FirstBreach.{is_long, number_breach, float_breach};
+ghost use Rattle.cbor_rules.specs.FirstBreach.{argument_breach};
 ghost use Rattle.cbor_rules.specs.FirstBreach.{container_breach, simple_breach, head_breach};
 ghost use Rattle.cbor_rules.specs.FirstBreach.{content_breach, big_breach, tag_breach};
 ghost use Rattle.cbor_rules.specs.FirstBreach.{compared, key_breach, place_of, breach_at, at};
 ghost use Rattle.cbor_rules.specs.FirstBreach.{kept_head, kept_chunk, kept_chunks, opened};
 ghost use Rattle.cbor_rules.specs.FirstBreach.{after_end, front, after_part, kept_atom, kept_parts};
 ghost use Rattle.cbor_rules.specs.FirstBreach.{kept_item, first_breach};
-ghost use Rattle.cbor_rules.specs.Keeps.{KeepsRules};
-ghost use Rattle.cbor_rules.specs.mirror.Opened.{open_of, key_of};
+ghost use Rattle.cbor_rules.specs.Keeps.{float_of, KeepsRules};
+ghost use Rattle.cbor_rules.specs.mirror.Opened.{open_of, key_of, FloatFits};
 
+use crate::head::{big_breach, float_of, is_long, simple_breach};
 use crate::kind::{Breach, BreachKind};
 use crate::rules::Rules;
 use cbor_bytes::head::{no_level_left, read_head};
 use cbor_bytes::strings::read_chunk_length;
+use cbor_floats::EncodedFloat;
 use cbor_grammar::argument::{Argument, after_break};
 use cbor_grammar::head::ItemHead;
 use cbor_grammar::level::DEEPEST;
@@ -53,52 +56,6 @@ enum Chunk {
     Content,
     /// The break.
     Break,
-}
-
-/// Whether a shorter width would hold the number.
-fn is_long(width: IntegerWidth, number: u64) -> bool
-    ensures { result ≡ is_long width number }
-{
-    match width {
-        IntegerWidth::Unknown | IntegerWidth::Zero => false,
-        IntegerWidth::Eight => number < 24,
-        IntegerWidth::Sixteen => number < 0x100,
-        IntegerWidth::ThirtyTwo => number < 0x1_0000,
-        IntegerWidth::SixtyFour => number < 0x1_0000_0000,
-    }
-}
-
-/// What is wrong with a simple value at the front, if it takes two bytes and is below 32.
-fn simple_breach(bytes: &[u8]) -> Option<BreachKind>
-    ensures { result ≡ simple_breach bytes.now }
-{
-    match bytes {
-        [first, value, ..] if *first == 0xf8 && *value < 32 => Some(BreachKind::LongSimple),
-        _ => None,
-    }
-}
-
-/// What is wrong with the content of a big number, of that length, which begins with these bytes.
-fn content_breach(count: u64, bytes: &[u8]) -> Option<BreachKind>
-    ensures { result ≡ content_breach count bytes.now }
-{
-    match bytes {
-        _ if count < 9 => Some(BreachKind::SmallBigNumber),
-        [0, ..] => Some(BreachKind::LeadingZero),
-        _ => None,
-    }
-}
-
-/// What is wrong with the item of a tag for big numbers, by its head.
-fn big_breach(bytes: &[u8]) -> Option<BreachKind>
-    ensures { result ≡ big_breach (read_head bytes.now) }
-{
-    match read_head(bytes) {
-        Ok((ItemHead::String(StringKind::Bytes, Argument::Number(count, _)), rest)) => {
-            content_breach(count, rest)
-        }
-        _ => None,
-    }
 }
 
 /// The bytes after a content of `count` bytes.
@@ -207,6 +164,17 @@ impl Check {
         }
     }
 
+    /// What is wrong with a float.
+    fn float_breach(self, float: EncodedFloat) -> Option<BreachKind>
+        ensures { result ≡ float_breach self.rules float }
+    {
+        if !self.rules.shortest_floats {
+            return None;
+        }
+        let shortest = float.shorter()?;
+        Some(BreachKind::LongFloat { float, shortest })
+    }
+
     /// What is wrong with a length or a count.
     fn argument_breach(self, argument: Argument) -> Option<BreachKind>
         ensures { result ≡ argument_breach self.rules argument }
@@ -242,6 +210,7 @@ impl Check {
 
     /// What is wrong with the head at the front of these bytes, after which `rest` comes.
     fn head_breach(self, level: u8, bytes: &[u8], head: ItemHead, rest: &[u8]) -> Option<BreachKind>
+        requires { FloatFits head }
         ensures { result ≡ head_breach self.rules level bytes.now head rest.now }
     {
         match head {
@@ -255,7 +224,7 @@ impl Check {
                 Some(kind) => Some(kind),
                 None => self.tag_breach(number, rest),
             },
-            ItemHead::Float(..) => None,
+            ItemHead::Float(bits, width) => self.float_breach(float_of(bits, width)),
             ItemHead::Simple(_) => simple_breach(bytes),
         }
     }

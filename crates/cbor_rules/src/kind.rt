@@ -1,4 +1,5 @@
 //! Where an encoding breaks a rule, and how.
+use cbor_floats::EncodedFloat;
 use cbor_grammar::{Error, IntegerWidth};
 
 /// The first place at which bytes break a rule.
@@ -19,7 +20,15 @@ pub enum BreachKind {
     /// A simple value below 32 in two bytes, which RFC 8949 does not allow (section 3.3).
     LongSimple,
     /// The number of the head, as a value, a length, a count or a tag, fits a shorter width.
-    LongHead { number: u64, width: IntegerWidth },
+    LongHead {
+        number: u64,
+        width: IntegerWidth,
+    },
+    /// A shorter width has the float.
+    LongFloat {
+        float: EncodedFloat,
+        shortest: EncodedFloat,
+    },
     /// A string, an array or a map of indefinite length.
     Indefinite,
     /// A tag.
@@ -31,7 +40,11 @@ pub enum BreachKind {
     /// An array or a map below the deepest level.
     TooDeep,
     /// The key comes before the key at this place in the order of keys.
-    KeyOrder { previous: usize },
+    KeyOrder {
+        previous: usize,
+    },
     /// The key is the one at this place again.
-    KeyTwice { first: usize },
+    KeyTwice {
+        first: usize,
+    },
 }

@@ -14,7 +14,9 @@
 #![tactic(auto)]
 
 mod check;
+mod head;
 mod kind;
+mod laws;
 mod rules;
 
 pub use check::breach;

@@ -26,6 +26,9 @@ pub struct Rules {
     /// The number of each head is in the shortest width that it fits: values, lengths, also those
     /// of chunks, counts and tags (RFC 8949 section 4.2.1).
     pub shortest_heads: bool,
+    /// Each float is in the shortest width that has it: the number with its sign, and of a NaN the
+    /// sign and the payload (RFC 8949 sections 4.1 and 4.2.2).
+    pub shortest_floats: bool,
     /// No string, array or map is of indefinite length (RFC 8949 section 4.2.1).
     pub definite_lengths: bool,
     /// A big number (tags 2 and 3) whose content is a byte string of definite length has no zero
@@ -45,6 +48,7 @@ impl Rules {
     /// two bytes.
     pub const RFC_8949: Rules = Rules {
         shortest_heads: false,
+        shortest_floats: false,
         definite_lengths: false,
         big_numbers: false,
         key_order: KeyOrder::Any,
@@ -52,11 +56,48 @@ impl Rules {
         deepest: DEEPEST,
     };
 
+    /// Preferred serialization (RFC 8949 section 4.1): shortest heads and floats, and big numbers
+    /// that no integer can have. Lengths may be indefinite.
+    pub const PREFERRED: Rules = Rules {
+        shortest_heads: true,
+        shortest_floats: true,
+        definite_lengths: false,
+        big_numbers: true,
+        key_order: KeyOrder::Any,
+        tags: true,
+        deepest: DEEPEST,
+    };
+
+    /// Core deterministic encoding (RFC 8949 section 4.2.1): preferred serialization, definite
+    /// lengths, and keys in the order of their bytes.
+    pub const CORE: Rules = Rules {
+        shortest_heads: true,
+        shortest_floats: true,
+        definite_lengths: true,
+        big_numbers: true,
+        key_order: KeyOrder::Bytes,
+        tags: true,
+        deepest: DEEPEST,
+    };
+
+    /// Length-first deterministic encoding (RFC 8949 section 4.2.3), which RFC 7049 called
+    /// canonical: as core, but the shorter key comes first.
+    pub const LENGTH_FIRST: Rules = Rules {
+        shortest_heads: true,
+        shortest_floats: true,
+        definite_lengths: true,
+        big_numbers: true,
+        key_order: KeyOrder::Length,
+        tags: true,
+        deepest: DEEPEST,
+    };
+
     /// CTAP2 canonical CBOR (CTAP 2.1 section 8): shortest heads, definite lengths, keys in the
     /// order of their major types, then lengths, then bytes, no tags, and at most 4 levels of
-    /// arrays and maps.
+    /// arrays and maps. Floats keep the width that they have.
     pub const CTAP2: Rules = Rules {
         shortest_heads: true,
+        shortest_floats: false,
         definite_lengths: true,
         big_numbers: true,
         key_order: KeyOrder::MajorType,

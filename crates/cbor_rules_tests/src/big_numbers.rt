@@ -4,12 +4,8 @@ use cbor_rules::{Breach, BreachKind, KeyOrder, Rules, breach};
 use std::process::Abort;
 
 const BIG_NUMBERS: Rules = Rules {
-    shortest_heads: false,
-    definite_lengths: false,
     big_numbers: true,
-    key_order: KeyOrder::Any,
-    tags: true,
-    deepest: 128,
+    ..Rules::RFC_8949
 };
 
 fn check(rt: &impl Abort, bytes: &[u8], place: usize, kind: BreachKind) {

@@ -7,20 +7,12 @@ use std::process::Abort;
 
 const SHORTEST: Rules = Rules {
     shortest_heads: true,
-    definite_lengths: false,
-    big_numbers: false,
-    key_order: KeyOrder::Any,
-    tags: true,
-    deepest: 128,
+    ..Rules::RFC_8949
 };
 
 const DEFINITE: Rules = Rules {
-    shortest_heads: false,
     definite_lengths: true,
-    big_numbers: false,
-    key_order: KeyOrder::Any,
-    tags: true,
-    deepest: 128,
+    ..Rules::RFC_8949
 };
 
 fn check(rt: &impl Abort, rules: Rules, bytes: &[u8], place: usize, kind: BreachKind) {

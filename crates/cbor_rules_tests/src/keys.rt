@@ -7,12 +7,8 @@ use std::test::Fail;
 
 fn ordered(key_order: KeyOrder) -> Rules {
     Rules {
-        shortest_heads: false,
-        definite_lengths: false,
-        big_numbers: false,
         key_order,
-        tags: true,
-        deepest: 128,
+        ..Rules::RFC_8949
     }
 }
 

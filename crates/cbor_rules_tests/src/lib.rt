@@ -6,8 +6,12 @@ mod big_numbers;
 #[cfg(test)]
 mod doc_examples;
 #[cfg(test)]
+mod floats;
+#[cfg(test)]
 mod heads;
 #[cfg(test)]
 mod keys;
 #[cfg(test)]
 mod levels;
+#[cfg(test)]
+mod sets;
