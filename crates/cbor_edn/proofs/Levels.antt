@@ -61,21 +61,21 @@ none_left zero text e = refl
 none_left (suc left) text e = absurd (omega arith)
 
 pub one_left : (left inner : ℕ) (text : List ℕ) → left ≡ inner + 1 → read_item left text
-    ≡ read_core (read_item inner) text
+    ≡ read_core inner (read_item inner) text
 unfolding read_item
 one_left zero inner text e = absurd (omega arith)
-one_left (suc left) inner text e = let same : left ≡ inner = omega arith in ap (λ n. read_core (read_item n) text) same
+one_left (suc left) inner text e = let same : left ≡ inner = omega arith in ap (λ n. read_core n (read_item n) text) same
 
 pub core_string : (left inner : ℕ) (text : List ℕ) → left ≡ inner + 1 → begins_string text ≡ true
     → read_item left text ≡ read_string (read_embedded (read_item inner)) text
 unfolding read_core
 core_string left inner text e string = one_left left inner text e
-    ∙ ap (λ b. if b then read_string (read_embedded (read_item inner)) text else other_item (read_item inner) text)
+    ∙ ap (λ b. if b then read_string (read_embedded (read_item inner)) text else other_item inner (read_item inner) text)
     string
 
 pub core_other : (left inner : ℕ) (text : List ℕ) → left ≡ inner + 1 → begins_string text ≡ false
-    → read_item left text ≡ other_item (read_item inner) text
+    → read_item left text ≡ other_item inner (read_item inner) text
 unfolding read_core
 core_other left inner text e string = one_left left inner text e
-    ∙ ap (λ b. if b then read_string (read_embedded (read_item inner)) text else other_item (read_item inner) text)
+    ∙ ap (λ b. if b then read_string (read_embedded (read_item inner)) text else other_item inner (read_item inner) text)
     string

@@ -1,7 +1,11 @@
 pub mod Turns
 pub mod Numbers
+pub mod Floats
+pub mod Bigs
+pub mod Dates
 pub mod Decoded
 pub mod DigitReads
 pub mod Blanks
 pub mod Members
 pub mod Levels
+pub mod writing

@@ -1,6 +1,9 @@
 -- Items: containers, tags, simple values, and which of all of them a text begins with.
 use Rattle.std.specs.Prelude.{ℕ, zero, suc, List, [], ◌∷◌, length, codes, Option, Some, None, Bool, true, false}
-use Rattle.std.specs.Prelude.{◌==◌, if◌then◌else◌, nat_lt, bytes_eq}
+use Rattle.std.specs.Prelude.{◌==◌, ◌&&◌, ◌||◌, ◌+◌, if◌then◌else◌, nat_lt, bytes_eq, take, drop, position, slice_index}
+use Rattle.std.specs.List.{list_any}
+use Rattle.std.specs.Str.{is_utf8}
+use Rattle.cbor_notes.specs.DateTime.{epoch_of_datetime}
 use Rattle.cbor_grammar.specs.declared.width.IntegerWidth.{IntegerWidth}
 use Rattle.cbor_grammar.specs.declared.width.IntegerWidth.TheVariants.{Unknown}
 use Rattle.cbor_grammar.specs.declared.strings.StringKind.{StringKind}
@@ -16,6 +19,11 @@ use Rattle.cbor_edn.specs.Reading.{Read, ◌>>=◌, after_byte}
 use Rattle.cbor_edn.specs.Blank.{skip_blank}
 use Rattle.cbor_edn.specs.Word.{word_of, after_word, begins_number}
 use Rattle.cbor_edn.specs.Number.{fits, integer_of, tag_number, unsigned}
+use Rattle.cbor_edn.specs.Float.{is_float, float_word, special_word, float_of_bytes}
+use Rattle.cbor_edn.specs.Big.{big_item}
+use Rattle.cbor_edn.specs.Digits.{read_digits}
+use Rattle.cbor_edn.specs.declared.digits.Base.TheVariants.{Hex}
+use Rattle.std.specs.Option.{option_or}
 use Rattle.cbor_edn.specs.Strings.{opening_of, begins_string, kind_of, read_content, chunk_of, read_string}
 use Rattle.cbor_edn.specs.Lists.{separated, read_length, read_members}
 
@@ -100,13 +108,18 @@ read_tagged read n width text =
 abbrev pub integer_item : List ℕ → Option Item
 integer_item word = integer_of word >>= λ a. Some (atom a)
 
--- an integer, or a tag where a parenthesis follows
-abbrev pub number_or_tag : (List ℕ → Read Item) → List ℕ → List ℕ → Option (List ℕ) → Read Item
-number_or_tag read word rest None = integer_item word >>= λ i. Some (i, rest)
-number_or_tag read word rest (Some inner) = tag_number word >>= λ t. read_tagged read t.0 t.1 inner
+-- a number that is an item by itself: by its form a float or an integer; so many levels are left for items in it
+abbrev pub number_item : ℕ → List ℕ → Option Item
+number_item left word = if is_float word then (float_word word >>= λ a. Some (atom a))
+    else option_or (integer_item word) (big_item left word)
 
-abbrev pub read_number : (List ℕ → Read Item) → List ℕ → Read Item
-read_number read text = number_or_tag read (word_of text) (after_word text) (after_byte 40 (after_word text))
+-- a number, or a tag where a parenthesis follows
+abbrev pub number_or_tag : ℕ → (List ℕ → Read Item) → List ℕ → List ℕ → Option (List ℕ) → Read Item
+number_or_tag left read word rest None = number_item left word >>= λ i. Some (i, rest)
+number_or_tag left read word rest (Some inner) = tag_number word >>= λ t. read_tagged read t.0 t.1 inner
+
+abbrev pub read_number : ℕ → (List ℕ → Read Item) → List ℕ → Read Item
+read_number left read text = number_or_tag left read (word_of text) (after_word text) (after_byte 40 (after_word text))
 
 -- a simple value that has a name
 abbrev pub named : List ℕ → Option ℕ
@@ -128,28 +141,79 @@ read_simple text =
     unsigned (word_of text) >>= λ u. simple_number u.0 u.1 >>= λ n. after_byte 41 (skip_blank (after_word text))
     >>= λ rest. Some (atom (simple n), rest)
 
-abbrev pub name_or_simple : List ℕ → List ℕ → Read Item
-name_or_simple word rest =
+-- the bits of a float, after `float'`
+abbrev pub read_float : List ℕ → Read Item
+read_float text = read_digits Hex text >>= λ d. float_of_bytes d.0 >>= λ a. Some (atom a, d.1)
+
+-- a word that is an item: a simple value, or a float that is no finite number
+abbrev pub name_item : List ℕ → Option Item
+name_item word = option_or (named word >>= λ n. Some (atom (simple n))) (special_word word >>= λ a. Some (atom a))
+
+-- ---- dates with a time, as seconds from 1970-01-01T00:00:00Z (RFC 8949 section 3.4.2)
+
+-- seconds before 1970 with a fraction, which counts forward from them: these are no decimal number
+abbrev pub is_split : List ℕ → Bool
+is_split seconds = (slice_index seconds 0 == 45) && list_any (λ b. b == 46) seconds
+
+-- the number that the text of some seconds writes
+unfoldable pub seconds_item : ℕ → List ℕ → Option Item
+seconds_item left seconds = if is_split seconds then None else number_item left seconds
+
+-- a text that is UTF-8
+unfoldable pub utf8_text : List ℕ → Option (List ℕ)
+utf8_text content = if is_utf8 content then Some content else None
+
+-- the seconds of a date with a time of day and an offset
+unfoldable pub date_item : ℕ → List ℕ → Option Item
+date_item left content = utf8_text content >>= λ text. epoch_of_datetime text >>= λ seconds. seconds_item left seconds
+
+-- the same below tag 1, if a level is left for it
+unfoldable pub tagged_date : ℕ → List ℕ → Option Item
+tagged_date zero content = None
+tagged_date (suc left) content = date_item left content >>= λ i. Some (tagged 1 Unknown i)
+
+-- what is before the next apostrophe
+abbrev pub quoted_item : (List ℕ → Option Item) → List ℕ → Read Item
+quoted_item item text = position (λ b. b == 39) text >>= λ n. item (take n text) >>= λ i. Some (i, drop (n + 1) text)
+
+abbrev pub is_prefix : List ℕ → Bool
+is_prefix word = bytes_eq word (codes "float") || (bytes_eq word (codes "dt") || bytes_eq word (codes "DT"))
+
+-- what follows a word and an apostrophe
+abbrev pub read_prefixed : ℕ → List ℕ → List ℕ → Read Item
+read_prefixed left word text =
+    if bytes_eq word (codes "float") then read_float text
+    else if bytes_eq word (codes "dt") then quoted_item (date_item left) text
+    else if bytes_eq word (codes "DT") then quoted_item (tagged_date left) text
+    else None
+
+abbrev pub word_or_prefix : ℕ → List ℕ → List ℕ → Option (List ℕ) → Read Item
+word_or_prefix left word rest None = name_item word >>= λ i. Some (i, rest)
+word_or_prefix left word rest (Some content) = read_prefixed left word content
+
+abbrev pub read_word : ℕ → List ℕ → List ℕ → Read Item
+read_word left word rest =
     if bytes_eq word (codes "simple") then (after_byte 40 rest >>= λ inner. read_simple (skip_blank inner))
-    else (named word >>= λ n. Some (atom (simple n), rest))
+    else word_or_prefix left word rest (after_byte 39 rest)
 
-abbrev pub read_name : List ℕ → Read Item
-read_name text = name_or_simple (word_of text) (after_word text)
+abbrev pub read_name : ℕ → List ℕ → Read Item
+read_name left text = read_word left (word_of text) (after_word text)
 
--- an item that is no string, by its first byte
-abbrev pub other_item : (List ℕ → Read Item) → List ℕ → Read Item
-other_item read [] = None
-other_item read (b ∷ text) =
+-- An item that is no string, by its first byte. So many levels are left for the items in it.
+abbrev pub other_item : ℕ → (List ℕ → Read Item) → List ℕ → Read Item
+other_item left read [] = None
+other_item left read (b ∷ text) =
     if b == 91 then read_array read text
     else if b == 123 then read_map read text
     else if b == 40 then read_chunks read text
-    else if begins_number (b ∷ text) then read_number read (b ∷ text)
-    else read_name (b ∷ text)
+    else if begins_number (b ∷ text) then read_number left read (b ∷ text)
+    else read_name left (b ∷ text)
 
-unfoldable pub read_core : (List ℕ → Read Item) → List ℕ → Read Item
-read_core read text = if begins_string text then read_string (read_embedded read) text else other_item read text
+unfoldable pub read_core : ℕ → (List ℕ → Read Item) → List ℕ → Read Item
+read_core left read text =
+    if begins_string text then read_string (read_embedded read) text else other_item left read text
 
 -- an item without blanks round it, with `left` levels left for it and the items in it, those in `<<` `>>` too
 unfoldable pub read_item : ℕ → List ℕ → Read Item
 read_item zero text = None
-read_item (suc left) text = read_core (read_item left) text
+read_item (suc left) text = read_core left (read_item left) text

@@ -1,6 +1,7 @@
 -- Lists: what opens, separates and closes them.
-use Rattle.std.specs.Prelude.{ℕ, List, [], ◌∷◌, codes, Option, Some, None, Bool, true, false}
-use Rattle.std.specs.Prelude.{◌==◌, ◌&&◌, ◌||◌, if◌then◌else◌, is_some, not}
+use Rattle.std.specs.Prelude.{ℕ, ◌-◌, List, [], ◌∷◌, codes, length, take, Option, Some, None, Bool, true, false}
+use Rattle.std.specs.Prelude.{◌==◌, ◌&&◌, ◌||◌, if◌then◌else◌, is_some, not, nat_eq}
+use Rattle.std.specs.List.{list_any}
 use Rattle.cbor_grammar.specs.declared.width.IntegerWidth.{IntegerWidth}
 use Rattle.cbor_grammar.specs.declared.width.IntegerWidth.TheVariants.{Unknown}
 use Rattle.cbor_edn.specs.declared.close.Close.{Close}
@@ -42,14 +43,25 @@ read_length close (b ∷ text) =
 abbrev pub after_comma : Close → List ℕ → Bool × List ℕ
 after_comma close text = elim (after_close close text) [ Some rest ↦ (false, rest) | None ↦ (true, text) ]
 
--- Without a comma a blank has to come before the next member, and two strings are never apart by it alone.
-abbrev pub after_gap : Bool → List ℕ → List ℕ → Read Bool
-after_gap is_string text next = if is_apart text && not (is_string && begins_string next) then Some (true, next)
-    else None
+-- a line ends between a text and what comes next in it
+abbrev pub ends_line : List ℕ → List ℕ → Bool
+ends_line text next = list_any (λ b. nat_eq b 10) (take (length text - length next) text)
+
+-- the next item of a whole text is on another line
+abbrev pub on_new_line : Close → List ℕ → List ℕ → Bool
+on_new_line End text next = ends_line text next
+on_new_line close text next = false
+
+-- Without a comma a blank has to come before the next member. Two strings are apart by it alone only in a whole text,
+-- on lines of their own.
+abbrev pub after_gap : Close → Bool → List ℕ → List ℕ → Read Bool
+after_gap close is_string text next =
+    if is_apart text && not (is_string && (begins_string next && not (on_new_line close text next)))
+    then Some (true, next) else None
 
 abbrev pub separated_by : Close → Bool → List ℕ → List ℕ → Option (List ℕ) → Read Bool
 separated_by close is_string text next (Some rest) = Some (after_comma close (skip_blank rest))
-separated_by close is_string text next None = after_gap is_string text next
+separated_by close is_string text next None = after_gap close is_string text next
 
 abbrev pub closed_by : Close → Bool → List ℕ → List ℕ → Option (List ℕ) → Read Bool
 closed_by close is_string text next (Some rest) = Some (false, rest)

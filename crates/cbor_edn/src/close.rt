@@ -4,7 +4,7 @@ ghost use Rattle.cbor_notation.specs.mirror.Cursor.{Takes};
 ghost use Rattle.cbor_edn.specs.Reading.{Gives};
 ghost use Rattle.cbor_edn.specs.Blank.{is_apart};
 ghost use Rattle.cbor_edn.specs.Lists.{after_close, is_length_end, read_length, after_comma};
-ghost use Rattle.cbor_edn.specs.Lists.{separated};
+ghost use Rattle.cbor_edn.specs.Lists.{separated, on_new_line};
 
 use crate::blank::{after_blank, after_space};
 use crate::cursor::{Cursor, after_byte, after_bytes};
@@ -14,8 +14,8 @@ use crate::word::stated_by;
 use cbor_grammar::IntegerWidth;
 
 /// What closes a list.
-#[derive(Clone, Copy)]
-pub(crate) enum Close {
+#[derive(Clone, Copy, PartialEq, Eq, Debug)]
+pub enum Close {
     /// `]`, of an array.
     Bracket,
     /// `}`, of a map.
@@ -112,6 +112,17 @@ fn take_last_comma(text: &mut Cursor<'_>, close: Close) -> bool
     }
 }
 
+/// Whether the next item of a whole text is on another line.
+fn on_new_line(close: Close, text: &[u8], next: &[u8]) -> bool
+    requires { length next.now ≤ length text.now }
+    ensures { result ≡ on_new_line close text.now next.now }
+{
+    match close {
+        Close::End => text[..text.len() - next.len()].contains(&b'\n'),
+        _ => false,
+    }
+}
+
 /// Takes what follows a member of a list, which may be a string: what separates it from the next
 /// one, and then true is returned, or what closes the list.
 #[tactic(auto, unfolding(crate::specs::Lists::separated))]
@@ -134,11 +145,12 @@ pub(crate) fn take_separator(
         return Ok(take_last_comma(text, close));
     }
     let apart = is_apart(text.rest());
+    let new_line = on_new_line(close, text.rest(), next);
     *text = Cursor::new(next);
     if !apart {
-        return Err(Stop::At(Expected::CommaOrClose));
+        return Err(Stop::At(Expected::CommaOrClose(close)));
     }
-    if is_string && begins_string(next) {
+    if is_string && begins_string(next) && !new_line {
         return Err(Stop::At(Expected::PlusOrComma));
     }
     Ok(true)

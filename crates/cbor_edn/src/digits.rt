@@ -226,7 +226,7 @@ fn decoded_front(alloc: Global, text: &[u8], base: Base, end: usize) -> Result<V
 }
 
 /// The index of the first apostrophe.
-fn find_apostrophe(text: &[u8]) -> Option<usize>
+pub(crate) fn find_apostrophe(text: &[u8]) -> Option<usize>
     ensures at { result ≡ position (λ b. b == 39) text.now }
     ensures within { IfSome result (λ n. n < length text.now) }
 {

@@ -1,8 +1,11 @@
 //! Errors: why a text is not EDN, and where.
-ghost use Rattle.std.specs.Prelude.{◌≡◌, Some};
-ghost use Rattle.cbor_edn.specs.Expectations.{text_of};
+ghost use Rattle.std.specs.Prelude.{◌≡◌};
+ghost use Rattle.cbor_edn.specs.Expectations.{missing, text_of, words_of};
 ghost use Rattle.cbor_edn.specs.declared.error.Stop.TheVariants.{Memory};
 
+use crate::close::Close;
+use cbor_floats::half_value;
+use ryu::Buffer;
 use std::alloc::{AllocError, AllocFailed};
 use std::fmt;
 
@@ -13,20 +16,45 @@ pub enum Expected {
     Item,
     /// Another item: nothing that is read so far is one.
     OneItem,
-    /// An integer, with an indicator of its width or without.
-    Integer,
+    /// A number, with an indicator of its width or without.
+    Number,
     /// A number from 0 on, before the parenthesis of a tag.
     TagNumber,
     /// A number from 0 to 255, for a simple value.
     SimpleNumber,
     /// An opening parenthesis, after `simple`.
     SimpleParenthesis,
+    /// A number other than 0, after `-`.
+    NegativeNumber,
+    /// A number: an ellipsis has no bytes.
+    NoEllipsis,
     /// A name that is known.
     Name,
+    /// A prefix that is known, before an apostrophe.
+    Prefix,
     /// A width that the number fits.
     FittingWidth,
     /// One of the indicators `_i`, `_0`, `_1`, `_2` and `_3`, or `_` alone.
     Indicator,
+    /// A number that a float of 16 bits is.
+    Half {
+        /// The bits of the nearest one.
+        nearest: u16,
+    },
+    /// A number that is not past the largest float of 16 bits.
+    LargestHalf,
+    /// A number that is not past the largest float of 32 bits.
+    LargestSingle,
+    /// A number that is not past the largest float of 64 bits.
+    LargestDouble,
+    /// One of the indicators of a float, `_1`, `_2` and `_3`.
+    FloatIndicator,
+    /// The 4, 8 or 16 digits of the bits of a float.
+    FloatBits,
+    /// A date with a time of day and an offset.
+    Date,
+    /// A moment from 1970 on, or one without a fraction of a second.
+    LaterDate,
     /// A blank, after the width of a count.
     BlankAfterWidth,
     /// A blank or what closes the list, after `_`.
@@ -43,6 +71,16 @@ pub enum Expected {
     Quote,
     /// An escape of JSON.
     Escape,
+    /// The escape of the second half of a character, after the first.
+    SecondHalf {
+        /// The first half.
+        first: u16,
+    },
+    /// The escape of the first half of a character, before the second.
+    FirstHalf {
+        /// The second half.
+        second: u16,
+    },
     /// Digits that are an encoding of bytes.
     Digits,
     /// UTF-8, for a text.
@@ -50,7 +88,7 @@ pub enum Expected {
     /// `+` or a comma, between two strings.
     PlusOrComma,
     /// A comma or what closes the list.
-    CommaOrClose,
+    CommaOrClose(Close),
     /// A colon, after a key.
     Colon,
     /// A closing parenthesis.
@@ -60,20 +98,34 @@ pub enum Expected {
 }
 
 impl Expected {
-    /// Returns what is wrong, in a few words without a full stop.
+    /// Returns what is wrong, in a few words without a full stop. `Display` adds the values that the
+    /// error has.
     pub fn text(&self) -> &'static str
         ensures { result.now ≡ text_of self.now }
     {
         match self {
             Expected::Item => "an item is expected",
             Expected::OneItem => "one item is expected",
-            Expected::Integer => "not a number that is read",
+            Expected::Number => "not a number",
             Expected::TagNumber => "the number of a tag is a number from 0 on",
             Expected::SimpleNumber => "a simple value has a number from 0 to 255",
             Expected::SimpleParenthesis => "( has to follow simple",
+            Expected::NegativeNumber => "-0 is no integer: write 0, or -0.0 for a float",
+            Expected::NoEllipsis => "an ellipsis has no bytes",
             Expected::Name => "no item begins so",
+            Expected::Prefix => {
+                "no such prefix is known; h, b64, b32, h32, dt, DT and float are"
+            },
             Expected::FittingWidth => "the number does not fit the width that is stated",
             Expected::Indicator => "an indicator is _i, _0, _1, _2 or _3",
+            Expected::Half { .. } => "no float of 16 bits is the number",
+            Expected::LargestHalf => "the largest float of 16 bits is 65504.0",
+            Expected::LargestSingle => "the largest float of 32 bits is 3.4028234663852886e38",
+            Expected::LargestDouble => "the largest float of 64 bits is 1.7976931348623157e308",
+            Expected::FloatIndicator => "an indicator of a float is _1, _2 or _3",
+            Expected::FloatBits => "the bits of a float are 4, 8 or 16 digits",
+            Expected::Date => "a date with a time is written as in 2026-01-02T03:04:05Z",
+            Expected::LaterDate => "a fraction of a second before 1970 is not read",
             Expected::BlankAfterWidth => {
                 "a blank has to follow: [_1 ] is an empty array, and [_ 1] one of indefinite length"
             },
@@ -88,12 +140,18 @@ impl Expected {
             Expected::NoContent => "only an empty string may have _ after it",
             Expected::Quote => "the closing quote is missing",
             Expected::Escape => "not an escape of a character",
+            Expected::SecondHalf { .. } => {
+                "half of a character: \\udc00 to \\udfff has to follow"
+            },
+            Expected::FirstHalf { .. } => {
+                "half of a character: \\ud800 to \\udbff has to come before"
+            },
             Expected::Digits => "the digits are not an encoding of bytes",
             Expected::Utf8 => "the bytes of the text are not UTF-8",
             Expected::PlusOrComma => {
                 "two strings side by side: write + to join them, or a comma between"
             },
-            Expected::CommaOrClose => "a comma or what closes the list has to follow the member",
+            Expected::CommaOrClose(close) => close.missing(),
             Expected::Colon => "a colon has to follow the key",
             Expected::Parenthesis => "a closing parenthesis is expected",
             Expected::Levels => "nested deeper than 128 levels",
@@ -101,11 +159,51 @@ impl Expected {
     }
 }
 
+impl Close {
+    /// What to say where neither a comma nor this follows a member.
+    fn missing(self) -> &'static str
+        ensures { result.now ≡ missing self }
+    {
+        match self {
+            Close::Bracket => "a comma or ] has to follow the member",
+            Close::Brace => "a comma or } has to follow the value",
+            Close::Parenthesis => "a comma or ) has to follow the chunk",
+            Close::Angles => "a comma or >> has to follow the item",
+            Close::End => "a comma or a blank has to follow the item",
+        }
+    }
+}
+
 impl fmt::Display for Expected {
-    ghost output = { λ e. Some (text_of e) };
+    ghost output = { words_of };
 
     fn fmt<W: fmt::Write>(&self, f: &mut fmt::Formatter<W>) -> fmt::Result {
-        f.write_str(self.text())
+        match self {
+            Expected::Half { nearest } => {
+                f.write_str(self.text())?;
+                f.write_str("; the nearest is ")?;
+                write_half(*nearest, f)
+            }
+            Expected::SecondHalf { first } => {
+                let text = self.text();
+                write!(f, "{text} \\u{first:04x}")
+            }
+            Expected::FirstHalf { second } => {
+                let text = self.text();
+                write!(f, "{text} \\u{second:04x}")
+            }
+            _ => f.write_str(self.text()),
+        }
+    }
+}
+
+/// Writes the number of a float of 16 bits, if it is finite.
+fn write_half<W: fmt::Write>(bits: u16, f: &mut fmt::Formatter<W>) -> fmt::Result {
+    let x = half_value(bits);
+    if x.is_finite() {
+        f.write_str(Buffer::new().format_finite(x))
+    } else {
+        Ok(())
     }
 }
 

@@ -21,7 +21,7 @@ fn underscore(word: &[u8]) -> Option<usize>
 
 /// A word up to its `_`, and the width that is stated from there on.
 #[tactic(auto, using(crate::proofs::Numbers::parted_laws))]
-fn parted(word: &[u8]) -> Result<(&[u8], IntegerWidth), Stop>
+pub(crate) fn parted(word: &[u8]) -> Result<(&[u8], IntegerWidth), Stop>
     ensures gives { Gives (λ x. (x.0.now, x.1)) result (parted word.now) }
     ensures within { IfOk result (λ x. length x.0.now ≤ length word.now) }
 {
@@ -36,7 +36,7 @@ fn parted(word: &[u8]) -> Result<(&[u8], IntegerWidth), Stop>
 
 /// The number that these digits are, all of them; past 2^64 it is 2^64 + 1.
 #[tactic(auto, using(crate::proofs::Numbers::whole_none))]
-fn number_from(digits: &[u8]) -> Option<u128>
+pub(crate) fn number_from(digits: &[u8]) -> Option<u128>
     ensures found { IfSome result (λ n. (value : ℕ) × (n ≡ capped value)
         × (number_from digits.now ≡ Some value)) }
     ensures some { IfSome result (λ _. 0 < length digits.now) }
@@ -83,7 +83,7 @@ fn magnitude(word: &[u8]) -> Result<(u128, IntegerWidth), Stop>
     let (digits, width) = parted(word)?;
     match number_from(digits) {
         Some(number) => Ok((number, width)),
-        None => Err(Stop::At(Expected::Integer)),
+        None => Err(Stop::At(Expected::Number)),
     }
 }
 
@@ -105,7 +105,7 @@ pub(crate) fn negated(word: &[u8]) -> Result<(u64, IntegerWidth), Stop>
 {
     let (number, width) = magnitude(word)?;
     if number == 0 {
-        return Err(Stop::At(Expected::Integer));
+        return Err(Stop::At(Expected::NegativeNumber));
     }
     Ok(fitting(number - 1, width)?)
 }

@@ -133,6 +133,22 @@ fn escape(text: &[u8], quote: u8) -> Option<(char, &[u8])>
     }
 }
 
+/// What to say of an escape that is none, by what follows its `\`.
+fn no_escape(text: &[u8]) -> Expected {
+    let [b'u', digits @ ..] = text else {
+        return Expected::Escape;
+    };
+    match four_hex(digits) {
+        Some((number, _)) if is_first_half(number) => Expected::SecondHalf {
+            first: number as u16,
+        },
+        Some((number, _)) if is_second_half(number) => Expected::FirstHalf {
+            second: number as u16,
+        },
+        _ => Expected::Escape,
+    }
+}
+
 /// Adds one byte of content, or the character of an escape; returns false at the closing quote.
 fn content_turn(content: &mut Vec<u8>, text: &mut Cursor<'_>, quote: u8) -> Result<bool, Stop>
     ensures gives { TurnGives result content.old.items content.new.items text.new
@@ -145,9 +161,9 @@ fn content_turn(content: &mut Vec<u8>, text: &mut Cursor<'_>, quote: u8) -> Resu
             *text = Cursor::new(rest);
             Ok(false)
         }
-        [b'\\', rest @ ..] => {
-            let Some((character, rest)) = escape(rest, quote) else {
-                return Err(Stop::At(Expected::Escape));
+        [b'\\', after @ ..] => {
+            let Some((character, rest)) = escape(after, quote) else {
+                return Err(Stop::At(no_escape(after)));
             };
             let mut buffer = [0; 4];
             content.extend_from_slice(character.encode_utf8(&mut buffer).as_bytes())?;

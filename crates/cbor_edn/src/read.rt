@@ -26,7 +26,7 @@ use crate::cursor::Cursor;
 use crate::error::{EdnError, Expected, Stop};
 use crate::number::tag_number;
 use crate::opening::{begins_string, opening_at};
-use crate::scalars::{integer_item, is_string, read_name};
+use crate::scalars::{is_string, number_item, read_name};
 use crate::strings::Chunks;
 use crate::word::begins_number;
 use cbor_diag::DataItem;
@@ -292,13 +292,13 @@ fn read_tagged(
     })
 }
 
-/// An integer, or a tag if a parenthesis follows the number.
+/// A number, or a tag if a parenthesis follows it.
 #[cycle(edn)]
 fn read_number(alloc: Global, text: &mut Cursor<'_>, inner: u8) -> Result<DataItem, Stop>
     requires low { 2 ≤ inner }
     requires high { inner ≤ 129 }
     ensures gives { Gives (λ x. (view x, text.new)) result
-        (read_number (read_item (levels_left inner)) text.old) }
+        (read_number (levels_left inner) (read_item (levels_left inner)) text.old) }
     ensures within { length text.new ≤ length text.old }
     ensures shorter { IfOk result (λ _. length text.new < length text.old) }
     ensures well { IfOk result (λ x. WellFormed (inner - 1) (view x)) }
@@ -311,7 +311,7 @@ fn read_number(alloc: Global, text: &mut Cursor<'_>, inner: u8) -> Result<DataIt
         *text = after;
         read_tagged(alloc, text, number, inner)
     } else {
-        let item = integer_item(word)?;
+        let item = number_item(alloc, word, inner)?;
         *text = after;
         Ok(item)
     }
@@ -323,7 +323,7 @@ fn other_item(alloc: Global, text: &mut Cursor<'_>, inner: u8) -> Result<DataIte
     requires low { 2 ≤ inner }
     requires high { inner ≤ 129 }
     ensures gives { Gives (λ x. (view x, text.new)) result
-        (other_item (read_item (levels_left inner)) text.old) }
+        (other_item (levels_left inner) (read_item (levels_left inner)) text.old) }
     ensures within { length text.new ≤ length text.old }
     ensures shorter { IfOk result (λ _. length text.new < length text.old) }
     ensures well { IfOk result (λ x. WellFormed (inner - 1) (view x)) }
@@ -343,7 +343,7 @@ fn other_item(alloc: Global, text: &mut Cursor<'_>, inner: u8) -> Result<DataIte
         }
         [] => Err(Stop::At(Expected::Item)),
         rest if begins_number(rest) => read_number(alloc, text, inner),
-        _ => read_name(text),
+        _ => read_name(alloc, text, inner),
     }
 }
 

@@ -1,15 +1,21 @@
-//! Integers and simple values.
-ghost use Rattle.std.specs.Prelude.{◌≡◌, ◌<◌, ◌≤◌, ℕ, length, option_map, IfOk, IfSome};
+//! Numbers and simple values.
+ghost use Rattle.std.specs.Prelude.{◌≡◌, ◌-◌, ◌<◌, ◌≤◌, ℕ, length, option_map, IfOk, IfSome};
 ghost use Rattle.cbor_diag.specs.View.{view};
-ghost use Rattle.cbor_grammar.specs.WellFormed.{deepest, WellFormed};
+ghost use Rattle.cbor_grammar.specs.WellFormed.{deepest, levels_left, WellFormed};
 ghost use Rattle.cbor_edn.specs.Reading.{Gives};
-ghost use Rattle.cbor_edn.specs.Items.{is_string, integer_item, named, read_simple, read_name};
+ghost use Rattle.cbor_edn.specs.Items.{is_string, integer_item, number_item, named, read_simple};
+ghost use Rattle.cbor_edn.specs.Items.{read_float, name_item, is_prefix, read_prefixed, read_name};
 
+use crate::big::big_item;
 use crate::cursor::Cursor;
+use crate::date::{read_date, read_tagged_date};
+use crate::digits::{Base, read_digits};
 use crate::error::{Expected, Stop};
+use crate::float::{float_of_bytes, float_word, is_float, special_word};
 use crate::number::{negated, unsigned};
 use cbor_diag::DataItem;
 use cbor_grammar::{IntegerWidth, Simple};
+use std::alloc::Global;
 
 /// Whether an item is a string of definite length.
 pub(crate) fn is_string(item: &DataItem) -> bool
@@ -19,7 +25,7 @@ pub(crate) fn is_string(item: &DataItem) -> bool
 }
 
 /// The integer that a word is.
-pub(crate) fn integer_item(word: &[u8]) -> Result<DataItem, Stop>
+fn integer_item(word: &[u8]) -> Result<DataItem, Stop>
     ensures gives { Gives view result (integer_item word.now) }
     ensures some { IfOk result (λ _. 0 < length word.now) }
     ensures well { IfOk result (λ x. (level : ℕ) → level ≤ deepest → WellFormed level (view x)) }
@@ -37,7 +43,38 @@ pub(crate) fn integer_item(word: &[u8]) -> Result<DataItem, Stop>
             let (value, bitwidth) = unsigned(word)?;
             Ok(DataItem::Integer { value, bitwidth })
         }
-        [] => Err(Stop::At(Expected::Integer)),
+        [] => Err(Stop::At(Expected::Number)),
+    }
+}
+
+/// What to say of a word that is no number, where this is wrong with it as an integer.
+fn no_number(word: &[u8], expected: Expected) -> Expected {
+    match word {
+        [b'.', b'.', b'.', ..] => Expected::NoEllipsis,
+        _ => expected,
+    }
+}
+
+/// The number that a word is, by its form a float or an integer.
+pub(crate) fn number_item(alloc: Global, word: &[u8], inner: u8) -> Result<DataItem, Stop>
+    requires low { 2 ≤ inner }
+    requires high { inner ≤ 129 }
+    ensures gives { Gives view result (number_item (levels_left inner) word.now) }
+    ensures some { IfOk result (λ _. 0 < length word.now) }
+    ensures well { IfOk result (λ x. WellFormed (inner - 1) (view x)) }
+{
+    if is_float(word) {
+        let (bits, bitwidth) = float_word(word)?;
+        return Ok(DataItem::Float { bits, bitwidth });
+    }
+    let stop = match integer_item(word) {
+        Ok(item) => return Ok(item),
+        Err(stop) => stop,
+    };
+    match (stop, big_item(alloc, word, inner)) {
+        (Stop::At(expected), Err(Stop::At(_))) => Err(Stop::At(no_number(word, expected))),
+        (Stop::Memory, _) => Err(Stop::Memory),
+        (_, found) => found,
     }
 }
 
@@ -77,24 +114,93 @@ fn read_simple(text: &mut Cursor<'_>) -> Result<DataItem, Stop>
     Ok(DataItem::Simple(Simple(number as u8)))
 }
 
-/// A simple value, by its name or its number.
-pub(crate) fn read_name(text: &mut Cursor<'_>) -> Result<DataItem, Stop>
-    ensures gives { Gives (λ x. (view x, text.new)) result (read_name text.old) }
+/// The bits of a float, after `float'`.
+fn read_float(alloc: Global, text: &mut Cursor<'_>) -> Result<DataItem, Stop>
+    ensures gives { Gives (λ x. (view x, text.new)) result (read_float text.old) }
     ensures within { length text.new ≤ length text.old }
-    ensures shorter { IfOk result (λ _. length text.new < length text.old) }
     ensures well { IfOk result (λ x. (level : ℕ) → level ≤ deepest → WellFormed level (view x)) }
 {
-    if text.word() == b"simple".as_slice() {
+    let mut after = Cursor::new(text.rest());
+    let bytes = read_digits(alloc, &mut after, Base::Hex)?;
+    let (bits, bitwidth) = float_of_bytes(&bytes)?;
+    *text = after;
+    Ok(DataItem::Float { bits, bitwidth })
+}
+
+/// The item that a word is: a simple value, or a float that is no finite number.
+fn name_item(word: &[u8]) -> Result<DataItem, Stop>
+    ensures gives { Gives view result (name_item word.now) }
+    ensures some { IfOk result (λ _. 0 < length word.now) }
+    ensures well { IfOk result (λ x. (level : ℕ) → level ≤ deepest → WellFormed level (view x)) }
+{
+    match named(word) {
+        Some(simple) => Ok(DataItem::Simple(simple)),
+        None => {
+            let (bits, bitwidth) = special_word(word)?;
+            Ok(DataItem::Float { bits, bitwidth })
+        }
+    }
+}
+
+/// Whether a word is a prefix of content between apostrophes.
+fn is_prefix(word: &[u8]) -> bool
+    ensures { result ≡ is_prefix word.now }
+{
+    word == b"float".as_slice() || word == b"dt".as_slice() || word == b"DT".as_slice()
+}
+
+/// What follows a word and an apostrophe.
+fn read_prefixed(
+    alloc: Global,
+    text: &mut Cursor<'_>,
+    word: &[u8],
+    inner: u8,
+) -> Result<DataItem, Stop>
+    requires low { 2 ≤ inner }
+    requires high { inner ≤ 129 }
+    ensures gives { Gives (λ x. (view x, text.new)) result
+        (read_prefixed (levels_left inner) word.now text.old) }
+    ensures within { length text.new ≤ length text.old }
+    ensures well { IfOk result (λ x. WellFormed (inner - 1) (view x)) }
+{
+    if word == b"float".as_slice() {
+        read_float(alloc, text)
+    } else if word == b"dt".as_slice() {
+        read_date(alloc, text, inner)
+    } else if word == b"DT".as_slice() {
+        read_tagged_date(alloc, text, inner)
+    } else {
+        Err(Stop::At(Expected::Prefix))
+    }
+}
+
+/// An item that begins with a word.
+pub(crate) fn read_name(alloc: Global, text: &mut Cursor<'_>, inner: u8) -> Result<DataItem, Stop>
+    requires low { 2 ≤ inner }
+    requires high { inner ≤ 129 }
+    ensures gives { Gives (λ x. (view x, text.new)) result
+        (read_name (levels_left inner) text.old) }
+    ensures within { length text.new ≤ length text.old }
+    ensures shorter { IfOk result (λ _. length text.new < length text.old) }
+    ensures well { IfOk result (λ x. WellFormed (inner - 1) (view x)) }
+{
+    let word = text.word();
+    if word == b"simple".as_slice() {
         text.skip_word();
         text.expect_byte(b'(', Expected::SimpleParenthesis)?;
         text.skip_blank();
         return read_simple(text);
     }
-    match named(text.word()) {
-        Some(simple) => {
-            text.skip_word();
-            Ok(DataItem::Simple(simple))
+    let mut after = Cursor::new(text.rest());
+    after.skip_word();
+    if after.take_byte(b'\'') {
+        if !is_prefix(word) {
+            return Err(Stop::At(Expected::Prefix));
         }
-        None => Err(Stop::At(Expected::Name)),
+        *text = after;
+        return read_prefixed(alloc, text, word, inner);
     }
+    let item = name_item(word)?;
+    *text = after;
+    Ok(item)
 }

@@ -63,7 +63,7 @@ pub(crate) fn width_after(text: &mut Cursor<'_>) -> Result<Option<IntegerWidth>,
 }
 
 /// The string of definite length with these bytes.
-fn make_chunk<S: DefiniteString>(bytes: Vec<u8>, width: IntegerWidth) -> Result<S, Stop>
+pub(crate) fn make_chunk<S: DefiniteString>(bytes: Vec<u8>, width: IntegerWidth) -> Result<S, Stop>
     ensures gives { Gives S.chunk result (chunk_of S.kind bytes.items width) }
     ensures well { IfOk result (λ x. IsChunk S.kind (S.chunk x)) }
 {

@@ -6,3 +6,9 @@
 mod read;
 #[cfg(test)]
 mod refused;
+#[cfg(test)]
+mod written;
+#[cfg(test)]
+mod written_back;
+#[cfg(test)]
+mod written_styles;

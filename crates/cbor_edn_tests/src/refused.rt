@@ -1,29 +1,63 @@
 // Texts that are no EDN, with the place of the error and what is expected there.
 
-use cbor_edn::{EdnError, Expected, edn_to_bytes, parse_edn};
-use std::alloc::Global;
+use cbor_edn::{Close, EdnError, Expected, edn_to_bytes, parse_edn};
+use std::alloc::{AllocError, Global};
 use std::process::Abort;
 
 /// Texts, the place of the error, and what is expected there.
 const REFUSED: &[(&str, usize, Expected)] = &[
     // numbers
-    ("-0", 0, Expected::Integer),
-    ("+", 0, Expected::Integer),
-    ("- 1", 0, Expected::Integer),
-    ("0x", 0, Expected::Integer),
-    ("1a", 0, Expected::Integer),
-    ("...", 0, Expected::Integer),
+    ("-0", 0, Expected::NegativeNumber),
+    ("+", 0, Expected::Number),
+    ("- 1", 0, Expected::Number),
+    ("0x", 0, Expected::Number),
+    ("1a", 0, Expected::Number),
+    ("...", 0, Expected::NoEllipsis),
     ("1_4", 0, Expected::Indicator),
     ("1_", 0, Expected::Indicator),
     ("300_0", 0, Expected::FittingWidth),
     ("24_i", 0, Expected::FittingWidth),
-    ("1-2", 1, Expected::CommaOrClose),
+    ("1-2", 1, Expected::CommaOrClose(Close::End)),
+    ("18446744073709551616_3", 0, Expected::FittingWidth),
+    ("1f", 0, Expected::Number),
+    // floats
+    ("1.1_1", 0, Expected::Half { nearest: 0x3c66 }),
+    ("-1.1_1", 0, Expected::Half { nearest: 0xbc66 }),
+    ("1.1f16", 0, Expected::Half { nearest: 0x3c66 }),
+    ("70000.0_1", 0, Expected::LargestHalf),
+    ("-65520.0_1", 0, Expected::LargestHalf),
+    ("1e39_2", 0, Expected::LargestSingle),
+    ("[1e400]", 1, Expected::LargestDouble),
+    ("1.5_0", 0, Expected::FloatIndicator),
+    ("1.5_", 0, Expected::FloatIndicator),
+    ("1.5f32", 0, Expected::FloatIndicator),
+    ("NaN_i", 0, Expected::FloatIndicator),
+    ("1.5.2", 0, Expected::Number),
+    ("1e", 0, Expected::Number),
+    ("+Infinity", 0, Expected::Number),
+    ("infinity", 0, Expected::Name),
+    ("float'7e'", 6, Expected::FloatBits),
+    ("float'7e0'", 6, Expected::Digits),
+    ("float'7e01", 6, Expected::Quote),
+    ("float", 0, Expected::Name),
+    // dates
+    ("dt'2013-03-21'", 3, Expected::Date),
+    ("dt'2013-02-29T00:00:00Z'", 3, Expected::Date),
+    ("DT''", 3, Expected::Date),
+    ("dt'2013-03-21T20:04:00Z", 3, Expected::Quote),
+    ("dt'1969-12-31T23:59:58.5Z'", 3, Expected::LaterDate),
+    ("ip'192.0.2.1'", 0, Expected::Prefix),
     // strings
     ("\"a", 2, Expected::Quote),
     ("\"\\x\"", 1, Expected::Escape),
     ("\"\\'\"", 1, Expected::Escape),
-    ("\"\\ud800\"", 1, Expected::Escape),
-    ("\"\\udc00\"", 1, Expected::Escape),
+    ("\"\\ud800\"", 1, Expected::SecondHalf { first: 0xd800 }),
+    (
+        "\"\\ud800\\u0041\"",
+        1,
+        Expected::SecondHalf { first: 0xd800 },
+    ),
+    ("\"\\udc00\"", 1, Expected::FirstHalf { second: 0xdc00 }),
     ("\"\\u{110000}\"", 1, Expected::Escape),
     ("\"\\u{}\"", 1, Expected::Escape),
     ("h'0'", 2, Expected::Digits),
@@ -36,11 +70,11 @@ const REFUSED: &[(&str, usize, Expected)] = &[
     ("\"a\"_4", 3, Expected::Indicator),
     ("\"a\"_", 4, Expected::NoContent),
     ("\"\" + h'ff'", 10, Expected::Utf8),
-    ("hash'01'", 0, Expected::Name),
+    ("hash'01'", 0, Expected::Prefix),
     // lists
     ("[", 1, Expected::Item),
     ("[,]", 1, Expected::Name),
-    ("[1", 2, Expected::CommaOrClose),
+    ("[1", 2, Expected::CommaOrClose(Close::Bracket)),
     ("[1 ", 3, Expected::Item),
     ("[_1]", 3, Expected::BlankAfterWidth),
     ("[_1,", 3, Expected::BlankAfterWidth),
@@ -100,4 +134,34 @@ fn is_not_one(alloc: Global, text: &str) -> bool {
 fn one_item_is_wanted(rt: HostRuntime) {
     assert!(rt; is_not_one(rt.alloc(), ""));
     assert!(rt; is_not_one(rt.alloc(), "1, 2"));
+}
+
+/// What errors say.
+const MESSAGES: &[(Expected, &str)] = &[
+    (
+        Expected::Half { nearest: 0x3c66 },
+        "no float of 16 bits is the number; the nearest is 1.099609375",
+    ),
+    (
+        Expected::SecondHalf { first: 0xd800 },
+        "half of a character: \\udc00 to \\udfff has to follow \\ud800",
+    ),
+    (
+        Expected::FirstHalf { second: 0xdc0f },
+        "half of a character: \\ud800 to \\udbff has to come before \\udc0f",
+    ),
+    (
+        Expected::CommaOrClose(Close::Bracket),
+        "a comma or ] has to follow the member",
+    ),
+    (Expected::Colon, "a colon has to follow the key"),
+];
+
+#[test]
+fn errors_say_this(rt: HostRuntime) -> Result<(), AllocError> {
+    for (expected, message) in MESSAGES {
+        let text = format!(in rt.alloc(); "{expected}")?;
+        assert_eq!(rt; text.as_str(), *message);
+    }
+    Ok(())
 }

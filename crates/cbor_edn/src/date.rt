@@ -1,0 +1,155 @@
+//! Dates with a time, as seconds from 1970-01-01T00:00:00Z.
+ghost use Rattle.std.specs.Prelude.{◌≡◌, ◌==◌, ◌-◌, ◌<◌, ◌≤◌, ℕ, length, option_map, slice_index};
+ghost use Rattle.std.specs.Prelude.{◌+◌, IfOk, IfErr};
+ghost use Rattle.std.specs.List.{list_any};
+ghost use Rattle.cbor_diag.specs.View.{view};
+ghost use Rattle.cbor_grammar.specs.WellFormed.{deepest, levels_left, WellFormed};
+ghost use Rattle.cbor_grammar.specs.Item.{tagged};
+ghost use Rattle.cbor_grammar.specs.declared.width.IntegerWidth.TheVariants.{Unknown};
+ghost use Rattle.cbor_edn.specs.declared.error.Stop.TheVariants.{Memory};
+ghost use Rattle.cbor_edn.specs.Reading.{Gives};
+ghost use Rattle.cbor_edn.specs.Items.{is_split, seconds_item, utf8_text, date_item, tagged_date};
+ghost use Rattle.cbor_edn.specs.Items.{quoted_item};
+
+use crate::cursor::Cursor;
+use crate::digits::find_apostrophe;
+use crate::error::{Expected, Stop};
+use crate::scalars::number_item;
+use cbor_diag::DataItem;
+use cbor_grammar::level::DEEPEST;
+use cbor_grammar::{IntegerWidth, Tag};
+use std::alloc::Global;
+use std::str;
+
+/// Whether a text begins with a minus.
+fn is_negative(seconds: &[u8]) -> bool
+    ensures { result ≡ (slice_index seconds.now 0 == 45) }
+{
+    matches!(seconds, [b'-', ..])
+}
+
+/// Whether a text has a point.
+fn has_point(seconds: &[u8]) -> bool
+    ensures { result ≡ list_any (λ b. b == 46) seconds.now }
+{
+    seconds.iter().any(|byte| *byte == b'.')
+}
+
+/// Whether seconds are before 1970 and have a fraction, which counts forward from them.
+fn is_split(seconds: &[u8]) -> bool
+    ensures { result ≡ is_split seconds.now }
+{
+    is_negative(seconds) && has_point(seconds)
+}
+
+/// The number that the text of some seconds writes.
+#[tactic(auto, unfolding(crate::specs::Items::seconds_item))]
+fn seconds_item(alloc: Global, seconds: &[u8], inner: u8) -> Result<DataItem, Stop>
+    requires low { 2 ≤ inner }
+    requires high { inner ≤ 129 }
+    ensures gives { Gives view result (seconds_item (levels_left inner) seconds.now) }
+    ensures well { IfOk result (λ x. WellFormed (inner - 1) (view x)) }
+{
+    if is_split(seconds) {
+        return Err(Stop::At(Expected::LaterDate));
+    }
+    number_item(alloc, seconds, inner)
+}
+
+/// A text that is UTF-8.
+#[tactic(auto, using(crate::proofs::Dates::utf8_laws))]
+fn utf8_text(content: &[u8]) -> Option<&str>
+    ensures { option_map (λ x. x.now) result ≡ utf8_text content.now }
+{
+    match str::from_utf8(content) {
+        Ok(text) => Some(text),
+        Err(_) => None,
+    }
+}
+
+/// The seconds of a date with a time of day and an offset.
+#[tactic(auto, unfolding(crate::specs::Items::date_item))]
+fn date_item(alloc: Global, content: &[u8], inner: u8) -> Result<DataItem, Stop>
+    requires low { 2 ≤ inner }
+    requires high { inner ≤ 129 }
+    ensures gives { Gives view result (date_item (levels_left inner) content.now) }
+    ensures well { IfOk result (λ x. WellFormed (inner - 1) (view x)) }
+{
+    let Some(text) = utf8_text(content) else {
+        return Err(Stop::At(Expected::Date));
+    };
+    let Some(seconds) = cbor_notes::epoch_of_datetime(alloc, text)? else {
+        return Err(Stop::At(Expected::Date));
+    };
+    seconds_item(alloc, seconds.as_bytes(), inner)
+}
+
+/// An item below tag 1.
+fn below_tag(alloc: Global, item: DataItem) -> Result<DataItem, Stop>
+    ensures is { IfOk result (λ x. view x ≡ tagged 1 Unknown (view item)) }
+    ensures memory { IfErr result (λ e. e ≡ Memory) }
+    ensures well { IfOk result (λ x. (level : ℕ) → level < deepest
+        → WellFormed (level + 1) (view item) → WellFormed level (view x)) }
+{
+    let value = Box::new(alloc, item)?;
+    Ok(DataItem::Tag {
+        tag: Tag(1),
+        bitwidth: IntegerWidth::Unknown,
+        value,
+    })
+}
+
+/// The seconds of a date, below tag 1.
+fn tagged_date(alloc: Global, content: &[u8], inner: u8) -> Result<DataItem, Stop>
+    requires low { 2 ≤ inner }
+    requires high { inner ≤ 129 }
+    ensures gives { Gives view result (tagged_date (levels_left inner) content.now) }
+    ensures well { IfOk result (λ x. WellFormed (inner - 1) (view x)) }
+{
+    if inner > DEEPEST {
+        return Err(Stop::At(Expected::Levels));
+    }
+    let item = date_item(alloc, content, inner + 1)?;
+    let found = below_tag(alloc, item)?;
+    Ok(found)
+}
+
+/// The seconds of a date, after `dt'`.
+pub(crate) fn read_date(alloc: Global, text: &mut Cursor<'_>, inner: u8) -> Result<DataItem, Stop>
+    requires low { 2 ≤ inner }
+    requires high { inner ≤ 129 }
+    ensures gives { Gives (λ x. (view x, text.new)) result
+        (quoted_item (date_item (levels_left inner)) text.old) }
+    ensures within { length text.new ≤ length text.old }
+    ensures well { IfOk result (λ x. WellFormed (inner - 1) (view x)) }
+{
+    let rest = text.rest();
+    let Some(end) = find_apostrophe(rest) else {
+        return Err(Stop::At(Expected::Quote));
+    };
+    let item = date_item(alloc, &rest[..end], inner)?;
+    *text = Cursor::new(&rest[end + 1..]);
+    Ok(item)
+}
+
+/// The seconds of a date below tag 1, after `DT'`.
+pub(crate) fn read_tagged_date(
+    alloc: Global,
+    text: &mut Cursor<'_>,
+    inner: u8,
+) -> Result<DataItem, Stop>
+    requires low { 2 ≤ inner }
+    requires high { inner ≤ 129 }
+    ensures gives { Gives (λ x. (view x, text.new)) result
+        (quoted_item (tagged_date (levels_left inner)) text.old) }
+    ensures within { length text.new ≤ length text.old }
+    ensures well { IfOk result (λ x. WellFormed (inner - 1) (view x)) }
+{
+    let rest = text.rest();
+    let Some(end) = find_apostrophe(rest) else {
+        return Err(Stop::At(Expected::Quote));
+    };
+    let item = tagged_date(alloc, &rest[..end], inner)?;
+    *text = Cursor::new(&rest[end + 1..]);
+    Ok(item)
+}
