@@ -1,6 +1,6 @@
 /*
- * cbor_diag.h - CBOR data items (RFC 8949, which replaced RFC 7049) in bytes, in hex with comments and in diagnostic
- * notation.
+ * cbor_diag.h - CBOR data items (RFC 8949, which replaced RFC 7049) in bytes, in hex with comments, in diagnostic
+ * notation and in EDN, the notation that people write.
  *
  *     static const char notation[] = "[1, {\"a\": h'00ff'}]";
  *     unsigned char bytes[64];
@@ -36,12 +36,19 @@ enum cbor_diag_form {
     CBOR_DIAG_FORM_BYTES = 0, /* the bytes of an item */
     CBOR_DIAG_FORM_HEX = 1,   /* hex with comments from # to the end of the line; the output is a dump */
     CBOR_DIAG_FORM_DIAG = 2,  /* diagnostic notation; the output has no line breaks of its own; a line feed ends it */
-    CBOR_DIAG_FORM_PRETTY = 3 /* diagnostic notation; the output may have several lines; a line feed ends it */
+    CBOR_DIAG_FORM_PRETTY = 3, /* diagnostic notation; the output may have several lines; a line feed ends it */
+    CBOR_DIAG_FORM_EDN = 4,    /* one item in EDN, of which JSON is a part; the output is one line */
+    CBOR_DIAG_FORM_EDN_PRETTY = 5 /* one item in EDN; the output may have several lines, and has notes as comments */
 };
 
 /*
- * In both outputs in notation a text string is shown as it is, with its line feeds and control characters: of hostile
- * input, a line is not one item, and a terminal obeys what it is sent. A dump escapes them.
+ * EDN is what people write. There a float is decimal, texts have the escapes of JSON, and a width is stated where it is
+ * not the shortest. What is written for an item is read back as the same bytes, but for a simple value below 24 in two
+ * bytes, which RFC 8949 does not have; that is tested, not proved. An output in EDN has no control characters but line
+ * feeds, which are outside of texts.
+ *
+ * In both outputs in diagnostic notation a text string is shown as it is, with its line feeds and control characters:
+ * of hostile input, a line is not one item, and a terminal obeys what it is sent. A dump and EDN escape them.
  */
 
 /* Errors. A call returns minus one of these. */
@@ -49,13 +56,13 @@ enum cbor_diag_error {
     CBOR_DIAG_ERROR_MEMORY = 1,      /* out of memory; it says nothing of the input */
     CBOR_DIAG_ERROR_CUT_SHORT = 2,   /* the item is cut short: more bytes are needed */
     CBOR_DIAG_ERROR_HEAD = 3,        /* no item can have this head */
-    CBOR_DIAG_ERROR_UTF8 = 4,        /* a text is not UTF-8, or the hex or notation of the input is not */
+    CBOR_DIAG_ERROR_UTF8 = 4,        /* a text is not UTF-8, or the hex, notation or EDN of the input is not */
     CBOR_DIAG_ERROR_TOO_DEEP = 5,    /* nested deeper than 128 levels */
     CBOR_DIAG_ERROR_REMAINING = 6,   /* bytes remain after the item */
     CBOR_DIAG_ERROR_ODD_HEX = 7,     /* an odd number of bytes in hex, whatever they are, not counting comments, spaces
                                         and line ends */
     CBOR_DIAG_ERROR_BAD_HEX = 8,     /* an even number of them, and one is no hex digit */
-    CBOR_DIAG_ERROR_NOTATION = 9,    /* not diagnostic notation */
+    CBOR_DIAG_ERROR_NOTATION = 9,    /* not diagnostic notation; or not one item in EDN, whatever is wrong */
     CBOR_DIAG_ERROR_PAST_WIDTH = 10, /* a number does not fit its width */
     CBOR_DIAG_ERROR_NO_FORM = 11     /* no such form: `from` or `to` is not an enum cbor_diag_form */
 };
@@ -90,6 +97,7 @@ int64_t cbor_diag_convert(uint32_t from, uint32_t to, const uint8_t *input, size
                           size_t output_len);
 int64_t cbor_diag_extent(const uint8_t *input, size_t input_len, size_t *end);
 int64_t cbor_diag_fault(uint32_t from, const uint8_t *input, size_t input_len, size_t *place);
+int64_t cbor_diag_fault_text(uint32_t from, const uint8_t *input, size_t input_len, uint8_t *text, size_t text_len);
 void cbor_diag_scanner_init(struct cbor_diag_scanner *scanner);
 int64_t cbor_diag_scanner_feed(struct cbor_diag_scanner *scanner, const uint8_t *input, size_t input_len, size_t *end);
 int64_t cbor_diag_error_text(uint32_t error, uint8_t *output, size_t output_len);
@@ -168,8 +176,10 @@ static inline int64_t cbor_diag_extent_checked(const void *input, size_t input_l
  *   end of a text whose bytes are cut.
  * - In notation it is the last of the first bytes after which no notation can follow; or the end of a text that may
  *   only be cut short. It may be inside a character. It is proved that no notation begins with the bytes up to it, or
- *   that it is the end of the text; the rest is tested.
- * - In hex or notation that is not UTF-8 it is the first byte that is not.
+ *   that it is the end of a text that is cut short; the rest is tested.
+ * - In EDN it is where the reader stops: no EDN goes on so. It is proved to be in the text or at its end; the rest is
+ *   tested.
+ * - In hex, notation or EDN that is not UTF-8 it is the first byte that is not.
  *
  * `input` may be null if its length is 0, and `place` may be null.
  */
@@ -185,6 +195,31 @@ static inline int64_t cbor_diag_fault_checked(uint32_t from, const void *input, 
     return cbor_diag_fault(from, in, input_len, at);
 }
 #define cbor_diag_fault cbor_diag_fault_checked
+
+/* Enough for each text of cbor_diag_fault_text. */
+#define CBOR_DIAG_FAULT_TEXT_SIZE 256
+
+/*
+ * Says in words why an input is no item in the form `from`, in ASCII and without a full stop: for EDN what has to be at
+ * the place of cbor_diag_fault, and in other forms the text of the error.
+ *
+ * Returns the length of the whole text, of which as much is written as fits `text`, or 0 if the input is an item. No
+ * zero byte is added. CBOR_DIAG_FAULT_TEXT_SIZE is enough for each text. A pointer may be null if its length is 0.
+ */
+static inline int64_t cbor_diag_fault_text_checked(uint32_t from, const void *input, size_t input_len, char *text,
+                                                   size_t text_len)
+{
+    const uint8_t *in = input ? (const uint8_t *)input : cbor_diag_no_bytes();
+    uint8_t *out = text ? (uint8_t *)text : cbor_diag_no_bytes();
+    if (text_len > (size_t)PTRDIFF_MAX) {
+        text_len = (size_t)PTRDIFF_MAX;
+    }
+    if (input_len > (size_t)PTRDIFF_MAX) {
+        return cbor_diag_error_text(CBOR_DIAG_ERROR_MEMORY, out, text_len); /* no object is that large */
+    }
+    return cbor_diag_fault_text(from, in, input_len, out, text_len);
+}
+#define cbor_diag_fault_text cbor_diag_fault_text_checked
 
 /*
  * Reports how bytes begin that come in pieces, without memory: feed each piece as it comes, for example from a socket.

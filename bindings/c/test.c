@@ -18,7 +18,9 @@
 #define HEX CBOR_DIAG_FORM_HEX
 #define DIAG CBOR_DIAG_FORM_DIAG
 #define PRETTY CBOR_DIAG_FORM_PRETTY
-#define FORMS 4
+#define EDN CBOR_DIAG_FORM_EDN
+#define EDN_PRETTY CBOR_DIAG_FORM_EDN_PRETTY
+#define FORMS 6
 #define UNTOUCHED 0xa5
 
 /* ---- reports */
@@ -118,7 +120,15 @@ static const struct text uri[FORMS] = {
          "                                             #   valid URL (checked against URL Standard, not RFC 3986)\n"),
     TEXT("32_0(\"https://example.com\")\n"),
     TEXT("32_0(\"https://example.com\")\n"),
+    TEXT("32(\"https://example.com\")\n"),
+    TEXT("32(\"https://example.com\")\n"),
 };
+
+/* What comes of it. EDN leaves the width of the tag open, and then the other notation states none. */
+static struct text uri_from(int from, int to)
+{
+    return uri[from >= EDN && (to == DIAG || to == PRETTY) ? EDN : to];
+}
 
 /* A buffer of its own for each length, so that a tool that watches memory sees a byte past its end. */
 static void test_room(const char *name, int from, int to, struct text input, struct text output)
@@ -151,7 +161,7 @@ static void test_exact_room(const char *name, int from, int to, struct text inpu
     }
 }
 
-static const char *const form_names[FORMS] = {"bytes", "hex", "diag", "pretty"};
+static const char *const form_names[FORMS] = {"bytes", "hex", "diag", "pretty", "EDN", "pretty EDN"};
 
 static void test_all_pairs_in_every_room(void)
 {
@@ -159,9 +169,41 @@ static void test_all_pairs_in_every_room(void)
         for (int to = 0; to < FORMS; to++) {
             char name[64];
             snprintf(name, sizeof name, "a URI from %s to %s", form_names[from], form_names[to]);
-            test_room(name, from, to, uri[from], uri[to]);
-            test_exact_room(name, from, to, uri[from], uri[to]);
+            test_room(name, from, to, uri[from], uri_from(from, to));
+            test_exact_room(name, from, to, uri[from], uri_from(from, to));
         }
+    }
+}
+
+/* ---- EDN */
+
+static void test_edn(void)
+{
+    const struct {
+        const char *name;
+        struct text given, bytes, line, pretty;
+    } rows[] = {
+        {"floats", TEXT("[1.5, -0.0, 1e300, 1.5_3, NaN]"),
+         TEXT("\x85\xf9\x3e\x00\xf9\x80\x00\xfb\x7e\x37\xe4\x3c\x88\x00\x75\x9c"
+              "\xfb\x3f\xf8\x00\x00\x00\x00\x00\x00\xf9\x7e\x00"),
+         TEXT("[1.5, -0.0, 1e300, 1.5_3, NaN]\n"),
+         TEXT("[\n    1.5,\n    -0.0,\n    1e300,\n    1.5_3,\n    NaN,\n]\n")},
+        {"escapes", TEXT("\"\\n\\u00fc\\u0007\\ud83d\\ude00\""), TEXT("\x68\n\xc3\xbc\x07\xf0\x9f\x98\x80"),
+         TEXT("\"\\n\xc3\xbc\\u0007\xf0\x9f\x98\x80\"\n"), TEXT("\"\\n\xc3\xbc\\u0007\xf0\x9f\x98\x80\"\n")},
+        {"indicators", TEXT("[_0 1_1 24_0(\"a\"_1) {_2 }]"),
+         TEXT("\x98\x03\x19\x00\x01\xd8\x18\x79\x00\x01\x61\xba\x00\x00\x00\x00"),
+         TEXT("[_0 1_1, 24(\"a\"_1), {_2 }]\n"), TEXT("[_0 1_1, 24(\"a\"_1), {_2 }]\n")},
+        {"a JSON document", TEXT("{\"a\": [1, -2.5e0, null]}\n"), TEXT("\xa1\x61\x61\x83\x01\xf9\xc1\x00\xf6"),
+         TEXT("{\"a\": [1, -2.5, null]}\n"), TEXT("{\"a\": [1, -2.5, null]}\n")},
+        {"a date", TEXT("# the first\n1(0) // of 1970"), TEXT("\xc1\x00"), TEXT("1(0)\n"),
+         TEXT("1(0 /1970-01-01T00:00:00Z/)\n")},
+    };
+    for (size_t i = 0; i < sizeof rows / sizeof *rows; i++) {
+        test_room(rows[i].name, EDN, BYTES, rows[i].given, rows[i].bytes);
+        test_room(rows[i].name, BYTES, EDN, rows[i].bytes, rows[i].line);
+        test_room(rows[i].name, EDN_PRETTY, EDN, rows[i].pretty, rows[i].line);
+        test_room(rows[i].name, EDN, EDN_PRETTY, rows[i].line, rows[i].pretty);
+        test_room(rows[i].name, EDN_PRETTY, BYTES, rows[i].pretty, rows[i].bytes);
     }
 }
 
@@ -190,8 +232,16 @@ static const struct refused refusals[] = {
     {"a decimal fraction", DIAG, BYTES, TEXT("1.5"), CBOR_DIAG_ERROR_NOTATION},
     {"a decimal fraction, pretty", PRETTY, BYTES, TEXT("1.5"), CBOR_DIAG_ERROR_NOTATION},
     {"300 in one byte", DIAG, BYTES, TEXT("300_0"), CBOR_DIAG_ERROR_PAST_WIDTH},
-    {"from the form 4", 4, BYTES, TEXT("\x01"), CBOR_DIAG_ERROR_NO_FORM},
-    {"to the form 4", BYTES, 4, TEXT("\x01"), CBOR_DIAG_ERROR_NO_FORM},
+    {"no EDN", EDN, BYTES, TEXT(""), CBOR_DIAG_ERROR_NOTATION},
+    {"two items in EDN", EDN, EDN, TEXT("1 2"), CBOR_DIAG_ERROR_NOTATION},
+    {"300 in one byte in EDN", EDN, DIAG, TEXT("300_0"), CBOR_DIAG_ERROR_NOTATION},
+    {"EDN of the byte ff", EDN_PRETTY, HEX, TEXT("\"\xff\""), CBOR_DIAG_ERROR_UTF8},
+    {"bytes that are cut, to EDN", BYTES, EDN, TEXT("\x82\x01"), CBOR_DIAG_ERROR_CUT_SHORT},
+    {"hex that is cut, to EDN", HEX, EDN_PRETTY, TEXT("82 01"), CBOR_DIAG_ERROR_CUT_SHORT},
+    {"a g among hex digits, to EDN", HEX, EDN, TEXT("0g"), CBOR_DIAG_ERROR_BAD_HEX},
+    {"a decimal fraction in notation, to EDN", DIAG, EDN, TEXT("1.5"), CBOR_DIAG_ERROR_NOTATION},
+    {"from the form 6", 6, BYTES, TEXT("\x01"), CBOR_DIAG_ERROR_NO_FORM},
+    {"to the form 6", BYTES, 6, TEXT("\x01"), CBOR_DIAG_ERROR_NO_FORM},
     {"from the form 2^32 - 1", UINT32_MAX, BYTES, TEXT("\x01"), CBOR_DIAG_ERROR_NO_FORM},
     {"to the form 2^31", BYTES, 1u << 31, TEXT("\x01"), CBOR_DIAG_ERROR_NO_FORM},
     {"to no form, of no item", BYTES, 99, TEXT(""), CBOR_DIAG_ERROR_NO_FORM},
@@ -471,7 +521,13 @@ static void test_faults(void)
         {DIAG, TEXT("[1, 2]]"), CBOR_DIAG_ERROR_NOTATION, 6},
         {PRETTY, TEXT("[300_0]"), CBOR_DIAG_ERROR_PAST_WIDTH, 6},
         {PRETTY, TEXT("[\"\xc3\xbc\", \xff]"), CBOR_DIAG_ERROR_UTF8, 7},
-        {4, TEXT("\x01"), CBOR_DIAG_ERROR_NO_FORM, CBOR_DIAG_NO_PLACE},
+        {EDN, TEXT("[1, 2.5]"), 0, CBOR_DIAG_NO_PLACE},
+        {EDN, TEXT("[1, 2"), CBOR_DIAG_ERROR_NOTATION, 5},
+        {EDN, TEXT("{\"a\" 1}"), CBOR_DIAG_ERROR_NOTATION, 5},
+        {EDN, TEXT("[1, \"\\q\"]"), CBOR_DIAG_ERROR_NOTATION, 5},
+        {EDN_PRETTY, TEXT("[1, x]"), CBOR_DIAG_ERROR_NOTATION, 4},
+        {EDN, TEXT("[\"\xc3\xbc\", \xff]"), CBOR_DIAG_ERROR_UTF8, 7},
+        {6, TEXT("\x01"), CBOR_DIAG_ERROR_NO_FORM, CBOR_DIAG_NO_PLACE},
     };
     for (size_t i = 0; i < sizeof rows / sizeof *rows; i++) {
         char name[40], other[8];
@@ -493,6 +549,49 @@ static void test_faults(void)
     check(place == 0, "null input: expected the place 0, came %zu", place);
     check_answer("2^64 - 1 bytes", -CBOR_DIAG_ERROR_MEMORY, cbor_diag_fault(BYTES, "\x01", SIZE_MAX, &place));
     check(place == CBOR_DIAG_NO_PLACE, "2^64 - 1 bytes: expected no place, came %zu", place);
+}
+
+static void test_fault_texts(void)
+{
+    const struct {
+        uint32_t from;
+        struct text input;
+        const char *text;
+    } rows[] = {
+        {EDN, TEXT("{\"a\" 1}"), "a colon has to follow the key"},
+        {EDN_PRETTY, TEXT("[_1]"),
+         "a blank has to follow: [_1 ] is an empty array, and [_ 1] one of indefinite length"},
+        {EDN, TEXT("\"\xff\""), "a text is not UTF-8"},
+        {EDN, TEXT("[1, 2.5]"), ""},
+        {BYTES, TEXT("\x82\x01"), "the item is cut short"},
+        {BYTES, TEXT("\x01"), ""},
+        {HEX, TEXT("0g"), "not a hex digit"},
+        {DIAG, TEXT("300_0"), "a number does not fit its width"},
+        {6, TEXT("1"), "no such form"},
+    };
+    for (size_t i = 0; i < sizeof rows / sizeof *rows; i++) {
+        char name[40];
+        snprintf(name, sizeof name, "the text of fault %zu", i);
+        size_t length = strlen(rows[i].text);
+        for (size_t room = 0; room <= length + 2; room++) {
+            char *text = malloc(room + 1);
+            memset(text, UNTOUCHED, room + 1);
+            check_answer(name, (int64_t)length,
+                         cbor_diag_fault_text(rows[i].from, rows[i].input.bytes, rows[i].input.length, text, room));
+            size_t written = room < length ? room : length;
+            check_bytes(name, rows[i].text, text, written);
+            for (size_t j = written; j <= room; j++) {
+                check((unsigned char)text[j] == UNTOUCHED, "%s: expected byte %zu untouched", name, j);
+            }
+            free(text);
+        }
+        check(length < CBOR_DIAG_FAULT_TEXT_SIZE, "%s: it is longer than said", name);
+    }
+    char text[CBOR_DIAG_FAULT_TEXT_SIZE];
+    check_answer("the text of null input", 21, cbor_diag_fault_text(BYTES, NULL, 0, text, sizeof text));
+    check_answer("the text of null input, without room", 21, cbor_diag_fault_text(BYTES, NULL, 0, NULL, 0));
+    check_answer("the text of 2^64 - 1 bytes", 13, cbor_diag_fault_text(BYTES, "\x01", SIZE_MAX, text, sizeof text));
+    check_bytes("the text of 2^64 - 1 bytes", "out of memory", text, 13);
 }
 
 /* Each allocation fails in turn. */
@@ -558,11 +657,12 @@ static void test_memory(void)
 {
     for (int from = 0; from < FORMS; from++) {
         for (int to = 0; to < FORMS; to++) {
-            test_failing_memory(from, to, uri[from], uri[to]);
+            test_failing_memory(from, to, uri[from], uri_from(from, to));
         }
     }
     test_faults_without_memory(HEX, "82 01 1c # 28", CBOR_DIAG_ERROR_HEAD);
     test_faults_without_memory(DIAG, "[h'00', \"a\", 1.5]", CBOR_DIAG_ERROR_NOTATION);
+    test_faults_without_memory(EDN, "[h'00', \"a\", 1.5.]", CBOR_DIAG_ERROR_NOTATION);
 }
 
 /* ---- openings */
@@ -628,6 +728,8 @@ static void test_large(size_t count)
         repeated(first_line, strlen(first_line), "   01       #   unsigned(1)\n", count, ""),
         repeated("[", 1, "1,", count - 1, "1]\n"),
         repeated("[\n", 2, "    1,\n", count, "]\n"),
+        repeated("[", 1, "1, ", count - 1, "1]\n"),
+        repeated("[\n", 2, "    1,\n", count, "]\n"),
     };
     for (int from = 0; from < FORMS; from++) {
         for (int to = 0; to < FORMS; to++) {
@@ -663,9 +765,10 @@ static void *converting(void *unused)
     for (long round = 0; round < rounds_of_threads; round++) {
         unsigned char output[400];
         int from = (int)(round % FORMS), to = (int)(round / FORMS % FORMS);
-        check_answer("in a thread", (int64_t)uri[to].length,
+        struct text wanted = uri_from(from, to);
+        check_answer("in a thread", (int64_t)wanted.length,
                      cbor_diag_convert(from, to, uri[from].bytes, uri[from].length, output, sizeof output));
-        check_bytes("in a thread", uri[to].bytes, output, uri[to].length);
+        check_bytes("in a thread", wanted.bytes, output, wanted.length);
         check_answer("127 levels in a thread", deepest_length,
                      cbor_diag_convert(DIAG, BYTES, deepest, sizeof deepest, output, sizeof output));
         check(output[0] == 0x58 && output[1] == deepest_length - 2 && output[deepest_length - 1] == 1,
@@ -694,6 +797,7 @@ int main(int argc, char **argv)
     size_t count = argc > 1 ? strtoul(argv[1], NULL, 10) : 500000;
     rounds_of_threads = (long)count / 25;
     test_all_pairs_in_every_room();
+    test_edn();
     test_errors();
     test_error_texts();
     test_extents();
@@ -702,6 +806,7 @@ int main(int argc, char **argv)
     test_scanner_limits();
     test_deep_scanner();
     test_faults();
+    test_fault_texts();
     test_limits();
     test_memory();
     test_openings();

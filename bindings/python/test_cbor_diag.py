@@ -25,6 +25,8 @@ d8 20                                        # uri, tag(32)
 """,
     Form.DIAG: b'32_0("https://example.com")\n',
     Form.PRETTY: b'32_0("https://example.com")\n',
+    Form.EDN: b'32("https://example.com")\n',
+    Form.EDN_PRETTY: b'32("https://example.com")\n',
 }
 
 REFUSED = [
@@ -46,6 +48,11 @@ REFUSED = [
     (Form.DIAG, "", Error.NOTATION),
     (Form.DIAG, "300_0", Error.PAST_WIDTH),
     (Form.DIAG, "\ud800", Error.UTF8),
+    (Form.EDN, "", Error.NOTATION),
+    (Form.EDN, "1 2", Error.NOTATION),
+    (Form.EDN_PRETTY, "300_0", Error.NOTATION),
+    (Form.EDN, "[" * 200000, Error.NOTATION),
+    (Form.EDN, "\ud800", Error.UTF8),
 ]
 
 TEXTS = {
@@ -74,12 +81,18 @@ IN_PIECES = [bytes.fromhex(row) for row in """
 """.split()] + [b""]
 
 
+def uri_from(source, target):
+    """What comes of it. EDN leaves the width of the tag open, and then the other notation states none."""
+    is_open = source in (Form.EDN, Form.EDN_PRETTY) and target in (Form.DIAG, Form.PRETTY)
+    return URI[Form.EDN if is_open else target]
+
+
 class Conversions(unittest.TestCase):
     def test_each_pair_of_forms(self):
         for source, given in URI.items():
-            for target, expected in URI.items():
+            for target in URI:
                 with self.subTest(source=source, target=target):
-                    self.assertEqual(cbor_diag.convert(source, target, given), expected)
+                    self.assertEqual(cbor_diag.convert(source, target, given), uri_from(source, target))
 
     def test_each_kind_of_data(self):
         for data in (b"\x01", bytearray(b"\x01"), memoryview(b"\x00\x01\x02")[1:2]):
@@ -126,6 +139,25 @@ class Conversions(unittest.TestCase):
         self.assertEqual(cbor_diag.diag_to_bytes("[1]"), item)
         self.assertEqual(cbor_diag.diag_to_hex("[1]"), dump)
 
+    def test_edn(self):
+        for given, item, line in (
+            ("1.5", b"\xf9\x3e\x00", "1.5"),
+            ("1.5_2", b"\xfa\x3f\xc0\x00\x00", "1.5_2"),
+            ('"\\n\\u00fc"', b"\x63\n\xc3\xbc", '"\\n\u00fc"'),
+            ("[_0 1_1]", b"\x98\x01\x19\x00\x01", "[_0 1_1]"),
+            ('{"a": [1, null]}', b"\xa1\x61a\x82\x01\xf6", '{"a": [1, null]}'),
+            ("'\u00fc' // bytes", b"\x42\xc3\xbc", "h'c3bc'"),
+        ):
+            with self.subTest(given=given):
+                self.assertEqual(cbor_diag.edn_to_bytes(given), item)
+                self.assertEqual(cbor_diag.bytes_to_edn(item), line)
+                self.assertEqual(cbor_diag.bytes_to_edn_pretty(item), line)
+                self.assertEqual(cbor_diag.hex_to_edn(item.hex()), line)
+                self.assertEqual(cbor_diag.hex_to_edn_pretty(item.hex()), line)
+                self.assertEqual(cbor_diag.edn_to_hex(line), cbor_diag.bytes_to_hex(item))
+        self.assertEqual(cbor_diag.bytes_to_edn(b"\xc1\x00"), "1(0)")
+        self.assertEqual(cbor_diag.bytes_to_edn_pretty(b"\xc1\x00"), "1(0 /1970-01-01T00:00:00Z/)")
+
     def test_an_output_far_longer_than_its_input(self):
         # 120 arrays, one in the other: each but the innermost has a line of its own, 3 blanks deeper
         dump = cbor_diag.bytes_to_hex(b"\x81" * 119 + b"\x80").splitlines()
@@ -139,6 +171,8 @@ class Conversions(unittest.TestCase):
             Form.HEX: b"9a %08x # array(%d)\n" % (count, count) + b"   01       #   unsigned(1)\n" * count,
             Form.DIAG: b"[" + b"1," * (count - 1) + b"1]\n",
             Form.PRETTY: b"[\n" + b"    1,\n" * count + b"]\n",
+            Form.EDN: b"[" + b"1, " * (count - 1) + b"1]\n",
+            Form.EDN_PRETTY: b"[\n" + b"    1,\n" * count + b"]\n",
         }
         for source, given in forms.items():
             for target, expected in forms.items():
@@ -151,8 +185,8 @@ class Conversions(unittest.TestCase):
         def converting():
             for _ in range(2000):
                 for source, given in URI.items():
-                    for target, expected in URI.items():
-                        if cbor_diag.convert(source, target, given) != expected:
+                    for target in URI:
+                        if cbor_diag.convert(source, target, given) != uri_from(source, target):
                             wrong.append((source, target))
 
         threads = [threading.Thread(target=converting) for _ in range(4)]
@@ -407,6 +441,9 @@ class Errors(unittest.TestCase):
             (Form.DIAG, "[1, 2.5]", Error.NOTATION, 5),
             (Form.DIAG, "[1, 2", Error.NOTATION, 5),
             (Form.DIAG, '["\u00e9", 2.5]', Error.NOTATION, 7),  # characters
+            (Form.EDN, '{"a" 1}', Error.NOTATION, 5),
+            (Form.EDN, '{"\u00e9" 1}', Error.NOTATION, 5),  # characters
+            (Form.EDN, '{"\u00e9" 1}'.encode(), Error.NOTATION, 6),  # bytes
         ):
             for target in Form:
                 with self.subTest(source=source, target=target, given=given):
@@ -415,8 +452,22 @@ class Errors(unittest.TestCase):
                     self.assertIs(raised.exception.error, error)
                     self.assertEqual(raised.exception.offset, offset)
 
+    def test_edn(self):
+        for given, offset, text in (
+            ('{"a" 1}', 5, "a colon has to follow the key"),
+            ("[1, 2", 5, "a comma or ] has to follow the member"),
+            ("[_1]", 3, "a blank has to follow: [_1 ] is an empty array, and [_ 1] one of indefinite length"),
+        ):
+            with self.subTest(given=given):
+                with self.assertRaises(CborDiagError) as raised:
+                    cbor_diag.edn_to_bytes(given)
+                self.assertIs(raised.exception.error, Error.NOTATION)
+                self.assertEqual(raised.exception.offset, offset)
+                self.assertEqual(str(raised.exception), text)
+                self.assertEqual(str(pickle.loads(pickle.dumps(raised.exception))), text)
+
     def test_no_form(self):
-        for number in (4, 2**32 - 1, 2**32, 2**32 + 2, 2**64, -1, -(2**32)):
+        for number in (6, 2**32 - 1, 2**32, 2**32 + 2, 2**64, -1, -(2**32)):
             for source, target in ((number, 0), (0, number)):
                 with self.subTest(source=source, target=target):
                     with self.assertRaises(CborDiagError) as raised:

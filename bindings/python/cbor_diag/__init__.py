@@ -1,9 +1,10 @@
-"""CBOR data items (RFC 8949) in bytes, in hex with comments and in diagnostic notation.
+"""CBOR data items (RFC 8949) in bytes, in hex with comments, in diagnostic notation, and in EDN, the notation that
+people write.
 
-    >>> diag_to_bytes('[1, {"a": 2}]').hex()
-    '8201a1616102'
-    >>> bytes_to_diag(bytes.fromhex("8201a1616102"))
-    '[1,{"a":2}]'
+    >>> edn_to_bytes('[1.5, {"a": 2}]').hex()
+    '82f93e00a1616102'
+    >>> bytes_to_edn(bytes.fromhex("82f93e00a1616102"))
+    '[1.5, {"a": 2}]'
 
 The library libcbor_diag does the work. It is searched for at the path in the environment variable CBOR_DIAG_LIBRARY,
 then beside this module, then in this repository's dist/lib, then where the system looks for libraries.
@@ -28,14 +29,20 @@ __all__ = [
     "Scanner",
     "bytes_to_diag",
     "bytes_to_diag_pretty",
+    "bytes_to_edn",
+    "bytes_to_edn_pretty",
     "bytes_to_hex",
     "convert",
     "diag_to_bytes",
     "diag_to_hex",
+    "edn_to_bytes",
+    "edn_to_hex",
     "extent",
     "hex_to_bytes",
     "hex_to_diag",
     "hex_to_diag_pretty",
+    "hex_to_edn",
+    "hex_to_edn_pretty",
     "items",
     "library_version",
 ]
@@ -56,6 +63,10 @@ class Form(enum.IntEnum):
     """Diagnostic notation. As an output it has no line feed but those in its texts, and one that ends it."""
     PRETTY = 3
     """Diagnostic notation. As an output it may have several lines, and a line feed ends it."""
+    EDN = 4
+    """One item in EDN, of which JSON is a part. As an output it is one line, and a line feed ends it."""
+    EDN_PRETTY = 5
+    """One item in EDN. As an output it may have several lines, with notes as comments, and a line feed ends it."""
 
 
 class Error(enum.IntEnum):
@@ -68,7 +79,7 @@ class Error(enum.IntEnum):
     HEAD = 3
     """No item can have this head."""
     UTF8 = 4
-    """A text is not UTF-8, or the hex or notation of the input is not."""
+    """A text is not UTF-8, or the hex, notation or EDN of the input is not."""
     TOO_DEEP = 5
     """Nested deeper than 128 levels."""
     REMAINING = 6
@@ -78,7 +89,7 @@ class Error(enum.IntEnum):
     BAD_HEX = 8
     """The number is even, and one of them is no hex digit."""
     NOTATION = 9
-    """Not diagnostic notation."""
+    """Not diagnostic notation; or not one item in EDN, whatever is wrong."""
     PAST_WIDTH = 10
     """A number does not fit its width."""
     NO_FORM = 11
@@ -86,7 +97,7 @@ class Error(enum.IntEnum):
 
 
 class CborDiagError(ValueError):
-    """The input is not an item, or memory ran out. The text is the library's.
+    """The input is not an item, or memory ran out. The text is the library's; of EDN it says what has to be there.
 
     `error` says which error it is. `offset` says where: how many bytes of the input come before the fault, or how many
     characters if `convert` was given a `str`. It is `None` where there is no place: out of memory, and for no form.
@@ -94,20 +105,23 @@ class CborDiagError(ValueError):
     The fault is the byte that no item can have there; the last byte of a text that is not UTF-8; the end of what is cut
     short; or the first byte after the item. In hex it is the first digit of that byte, or the digit that is wrong,
     which is the last of an odd number. In notation it is where no notation can go on so, or the end of a text that may
-    only be cut short; it is proved that no notation begins with the bytes up to it, or that it is the end of the text.
-    In hex or notation that is not UTF-8 it is the first byte that is not.
+    only be cut short; it is proved that no notation begins with the bytes up to it, or that it is the end of a text
+    that is cut short. In EDN it is where the reader stops. In hex, notation or EDN that is not UTF-8 it is the first
+    byte that is not.
 
     If `extent`, `Scanner.feed` or `items` raised it, `end` is the number of first bytes that have the error.
     """
 
-    def __init__(self, error: Error, end: Optional[int] = None, offset: Optional[int] = None) -> None:
-        super().__init__(_error_text(error))
+    def __init__(
+        self, error: Error, end: Optional[int] = None, offset: Optional[int] = None, text: Optional[str] = None
+    ) -> None:
+        super().__init__(_error_text(error) if text is None else text)
         self.error = error
         self.end = end
         self.offset = offset
 
-    def __reduce__(self) -> tuple[type[CborDiagError], tuple[Error, Optional[int], Optional[int]]]:
-        return type(self), (self.error, self.end, self.offset)
+    def __reduce__(self) -> tuple[type[CborDiagError], tuple[Error, Optional[int], Optional[int], str]]:
+        return type(self), (self.error, self.end, self.offset, str(self))
 
 
 def _library_path() -> str:
@@ -144,6 +158,9 @@ class _Library:
         self.fault = library.cbor_diag_fault
         self.fault.restype = ctypes.c_int64
         self.fault.argtypes = [ctypes.c_uint32, pointer, size, ctypes.POINTER(size)]
+        self.fault_text = library.cbor_diag_fault_text
+        self.fault_text.restype = ctypes.c_int64
+        self.fault_text.argtypes = [ctypes.c_uint32, pointer, size, ctypes.c_char_p, size]
         self.scanner_init = library.cbor_diag_scanner_init
         self.scanner_init.restype = None
         self.scanner_init.argtypes = [pointer]
@@ -218,7 +235,7 @@ def _on_bytes(data: Data, call: Callable[..., _Result], *arguments: Any) -> _Res
     return call(_releasing, data, len(data), *arguments)
 
 
-_BYTES, _HEX, _DIAG, _PRETTY = map(int, Form)  # plain numbers, which ctypes takes in less time
+_BYTES, _HEX, _DIAG, _PRETTY, _EDN, _EDN_PRETTY = map(int, Form)  # plain numbers, which ctypes takes in less time
 
 
 def _form_number(form: Form) -> int:
@@ -237,6 +254,15 @@ def _place(library: _Library, given: Any, length: int, source: int) -> Optional[
 
 
 _NO_PLACE = ctypes.c_size_t(-1).value
+
+
+def _fault_text(library: _Library, given: Any, length: int, source: int, error: int) -> Optional[str]:
+    """What has to be at the place of an error in EDN; `None` for another error."""
+    if error != Error.NOTATION or source not in (_EDN, _EDN_PRETTY):
+        return None
+    text = ctypes.create_string_buffer(256)
+    written = library.fault_text(source, given, length, text, len(text))
+    return text.raw[:written].decode("ascii")
 
 
 class _Room:
@@ -285,7 +311,8 @@ def _converted(
     finally:
         _rooms.append(room)
     if wanted < 0:
-        raise CborDiagError(Error(-wanted), offset=_place(library, given, length, source))
+        place = _place(library, given, length, source)
+        raise CborDiagError(Error(-wanted), None, place, _fault_text(library, given, length, source, -wanted))
     output = ctypes.create_string_buffer(wanted)
     if library.convert(source, target, given, length, output, wanted) != wanted:
         raise AssertionError("the length of an output changed")
@@ -473,6 +500,36 @@ def diag_to_bytes(text: Data) -> bytes:
 def diag_to_hex(text: Data) -> str:
     """The dump of an item from diagnostic notation."""
     return _convert(_DIAG, _HEX, text, _dump)
+
+
+def bytes_to_edn(data: Data) -> str:
+    """An item in EDN on one line, which is read back as the same bytes."""
+    return _convert(_BYTES, _EDN, data, _text)
+
+
+def bytes_to_edn_pretty(data: Data) -> str:
+    """An item in EDN over several lines, with notes as comments, without a line feed at the end."""
+    return _convert(_BYTES, _EDN_PRETTY, data, _text)
+
+
+def hex_to_edn(text: Data) -> str:
+    """An item in hex in EDN on one line."""
+    return _convert(_HEX, _EDN, text, _text)
+
+
+def hex_to_edn_pretty(text: Data) -> str:
+    """An item in hex in EDN over several lines, with notes as comments, without a line feed at the end."""
+    return _convert(_HEX, _EDN_PRETTY, text, _text)
+
+
+def edn_to_bytes(text: Data) -> bytes:
+    """The bytes of one item in EDN, of which JSON is a part."""
+    return _convert(_EDN, _BYTES, text, bytes)
+
+
+def edn_to_hex(text: Data) -> str:
+    """The dump of one item in EDN."""
+    return _convert(_EDN, _HEX, text, _dump)
 
 
 def library_version() -> tuple[int, int, int]:

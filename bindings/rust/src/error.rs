@@ -13,7 +13,7 @@ pub enum Error {
     CutShort,
     /// A head that cannot be in its place.
     Head,
-    /// A text string is not UTF-8, or the hex or notation of the input is not.
+    /// A text string is not UTF-8, or the hex, notation or EDN of the input is not.
     Utf8,
     /// An item is deeper than level 128; the outermost item is at level 1.
     TooDeep,
@@ -23,7 +23,7 @@ pub enum Error {
     OddHex,
     /// The number is even, and one of them is no hex digit.
     BadHex,
-    /// The text is not diagnostic notation.
+    /// The text is not diagnostic notation; or not one item in EDN, whatever is wrong.
     Notation,
     /// A number is too large for the width written after it.
     PastWidth,
@@ -62,8 +62,8 @@ impl Error {
     /// end of bytes that are cut short; or the first byte after an item that is not the last. In hex it is the first
     /// digit of that byte; or the digit that is wrong, which is the last of an odd number. In notation it is where no
     /// notation can go on so, or the end of a text that may only be cut short; it is proved that no notation begins
-    /// with the bytes up to it, or that it is the end of the text. In hex or notation that is not UTF-8 it is the first
-    /// byte that is not.
+    /// with the bytes up to it, or that it is the end of a text that is cut short. In EDN it is where the reader stops.
+    /// In hex, notation or EDN that is not UTF-8 it is the first byte that is not.
     ///
     /// Returns `None` if the input does not have this error, and if memory runs out.
     ///
@@ -82,6 +82,36 @@ impl Error {
         };
         let found = answer == -i64::from(self.number()) && place != usize::MAX;
         found.then_some(place)
+    }
+
+    /// Returns in words why the input of a conversion failed with this error: for EDN what has to be at the place, and
+    /// in other forms the text of the error.
+    ///
+    /// ```rust
+    /// use semphluk::{edn_to_bytes, Form};
+    ///
+    /// let edn = "{\"a\" 1}";
+    /// let error = edn_to_bytes(edn).unwrap_err();
+    /// assert_eq!(error.place(Form::Edn, edn.as_bytes()), Some(5));
+    /// assert_eq!(error.explain(Form::Edn, edn.as_bytes()), "a colon has to follow the key");
+    /// ```
+    pub fn explain(self, from: Form, input: &[u8]) -> String {
+        if self != Error::Notation || !matches!(from, Form::Edn | Form::EdnPretty) {
+            return self.to_string();
+        }
+        let mut text = [0; 256];
+        // SAFETY: the pointers are those of the slices, with their lengths.
+        let length = unsafe {
+            library::cbor_diag_fault_text(
+                from.number(),
+                input.as_ptr(),
+                input.len(),
+                text.as_mut_ptr(),
+                text.len(),
+            )
+        };
+        let written = usize::try_from(length).map_or(0, |length| length.min(text.len()));
+        String::from_utf8_lossy(&text[..written]).into_owned()
     }
 
     /// Returns the number of the error, from 1 for `Memory` to 10 for `PastWidth`, in the order of the variants.

@@ -18,6 +18,10 @@ pub enum Form {
     Diag,
     /// Diagnostic notation. As an output it may have several lines, and a line feed ends it.
     Pretty,
+    /// One item in EDN, of which JSON is a part. As an output it is one line, and a line feed ends it.
+    Edn,
+    /// One item in EDN. As an output it may have several lines, with notes as comments, and a line feed ends it.
+    EdnPretty,
 }
 
 impl Form {
@@ -27,6 +31,8 @@ impl Form {
             Form::Hex => 1,
             Form::Diag => 2,
             Form::Pretty => 3,
+            Form::Edn => 4,
+            Form::EdnPretty => 5,
         }
     }
 }
@@ -58,6 +64,14 @@ mod library {
             input: *const u8,
             input_len: usize,
             place: *mut usize,
+        ) -> i64;
+        /// Returns the length of the text that says why the input is no item, or 0, and writes as much of it as fits.
+        pub fn cbor_diag_fault_text(
+            from: u32,
+            input: *const u8,
+            input_len: usize,
+            text: *mut u8,
+            text_len: usize,
         ) -> i64;
         /// Makes a scanner of the memory.
         pub fn cbor_diag_scanner_init(scanner: *mut ScannerRoom);
@@ -195,6 +209,36 @@ pub fn diag_to_bytes(diag: &str) -> Result<Vec<u8>> {
 /// The dump of an item from diagnostic notation.
 pub fn diag_to_hex(diag: &str) -> Result<String> {
     text(Form::Diag, Form::Hex, diag.as_bytes())
+}
+
+/// An item in EDN on one line, which is read back as the same bytes.
+pub fn bytes_to_edn(bytes: &[u8]) -> Result<String> {
+    notation(Form::Bytes, Form::Edn, bytes)
+}
+
+/// An item in EDN over several lines, with notes as comments, without a line feed at the end.
+pub fn bytes_to_edn_pretty(bytes: &[u8]) -> Result<String> {
+    notation(Form::Bytes, Form::EdnPretty, bytes)
+}
+
+/// An item in hex in EDN on one line.
+pub fn hex_to_edn(hex: &str) -> Result<String> {
+    notation(Form::Hex, Form::Edn, hex.as_bytes())
+}
+
+/// An item in hex in EDN over several lines, with notes as comments, without a line feed at the end.
+pub fn hex_to_edn_pretty(hex: &str) -> Result<String> {
+    notation(Form::Hex, Form::EdnPretty, hex.as_bytes())
+}
+
+/// The bytes of one item in EDN, of which JSON is a part.
+pub fn edn_to_bytes(edn: &str) -> Result<Vec<u8>> {
+    convert(Form::Edn, Form::Bytes, edn.as_bytes())
+}
+
+/// The dump of one item in EDN.
+pub fn edn_to_hex(edn: &str) -> Result<String> {
+    text(Form::Edn, Form::Hex, edn.as_bytes())
 }
 
 /// The major, minor and patch version of the library.

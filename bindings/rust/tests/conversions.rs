@@ -3,10 +3,17 @@
 use semphluk::{convert, extent, Error, Extent, Form};
 use std::thread;
 
-const FORMS: [Form; 4] = [Form::Bytes, Form::Hex, Form::Diag, Form::Pretty];
+const FORMS: [Form; 6] = [
+    Form::Bytes,
+    Form::Hex,
+    Form::Diag,
+    Form::Pretty,
+    Form::Edn,
+    Form::EdnPretty,
+];
 
 /// A tag over a text in each form, in the order of `FORMS`.
-const URI: [&[u8]; 4] = [
+const URI: [&[u8]; 6] = [
     b"\xd8\x20\x73https://example.com",
     b"\
 d8 20                                        # uri, tag(32)
@@ -16,11 +23,19 @@ d8 20                                        # uri, tag(32)
 ",
     b"32_0(\"https://example.com\")\n",
     b"32_0(\"https://example.com\")\n",
+    b"32(\"https://example.com\")\n",
+    b"32(\"https://example.com\")\n",
 ];
 
-fn assert_all_pairs(forms: [&[u8]; 4]) {
+fn assert_all_pairs(forms: [&[u8]; 6]) {
     for (from, input) in FORMS.into_iter().zip(forms) {
         for (to, expected) in FORMS.into_iter().zip(forms) {
+            // EDN leaves the width of a tag open, and then the other notation states none.
+            let is_open = matches!(from, Form::Edn | Form::EdnPretty) && forms == URI;
+            let expected = match to {
+                Form::Diag | Form::Pretty if is_open => forms[4],
+                _ => expected,
+            };
             let output = convert(from, to, input).unwrap();
             assert!(output == expected, "from {from:?} to {to:?}");
         }
@@ -47,9 +62,60 @@ fn named_conversions() {
 }
 
 #[test]
+fn edn() {
+    let rows: [(&str, &[u8], &str); 6] = [
+        ("1.5", b"\xf9\x3e\x00", "1.5"),
+        ("1.5_2", b"\xfa\x3f\xc0\x00\x00", "1.5_2"),
+        ("\"\\n\\u00fc\"", b"\x63\n\xc3\xbc", "\"\\n\u{fc}\""),
+        ("[_0 1_1]", b"\x98\x01\x19\x00\x01", "[_0 1_1]"),
+        (
+            "{\"a\": [1, null]}",
+            b"\xa1\x61a\x82\x01\xf6",
+            "{\"a\": [1, null]}",
+        ),
+        ("'\u{fc}' // bytes", b"\x42\xc3\xbc", "h'c3bc'"),
+    ];
+    for (given, item, line) in rows {
+        let hex: String = item.iter().map(|byte| format!("{byte:02x}")).collect();
+        assert_eq!(
+            semphluk::edn_to_bytes(given).as_deref(),
+            Ok(item),
+            "{given}"
+        );
+        assert_eq!(semphluk::bytes_to_edn(item).as_deref(), Ok(line));
+        assert_eq!(semphluk::bytes_to_edn_pretty(item).as_deref(), Ok(line));
+        assert_eq!(semphluk::hex_to_edn(&hex).as_deref(), Ok(line));
+        assert_eq!(semphluk::hex_to_edn_pretty(&hex).as_deref(), Ok(line));
+        assert_eq!(semphluk::edn_to_hex(line), semphluk::bytes_to_hex(item));
+    }
+    let date = "1(0 /1970-01-01T00:00:00Z/)";
+    assert_eq!(semphluk::bytes_to_edn(b"\xc1\x00").as_deref(), Ok("1(0)"));
+    assert_eq!(
+        semphluk::bytes_to_edn_pretty(b"\xc1\x00").as_deref(),
+        Ok(date)
+    );
+}
+
+#[test]
+fn explanations() {
+    let blank =
+        "a blank has to follow: [_1 ] is an empty array, and [_ 1] one of indefinite length";
+    let rows: [(Form, &[u8], &str); 4] = [
+        (Form::Edn, b"{\"a\" 1}", "a colon has to follow the key"),
+        (Form::EdnPretty, b"[_1]", blank),
+        (Form::Edn, b"\xff", "a text is not UTF-8"),
+        (Form::Bytes, b"\x82\x01", "the item is cut short"),
+    ];
+    for (from, input, text) in rows {
+        let error = convert(from, Form::Bytes, input).unwrap_err();
+        assert_eq!(error.explain(from, input), text);
+    }
+}
+
+#[test]
 fn each_error() {
     let deep = [b"\x81".repeat(128), vec![1]].concat();
-    let rows: [(Form, &[u8], Error); 16] = [
+    let rows: [(Form, &[u8], Error); 20] = [
         (Form::Bytes, b"", Error::CutShort),
         (Form::Bytes, b"\x82\x01", Error::CutShort),
         (Form::Bytes, b"\x1c", Error::Head),
@@ -66,6 +132,10 @@ fn each_error() {
         (Form::Hex, b"0g", Error::BadHex),
         (Form::Diag, b"1.5", Error::Notation),
         (Form::Diag, b"300_0", Error::PastWidth),
+        (Form::Edn, b"", Error::Notation),
+        (Form::Edn, b"1 2", Error::Notation),
+        (Form::EdnPretty, b"300_0", Error::Notation),
+        (Form::Edn, b"\xff", Error::Utf8),
     ];
     for (from, input, error) in rows {
         for to in FORMS {
@@ -123,7 +193,7 @@ fn extents() {
 
 #[test]
 fn places_of_errors() {
-    let rows: [(Form, &[u8], Error, Option<usize>); 15] = [
+    let rows: [(Form, &[u8], Error, Option<usize>); 17] = [
         (Form::Bytes, b"", Error::CutShort, Some(0)),
         (Form::Bytes, b"\x82\x01", Error::CutShort, Some(2)),
         (Form::Bytes, b"\x82\x01\x1c\x00", Error::Head, Some(2)),
@@ -139,6 +209,13 @@ fn places_of_errors() {
         (Form::Diag, b"[1, 2.5]", Error::Notation, Some(5)),
         (Form::Diag, b"[1, 2", Error::Notation, Some(5)),
         (Form::Diag, b"[300_0]", Error::PastWidth, Some(6)),
+        (Form::Edn, b"{\"a\" 1}", Error::Notation, Some(5)),
+        (
+            Form::EdnPretty,
+            b"[\"\xc3\xbc\", \xff]",
+            Error::Utf8,
+            Some(7),
+        ),
     ];
     for (from, input, error, place) in rows {
         assert_eq!(convert(from, Form::Bytes, input), Err(error), "{input:x?}");
@@ -195,6 +272,8 @@ fn a_megabyte_of_each_form() {
         ]
         .concat(),
         &[b"[", &b"1,".repeat(count - 1)[..], b"1]\n"].concat(),
+        &[b"[\n", &b"    1,\n".repeat(count)[..], b"]\n"].concat(),
+        &[b"[", &b"1, ".repeat(count - 1)[..], b"1]\n"].concat(),
         &[b"[\n", &b"    1,\n".repeat(count)[..], b"]\n"].concat(),
     ]);
 }

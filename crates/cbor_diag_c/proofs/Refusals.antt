@@ -1,13 +1,14 @@
 -- An error of an input is one that refuses it.
-use Rattle.std.proofs.Common.{◌≡◌, ◌≢◌, ◌+◌, ◌-◌, ◌<◌, ◌≤◌, ◌++◌, ℕ, List, take, drop, Ok, subst, sym, ap, refl, inl}
-use Rattle.std.proofs.Common.{◌∙◌, append_assoc, arith}
-use Rattle.std.proofs.lemmas.List.{take-take, take-append-drop}
+use Rattle.std.proofs.Common.{◌≡◌, ◌≢◌, ◌+◌, ◌-◌, ◌<◌, ◌≤◌, ℕ, List, take, Ok, subst, sym, refl, inl}
+use Rattle.std.proofs.Common.{arith, zero, suc, [], inr, length, codes}
 use Rattle.hex.specs.Hex.{decode_of}
 use Rattle.cbor_tokens.specs.Uncommented.{uncommented}
 use Rattle.cbor_grammar.specs.declared.error.Error.{Error}
 use Rattle.cbor_grammar.specs.declared.error.Error.TheVariants as refusal
 use Rattle.cbor_diag.specs.DeadEnd.{IsDeadEnd, IsDiagFault}
-use Rattle.cbor_diag.specs.Notation.{IsNotation}
+use Rattle.cbor_tokens.specs.Token.{nothing}
+use Rattle.cbor_grammar.specs.Item.{Item, atom, simple}
+use Rattle.cbor_diag.specs.Notation.{IsNotation, Reads}
 use Rattle.cbor_diag.specs.Facts.{HasFault, IsCut, IsNoItem}
 use Rattle.cbor_diag.specs.Extent.{FaultEnds}
 use Rattle.cbor_diag.specs.HexText.{IsHexRefused}
@@ -38,28 +39,42 @@ hex_refused text b refusal.BadHex d h = absurd h
 hex_refused text b refusal.Notation d h = absurd h
 hex_refused text b refusal.PastWidth d h = absurd h
 
--- what begins with a dead end is one
-dead_longer : (text : List ℕ) (m n : ℕ) → m ≤ n → IsDeadEnd (take m text) → IsDeadEnd (take n text)
-dead_longer text m n le dead = λ more i is.
-    let parts : take n text ++ more ≡ take m text ++ (drop m (take n text) ++ more) =
-    ap (λ (x : List ℕ). x ++ more) (sym (take-append-drop m (take n text)))
-    ∙ append_assoc (take m (take n text)) (drop m (take n text)) more
-    ∙ ap (λ (x : List ℕ). x ++ (drop m (take n text) ++ more)) (take-take m n text le) in
-    dead (drop m (take n text) ++ more) i (subst (λ (x : List ℕ). IsNotation x i) parts is)
+-- some text is notation, so no text without bytes is a dead end
+null_is : IsNotation (codes "null") (atom (simple 22))
+unfolding Reads
+null_is = ([], codes "null", [], refl, nothing, inl (inr (inr (inl (refl, refl)))), nothing)
 
--- the last of the bytes that are a dead end
-dead_there : (text : List ℕ) (end : ℕ) → IsDeadEnd (take end text) → IsDiagPlace text (end - 1)
-dead_there text end dead = inl (dead_longer text end (end - 1 + 1) (omega arith) dead)
+some_end : (text : List ℕ) (end : ℕ) → IsDeadEnd (take end text) → 0 < end
+some_end text zero dead = absurd (dead (codes "null") (atom (simple 22)) null_is)
+some_end text (suc n) dead = omega arith
 
-pub dead_place : (text : List ℕ) (e : Error) (end : ℕ) → IsDiagFault text e end → e ≢ refusal.CutShort
+some_bytes : (text : List ℕ) (e : Error) (end : ℕ) → IsDiagFault text e end → e ≢ refusal.CutShort → 0 < end
+some_bytes text refusal.CutShort end h other = absurd (other refl)
+some_bytes text refusal.Memory end h other = some_end text end h.2
+some_bytes text refusal.Head end h other = some_end text end h.2
+some_bytes text refusal.Utf8 end h other = some_end text end h.2
+some_bytes text refusal.TooDeep end h other = some_end text end h.2
+some_bytes text refusal.Remaining end h other = some_end text end h.2
+some_bytes text refusal.OddHex end h other = some_end text end h.2
+some_bytes text refusal.BadHex end h other = some_end text end h.2
+some_bytes text refusal.Notation end h other = some_end text end h.2
+some_bytes text refusal.PastWidth end h other = some_end text end h.2
+
+-- before the last of the bytes that have the fault
+pub fault_byte : (text : List ℕ) (e : Error) (end : ℕ) → IsDiagFault text e end → e ≢ refusal.CutShort
     → IsDiagPlace text (end - 1)
-dead_place text refusal.CutShort end h other = absurd (other refl)
-dead_place text refusal.Memory end h other = dead_there text end h.2
-dead_place text refusal.Head end h other = dead_there text end h.2
-dead_place text refusal.Utf8 end h other = dead_there text end h.2
-dead_place text refusal.TooDeep end h other = dead_there text end h.2
-dead_place text refusal.Remaining end h other = dead_there text end h.2
-dead_place text refusal.OddHex end h other = dead_there text end h.2
-dead_place text refusal.BadHex end h other = dead_there text end h.2
-dead_place text refusal.Notation end h other = dead_there text end h.2
-dead_place text refusal.PastWidth end h other = dead_there text end h.2
+fault_byte text e end h other =
+    let some : 0 < end = some_bytes text e end h other in
+    let same : end - 1 + 1 ≡ end = omega arith in
+    inr (e, other, subst (λ (k : ℕ). IsDiagFault text e k) (sym same) h)
+
+-- the end of a text that is cut short
+pub cut_place : (text : List ℕ) (end : ℕ) → IsDiagFault text refusal.CutShort end → IsDiagPlace text (length text)
+cut_place text end h = inl (refl, (refl, h.1, h.2))
+
+-- a text that is no notation is none
+pub no_place : (text : List ℕ) → ((i : Item) → ¬ (IsNotation text i)) → ((i : Item) × IsNotation text i)
+    → IsDiagPlace text (length text)
+no_place text none some = absurd (none some.0 some.1)
+
+pub ruleset place_laws = (fault_byte, cut_place)

@@ -1,8 +1,8 @@
 -- What an export returns, a length or minus the number of an error, and what its buffer holds then.
-use Rattle.std.specs.Prelude.{◌≡◌, ◌⊎◌, ⊤, ℕ, ◌+◌, ◌<◌, ℤ, pos, negsuc, List, ◌++◌, length, take, drop, Ok, Err, codes}
+use Rattle.std.specs.Prelude.{◌≡◌, ◌⊎◌, ⊤, ℕ, ◌+◌, ◌<◌, ℤ, pos, negsuc, List, ◌++◌, length, take, drop, codes}
 use Rattle.cbor_grammar.specs.declared.error.Error.{Error}
 use Rattle.cbor_diag.specs.Refusals.{text_of, number_of}
-use Rattle.cbor_diag_c.specs.Forms.{IsNoForm, IsConversion}
+use Rattle.cbor_diag_c.specs.Forms.{IsNoForm, IsConversion, IsRefusal}
 
 -- a fact of the length that was returned
 abbrev pub IfLength : ℤ → (ℕ → Type 0) → Type 0
@@ -25,12 +25,12 @@ no_form = 11
 -- A conversion with an output of this length, and the buffer after it.
 abbrev pub IsWhole : ℕ → ℕ → List ℕ → List ℕ → List ℕ → ℕ → Type 0
 IsWhole from to input old new n =
-    (whole : List ℕ) × IsConversion from to input (Ok whole) × (n ≡ length whole) × (new ≡ written whole old)
+    (whole : List ℕ) × IsConversion from to input whole × (n ≡ length whole) × (new ≡ written whole old)
 
 -- why there is no conversion, by the error's number, out of memory aside
 abbrev pub IsWhy : ℕ → ℕ → List ℕ → ℕ → Type 0
 IsWhy from to input n =
-    ((e : Error) × (n ≡ number_of e) × IsConversion from to input (Err e))
+    ((e : Error) × (n ≡ number_of e) × IsRefusal from to input e)
     ⊎ ((n ≡ no_form) × (IsNoForm from ⊎ IsNoForm to))
 
 -- no error has this number

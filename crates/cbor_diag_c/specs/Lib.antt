@@ -3,3 +3,4 @@ pub mod Answers
 pub mod Beginnings
 pub mod Pieces
 pub mod Places
+pub mod Words

@@ -1,5 +1,5 @@
 -- Where an input is no item: how many of its bytes come before the fault.
-use Rattle.std.specs.Prelude.{◌≡◌, ◌⊎◌, ℕ, ◌+◌, ◌-◌, ◌*◌, ◌^◌, ◌<◌, ◌≤◌, List, length, take, Ok, IsUtf8}
+use Rattle.std.specs.Prelude.{◌≡◌, ◌≢◌, ◌⊎◌, ℕ, ◌+◌, ◌-◌, ◌*◌, ◌^◌, ◌<◌, ◌≤◌, List, length, take, Ok, IsUtf8}
 use Rattle.std.specs.Str.{IsValidUpTo}
 use Rattle.hex.specs.Hex.{decode_of}
 use Rattle.cbor_tokens.specs.Uncommented.{uncommented}
@@ -7,15 +7,15 @@ use Rattle.cbor_grammar.specs.declared.error.Error.{Error}
 use Rattle.cbor_grammar.specs.declared.error.Error.TheVariants as refusal
 use Rattle.cbor_diag.specs.Item.{Item}
 use Rattle.cbor_diag.specs.Facts.{BeginsWithItem, IsCut}
-use Rattle.cbor_diag.specs.DeadEnd.{IsDeadEnd}
+use Rattle.cbor_diag.specs.DeadEnd.{IsDiagFault}
 use Rattle.cbor_diag.specs.Extent.{FaultEnds}
 use Rattle.cbor_diag.specs.HexText.{IsKeptByte, IsHexFault}
 use Rattle.cbor_diag.specs.Refusals.{number_of}
 use Rattle.cbor_convert.specs.declared.form.Source.{Source}
 use Rattle.cbor_convert.specs.declared.form.Source.TheVariants as source
-use Rattle.cbor_convert.specs.declared.form.To.{To}
-use Rattle.cbor_convert.specs.Output.{Reads, Refuses}
-use Rattle.cbor_diag_c.specs.Forms.{form_number, read_as, IsNoForm}
+use Rattle.cbor_diag_c.specs.declared.form.Form.{Form}
+use Rattle.cbor_diag_c.specs.declared.form.Form.TheVariants as form
+use Rattle.cbor_diag_c.specs.Forms.{form_number, read_as, IsNoForm, ReadsIn, IsRefusedIn}
 use Rattle.cbor_diag_c.specs.Answers.{no_form}
 
 -- what is told where there is no place
@@ -42,25 +42,36 @@ IsHexPlace text e place =
     ⊎ ((bytes : List ℕ) × (n : ℕ) × (decode_of (uncommented text) ≡ Ok bytes)
     × IsBytesPlace bytes e n × IsDigitsPlace text n place)
 
--- In notation: the last of the first bytes that no notation begins with, or the end of the text.
+-- In notation: the last of the first bytes that have a fault; or the end of a text that is cut short.
 abbrev pub IsDiagPlace : List ℕ → ℕ → Type 0
-IsDiagPlace text place = IsDeadEnd (take (place + 1) text) ⊎ (place ≡ length text)
+IsDiagPlace text place =
+    ((place ≡ length text) × IsDiagFault text refusal.CutShort (length text))
+    ⊎ ((e : Error) × (e ≢ refusal.CutShort) × IsDiagFault text e (place + 1))
 
 -- In text: after the longest front that is UTF-8, or where the text is no item in its form.
-abbrev pub IsPlace : Source → List ℕ → Error → ℕ → Type 0
-IsPlace source.Bytes input e place = IsBytesPlace input e place
-IsPlace source.Hex input e place =
+abbrev pub IsPlainPlace : Source → List ℕ → Error → ℕ → Type 0
+IsPlainPlace source.Bytes input e place = IsBytesPlace input e place
+IsPlainPlace source.Hex input e place =
     (¬ IsUtf8 input × IsValidUpTo input place) ⊎ (IsUtf8 input × IsHexPlace input e place)
-IsPlace source.Diag input e place =
+IsPlainPlace source.Diag input e place =
     (¬ IsUtf8 input × IsValidUpTo input place) ⊎ (IsUtf8 input × IsDiagPlace input place)
+
+-- In EDN: after the longest front that is UTF-8, or in the text.
+abbrev pub IsEdnPlace : List ℕ → ℕ → Type 0
+IsEdnPlace input place =
+    (¬ IsUtf8 input × IsValidUpTo input place) ⊎ (IsUtf8 input × (place ≤ length input))
+
+abbrev pub IsPlace : Form → List ℕ → Error → ℕ → Type 0
+IsPlace (form.Plain f) input e place = IsPlainPlace (read_as f) input e place
+IsPlace (form.Edn pretty) input e place = IsEdnPlace input place
 
 -- the input is an item in the form of this number
 abbrev pub IsItemIn : ℕ → List ℕ → Type 0
-IsItemIn from input = (f : To) × (i : Item) × (from ≡ form_number f) × Reads (read_as f) input i
+IsItemIn from input = (f : Form) × (i : Item) × (from ≡ form_number f) × ReadsIn f input i
 
 -- why it is none, by the error's number, and the place; out of memory aside
 abbrev pub IsFaultIn : ℕ → List ℕ → ℕ → ℕ → Type 0
 IsFaultIn from input n place =
-    ((f : To) × (e : Error) × (from ≡ form_number f) × (n ≡ number_of e)
-    × Refuses (read_as f) input e × IsPlace (read_as f) input e place)
+    ((f : Form) × (e : Error) × (from ≡ form_number f) × (n ≡ number_of e)
+    × IsRefusedIn f input e × IsPlace f input e place)
     ⊎ ((n ≡ no_form) × IsNoForm from)

@@ -2,20 +2,24 @@
 ghost use Rattle.std.specs.Prelude.{◌≡◌, ◌≢◌, negsuc, None, IfSome, IfOk, IfErr};
 ghost use Rattle.cbor_diag.specs.Item.{Item};
 ghost use Rattle.cbor_diag.specs.Facts.{IsItem, IsNoItem};
+ghost use Rattle.cbor_diag.specs.DeadEnd.{IsDiagFault};
 ghost use Rattle.cbor_diag.specs.HexText.{IsHexOf, IsHexRefused};
 ghost use Rattle.cbor_diag.specs.Notation.{IsNotation};
 ghost use Rattle.cbor_diag.specs.NotationRefused.{IsNoNotation};
 ghost use Rattle.cbor_convert.specs.Output.{Reads, Refuses};
-ghost use Rattle.cbor_diag_c.specs.Forms.{IsNoForm};
+ghost use Rattle.cbor_diag_c.specs.Forms.{form_number, IsEdn, IsNoEdn, IsNoForm, IsRefusedIn};
+ghost use Rattle.cbor_diag_c.specs.Forms.{ReadsIn};
 ghost use Rattle.cbor_diag_c.specs.Answers.{IfLength, IfError};
 ghost use Rattle.cbor_diag_c.specs.Places.{no_place, IsBytesPlace, IsDigitsPlace, IsHexPlace};
-ghost use Rattle.cbor_diag_c.specs.Places.{IsDiagPlace};
+ghost use Rattle.cbor_diag_c.specs.Places.{IsDiagPlace, IsEdnPlace, IsPlainPlace};
 ghost use Rattle.cbor_diag_c.specs.Places.{IsPlace, IsItemIn, IsFaultIn};
 
 use crate::answer::refused;
-use crate::conversion::{NO_FORM, form, read_as};
+use crate::edn::edn_error;
+use crate::form::{Form, NO_FORM, read_as};
 use cbor_convert::Source;
 use cbor_diag::{Error, Extent, diag_fault, extent, hex_bytes, hex_fault, hex_place, parse_diag};
+use cbor_edn::EdnError;
 use std::alloc::Global;
 
 /// Why an input is no item, and how many of its bytes come before the fault; `None` if it is one.
@@ -88,25 +92,58 @@ fn in_diag(alloc: Global, text: &str) -> Result<Fault, Error>
     }
 }
 
-/// The place of the fault in notation, or the end of a text that may only be cut short. The only
-/// error is `Memory`.
-#[tactic(auto, using(crate::proofs::Refusals::dead_place))]
+/// The place before the last of the first bytes that have this fault, or the end of a text that is
+/// cut short.
+#[tactic(auto, using(crate::proofs::Refusals::place_laws))]
+fn place_before(text: &str, error: Error, end: usize) -> usize
+    requires { IsDiagFault text.now error end }
+    ensures { IsDiagPlace text.now result }
+{
+    match error {
+        Error::CutShort => text.len(),
+        _ => end.saturating_sub(1),
+    }
+}
+
+/// The place of the fault in notation, or the end of a text that is cut short. The only error is
+/// `Memory`.
+#[tactic(auto, using(crate::proofs::Refusals::no_place))]
 fn diag_place(alloc: Global, text: &str) -> Result<usize, Error>
+    requires { (i : Item) → ¬ (IsNotation text.now i) }
     ensures place { IfOk result (λ place. IsDiagPlace text.now place) }
     ensures memory { IfErr result (λ e. e ≡ Error.Memory) }
 {
     match diag_fault(alloc, text)? {
-        None | Some((Error::CutShort, _)) => Ok(text.len()),
-        Some((_, end)) => Ok(end.saturating_sub(1)),
+        // There is a fault, since the text is no notation.
+        None => Ok(text.len()),
+        Some((error, end)) => Ok(place_before(text, error, end)),
     }
 }
 
-/// The fault of an input in this form. The only error is `Memory`.
-fn fault(alloc: Global, from: Source, input: &[u8]) -> Result<Fault, Error>
+/// The fault of EDN. The only error is `Memory`.
+fn in_edn(alloc: Global, input: &[u8]) -> Result<Fault, Error>
+    ensures none { IfOk result (λ f. f ≡ None → (i : Item) × IsEdn input.now i) }
+    ensures refused { IfOk result (λ f. IfSome f (λ x. IsNoEdn input.now x.0)) }
+    ensures place { IfOk result (λ f. IfSome f (λ x. IsEdnPlace input.now x.1)) }
+    ensures memory { IfErr result (λ e. e ≡ Error.Memory) }
+{
+    let text = match str::from_utf8(input) {
+        Ok(text) => text,
+        Err(error) => return Ok(Some((Error::Utf8, error.valid_up_to()))),
+    };
+    match edn_error(alloc, text) {
+        None => Ok(None),
+        Some(EdnError::Memory) => Err(Error::Memory),
+        Some(EdnError::Wrong { place, .. }) => Ok(Some((Error::Notation, place))),
+    }
+}
+
+/// The fault of an input in a plain form. The only error is `Memory`, and bytes have none.
+fn in_plain(alloc: Global, from: Source, input: &[u8]) -> Result<Fault, Error>
     ensures none { IfOk result (λ f. f ≡ None → (i : Item) × Reads from input.now i) }
     ensures refused { IfOk result (λ f. IfSome f (λ x. Refuses from input.now x.0)) }
-    ensures place { IfOk result (λ f. IfSome f (λ x. IsPlace from input.now x.0 x.1)) }
-    ensures memory { IfErr result (λ e. e ≡ Error.Memory) }
+    ensures place { IfOk result (λ f. IfSome f (λ x. IsPlainPlace from input.now x.0 x.1)) }
+    ensures memory { IfErr result (λ e. (e ≡ Error.Memory) × (from ≢ Source.Bytes)) }
 {
     match from {
         Source::Bytes => Ok(in_bytes(input)),
@@ -121,6 +158,20 @@ fn fault(alloc: Global, from: Source, input: &[u8]) -> Result<Fault, Error>
     }
 }
 
+/// The fault of an input in this form. The only error is `Memory`, and bytes have none.
+#[tactic(auto, using(crate::proofs::FormNumbers::other_number))]
+pub(crate) fn fault(alloc: Global, from: Form, input: &[u8]) -> Result<Fault, Error>
+    ensures none { IfOk result (λ f. f ≡ None → (i : Item) × ReadsIn from input.now i) }
+    ensures refused { IfOk result (λ f. IfSome f (λ x. IsRefusedIn from input.now x.0)) }
+    ensures place { IfOk result (λ f. IfSome f (λ x. IsPlace from input.now x.0 x.1)) }
+    ensures memory { IfErr result (λ e. (e ≡ Error.Memory) × (form_number from ≢ 0)) }
+{
+    match from {
+        Form::Plain(plain) => in_plain(alloc, read_as(plain), input),
+        Form::Edn { .. } => in_edn(alloc, input),
+    }
+}
+
 /// Reports why and where an input is no item in this form.
 ///
 /// Returns 0 if it is one, and otherwise minus the number of the error that `cbor_diag_convert` has
@@ -131,22 +182,26 @@ fn fault(alloc: Global, from: Source, input: &[u8]) -> Result<Fault, Error>
 /// them; their end if they are cut; or the end of the item if more follow. In hex it is the first
 /// digit of that byte; or the digit that is wrong, which is the last one of an odd number. In
 /// notation it is the last of the first bytes after which no notation can follow, or the end of a
-/// text that may only be cut short. That these bytes are the fewest, and that the end is told of no
-/// other text, is in no clause. In a text that is not UTF-8 it is the end of the longest front that
-/// is.
+/// text that is cut short. That these bytes are the fewest is in no clause. In EDN it is where the
+/// reader stops; the clause says that it is in the text or at its end. In a text that is not UTF-8
+/// it is the end of the longest front that is.
 #[unsafe(no_mangle)]
+#[tactic(auto, using(crate::proofs::FormNumbers::number_laws))]
 pub extern "C" fn cbor_diag_fault(alloc: Global, from: u32, input: &[u8], place: &mut usize) -> i64
     ensures none { IfLength result (λ n. (n ≡ 0) × IsItemIn from input.now
         × (place.new ≡ no_place)) }
     ensures error { IfError result (λ n. n ≢ 1 → IsFaultIn from input.now n place.new) }
     ensures no_place { IfError result (λ n. n ≡ 1 → place.new ≡ no_place) }
     ensures unknown_form { IsNoForm from → result ≡ negsuc 10 }
+
+    // Bytes need no memory.
+    ensures no_memory { IfError result (λ n. from ≡ 0 → n ≢ 1) }
 {
     *place = NO_PLACE;
-    let Some(from) = form(from) else {
+    let Some(from) = Form::of(from) else {
         return NO_FORM;
     };
-    match fault(alloc, read_as(from), input) {
+    match fault(alloc, from, input) {
         Ok(None) => 0,
         Ok(Some((error, at))) => {
             *place = at;

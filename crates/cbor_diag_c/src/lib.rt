@@ -13,8 +13,11 @@
 
 mod answer;
 mod conversion;
+mod edn;
 mod error;
 mod extents;
 mod faults;
+mod form;
 mod scanner;
 mod version;
+mod words;
