@@ -151,6 +151,7 @@ check-pages:
 	checks/examples
 	packages/version
 	checks/compare/run --self-test
+	checks/compare/edn --self-test
 
 # The commands of all pages, and both.
 check-commands: program
@@ -161,6 +162,7 @@ check-docs: check-pages check-commands
 # The program for people, as they run it: in pipes and terminals, with closed outputs and full disks.
 check-cat: $(DIST)/bin/cborcat
 	checks/cborcat $<
+	checks/compare/edn --count 1000 $<
 
 # Failing allocations in the programs, and in single calls, which tests make that the gate builds.
 check-allocations: $(PROGRAM_FILES)

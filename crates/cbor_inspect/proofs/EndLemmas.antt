@@ -20,7 +20,7 @@ ends_so steps rest (end.Fault error shown) h = h
 ends_so steps rest end.Remaining h = h
 ends_so steps rest (end.TwoByteSimple at) h = h
 ends_so steps rest (end.Lost len) h = h
-ends_so steps rest (end.Failed error) h = h
+ends_so steps rest end.Memory h = h
 
 pub not_full : (steps : List Step) (rest : List ℕ) (e : End) → StopsSo steps rest e → e ≡ end.Full → ⊥
 not_full steps rest e h is = subst (StopsSo steps rest) is h

@@ -134,7 +134,7 @@ some_front b used within so_far whole =
 -- ---- the bytes after some items
 
 -- two items at the front of the same bytes end at the same place
-same_rest : (x y r s : List ℕ) (i j : Item) → IsItem x i → IsItem y j → x ++ r ≡ y ++ s → r ≡ s
+pub same_rest : (x y r s : List ℕ) (i j : Item) → IsItem x i → IsItem y j → x ++ r ≡ y ++ s → r ≡ s
 same_rest x y r s i j h k e =
     let first = item_again 1 128 x i r refl h in
     let other = item_again 1 128 y j s refl k in

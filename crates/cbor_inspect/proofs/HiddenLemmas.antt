@@ -2,7 +2,7 @@
 use Rattle.std.proofs.Common.{◌≡◌, ℕ, ◌+◌, ◌<◌, inl, inr, Bool, true, false, ◌&&◌, IsTrue, List, subst, refl, arith}
 use Rattle.std.proofs.Common.{slice_index}
 use Rattle.std.proofs.lemmas.Bool.{cases_lt, false≢true}
-use Rattle.cbor_inspect.specs.Hidden.{NeverHides, HidesNone, ShownAt, ShownBetween}
+use Rattle.cbor_edn.specs.Hidden.{NeverHides, HidesNone, ShownAt, ShownBetween}
 
 one_more : (lines : Bool) (text : List ℕ) (from at : ℕ) → HidesNone lines text from at
     → NeverHides lines (slice_index text at) → HidesNone lines text from (at + 1)

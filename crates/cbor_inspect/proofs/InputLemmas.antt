@@ -1,8 +1,9 @@
 -- What an input may be that no form of text reads.
-use Rattle.std.proofs.Common.{◌≡◌, ℕ, List, refl}
+use Rattle.std.proofs.Common.{◌≡◌, ◌⊎◌, ℕ, List, inl, inr, refl, sym, subst}
 use Rattle.cbor_inspect.specs.declared.decode.Input.{Input}
 use Rattle.cbor_inspect.specs.declared.decode.Input.TheVariants as input
-use Rattle.cbor_inspect.specs.Inputs.{Reads, MayBe}
+use Rattle.cbor_inspect.specs.declared.decode.Refusal.{Refusal}
+use Rattle.cbor_inspect.specs.Inputs.{Reads, MayBe, IsWhy}
 use Rattle.cbor_inspect.specs.Texts.{IsText}
 
 -- a text is nothing then
@@ -20,3 +21,9 @@ none_is_read text bytes hex diag base64 input.Hex = λ may. hex may.0
 none_is_read text bytes hex diag base64 input.Diag = λ may. diag may.0
 none_is_read text bytes hex diag base64 input.Base64 = λ may. base64 may.0
 none_is_read text bytes hex diag base64 input.Bytes = λ may. bytes may.0
+
+-- one of two refusals, of which each says why the text does not have some form
+pub why_or : (text : List ℕ) (a b r : Refusal) → (r ≡ a) ⊎ (r ≡ b) → (form : Input) × IsWhy form text a
+    → (form : Input) × IsWhy form text b → (form : Input) × IsWhy form text r
+why_or text a b r (inl e) first second = subst (λ (x : Refusal). (form : Input) × IsWhy form text x) (sym e) first
+why_or text a b r (inr e) first second = subst (λ (x : Refusal). (form : Input) × IsWhy form text x) (sym e) second

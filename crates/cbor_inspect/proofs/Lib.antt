@@ -6,7 +6,5 @@ pub mod SimpleLemmas
 pub mod LooseLemmas
 pub mod InputLemmas
 pub mod HiddenLemmas
-pub mod BreakLemmas
-pub mod LineLemmas
-pub mod StringLemmas
 pub mod StreamLemmas
+pub mod OutputLemmas

@@ -1,5 +1,5 @@
 -- Steps lead to one item at most.
-use Rattle.std.proofs.Common.{◌≡◌, ◌↔◌, ℕ, Bool, IsTrue, List, [], ◌∷◌, Some, inl, inr, refl, sym, ap, ◌∙◌}
+use Rattle.std.proofs.Common.{◌≡◌, ◌↔◌, ℕ, zero, suc, arith, Bool, IsTrue, List, [], ◌∷◌, Some, inl, inr, refl, sym, ap, ◌∙◌}
 use Rattle.std.proofs.Common.{subst, ◌<◌, ◌≤◌, length, map, get_or, Option, None, IfSome, MatchOption}
 use Rattle.std.specs.Option.{option_map, IfNone}
 use Rattle.std.specs.List.{slice_get, HoldsAt}
@@ -10,12 +10,12 @@ use Rattle.cbor_diag.specs.View.{view, pairs_view}
 use Rattle.cbor_inspect.specs.declared.path.Step.TheVariants as step
 use Rattle.cbor_diag.specs.Item as spec
 use Rattle.cbor_diag.specs.Item.{Atom, integer, negative, string, chunked_string, float, simple, Item, atom, array}
-use Rattle.cbor_diag.specs.Item.{tagged}
+use Rattle.cbor_diag.specs.Item.{tagged, Items, no_items, item, Pairs, no_pairs, pair}
 use Rattle.cbor_diag.specs.Item.{items_of, pairs_of}
+use Rattle.cbor_diag.specs.Facts.{IsWellFormed}
+use Rattle.cbor_grammar.specs.WellFormed.{WellFormed, WellFormedItems, WellFormedPairs}
+use Rattle.cbor_edn.proofs.Levels.{well_above}
 use Rattle.cbor_diag.specs.Notation.{list_of, pairs_list}
-use Rattle.cbor_inspect.specs.declared.form.Form.{Form}
-use Rattle.cbor_inspect.specs.declared.path.Part.{Part}
-use Rattle.cbor_inspect.specs.declared.path.Part.TheVariants as part
 use Rattle.cbor_inspect.specs.declared.path.Step.{Step}
 use Rattle.cbor_inspect.specs.Paths.{untagged, plain_key, IsKey, IsValue, element_of, IsMember, StepsTo, LeadsTo}
 use Rattle.cbor_inspect.specs.Paths.{pair_views}
@@ -36,10 +36,11 @@ one_member wanted (spec.map ps w) a b ha hb = one_value wanted _ a b ha hb
 one_member wanted (tagged t w i) a b ha hb = absurd ha
 
 -- what is written, after one more step that leads to one item alone
-pub after_step : (form : Form) (s : Step) (steps : List Step) (i next : Item) (p : Part) → StepsTo s i next
-    → ((other : Item) → StepsTo s i other → other ≡ next) → HasPart form steps next p → HasPart form (s ∷ steps) i p
-after_step form s steps i next (part.Written output) here only h = (h.0, (next, here, h.1), h.2)
-after_step form s steps i next part.None here only h =
+pub after_step : {X : Type 0} (items : X → List ℕ) (s : Step) (steps : List Step) (i next : Item) (p : Option X)
+    → StepsTo s i next → ((other : Item) → StepsTo s i other → other ≡ next) → HasPart items steps next p
+    → HasPart items (s ∷ steps) i p
+after_step items s steps i next (Some part) here only h = (h.0, (next, here, h.1), h.2, h.3)
+after_step items s steps i next None here only h =
     λ p leads. h p (subst (λ (x : Item). LeadsTo steps x p) (only leads.0 leads.1) leads.2)
 
 -- a step that leads nowhere
@@ -140,11 +141,49 @@ no_value None wanted i ps w e h = λ m is. let both = map_member wanted i m (pai
 no_value (Some x) wanted i ps w e h = tt
 
 -- what is written after a step by a key
-pub after_key : (form : Form) (wanted : DataItem) (steps : List Step) (i next : Item) (p : Part)
-    → IsMember (view wanted) (untagged i) next → HasPart form steps next p
-    → HasPart form (step.Key wanted ∷ steps) i p
-after_key form wanted steps i next p here h =
-    after_step form (step.Key wanted) steps i next p here
+pub after_key : {X : Type 0} (items : X → List ℕ) (wanted : DataItem) (steps : List Step) (i next : Item) (p : Option X)
+    → IsMember (view wanted) (untagged i) next → HasPart items steps next p
+    → HasPart items (step.Key wanted ∷ steps) i p
+after_key items wanted steps i next p here h =
+    after_step items (step.Key wanted) steps i next p here
     (λ other is. one_member (view wanted) (untagged i) other next is here) h
 
-pub ruleset part_steps = (after_step, after_key, no_step)
+-- ---- parts of a well formed item are well formed
+
+one_of_items : (level : ℕ) (is : Items) (n : ℕ) (m : Item) → WellFormedItems level is
+    → slice_get (list_of is) n ≡ Some m → WellFormed level m
+one_of_items level no_items n m h e = let bad : ⊥ = cc e in absurd bad
+one_of_items level (item i is) zero m h e = let same : i ≡ m = cc e in subst (WellFormed level) same h.0
+one_of_items level (item i is) (suc n) m h e = one_of_items level is n m h.1 e
+
+one_of_pairs : (level : ℕ) (wanted : Item) (ps : Pairs) (m : Item) → WellFormedPairs level ps
+    → IsValue wanted (pairs_list ps) m → WellFormed level m
+one_of_pairs level wanted no_pairs m h is = absurd is
+one_of_pairs level wanted (pair k v ps) m h (inl is) = subst (WellFormed level) (sym is.1) h.1
+one_of_pairs level wanted (pair k v ps) m h (inr is) = one_of_pairs level wanted ps m h.2 is.1
+
+element_well : (wanted : Item) (is : Items) (m : Item) → WellFormedItems 2 is
+    → element_of wanted (list_of is) ≡ Some m → WellFormed 2 m
+element_well (atom (integer n w)) is m h e = one_of_items 2 is n m h e
+element_well (atom (negative n w)) is m h e = let bad : ⊥ = cc e in absurd bad
+element_well (atom (string kind c)) is m h e = let bad : ⊥ = cc e in absurd bad
+element_well (atom (chunked_string kind cs)) is m h e = let bad : ⊥ = cc e in absurd bad
+element_well (atom (float bits w)) is m h e = let bad : ⊥ = cc e in absurd bad
+element_well (atom (simple n)) is m h e = let bad : ⊥ = cc e in absurd bad
+element_well (array js w) is m h e = let bad : ⊥ = cc e in absurd bad
+element_well (spec.map ps w) is m h e = let bad : ⊥ = cc e in absurd bad
+element_well (tagged t w i) is m h e = let bad : ⊥ = cc e in absurd bad
+
+pub member_well : (wanted i m : Item) → IsMember wanted i m → IsWellFormed i → IsWellFormed m
+member_well wanted (atom a) m is h = absurd is
+member_well wanted (array is w) m e h = well_above 1 2 m (omega arith) (element_well wanted is m h.2 e)
+member_well wanted (spec.map ps w) m is h = well_above 1 2 m (omega arith) (one_of_pairs 2 wanted ps m h.2 is)
+member_well wanted (tagged t w i) m is h = absurd is
+
+pub untagged_well : (i : Item) → IsWellFormed i → IsWellFormed (untagged i)
+untagged_well (atom a) h = h
+untagged_well (array is w) h = h
+untagged_well (spec.map ps w) h = h
+untagged_well (tagged t w i) h = untagged_well i (well_above 1 2 i (omega arith) h.2)
+
+pub ruleset part_steps = (after_step, after_key, no_step, member_well, untagged_well)

@@ -1,7 +1,8 @@
 -- Bytes in which no byte below 32 follows 0xf8, and items by RFC 8949.
 use Rattle.std.proofs.Common.{◌≡◌, ℕ, zero, suc, ◌+◌, ◌<◌, ◌≤◌, ◌⊎◌, List, [], ◌∷◌, ◌++◌, length, take, drop}
 use Rattle.std.proofs.Common.{Option, Some, None, inl, inr, refl, sym, ap, subst, ◌∙◌, arith}
-use Rattle.std.proofs.Common.{length-append, take-append-drop}
+use Rattle.std.proofs.Common.{length-append, take-append-drop, append_assoc, Result, Ok, Err, OnOk}
+use Rattle.std.specs.declared.alloc.AllocError.{AllocError}
 use Rattle.cbor_grammar.specs.declared.width.IntegerWidth.{IntegerWidth}
 use Rattle.cbor_grammar.specs.Head.{head, opening}
 use Rattle.cbor_diag.specs.Item as spec
@@ -17,7 +18,7 @@ use Rattle.cbor_bytes.specs.declared.skip.answer.Extent.TheVariants as extent
 use Rattle.cbor_diag.specs.Extent.{IsExtent}
 use Rattle.cbor_inspect.specs.Simple.{Is8949, ItemsThen8949, IsSequence8949}
 use Rattle.cbor_inspect.specs.Simple.{BeginsNo8949}
-use Rattle.cbor_inspect.proofs.Fronts.{front_length, take_front, drop_front}
+use Rattle.cbor_inspect.proofs.Fronts.{front_length, take_front, drop_front, same_rest}
 
 -- ---- parts of bytes
 
@@ -198,3 +199,41 @@ none_8949 b rest scanned n at so_far some same only (i, m, begins, other, two) w
     let first : n ≡ front.length = cc (only (extent.Item front.length) front.begins) in
     let second : n ≡ m = cc (only (extent.Item m) (i, begins)) in
     other (subst (λ (k : ℕ). Is8949 (take k scanned)) (sym first ∙ second) front.is)
+
+pub sequence_with_8949 : (b rest : List ℕ) (before : List Item) → ItemsThen8949 b before rest → IsSequence8949 rest
+    → IsSequence8949 b
+sequence_with_8949 b rest before first later =
+    (before ++ later.0, items_then_8949 b before later.0 rest [] first later.1)
+
+-- if the bytes are such items, so are those after the first of them
+pub rest_of_items_8949 : (b rest : List ℕ) (before all : List Item) → ItemsThen8949 b before rest
+    → ItemsThen8949 b all [] → IsSequence8949 rest
+rest_of_items_8949 b rest [] all first whole =
+    (all, subst (λ (x : List ℕ). ItemsThen8949 x all []) first whole)
+rest_of_items_8949 b rest (i ∷ is) [] first whole =
+    let none : length first.0 + length first.1 ≡ 0 =
+    sym (length-append first.0 first.1) ∙ ap length (sym first.2 ∙ whole) in
+    absurd (omega (arith, none, front_length first.0 i first.3.0))
+rest_of_items_8949 b rest (i ∷ is) (j ∷ js) first whole =
+    let same = same_rest whole.0 first.0 whole.1 first.1 j i whole.3.0 first.3.0 (sym whole.2 ∙ first.2) in
+    rest_of_items_8949 first.1 rest is js first.4 (subst (λ (x : List ℕ). ItemsThen8949 x js []) same whole.4)
+
+-- bytes that come later change no items
+pub came_later_8949 : (came more : List ℕ) (items : List Item) (rest : List ℕ) → ItemsThen8949 came items rest
+    → ItemsThen8949 (came ++ more) items (rest ++ more)
+came_later_8949 came more [] rest h = ap (λ (x : List ℕ). x ++ more) h
+came_later_8949 came more (i ∷ is) rest h = (
+  h.0,
+  h.1 ++ more,
+  ap (λ (x : List ℕ). x ++ more) h.2 ∙ append_assoc h.0 h.1 more,
+  h.3,
+  came_later_8949 h.1 more is rest h.4,
+)
+
+pub checked_if_came : (r : Result (Unit {0}) AllocError) (came : List ℕ) (items : List Item)
+    (old bytes new : List ℕ) → OnOk r (new ≡ old ++ bytes)
+    → OnOk r (ItemsThen8949 came items old → ItemsThen8949 (came ++ bytes) items new)
+checked_if_came (Ok u) came items old bytes new is = λ h.
+    subst (λ (x : List ℕ). ItemsThen8949 (came ++ bytes) items x) (sym is)
+    (came_later_8949 came bytes items old h)
+checked_if_came (Err e) came items old bytes new is = tt

@@ -1,16 +1,19 @@
 -- Which bytes an input stands for in each form.
-use Rattle.std.specs.Prelude.{◌≡◌, ◌⊎◌, ℕ, ◌==◌, ◌||◌, Bool, not, List, filter, IsUtf8, Ok}
+use Rattle.std.specs.Prelude.{◌≡◌, ◌≢◌, ◌⊎◌, ℕ, ◌==◌, ◌||◌, ◌≤◌, Bool, not, List, [], filter, length, drop, IsUtf8}
+use Rattle.std.specs.Prelude.{Ok, Some, None}
 use Rattle.hex.specs.Hex.{decode_of}
 use Rattle.cbor_tokens.specs.AreBytes.{AreBytes}
 use Rattle.cbor_tokens.specs.Base64.{standard, url_safe}
-use Rattle.cbor_diag.specs.Item.{Item}
-use Rattle.cbor_diag.specs.Notation.{IsNotation}
-use Rattle.cbor_diag.specs.Written.{encoded}
+use Rattle.cbor_edn.specs.Edn.{bytes_of_edn}
 use Rattle.cbor_inspect.specs.declared.decode.Input.{Input}
 use Rattle.cbor_inspect.specs.declared.decode.Input.TheVariants as input
+use Rattle.cbor_inspect.specs.declared.decode.Refusal.{Refusal}
+use Rattle.cbor_inspect.specs.declared.decode.Refusal.TheVariants as refusal
+use Rattle.cbor_inspect.specs.declared.items.End.TheVariants as end
 use Rattle.cbor_inspect.specs.declared.loose.Mode.TheVariants.{Apart}
 use Rattle.cbor_inspect.specs.Loose.{loose}
 use Rattle.cbor_inspect.specs.Sequence.{IsSequence}
+use Rattle.cbor_inspect.specs.Ends.{EndsSo}
 use Rattle.cbor_inspect.specs.Texts.{IsText, unmarked}
 
 -- blanks and line ends
@@ -25,8 +28,7 @@ unblanked text = filter (λ b. not (is_blank b)) text
 abbrev pub Stands : Input → List ℕ → List ℕ → Type 0
 Stands input.Bytes text bytes = bytes ≡ text
 Stands input.Hex text bytes = decode_of (loose Apart (unmarked text)) ≡ Ok bytes
-Stands input.Diag text bytes =
-    (i : Item) × IsUtf8 (unmarked text) × IsNotation (unmarked text) i × (bytes ≡ encoded i)
+Stands input.Diag text bytes = IsUtf8 (unmarked text) × (bytes_of_edn (unmarked text) ≡ Some bytes)
 Stands input.Base64 text bytes =
     AreBytes bytes
     × ((unblanked (unmarked text) ≡ url_safe bytes) ⊎ (unblanked (unmarked text) ≡ standard bytes))
@@ -60,3 +62,15 @@ ComesAfter input.Hex other = (other ≡ input.Diag) ⊎ (other ≡ input.Base64)
 ComesAfter input.Diag other = other ≡ input.Base64
 ComesAfter input.Base64 other = ⊥
 ComesAfter input.Bytes other = ⊥
+
+-- The input does not have that form, and why. A place is one in the text.
+abbrev pub IsWhy : Input → List ℕ → Refusal → Type 0
+IsWhy form text refusal.Memory = Unit {0}
+IsWhy form text (refusal.Hex fault) = form ≡ input.Hex
+IsWhy form text (refusal.Utf8 at) = (form ≡ input.Diag) × ¬ (IsUtf8 (unmarked text)) × (at ≤ length text)
+IsWhy form text (refusal.Diag expected at) =
+    (form ≡ input.Diag) × (bytes_of_edn (unmarked text) ≡ None) × (at ≤ length text)
+IsWhy form text refusal.Base64 = form ≡ input.Base64
+IsWhy form text (refusal.Items other shown) =
+    (other ≡ form) × (bytes : List ℕ) × Stands form text bytes × (shown.end ≢ end.Done)
+    × EndsSo [] (drop shown.used bytes) shown.end

@@ -1,6 +1,3 @@
-pub mod Hidden
-pub mod Breaks
-pub mod Strings
 pub mod Forms
 pub mod Sequence
 pub mod Paths

@@ -1,17 +1,17 @@
 //! The forms of an input, and which form one has.
 
-ghost use Rattle.std.specs.Prelude.{◌≡◌, ◌≢◌, ◌↔◌, ℕ, List, [], IfOk, IfErr, IfSome, None, IsTrue};
+ghost use Rattle.std.specs.Prelude.{◌≡◌, ◌≢◌, ◌↔◌, ◌⊎◌, ℕ, List, [], IfOk, IfErr, IfSome, None, IsTrue};
 ghost use Rattle.cbor_inspect.specs.declared.decode.Refusal.TheVariants as refusal;
 ghost use Rattle.cbor_inspect.specs.Sequence.{IsSequence};
 ghost use Rattle.cbor_inspect.specs.Inputs.{is_blank, unblanked, Stands, Reads, MayBe};
-ghost use Rattle.cbor_inspect.specs.Inputs.{NoneBefore, NoneAfter, ComesAfter};
+ghost use Rattle.cbor_inspect.specs.Inputs.{NoneBefore, NoneAfter, ComesAfter, IsWhy};
 ghost use Rattle.cbor_inspect.specs.Texts.{IsText, unmarked};
 
 use crate::items::{End, Shown, skip_items};
 use crate::loose::{HexFault, bytes_of_hex};
-use crate::scan::notation_fault;
-use crate::text::{is_text, unmarked};
-use cbor_diag::{Error, parse_diag};
+use crate::text::{is_text, mark_len, unmarked};
+use cbor_bytes::utf8_fault;
+use cbor_edn::{EdnError, Expected, edn_to_bytes};
 use cbor_tokens::base64_any_decode;
 use std::alloc::{AllocError, Global};
 
@@ -22,7 +22,7 @@ pub enum Input {
     Bytes,
     /// These bytes in hex, as people paste it.
     Hex,
-    /// One item in diagnostic notation.
+    /// Items in EDN, none or more.
     Diag,
     /// The bytes in base 64, in either alphabet, with blanks and line ends between the digits.
     Base64,
@@ -33,9 +33,10 @@ pub enum Input {
 pub enum Refusal {
     /// It is not hex.
     Hex(HexFault),
-    /// It is not notation: why, and the place of the first character that cannot stand where it
-    /// stands, or the end.
-    Diag { error: Error, at: usize },
+    /// It is not UTF-8: the place of the first byte with which no UTF-8 goes on.
+    Utf8 { at: usize },
+    /// It is not EDN: what is expected at a place.
+    Diag { expected: Expected, at: usize },
     /// It is not base 64.
     Base64,
     /// It is bytes in this form, and they are no sequence of items.
@@ -64,6 +65,8 @@ impl Input {
         // An error, other than on memory, only where it stands for none.
         ensures refused { IfErr result (λ e. e ≢ refusal.Memory
             → (bytes : List ℕ) → ¬ (Stands self text.now bytes)) }
+        // The error is one of this form, and says why.
+        ensures why { IfErr result (IsWhy self text.now) }
     {
         match self {
             Input::Bytes => match Vec::from_slice(alloc, text) {
@@ -86,6 +89,7 @@ impl Input {
         ensures ok { IfOk result (λ found. Stands self text.now found.bytes.items) }
         ensures items { IfOk result (λ found. IsSequence found.bytes.items) }
         ensures refused { IfErr result (λ e. e ≢ refusal.Memory → ¬ (Reads self text.now)) }
+        ensures why { IfErr result (IsWhy self text.now) }
     {
         let bytes = self.decode(alloc, text)?;
         let shown = skip_items(&bytes, false);
@@ -108,36 +112,28 @@ impl Input {
     }
 }
 
-/// The bytes of an item in notation.
+/// The bytes of items in EDN.
 fn bytes_of_diag(alloc: Global, text: &[u8]) -> Result<Vec<u8>, Refusal>
     ensures ok { IfOk result (λ bytes. Stands Input.Diag text.now bytes.items) }
     ensures one { IfOk result (λ bytes. (others : List ℕ) → Stands Input.Diag text.now others
         → others ≡ bytes.items) }
     ensures refused { IfErr result (λ e. e ≢ refusal.Memory
         → (bytes : List ℕ) → ¬ (Stands Input.Diag text.now bytes)) }
+    ensures why { IfErr result (IsWhy Input.Diag text.now) }
 {
-    let Ok(notation) = str::from_utf8(unmarked(text)) else {
-        return Err(diag_refusal(alloc, text, Error::Utf8));
+    let mark = mark_len(text);
+    let rest = unmarked(text);
+    let Ok(notation) = str::from_utf8(rest) else {
+        let at = utf8_fault(rest).unwrap_or(0);
+        return Err(Refusal::Utf8 { at: mark + at });
     };
-    match parse_diag(alloc, notation) {
-        Ok(item) => match item.to_bytes(alloc) {
-            Ok(bytes) => Ok(bytes),
-            Err(_) => Err(Refusal::Memory),
-        },
-        Err(Error::Memory) => Err(Refusal::Memory),
-        Err(error) => Err(diag_refusal(alloc, text, error)),
-    }
-}
-
-/// Why a text is not notation, which has this error, and where.
-fn diag_refusal(alloc: Global, text: &[u8], error: Error) -> Refusal {
-    match notation_fault(alloc, text) {
-        Ok(Some((error, at))) => Refusal::Diag { error, at },
-        Ok(None) => Refusal::Diag {
-            error,
-            at: text.len(),
-        },
-        Err(_) => Refusal::Memory,
+    match edn_to_bytes(alloc, notation) {
+        Ok(bytes) => Ok(bytes),
+        Err(EdnError::Memory) => Err(Refusal::Memory),
+        Err(EdnError::Wrong { place, expected }) => {
+            let at = mark + place;
+            Err(Refusal::Diag { expected, at })
+        }
     }
 }
 
@@ -165,6 +161,7 @@ fn bytes_of_base64(alloc: Global, text: &[u8]) -> Result<Vec<u8>, Refusal>
         → others ≡ bytes.items) }
     ensures refused { IfErr result (λ e. e ≢ refusal.Memory
         → (bytes : List ℕ) → ¬ (Stands Input.Base64 text.now bytes)) }
+    ensures why { IfErr result (IsWhy Input.Base64 text.now) }
 {
     let Ok(digits) = digits_of(alloc, unmarked(text)) else {
         return Err(Refusal::Memory);
@@ -176,9 +173,9 @@ fn bytes_of_base64(alloc: Global, text: &[u8]) -> Result<Vec<u8>, Refusal>
     }
 }
 
-/// Finds the form of an input: the first of hex, notation and base 64 that reads all of it, as
-/// items one after the other; notation is one item. An input that no form of text reads is bytes,
-/// if it is not all text: nearly every text would be bytes of some items, which nobody meant.
+/// Finds the form of an input: the first of hex, EDN and base 64 that reads all of it, as items one
+/// after the other. An input that no form of text reads is bytes, if it is not all text: nearly
+/// every text would be bytes of some items, which nobody meant.
 ///
 /// If no form does, the error is that of the form that reads furthest, of the forms of text if the
 /// input is text. Returns `Memory` if an allocation fails.
@@ -204,6 +201,9 @@ pub fn recognize(alloc: Global, text: &[u8]) -> Result<Recognized, Refusal>
     // An error, other than on memory, only where there is no form that it may be.
     ensures refused { IfErr result (λ e. e ≢ refusal.Memory
         → (form : Input) → ¬ (MayBe form text.now)) }
+
+    // It says why the input does not have one of the forms.
+    ensures why { IfErr result (λ e. (form : Input) × IsWhy form text.now e) }
 {
     let hex = match Input::Hex.read(alloc, text) {
         Ok(found) => return Ok(found),
@@ -264,7 +264,7 @@ impl Refusal {
         match self {
             Refusal::Hex(HexFault::Digit(at)) => at,
             Refusal::Hex(HexFault::Odd(at)) => at.saturating_add(1),
-            Refusal::Diag { at, .. } => at,
+            Refusal::Diag { at, .. } | Refusal::Utf8 { at } => at,
             Refusal::Hex(HexFault::Memory) | Refusal::Base64 | Refusal::Memory => 0,
             Refusal::Items {
                 form: Input::Bytes,
@@ -282,7 +282,9 @@ impl Refusal {
     }
 
     /// This refusal, or the other one if its form reads further.
-    fn or(self, other: Refusal, text: &[u8]) -> Refusal {
+    fn or(self, other: Refusal, text: &[u8]) -> Refusal
+        ensures { (result ≡ self) ⊎ (result ≡ other) }
+    {
         if other.reach(text) > self.reach(text) {
             other
         } else {

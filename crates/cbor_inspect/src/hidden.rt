@@ -1,7 +1,7 @@
 //! Characters that are not shown as they are.
 ghost use Rattle.std.specs.Prelude.{◌≡◌, ◌↔◌, ℕ, ◌+◌, ◌<◌, ◌≤◌, true, IsTrue, slice_index, length};
-ghost use Rattle.cbor_inspect.specs.Hidden.{Hides, NeverHides, IsShown};
-ghost use Rattle.cbor_inspect.specs.Hidden.{HidesNone, ShownBetween};
+ghost use Rattle.cbor_edn.specs.Hidden.{Hides, NeverHides, IsShown};
+ghost use Rattle.cbor_edn.specs.Hidden.{HidesNone, ShownBetween};
 
 use std::alloc::AllocError;
 

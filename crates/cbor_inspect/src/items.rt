@@ -1,32 +1,31 @@
 //! Items one after the other, as far as they have come.
-ghost use Rattle.std.specs.Prelude.{◌≡◌, ◌↔◌, ℕ, ◌+◌, ◌-◌, ◌<◌, ◌≤◌, ◌++◌, [], List, length, drop};
-ghost use Rattle.std.specs.Prelude.{IfOk, IfErr, IfSome, OnErr, IsTrue, true, false, Ok, None};
-ghost use Rattle.std.specs.Prelude.{Some};
+ghost use Rattle.std.specs.Prelude.{◌≡◌, ◌↔◌, ℕ, ◌≤◌, ◌++◌, ◌∷◌, [], List, length, drop};
+ghost use Rattle.std.specs.Prelude.{IfOk, IfErr, IfSome, OnOk, OnErr, IsTrue, true, false, Ok};
+ghost use Rattle.std.specs.Prelude.{None, Some};
+ghost use Rattle.std.specs.String.{string_bytes};
+ghost use Rattle.hex.specs.Hex.{encode_lower};
 ghost use Rattle.cbor_diag.specs.Item.{Item};
 ghost use Rattle.cbor_diag.specs.View.{view};
-ghost use Rattle.std.specs.String.{string_bytes};
 ghost use Rattle.cbor_diag.specs.Answer.{RefusedSo};
 ghost use Rattle.cbor_diag.specs.Dump.{dump};
 ghost use Rattle.cbor_diag.specs.Facts.{IsItem, IsWellFormed, BeginsWithItem, IsCut, HasFault};
-ghost use Rattle.cbor_diag.specs.Facts.{diag_of, pretty_of};
 ghost use Rattle.cbor_diag.specs.Written.{encoded};
-ghost use Rattle.cbor_inspect.specs.Forms.{IsForm};
+ghost use Rattle.cbor_inspect.specs.Forms.{IsForm, IsLineOf, edn_style};
 ghost use Rattle.cbor_inspect.specs.declared.path.Step.{Step};
-ghost use Rattle.cbor_grammar.specs.declared.error.Error.{Error};
 ghost use Rattle.cbor_inspect.specs.Sequence.{IsSequence, ItemsThen, IsShownOfFirst, ShowsFront};
 ghost use Rattle.cbor_inspect.specs.Sequence.{OneAtMost};
 ghost use Rattle.cbor_inspect.specs.Ends.{EndsSo, StopsSo, Shows, steps_of};
 
-use crate::breaks::may_be_written;
-use crate::form::{Form, Style, line_of};
-use crate::hidden::is_shown;
-use crate::notation::may_want;
-use crate::path::{Part, Step, part_written};
+use crate::form::{Form, Style};
+use crate::path::{Step, part_bytes};
+use cbor_bytes::strict::is_strict;
 use cbor_diag::{
-    DataItem, Error, Extent, bytes_to_bytes, extent, parse_bytes_partial,
-    push_bytes_to_diag_partial, push_bytes_to_diag_pretty_partial, push_bytes_to_hex_partial,
+    DataItem, Error, Extent, extent, parse_bytes, parse_bytes_partial, push_bytes_to_hex_partial,
 };
-use std::alloc::Global;
+use cbor_edn::push_bytes_to_edn_partial;
+use cbor_tokens::push_hex;
+use std::alloc::{AllocError, Global};
+use std::mem;
 
 /// Outputs are gathered until they are at least this long.
 const BLOCK: usize = 64 * 1024;
@@ -43,19 +42,20 @@ pub struct Show {
 }
 
 impl Show {
-    /// Returns what writes whole items in a form, one after the other, with notes in pretty
-    /// notation.
+    /// Returns what writes whole items in a form, one after the other, with notes in pretty EDN.
     pub fn new(alloc: Global, form: Form) -> Show
         ensures form { result.style.form ≡ form }
         ensures whole { steps_of result ≡ [] }
         ensures bytes { result.style.embedded ≡ false }
         ensures notes { result.style.notes ≡ true }
+        ensures widths { result.style.widths ≡ false }
         ensures all { result.one ≡ false }
     {
         let style = Style {
             form,
             embedded: false,
             notes: true,
+            widths: false,
         };
         Show {
             style,
@@ -85,10 +85,9 @@ pub enum End {
     /// The item that follows is none by RFC 8949: at its byte `at` is a simple value below 32 in
     /// two bytes. Only [`Stream::check`](crate::Stream::check) returns this.
     TwoByteSimple { at: usize },
-    /// Nothing was made of what remains: memory ran out (`Memory`), or no notation of the next item
-    /// was made that is read back and has no hidden character (`Notation`). A call that takes no
-    /// memory never returns this. No clause says when another one does, nor what remains.
-    Failed(Error),
+    /// Memory ran out, and nothing was made of what remains. A call that takes no memory never
+    /// returns this.
+    Memory,
 }
 
 /// How far items were written.
@@ -102,7 +101,7 @@ pub struct Shown {
 
 /// Appends what is written of one item after the other, from the front of the bytes, until no whole
 /// item is there, an item does not have the part, or a block is full; with `one`, of one item at
-/// most. After `Failed` the items before are written.
+/// most. After `Memory` the items before are written.
 pub fn show_items(show: &Show, bytes: &[u8], out: &mut Vec<u8>) -> Shown
     ensures used { result.used ≤ length bytes.now }
 
@@ -120,9 +119,10 @@ pub fn show_items(show: &Show, bytes: &[u8], out: &mut Vec<u8>) -> Shown
     ensures one { IsTrue show.now.one → OneAtMost bytes.now (drop result.used bytes.now) }
 {
     let limit = out.len().saturating_add(BLOCK);
+    let mut text = String::new(*out.allocator());
     let mut used = 0;
     'items: loop {
-        match show_first(show, &bytes[used..], None, out) {
+        match show_first(show, &bytes[used..], None, &mut text, out) {
             Ok(count) => used += count,
             Err(end) => return Shown { used, end },
         }
@@ -136,11 +136,12 @@ pub fn show_items(show: &Show, bytes: &[u8], out: &mut Vec<u8>) -> Shown
 }
 
 /// Appends what is written of the item at the front, and returns how many bytes it takes. Its
-/// length may be known already.
+/// length may be known already. The text is what was written before; its memory is used again.
 pub(crate) fn show_first(
     show: &Show,
     bytes: &[u8],
     known: Option<usize>,
+    text: &mut String,
     out: &mut Vec<u8>,
 ) -> Result<usize, End>
     requires { IfSome known (λ n. (i : Item) × BeginsWithItem bytes.now i n) }
@@ -153,90 +154,217 @@ pub(crate) fn show_first(
     ensures ends { IfErr result (StopsSo (steps_of show.now) bytes.now) }
     ensures unchanged { OnErr result (out.new.items ≡ out.old.items) }
 {
+    text.clear();
+    if show.steps.is_empty() {
+        push_front(show.style, bytes, known, text, out)
+    } else {
+        push_part(show, bytes, text, out)
+    }
+}
+
+/// Appends the part of the item at the front that the path leads to. The text is empty.
+fn push_part(show: &Show, bytes: &[u8], text: &mut String, out: &mut Vec<u8>) -> Result<usize, End>
+    requires { string_bytes text.old ≡ [] }
+    ensures written { IfOk result (λ used. (written : List ℕ)
+        × (out.new.items ≡ out.old.items ++ written)
+        × ShowsFront (Shows show.now) bytes.now written used) }
+    ensures ends { IfErr result (StopsSo (steps_of show.now) bytes.now) }
+    ensures unchanged { OnErr result (out.new.items ≡ out.old.items) }
+{
     let alloc = *out.allocator();
-    let (written, used) = match first_written(alloc, show, bytes, known) {
-        Ok(front) => front,
-        Err(end) => return Err(end),
-    };
-    match out.extend_from_slice(&written) {
-        Ok(()) => Ok(used),
-        Err(_) => Err(End::Failed(Error::Memory)),
-    }
-}
-
-/// What is written of the item at the front, and its length, or why nothing is written.
-fn first_written(
-    alloc: Global,
-    show: &Show,
-    bytes: &[u8],
-    known: Option<usize>,
-) -> Result<(Vec<u8>, usize), End>
-    requires { IfSome known (λ n. (i : Item) × BeginsWithItem bytes.now i n) }
-    ensures written { IfOk result (λ x. ShowsFront (Shows show.now) bytes.now x.0.items x.1) }
-    ensures ends { IfErr result (StopsSo (steps_of show.now) bytes.now) }
-{
-    if !show.steps.is_empty() {
-        return first_part(alloc, show, bytes);
-    }
-    match show.style.form {
-        Form::Bytes => first_encoding(alloc, bytes, known),
-        Form::Hex => first_dump(alloc, bytes),
-        Form::Diag if !show.style.embedded => first_line(alloc, show.style, bytes),
-        Form::Pretty if !show.style.embedded => first_lines(alloc, show.style, bytes),
-        _ => first_whole(alloc, show.style, bytes),
-    }
-}
-
-/// The same of the part that the path leads to.
-fn first_part(alloc: Global, show: &Show, bytes: &[u8]) -> Result<(Vec<u8>, usize), End>
-    ensures written { IfOk result (λ x. ShowsFront (Shows show.now) bytes.now x.0.items x.1) }
-    ensures ends { IfErr result (StopsSo (steps_of show.now) bytes.now) }
-{
     let (item, used) = match first_item(alloc, bytes) {
         Ok(found) => found,
         Err(end) => return Err(end),
     };
-    match part_written(alloc, show.style, &item, &show.steps) {
-        Ok(Part::Written(written)) => Ok((written, used)),
-        Ok(Part::None) => Err(End::Lost { len: used }),
-        Err(error) => Err(End::Failed(error)),
+    let part = match part_bytes(alloc, &item, &show.steps) {
+        Ok(Some(part)) => part,
+        Ok(None) => return Err(End::Lost { len: used }),
+        Err(_) => return Err(End::Memory),
+    };
+    match push_front(show.style, &part, None, text, out) {
+        Ok(_) => Ok(used),
+        // The part is an item, so it was memory that ran out.
+        Err(_) => Err(End::Memory),
     }
 }
 
-/// The same of all of the item.
-fn first_whole(alloc: Global, style: Style, bytes: &[u8]) -> Result<(Vec<u8>, usize), End>
-    ensures written { IfOk result (λ x.
-        ShowsFront (IsForm style.form) bytes.now x.0.items x.1) }
+/// Appends all of the item at the front. The text is empty.
+fn push_front(
+    style: Style,
+    bytes: &[u8],
+    known: Option<usize>,
+    text: &mut String,
+    out: &mut Vec<u8>,
+) -> Result<usize, End>
+    requires known { IfSome known (λ n. (i : Item) × BeginsWithItem bytes.now i n) }
+    requires empty { string_bytes text.old ≡ [] }
+    ensures written { IfOk result (λ used. (written : List ℕ)
+        × (out.new.items ≡ out.old.items ++ written)
+        × ShowsFront (IsForm style) bytes.now written used) }
+    ensures ends { (steps : List Step) → IfErr result (StopsSo steps bytes.now) }
+    ensures unchanged { OnErr result (out.new.items ≡ out.old.items) }
+{
+    if style.form == Form::Bytes {
+        return push_encoding(bytes, known, out);
+    }
+    let used = match push_form(style, bytes, known, text) {
+        Ok(used) => used,
+        Err(end) => return Err(end),
+    };
+    match push_text(text, out) {
+        Ok(()) => Ok(used),
+        Err(_) => Err(End::Memory),
+    }
+}
+
+/// Appends the item at the front in a form that is a text. The text is empty.
+fn push_form(
+    style: Style,
+    bytes: &[u8],
+    known: Option<usize>,
+    text: &mut String,
+) -> Result<usize, End>
+    requires form { ¬ (style.form ≡ Form.Bytes) }
+    requires known { IfSome known (λ n. (i : Item) × BeginsWithItem bytes.now i n) }
+    requires empty { string_bytes text.old ≡ [] }
+    ensures written { IfOk result (λ used.
+        ShowsFront (IsForm style) bytes.now (string_bytes text.new) used) }
     ensures ends { (steps : List Step) → IfErr result (StopsSo steps bytes.now) }
 {
-    let (item, used) = match first_item(alloc, bytes) {
-        Ok(found) => found,
-        Err(end) => return Err(end),
-    };
-    match style.write(alloc, &item) {
-        Ok(written) => Ok((written, used)),
-        Err(error) => Err(End::Failed(error)),
+    match style.form {
+        Form::Diag | Form::Pretty => push_notation(style, bytes, text),
+        Form::Hex => push_dump(bytes, text),
+        Form::Digits => push_digits(bytes, known, text),
+        Form::Bytes => unreachable!(),
     }
 }
 
-/// The encoding of the item at the front, of which no item is built.
-fn first_encoding(
-    alloc: Global,
-    bytes: &[u8],
-    known: Option<usize>,
-) -> Result<(Vec<u8>, usize), End>
+/// A text that is longer than this is not copied.
+const LONG: usize = 4096;
+
+/// Appends a text to the output. A long one takes the place of the output: so what was in the
+/// output is copied, which is not more than a block.
+fn push_text(text: &mut String, out: &mut Vec<u8>) -> Result<(), AllocError>
+    ensures text { OnOk result (out.new.items ≡ out.old.items ++ string_bytes text.old) }
+    ensures unchanged { OnErr result (out.new.items ≡ out.old.items) }
+{
+    if text.len() < LONG {
+        return out.extend_from_slice(text.as_bytes());
+    }
+    let mut whole = mem::replace(text, String::new(*out.allocator())).into_bytes();
+    whole.extend_from_slice(out)?;
+    whole.rotate_right(out.len());
+    *out = whole;
+    Ok(())
+}
+
+/// Appends the encoding of the item at the front, of which an item is built only if a simple value
+/// takes more bytes than it has to.
+fn push_encoding(bytes: &[u8], known: Option<usize>, out: &mut Vec<u8>) -> Result<usize, End>
     requires { IfSome known (λ n. (i : Item) × BeginsWithItem bytes.now i n) }
-    ensures written { IfOk result (λ x.
-        ShowsFront (IsForm Form.Bytes) bytes.now x.0.items x.1) }
+    ensures written { IfOk result (λ used. (written : List ℕ)
+        × (out.new.items ≡ out.old.items ++ written)
+        × (i : Item) × BeginsWithItem bytes.now i used × (written ≡ encoded i)) }
+    ensures ends { (steps : List Step) → IfErr result (StopsSo steps bytes.now) }
+    ensures unchanged { OnErr result (out.new.items ≡ out.old.items) }
+{
+    let used = match first_len(bytes, known) {
+        Ok(used) => used,
+        Err(end) => return Err(end),
+    };
+    match push_encoded(&bytes[..used], out) {
+        Ok(()) => Ok(used),
+        Err(_) => Err(End::Memory),
+    }
+}
+
+/// Appends the encoding of the item that the bytes are.
+fn push_encoded(bytes: &[u8], out: &mut Vec<u8>) -> Result<(), Error>
+    requires { (i : Item) × IsItem bytes.now i }
+    ensures encoding { OnOk result ((i : Item) × IsItem bytes.now i
+        × (out.new.items ≡ out.old.items ++ encoded i)) }
+    ensures unchanged { OnErr result (out.new.items ≡ out.old.items) }
+{
+    if is_strict(bytes) {
+        out.extend_from_slice(bytes)?;
+        return Ok(());
+    }
+    let encoding = parse_bytes(*out.allocator(), bytes)?.to_bytes(*out.allocator())?;
+    out.extend_from_slice(&encoding)?;
+    Ok(())
+}
+
+/// Appends the encoding of the item at the front in hex, and a line feed. The text is empty.
+fn push_digits(bytes: &[u8], known: Option<usize>, text: &mut String) -> Result<usize, End>
+    requires known { IfSome known (λ n. (i : Item) × BeginsWithItem bytes.now i n) }
+    requires empty { string_bytes text.old ≡ [] }
+    ensures written { IfOk result (λ used. (i : Item) × BeginsWithItem bytes.now i used
+        × (string_bytes text.new ≡ encode_lower (encoded i) ++ 10 ∷ [])) }
     ensures ends { (steps : List Step) → IfErr result (StopsSo steps bytes.now) }
 {
     let used = match first_len(bytes, known) {
         Ok(used) => used,
         Err(end) => return Err(end),
     };
-    match encoding_of(alloc, &bytes[..used]) {
-        Ok(written) => Ok((written, used)),
-        Err(error) => Err(End::Failed(error)),
+    match push_line_of_hex(&bytes[..used], text) {
+        Ok(()) => Ok(used),
+        Err(_) => Err(End::Memory),
+    }
+}
+
+/// Appends the encoding of the item that the bytes are in hex, and a line feed.
+fn push_line_of_hex(bytes: &[u8], text: &mut String) -> Result<(), Error>
+    requires { (i : Item) × IsItem bytes.now i }
+    ensures { OnOk result ((i : Item) × IsItem bytes.now i × (string_bytes text.new
+        ≡ string_bytes text.old ++ (encode_lower (encoded i) ++ 10 ∷ []))) }
+{
+    push_encoded_hex(bytes, text)?;
+    text.push('\n')?;
+    Ok(())
+}
+
+/// Appends the encoding of the item that the bytes are in hex.
+fn push_encoded_hex(bytes: &[u8], text: &mut String) -> Result<(), Error>
+    requires { (i : Item) × IsItem bytes.now i }
+    ensures { OnOk result ((i : Item) × IsItem bytes.now i × (string_bytes text.new
+        ≡ string_bytes text.old ++ encode_lower (encoded i))) }
+{
+    if is_strict(bytes) {
+        push_hex(text, bytes)?;
+        return Ok(());
+    }
+    let alloc = *text.allocator();
+    let encoding = parse_bytes(alloc, bytes)?.to_bytes(alloc)?;
+    push_hex(text, &encoding)?;
+    Ok(())
+}
+
+/// Appends the dump of the item at the front. The text is empty.
+fn push_dump(bytes: &[u8], text: &mut String) -> Result<usize, End>
+    requires { string_bytes text.old ≡ [] }
+    ensures written { IfOk result (λ used. (i : Item) × BeginsWithItem bytes.now i used
+        × (string_bytes text.new ≡ dump i)) }
+    ensures ends { (steps : List Step) → IfErr result (StopsSo steps bytes.now) }
+{
+    let found = push_bytes_to_hex_partial(*text.allocator(), bytes, text);
+    len_of(bytes, found)
+}
+
+/// Appends the item at the front in EDN, and a line feed. The text is empty.
+fn push_notation(style: Style, bytes: &[u8], text: &mut String) -> Result<usize, End>
+    requires { string_bytes text.old ≡ [] }
+    ensures written { IfOk result (λ used. (i : Item) × BeginsWithItem bytes.now i used
+        × IsLineOf (edn_style style) i (string_bytes text.new)) }
+    ensures ends { (steps : List Step) → IfErr result (StopsSo steps bytes.now) }
+{
+    let found = push_bytes_to_edn_partial(*text.allocator(), bytes, style.edn(), text);
+    let used = match len_of(bytes, found) {
+        Ok(used) => used,
+        Err(end) => return Err(end),
+    };
+    match text.push('\n') {
+        Ok(()) => Ok(used),
+        Err(_) => Err(End::Memory),
     }
 }
 
@@ -258,74 +386,6 @@ fn first_len(bytes: &[u8], known: Option<usize>) -> Result<usize, End>
     }
 }
 
-/// The encoding of the item that the bytes are.
-fn encoding_of(alloc: Global, bytes: &[u8]) -> Result<Vec<u8>, Error>
-    ensures { IfOk result (λ out. (i : Item) × IsItem bytes.now i × (out.items ≡ encoded i)) }
-{
-    let copy = Vec::from_slice(alloc, bytes)?;
-    bytes_to_bytes(alloc, copy)
-}
-
-/// The item at the front in notation on one line. It is built only if the notation that is made
-/// straight from the bytes has a hidden character.
-fn first_line(alloc: Global, style: Style, bytes: &[u8]) -> Result<(Vec<u8>, usize), End>
-    requires { style.form ≡ Form.Diag }
-    ensures written { IfOk result (λ x.
-        ShowsFront (IsForm Form.Diag) bytes.now x.0.items x.1) }
-    ensures ends { (steps : List Step) → IfErr result (StopsSo steps bytes.now) }
-{
-    let mut text = String::new(alloc);
-    let found = push_bytes_to_diag_partial(alloc, bytes, &mut text);
-    let used = match len_of(bytes, found) {
-        Ok(used) => used,
-        Err(end) => return Err(end),
-    };
-    if !is_shown(false, text.as_bytes()) {
-        return first_whole(alloc, style, bytes);
-    }
-    match line_of(text) {
-        Ok(line) => Ok((line, used)),
-        Err(error) => Err(End::Failed(error)),
-    }
-}
-
-/// The item at the front in pretty notation. It is built only if its heads ask for more than the
-/// plain notation, which is made straight from the bytes, or if that may not be written.
-fn first_lines(alloc: Global, style: Style, bytes: &[u8]) -> Result<(Vec<u8>, usize), End>
-    requires { style.form ≡ Form.Pretty }
-    ensures written { IfOk result (λ x.
-        ShowsFront (IsForm Form.Pretty) bytes.now x.0.items x.1) }
-    ensures ends { (steps : List Step) → IfErr result (StopsSo steps bytes.now) }
-{
-    let mut text = String::new(alloc);
-    let found = push_bytes_to_diag_pretty_partial(alloc, bytes, &mut text);
-    let used = match len_of(bytes, found) {
-        Ok(used) => used,
-        Err(end) => return Err(end),
-    };
-    if may_want(&bytes[..used], style.notes) || !may_be_written(true, text.as_bytes()) {
-        return first_whole(alloc, style, bytes);
-    }
-    match line_of(text) {
-        Ok(line) => Ok((line, used)),
-        Err(error) => Err(End::Failed(error)),
-    }
-}
-
-/// The dump of the item at the front, of which no item is built.
-fn first_dump(alloc: Global, bytes: &[u8]) -> Result<(Vec<u8>, usize), End>
-    ensures written { IfOk result (λ x.
-        ShowsFront (IsForm Form.Hex) bytes.now x.0.items x.1) }
-    ensures ends { (steps : List Step) → IfErr result (StopsSo steps bytes.now) }
-{
-    let mut text = String::new(alloc);
-    let found = push_bytes_to_hex_partial(alloc, bytes, &mut text);
-    match len_of(bytes, found) {
-        Ok(used) => Ok((text.into_bytes(), used)),
-        Err(end) => Err(end),
-    }
-}
-
 /// The length of the item at the front that was written straight from the bytes, or why none was.
 fn len_of(bytes: &[u8], found: cbor_diag::Result<Option<usize>>) -> Result<usize, End>
     requires cut { found ≡ Ok None → IsCut bytes.now }
@@ -337,7 +397,7 @@ fn len_of(bytes: &[u8], found: cbor_diag::Result<Option<usize>>) -> Result<usize
         Ok(Some(used)) => Ok(used),
         Ok(None) if bytes.is_empty() => Err(End::Done),
         Ok(None) => Err(End::Cut),
-        Err(Error::Memory) => Err(End::Failed(Error::Memory)),
+        Err(Error::Memory) => Err(End::Memory),
         Err(error) => Err(fault_of(bytes, error)),
     }
 }
@@ -352,7 +412,7 @@ fn first_item(alloc: Global, bytes: &[u8]) -> Result<(DataItem, usize), End>
         Ok(Some(found)) => Ok(found),
         Ok(None) if bytes.is_empty() => Err(End::Done),
         Ok(None) => Err(End::Cut),
-        Err(Error::Memory) => Err(End::Failed(Error::Memory)),
+        Err(Error::Memory) => Err(End::Memory),
         Err(error) => Err(fault_of(bytes, error)),
     }
 }
@@ -397,7 +457,7 @@ pub fn skip_items(bytes: &[u8], one: bool) -> Shown
     ensures one { IsTrue one → OneAtMost bytes.now (drop result.used bytes.now) }
 
     // It takes no memory, so none runs out.
-    ensures failed { (error : Error) → ¬ (result.end ≡ End.Failed error) }
+    ensures failed { ¬ (result.end ≡ End.Memory) }
 {
     let mut used = 0;
     'items: while used < bytes.len() {

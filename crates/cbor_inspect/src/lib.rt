@@ -1,6 +1,6 @@
 //! What a viewer of CBOR data needs beside the conversions of `cbor_convert`: which form an input
 //! has, items one after the other as they arrive, the places of errors, parts of items by a path,
-//! and notation with notes, in which no control character is.
+//! and EDN with notes, in which no control character is.
 //!
 //! ```rust
 //! use cbor_inspect::{End, Form, Show, recognize, show_items};
@@ -9,35 +9,33 @@
 //! let mut out = Vec::new(alloc);
 //! let shown = show_items(&Show::new(alloc, Form::Diag), &found.bytes, &mut out);
 //! assert_eq!(rt; shown.end, End::Done);
-//! assert_eq!(rt; out.as_slice(), b"[1,2]\n".as_slice());
+//! assert_eq!(rt; out.as_slice(), b"[1, 2]\n".as_slice());
 //! ```
 //!
 //! Nothing here knows of arguments or files. In the examples of this crate, `rt` is the
 //! `HostRuntime` of a test, and `alloc` is `rt.alloc()`.
 #![tactic(auto)]
 
-mod breaks;
 mod decode;
 mod form;
+mod heads;
 mod hidden;
 mod items;
 mod loose;
-mod notation;
 mod pasted;
 mod path;
-mod scan;
 mod simple;
 mod stream;
 mod text;
 
 pub use decode::{Input, Recognized, Refusal, recognize};
 pub use form::{Form, Style};
+pub use heads::place_of_fault;
 pub use hidden::{is_shown, push_shown};
 pub use items::{End, Show, Shown, show_items, skip_items};
 pub use loose::{HexFault, place_of_digit};
 pub use pasted::{Pasted, looks_like};
 pub use path::{Lost, Step, lost_at, steps_of, untagged};
-pub use scan::{Hint, float_of, hint_of, notation_fault, place_of_fault};
 pub use simple::two_byte_simple;
 pub use stream::Stream;
 pub use text::{is_text, text_fault};

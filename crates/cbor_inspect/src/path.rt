@@ -8,9 +8,10 @@ ghost use Rattle.cbor_inspect.specs.Paths.{IsInside};
 ghost use Rattle.cbor_inspect.specs.Paths.{pair_views};
 ghost use Rattle.cbor_inspect.specs.declared.path.Step.{Step};
 ghost use Rattle.cbor_inspect.specs.Parts.{HasPart};
+ghost use Rattle.cbor_diag.specs.Facts.{IsWellFormed};
 
-use crate::form::Style;
-use cbor_diag::{DataItem, Error, IntegerWidth, TextString, parse_bytes, parse_diag};
+use cbor_diag::{DataItem, Error, IntegerWidth, TextString, parse_bytes};
+use cbor_edn::{EdnError, parse_edn};
 use std::alloc::Global;
 
 /// A step of a path. Tags need no step.
@@ -21,15 +22,6 @@ pub enum Step {
     /// To the member of an array at this index, or to the value of this key in a map: of the first
     /// key that is the same but for the width of a number or of the length of a string.
     Key(DataItem),
-}
-
-/// What is written of the part of an item.
-#[derive(Drop)]
-pub(crate) enum Part {
-    /// This.
-    Written(Vec<u8>),
-    /// Nothing, because there is no such part.
-    None,
 }
 
 /// Whether a step leads to a key.
@@ -121,6 +113,7 @@ fn inside(alloc: Global, item: &DataItem) -> Result<Option<DataItem>, Error>
         ((inner : Item) → ¬ (IsInside (view item.now) inner))) }
     ensures one { IfOk result (λ o. IfSome o (λ inner. (other : Item)
         → IsInside (view item.now) other → other ≡ view inner)) }
+    ensures well_formed { IfOk result (λ o. IfSome o (λ inner. IsWellFormed (view inner))) }
 {
     let DataItem::ByteString(string) = item else {
         return Ok(None);
@@ -132,44 +125,41 @@ fn inside(alloc: Global, item: &DataItem) -> Result<Option<DataItem>, Error>
     }
 }
 
-/// Writes the part of an item that the steps lead to.
+/// The encoding of the part of an item that the steps lead to, if there is one.
 #[tactic(auto, using(crate::proofs::PathLemmas::part_steps))]
-pub(crate) fn part_written(
+pub(crate) fn part_bytes(
     alloc: Global,
-    style: Style,
     item: &DataItem,
     steps: &[Step],
-) -> Result<Part, Error>
-    ensures part { IfOk result (HasPart style.form steps.now (view item.now)) }
+) -> Result<Option<Vec<u8>>, Error>
+    requires { IsWellFormed (view item.now) }
+    ensures part { IfOk result (HasPart (λ x. x.items) steps.now (view item.now)) }
 {
     let Some((first, rest)) = steps.split_first() else {
-        return whole_written(alloc, style, item);
+        return whole_bytes(alloc, item);
     };
     match first {
         Step::Key(wanted) => match member(wanted, untagged(item)) {
-            Some(next) => part_written(alloc, style, next, rest),
-            None => Ok(Part::None),
+            Some(next) => part_bytes(alloc, next, rest),
+            None => Ok(None),
         },
         Step::Inside => match inside(alloc, untagged(item))? {
-            Some(next) => part_written(alloc, style, &next, rest),
-            None => Ok(Part::None),
+            Some(next) => part_bytes(alloc, &next, rest),
+            None => Ok(None),
         },
     }
 }
 
-/// Writes all of an item.
-fn whole_written(alloc: Global, style: Style, item: &DataItem) -> Result<Part, Error>
+/// The encoding of all of an item.
+fn whole_bytes(alloc: Global, item: &DataItem) -> Result<Option<Vec<u8>>, Error>
+    requires { IsWellFormed (view item.now) }
     ensures { (steps : List Step) → steps ≡ []
-        → IfOk result (HasPart style.form steps (view item.now)) }
+        → IfOk result (HasPart (λ x. x.items) steps (view item.now)) }
 {
-    if !item.is_well_formed() {
-        return Err(Error::Notation);
-    }
-    let written = style.write(alloc, item)?;
-    Ok(Part::Written(written))
+    Ok(Some(item.to_bytes(alloc)?))
 }
 
-/// Reads a path: steps joined by `/`, each `@`, notation, or a plain word, which is a text. A `/`
+/// Reads a path: steps joined by `/`, each `@`, EDN, or a plain word, which is a text. A `/`
 /// between quotes joins nothing. The empty path has no steps.
 ///
 /// ```rust
@@ -205,9 +195,9 @@ fn push_step(alloc: Global, steps: &mut Vec<Step>, word: &str) -> Result<(), Err
         steps.push(Step::Inside)?;
         return Ok(());
     }
-    let key = match parse_diag(alloc, word) {
+    let key = match parse_edn(alloc, word) {
         Ok(key) => key,
-        Err(Error::Memory) => return Err(Error::Memory),
+        Err(EdnError::Memory) => return Err(Error::Memory),
         Err(_) => DataItem::TextString(TextString {
             content: String::from_str(alloc, word)?,
             bitwidth: IntegerWidth::Unknown,

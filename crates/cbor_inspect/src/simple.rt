@@ -6,7 +6,7 @@ ghost use Rattle.cbor_diag.specs.Facts.{IsItem};
 ghost use Rattle.cbor_inspect.specs.Simple.{NoneReserved, NoneReservedItems, NoneReservedPairs};
 ghost use Rattle.cbor_inspect.specs.Simple.{Is8949, IsTwoByteSimple, NoPair};
 
-use crate::notation::head_step;
+use crate::heads::step;
 use cbor_diag::{DataItem, Error, parse_bytes};
 use std::alloc::Global;
 
@@ -103,7 +103,7 @@ pub fn two_byte_simple(bytes: &[u8]) -> Option<usize>
         if at >= pair && at + 1 < bytes.len() && is_pair(bytes, at) {
             return Some(at);
         }
-        at = at.saturating_add(head_step(bytes, at));
+        at = at.saturating_add(step(bytes, at));
     }
     None
 }

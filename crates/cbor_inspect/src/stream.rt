@@ -3,7 +3,6 @@ ghost use Rattle.std.specs.Prelude.{◌≡◌, ◌↔◌, ◌⊎◌, ℕ, ◌<�
 ghost use Rattle.std.specs.Prelude.{false, IfOk, IfErr, IfSome, IfNone, OnOk, OnErr, IsTrue};
 ghost use Rattle.cbor_diag.specs.Facts.{BeginsWithItem};
 ghost use Rattle.cbor_inspect.specs.Simple.{ItemsThen8949, IsSequence8949, Is8949, BeginsNo8949};
-ghost use Rattle.cbor_grammar.specs.declared.error.Error.{Error};
 ghost use Rattle.cbor_bytes.specs.declared.skip.answer.Extent.{Extent};
 ghost use Rattle.cbor_diag.specs.Item.{Item};
 ghost use Rattle.cbor_diag.specs.Extent.{IsExtent};
@@ -99,6 +98,9 @@ impl Stream {
         // So it is with items that were passed.
         ensures passed { (came : List ℕ) (items : List Item) → OnOk result (
             ItemsThen came items self.old → ItemsThen (came ++ bytes.now) items self.new) }
+        ensures checked { (came : List ℕ) (items : List Item) → OnOk result (
+            ItemsThen8949 came items self.old
+            → ItemsThen8949 (came ++ bytes.now) items self.new) }
     {
         if self.start == 0 {
             return self.kept.extend_from_slice(bytes);
@@ -123,7 +125,7 @@ impl Stream {
     /// assert_eq!(rt; stream.show(&show, &mut out), End::Cut);
     /// stream.push(alloc, b"\x03")?;
     /// assert_eq!(rt; stream.show(&show, &mut out), End::Done);
-    /// assert_eq!(rt; out.as_slice(), b"1\n[2,3]\n".as_slice());
+    /// assert_eq!(rt; out.as_slice(), b"1\n[2, 3]\n".as_slice());
     /// ```
     pub fn show(&mut self, show: &Show, out: &mut Vec<u8>) -> End
         // The outputs of the next items, in order, which are passed.
@@ -173,7 +175,7 @@ impl Stream {
         ensures one { IsTrue one → OneAtMost self.old self.new }
 
         // It takes no memory, so none runs out.
-        ensures failed { (error : Error) → ¬ (result ≡ End.Failed error) }
+        ensures failed { ¬ (result ≡ End.Memory) }
     {
         self.skip_next(one)
     }
@@ -190,7 +192,7 @@ impl Stream {
         ensures clean { (one ≡ false) → (result ≡ End.Done) ↔ IsSequence self.old }
         ensures full { result ≡ End.Full → IsTrue one × (length self.new < length self.old) }
         ensures one { IsTrue one → OneAtMost self.old self.new }
-        ensures failed { (error : Error) → ¬ (result ≡ End.Failed error) }
+        ensures failed { ¬ (result ≡ End.Memory) }
     {
         'items: while !self.rest().is_empty() {
             match self.scan() {
@@ -220,23 +222,46 @@ impl Stream {
         // Items by RFC 8949 are passed.
         ensures items { (items : List Item) × ItemsThen8949 self.old items self.new }
 
+        // So of all bytes that came, those are such items that all calls passed, and these bytes are
+        // such items alone exactly if none remain at the end, unless memory ran out.
+        ensures joined { (came : List ℕ) (before : List Item) → ItemsThen8949 came before self.old
+            → (more : List Item) × ItemsThen8949 came (before ++ more) self.new
+            × ((one ≡ false) → (result ≡ End.Done → IsSequence8949 came)
+            × (IsSequence8949 came → (result ≡ End.Done) ⊎ (result ≡ End.Memory))) }
+
         // Why none of the bytes that are kept are.
         ensures ends { ChecksSo self.new result }
 
         // The bytes are such items alone exactly if none remain at the end, unless memory ran out.
         ensures clean { (one ≡ false) → result ≡ End.Done → IsSequence8949 self.old }
         ensures refused { (one ≡ false) → IsSequence8949 self.old
-            → (result ≡ End.Done) ⊎ (error : Error) × (result ≡ End.Failed error) }
+            → (result ≡ End.Done) ⊎ (result ≡ End.Memory) }
 
         // It stops without a look at what remains only after the one item that it was to pass.
         ensures full { result ≡ End.Full → IsTrue one × (length self.new < length self.old) }
+
+        // One item at most is passed, if so asked.
+        ensures one { IsTrue one → OneAtMost self.old self.new }
+    {
+        self.check_next(alloc, one)
+    }
+
+    /// The same as `check`.
+    fn check_next(&mut self, alloc: Global, one: bool) -> End
+        ensures items { (items : List Item) × ItemsThen8949 self.old items self.new }
+        ensures ends { ChecksSo self.new result }
+        ensures clean { (one ≡ false) → result ≡ End.Done → IsSequence8949 self.old }
+        ensures refused { (one ≡ false) → IsSequence8949 self.old
+            → (result ≡ End.Done) ⊎ (result ≡ End.Memory) }
+        ensures full { result ≡ End.Full → IsTrue one × (length self.new < length self.old) }
+        ensures one { IsTrue one → OneAtMost self.old self.new }
     {
         'items: while !self.rest().is_empty() {
             match self.scan() {
                 Extent::Item(len) => match self.fault_within(alloc, len) {
                     Ok(None) => self.pass(len),
                     Ok(Some(at)) => return End::TwoByteSimple { at },
-                    Err(error) => return End::Failed(error),
+                    Err(_) => return End::Memory,
                 },
                 Extent::Cut => return End::Cut,
                 Extent::Fault { error, end } => return End::Fault { error, end },
@@ -343,8 +368,9 @@ impl Stream {
         ensures unchanged { OnErr result (out.new.items ≡ out.old.items) }
         ensures kept { OnErr result (self.new ≡ self.old) }
     {
+        let mut text = String::new(*out.allocator());
         match self.scan() {
-            Extent::Item(len) => match show_first(show, self.rest(), Some(len), out) {
+            Extent::Item(len) => match show_first(show, self.rest(), Some(len), &mut text, out) {
                 Ok(used) => {
                     self.pass(used);
                     Ok(())

@@ -1,9 +1,10 @@
 //! The conversion of one input, as its bytes come.
 
-use crate::input::{block_len, read_into};
+use crate::input::{MORE, block_len, read_into};
 use crate::lost::report_lost;
-use crate::messages::{Left, Place, TWO_BYTES, report_end, report_long, say};
-use crate::output::{Target, Written, escape_hidden, write};
+use crate::messages::{Left, Place, TWO_BYTES, report_byte, report_end, report_long, say};
+use crate::output::{Target, Written, write, write_dump};
+use crate::rules::{Items, first_breach};
 use crate::run::Runner;
 use crate::status::{Next, Status};
 use crate::words::Job;
@@ -31,6 +32,8 @@ pub struct Conversion<'a> {
     pub any: bool,
     /// Whether a simple value in two bytes was named.
     noted: bool,
+    /// Whether a rule that the check names is broken.
+    broken: bool,
     /// What is written next.
     out: Vec<u8>,
 }
@@ -65,6 +68,7 @@ impl<'a> Conversion<'a> {
             skip: job.offset - skipped,
             any: false,
             noted: false,
+            broken: false,
             out: Vec::new(rt.alloc()),
         }
     }
@@ -97,7 +101,7 @@ impl<'a> Conversion<'a> {
     /// Takes what the input has, up to a block; returns how many bytes came, 0 at the end.
     fn take_block<R: Read>(&mut self, input: &mut R, block: &mut Vec<u8>) -> io::Result<usize> {
         if block.is_empty() {
-            block.resize(block_len(self.rt, self.place.name), 0)?;
+            block.resize(block_len(self.rt, self.place.name).min(MORE), 0)?;
         }
         let count = read_into(input, block.as_mut_slice())?.min(block.len());
         self.came = self.came.saturating_add(count);
@@ -117,7 +121,7 @@ impl<'a> Conversion<'a> {
     fn items(&mut self, at_end: bool) -> Next {
         for _ in 0..u64::MAX {
             let end = self.some_items();
-            match write(self.rt, self.target, &self.out) {
+            match self.write() {
                 Written::Whole => self.out.clear(),
                 Written::Closed => return Next::Nothing,
                 Written::Failed => {
@@ -134,12 +138,21 @@ impl<'a> Conversion<'a> {
                 | End::Fault { .. }
                 | End::TwoByteSimple { .. }
                 | End::Remaining
-                | End::Failed(_) => {
+                | End::Memory => {
                     return self.stop(end);
                 }
             }
         }
         Next::More
+    }
+
+    /// Writes what was made of items.
+    fn write(&mut self) -> Written {
+        if self.job.show.style.form == Form::Hex {
+            write_dump(self.rt, self.target, &self.out)
+        } else {
+            write(self.rt, self.target, &self.out)
+        }
     }
 
     /// Converts some items, and tells what follows them.
@@ -154,14 +167,13 @@ impl<'a> Conversion<'a> {
         } else {
             self.stream.show(show, &mut self.out)
         };
-        if show.style.form == Form::Hex && escape_hidden(&mut self.out).is_err() {
-            self.out.clear();
-            return End::Failed(Error::Memory);
-        }
         let passed = before - self.stream.rest().len().min(before);
         self.any |= passed > 0;
         self.note_simple(passed);
-        end
+        match self.note_breach(passed) {
+            Ok(()) => end,
+            Err(_) => End::Memory,
+        }
     }
 
     /// Says where the first simple value below 32 in two bytes is, if it is in the bytes that were
@@ -179,6 +191,26 @@ impl<'a> Conversion<'a> {
             self.place.say_at_byte(self.rt, byte, TWO_BYTES);
             self.noted = true;
         }
+    }
+
+    /// Says where the bytes that were passed last first break a rule that the check names, unless
+    /// that was said.
+    fn note_breach(&mut self, passed: usize) -> Result<(), Error> {
+        let Some(set) = self.job.rules else {
+            return Ok(());
+        };
+        if self.broken || passed == 0 {
+            return Ok(());
+        }
+        let begins = self.begins().saturating_sub(passed);
+        let bytes = self.stream.passed(passed);
+        let items = Items { bytes, begins };
+        if let Some((at, what)) = first_breach(self.rt.alloc(), set, items)? {
+            report_byte(self.rt, self.place, Left { begins, bytes }, at, &what);
+            self.broken = true;
+            self.ended(Status::Bad);
+        }
+        Ok(())
     }
 
     /// Says why no further item is converted.

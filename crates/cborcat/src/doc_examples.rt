@@ -1,11 +1,10 @@
 //! The examples of the doc comments of `cbor_inspect`, line for line: `checks/examples`
 //! compares.
 
-use cbor_diag::{Error, parse_hex};
+use cbor_diag::Error;
 use cbor_inspect::{
-    End, Form, Hint, Input, Pasted, Show, Stream, hint_of, is_shown, is_text, looks_like,
-    notation_fault, place_of_digit, place_of_fault, push_shown, recognize, show_items, skip_items,
-    steps_of, two_byte_simple,
+    End, Form, Input, Pasted, Show, Stream, is_shown, is_text, looks_like, place_of_digit,
+    place_of_fault, push_shown, recognize, show_items, skip_items, steps_of, two_byte_simple,
 };
 use std::test::Fail;
 
@@ -16,7 +15,7 @@ fn hex_is_shown(rt: HostRuntime) -> Result<(), Fail> {
     let mut out = Vec::new(alloc);
     let shown = show_items(&Show::new(alloc, Form::Diag), &found.bytes, &mut out);
     assert_eq!(rt; shown.end, End::Done);
-    assert_eq!(rt; out.as_slice(), b"[1,2]\n".as_slice());
+    assert_eq!(rt; out.as_slice(), b"[1, 2]\n".as_slice());
     Ok(())
 }
 
@@ -26,15 +25,6 @@ fn notation_is_recognized(rt: HostRuntime) -> Result<(), Fail> {
     let found = recognize(alloc, b"[1, 2]")?;
     assert_eq!(rt; found.form, Input::Diag);
     assert_eq!(rt; found.bytes.as_slice(), b"\x82\x01\x02".as_slice());
-    Ok(())
-}
-
-#[test]
-fn a_float_is_noted(rt: HostRuntime) -> Result<(), Fail> {
-    let alloc = rt.alloc();
-    let item = parse_hex(alloc, "f9 3e 00")?;
-    let text = Show::new(alloc, Form::Pretty).style.write(alloc, &item)?;
-    assert_eq!(rt; text.as_slice(), b"float'3e00' /1.5/\n".as_slice());
     Ok(())
 }
 
@@ -55,7 +45,7 @@ fn items_come_in_pieces(rt: HostRuntime) -> Result<(), Fail> {
     assert_eq!(rt; stream.show(&show, &mut out), End::Cut);
     stream.push(alloc, b"\x03")?;
     assert_eq!(rt; stream.show(&show, &mut out), End::Done);
-    assert_eq!(rt; out.as_slice(), b"1\n[2,3]\n".as_slice());
+    assert_eq!(rt; out.as_slice(), b"1\n[2, 3]\n".as_slice());
     Ok(())
 }
 
@@ -85,9 +75,6 @@ fn places_are_found(rt: HostRuntime) -> Result<(), Fail> {
     let alloc = rt.alloc();
     assert_eq!(rt; place_of_digit(b"0x82 01", 2), 5);
     assert_eq!(rt; steps_of(alloc, "2/@/1")?.len(), 3);
-    let fault = notation_fault(alloc, b"[1,]")?;
-    assert_eq!(rt; fault, Some((Error::Notation, 3)));
-    assert_eq!(rt; hint_of(b"[1,]", 3), Hint::Comma);
     assert_eq!(rt; place_of_fault(b"\x63a\xffb", Error::Utf8, 4), 2);
     Ok(())
 }

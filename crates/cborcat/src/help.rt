@@ -19,8 +19,12 @@ Output:
   -e, --embedded     show byte strings that hold an array, a map or a
                      tagged item as <<..>>
       --no-notes     no comments in notation
+      --widths       the width of each float and number above 23
   -o, --output=FILE  write FILE, once all input is converted
-  -c, --check        write nothing; report the first fault of each input
+  -c, --check[=RULES]
+                     write nothing; report the first fault of each input
+                     (by default of RFC 8949's grammar), or the first place
+                     that breaks RULES
 
   -h, --help         show this text
   -V, --version      show the version
@@ -31,13 +35,17 @@ Forms:
           after #
           output: a dump with comments
   digits  hex on one line (output)
-  diag    diagnostic notation; pretty is diag over several lines
+  diag    diagnostic notation (EDN), of which JSON is a part; pretty is
+          diag over several lines, with comments
   base64  either alphabet (input)
 
 Without -f, an input is bytes as soon as a byte comes that no text has, and is
 shown as it arrives. Text is read to its end. It is the first of hex, diag and
 base64 that reads all of it, and never bytes, but in a file .cbor, .cose or
 .cwt that none of these reads.
+
+RULES are those of RFC 8949 for preferred, core (deterministic) or length-first
+encoding, or ctap2. They include rfc8949, the grammar, which -c alone checks.
 
 A PATH has steps joined by /: an index of an array, a key of a map in
 notation or as a plain word, or @ for the item inside a byte string.

@@ -10,6 +10,10 @@ const BLOCK: usize = 64 * 1024;
 /// How many bytes of a file are asked for at once, at most.
 const FILE_BLOCK: usize = 16 * 1024 * 1024;
 
+/// How many bytes are asked for at once, at most, after the first. They come to memory of their
+/// own, which is to be small beside the input.
+pub const MORE: usize = 1024 * 1024;
+
 /// How many bytes are asked for at once. A file is mostly read in one go, so that its items are
 /// whole when they are looked at first; to wait for more bytes of it holds up nothing.
 pub fn block_len(rt: &HostRuntime, name: &str) -> usize {

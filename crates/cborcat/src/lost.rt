@@ -4,7 +4,8 @@ use crate::messages::{Place, label};
 use crate::status::Status;
 use crate::words::Job;
 use cbor_diag::{DataItem, Error, parse_bytes_partial};
-use cbor_inspect::{is_shown, lost_at};
+use cbor_edn::{EdnStyle, push_bytes_to_edn};
+use cbor_inspect::lost_at;
 use std::alloc::{AllocError, Global};
 
 /// Says where the path of an item leads nowhere, and what is there.
@@ -108,18 +109,18 @@ fn keys_of(alloc: Global, pairs: &[(DataItem, DataItem)]) -> Result<String, Allo
     Ok(text)
 }
 
-/// Appends a key in notation, if it may be shown as it is.
+/// Appends a key in EDN.
 fn push_key(text: &mut String, key: &DataItem) -> Result<(), AllocError> {
     if !key.is_well_formed() {
         return Ok(());
     }
-    let Ok(key) = key.to_diag(*text.allocator()) else {
+    let alloc = *text.allocator();
+    let Ok(bytes) = key.to_bytes(alloc) else {
         return Err(AllocError);
     };
-    if is_shown(false, key.as_bytes()) {
-        text.push_str(&key)
-    } else {
-        text.push_str("a text")
+    match push_bytes_to_edn(alloc, &bytes, EdnStyle::LINE, text) {
+        Ok(()) => Ok(()),
+        Err(_) => Err(AllocError),
     }
 }
 

@@ -12,13 +12,15 @@ mod help;
 mod input;
 mod lost;
 mod messages;
-mod notation;
 mod output;
 #[cfg(test)]
 mod recognition_tests;
 mod recognized;
 #[cfg(test)]
 mod refused_memory;
+mod rules;
+#[cfg(test)]
+mod rules_tests;
 mod run;
 mod status;
 mod words;

@@ -2,7 +2,6 @@
 
 use crate::excerpt;
 use crate::excerpt::{place_of, show_bytes, show_line};
-use crate::notation::report_notation;
 use crate::status::Status;
 use cbor_diag::Error;
 use cbor_inspect::{
@@ -104,10 +103,10 @@ impl Place<'_> {
 
     /// What its bytes are counted in, if that is not the input.
     fn within(&self) -> &'static str {
-        if self.form == Input::Base64 {
-            " of the base 64"
-        } else {
-            ""
+        match self.form {
+            Input::Base64 => " of the base 64",
+            Input::Diag => " of the bytes of the notation",
+            _ => "",
         }
     }
 }
@@ -121,10 +120,7 @@ pub fn report_end(rt: &HostRuntime, place: &Place, left: Left, end: End) -> Stat
             place.say_at_byte(rt, left.begins, "bytes remain after the item");
             let _ = eprintln!(rt; "  without -1 they are read as further items");
         }
-        End::Failed(error) => {
-            let _ = eprintln!(rt; "cborcat: {}: {error}", label(place.name));
-            return Status::Trouble;
-        }
+        End::Memory => return say_out_of_memory(rt, place.name),
         End::TwoByteSimple { at } => {
             report_byte(rt, place, left, at.saturating_add(1), TWO_BYTES);
         }
@@ -145,7 +141,7 @@ fn report_fault(rt: &HostRuntime, place: &Place, left: Left, fault: (Error, usiz
 pub const TWO_BYTES: &str = "a simple value below 32 in two bytes, which RFC 8949 forbids";
 
 /// Says what is wrong at one of the bytes that are left.
-fn report_byte(rt: &HostRuntime, place: &Place, left: Left, at_fault: usize, what: &str) {
+pub fn report_byte(rt: &HostRuntime, place: &Place, left: Left, at_fault: usize, what: &str) {
     let byte = left.begins.saturating_add(at_fault);
     match place.digits(byte) {
         Some(at) => {
@@ -193,15 +189,14 @@ pub fn report_refusal(rt: &HostRuntime, name: &str, text: &[u8], refusal: Refusa
     let status = match refusal {
         Refusal::Memory | Refusal::Hex(HexFault::Memory) => say_out_of_memory(rt, name),
         Refusal::Hex(HexFault::Digit(at)) => {
-            say_at(rt, (name, text), at, "not a hex digit");
-            show_line(rt, text, at, "^");
-            Status::Bad
+            report_character(rt, (name, text), at, "not a hex digit")
         }
         Refusal::Hex(HexFault::Odd(at)) => {
             say_at(rt, (name, text), at, "an odd number of hex digits");
             Status::Bad
         }
-        Refusal::Diag { error, at } => report_notation(rt, name, text, (error, at)),
+        Refusal::Utf8 { at } => report_character(rt, (name, text), at, Error::Utf8.text()),
+        Refusal::Diag { expected, at } => report_character(rt, (name, text), at, expected),
         Refusal::Base64 => {
             let _ = eprintln!(rt; "cborcat: {}: not base 64", label(name));
             Status::Bad
@@ -212,6 +207,18 @@ pub fn report_refusal(rt: &HostRuntime, name: &str, text: &[u8], refusal: Refusa
         say_pasted(rt, text);
     }
     status
+}
+
+/// Says what is wrong at a character of a text, and shows it.
+fn report_character<T: Display + Drop>(
+    rt: &HostRuntime,
+    input: (&str, &[u8]),
+    at: usize,
+    what: T,
+) -> Status {
+    say_at(rt, input, at, what);
+    show_line(rt, input.1, at, "^");
+    Status::Bad
 }
 
 /// Says what to do with a text that is no form, if that is known.

@@ -1,5 +1,6 @@
 //! Which form an input has, row by row, as worked out by hand; and where a text is at fault.
 
+use cbor_edn::{Close, Expected};
 use cbor_inspect::{HexFault, Input, Pasted, Refusal, is_text, looks_like, recognize, text_fault};
 use std::alloc::Global;
 use std::process::Abort;
@@ -48,39 +49,52 @@ fn hex_is_pairs_of_digits(rt: HostRuntime) -> Result<(), Fail> {
         b"\x82\x01\x02",
     )?;
     found(&rt, rt.alloc(), b"1", Input::Diag, b"\x01")?;
-    refused(&rt, rt.alloc(), b"10 1", Refusal::Hex(HexFault::Odd(3)));
-    refused(&rt, rt.alloc(), b"10 1#", Refusal::Hex(HexFault::Odd(3)));
-    refused(&rt, rt.alloc(), b"10 1g", Refusal::Hex(HexFault::Digit(4)));
-    refused(&rt, rt.alloc(), b"10 1:1", Refusal::Hex(HexFault::Odd(3)));
+    found(&rt, rt.alloc(), b"10 1", Input::Diag, b"\x0a\x01")?;
+    refused(&rt, rt.alloc(), b"a0 1", Refusal::Hex(HexFault::Odd(3)));
+    refused(&rt, rt.alloc(), b"a0 1#", Refusal::Hex(HexFault::Odd(3)));
+    refused(&rt, rt.alloc(), b"a0 1g", Refusal::Hex(HexFault::Digit(4)));
+    refused(&rt, rt.alloc(), b"a0 1:1", Refusal::Hex(HexFault::Odd(3)));
     Ok(())
 }
 
 #[test]
-fn notation_is_one_item(rt: HostRuntime) -> Result<(), Fail> {
+fn notation_is_items(rt: HostRuntime) -> Result<(), Fail> {
     found(&rt, rt.alloc(), b"8201", Input::Diag, b"\x19\x20\x09")?;
     found(&rt, rt.alloc(), b"[1, 2]", Input::Diag, b"\x82\x01\x02")?;
-    let error = cbor_diag::Error::Notation;
-    refused(&rt, rt.alloc(), b"1, 2", Refusal::Diag { error, at: 1 });
-    refused(&rt, rt.alloc(), b"1.5", Refusal::Diag { error, at: 1 });
-    refused(&rt, rt.alloc(), b"+1", Refusal::Diag { error, at: 0 });
+    found(&rt, rt.alloc(), b"1, 2", Input::Diag, b"\x01\x02")?;
+    found(&rt, rt.alloc(), b"1.5", Input::Diag, b"\xf9\x3e\x00")?;
+    found(&rt, rt.alloc(), b"+1", Input::Diag, b"\x01")?;
+    found(&rt, rt.alloc(), b"[1,]", Input::Diag, b"\x81\x01")?;
+    found(
+        &rt,
+        rt.alloc(),
+        b"\"a\"\n\"\\n\"\n",
+        Input::Diag,
+        b"\x61a\x61\n",
+    )?;
     refused(
         &rt,
         rt.alloc(),
         b"82(01-02)",
-        Refusal::Diag { error, at: 5 },
+        diag(Expected::Parenthesis, 5),
     );
+    refused(&rt, rt.alloc(), b"hello there", diag(Expected::Name, 0));
     refused(
         &rt,
         rt.alloc(),
-        b"hello there",
-        Refusal::Diag { error, at: 1 },
+        b"\"a\" \"b\"",
+        diag(Expected::PlusOrComma, 4),
     );
     Ok(())
 }
 
+/// What a text that is no notation is refused for.
+fn diag(expected: Expected, at: usize) -> Refusal {
+    Refusal::Diag { expected, at }
+}
+
 #[test]
 fn no_text_is_bytes(rt: HostRuntime) -> Result<(), Fail> {
-    let error = cbor_diag::Error::Notation;
     refused(
         &rt,
         rt.alloc(),
@@ -91,7 +105,7 @@ fn no_text_is_bytes(rt: HostRuntime) -> Result<(), Fail> {
         &rt,
         rt.alloc(),
         b"https://example.com/x",
-        Refusal::Diag { error, at: 1 },
+        diag(Expected::Name, 0),
     );
     found(&rt, rt.alloc(), b"\x01", Input::Bytes, b"\x01")?;
     found(&rt, rt.alloc(), b"eHell\x1f", Input::Bytes, b"eHell\x1f")?;
@@ -128,17 +142,16 @@ fn a_mark_is_skipped(rt: HostRuntime) -> Result<(), Fail> {
         Input::Base64,
         b"\x82\x01\x02",
     )?;
-    let error = cbor_diag::Error::Notation;
     refused(
         &rt,
         rt.alloc(),
-        b"\xef\xbb\xbf[1,]",
-        Refusal::Diag { error, at: 6 },
+        b"\xef\xbb\xbf[1;]",
+        diag(Expected::CommaOrClose(Close::Bracket), 5),
     );
     refused(
         &rt,
         rt.alloc(),
-        b"\xef\xbb\xbf10 1",
+        b"\xef\xbb\xbfa0 1",
         Refusal::Hex(HexFault::Odd(6)),
     );
     Ok(())
@@ -167,6 +180,10 @@ fn another_form_reads_it(rt: HostRuntime) -> Result<(), Fail> {
     );
     assert_eq!(rt;
         recognize(alloc, b"8001")?.also(alloc, b"8001")?,
+        Some(Input::Diag)
+    );
+    assert_eq!(rt;
+        recognize(alloc, b"82 01 02")?.also(alloc, b"82 01 02")?,
         Some(Input::Diag)
     );
     assert_eq!(rt; recognize(alloc, b"[1]")?.also(alloc, b"[1]")?, None);

@@ -2,7 +2,9 @@
 
 use crate::messages::{label, report_refusal, say_out_of_memory, word_of};
 use crate::status::Status;
-use cbor_inspect::{End, Input, Recognized, Refusal, is_text, recognize, skip_items};
+use cbor_inspect::{
+    End, Input, Recognized, Refusal, is_text, place_of_fault, recognize, skip_items,
+};
 use std::alloc::{AllocError, Global};
 
 /// The data of an input that was read to its end, and the form that it was read in: the form that
@@ -71,28 +73,34 @@ fn say_taken(
             word_of(other)
         );
     }
-    if found.form == Input::Diag
-        && let Some(at) = cut_as_hex(alloc, text)?
-    {
-        let _ = eprintln!(rt;
-            "cborcat: {}: read as notation; as hex it is cut short at byte {at}",
-            label(name)
-        );
+    if found.form == Input::Diag {
+        say_wrong_hex(rt, name, text)?;
     }
     Ok(())
 }
 
-/// Where the bytes end that a text is in hex, if these are cut short.
-fn cut_as_hex(alloc: Global, text: &[u8]) -> Result<Option<usize>, AllocError> {
-    let bytes = match Input::Hex.decode(alloc, text) {
+/// Says what is wrong with the bytes that notation is in hex, if it is hex.
+fn say_wrong_hex(rt: &HostRuntime, name: &str, text: &[u8]) -> Result<(), AllocError> {
+    let bytes = match Input::Hex.decode(rt.alloc(), text) {
         Ok(bytes) => bytes,
         Err(Refusal::Memory) => return Err(AllocError),
-        Err(_) => return Ok(None),
+        Err(_) => return Ok(()),
     };
-    match skip_items(&bytes, false).end {
-        End::Cut => Ok(Some(bytes.len())),
-        _ => Ok(None),
-    }
+    let shown = skip_items(&bytes, false);
+    let (what, at) = match shown.end {
+        End::Cut => ("cut short", bytes.len()),
+        End::Fault { error, end } => {
+            let rest = bytes.get(shown.used..).unwrap_or(b"");
+            let at = place_of_fault(rest, error, end);
+            ("wrong", shown.used.saturating_add(at))
+        }
+        _ => return Ok(()),
+    };
+    let _ = eprintln!(rt;
+        "cborcat: {}: read as notation; as hex it is {what} at byte {at}",
+        label(name)
+    );
+    Ok(())
 }
 
 /// Says how many items a text is as bytes, if it is items.

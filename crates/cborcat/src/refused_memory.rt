@@ -3,10 +3,9 @@
 
 use cbor_diag::{DataItem, Error, parse_bytes};
 use cbor_inspect::{
-    End, Form, Input, Refusal, Show, Stream, Style, float_of, lost_at, notation_fault, recognize,
-    show_items, steps_of,
+    End, Form, Input, Refusal, Show, Stream, Style, lost_at, recognize, show_items, steps_of,
 };
-use std::alloc::{AllocError, Global};
+use std::alloc::Global;
 use std::process::Abort;
 use std::test::Fail;
 
@@ -24,7 +23,7 @@ const SIGNED: &[u8] = b"\x43\xa1\x01\x26";
 
 const MAP: &[u8] = b"\xa2\x01\xc1\x1a\x65\x53\xf1\x00\x02\xf9\x3e\x00";
 
-const PRETTY: &[u8] = b"{1: 1(1700000000_2 /2023-11-14T22:13:20Z/), 2: float'3e00' /1.5/}\n";
+const PRETTY: &[u8] = b"{1: 1(1700000000 /2023-11-14T22:13:20Z/), 2: 1.5}\n";
 
 const HIDDEN: &[u8] = b"\x63a\x0ab";
 
@@ -56,20 +55,20 @@ fn cases() -> [Case<'static>; 13] {
         row(Form::Bytes, false, SIGNED, SIGNED),
         row(Form::Digits, false, SIGNED, b"43a10126\n"),
         row(Form::Diag, false, SIGNED, b"h'a10126'\n"),
-        row(Form::Diag, true, SIGNED, b"<<{1:-7}>>\n"),
+        row(Form::Diag, true, SIGNED, b"<<{1: -7}>>\n"),
         row(Form::Pretty, true, SIGNED, b"<<{1: -7}>>\n"),
         row(Form::Pretty, false, MAP, PRETTY),
         row(Form::Pretty, true, MAP, PRETTY),
-        row(Form::Diag, false, HIDDEN, b"\"a\" h'0a' \"b\"\n"),
+        row(Form::Diag, false, HIDDEN, b"\"a\\nb\"\n"),
         row(Form::Hex, false, b"\x20", b"20 # negative(-1)\n"),
         row(
             Form::Pretty,
             false,
             WITHIN,
-            b"[24_0(<<{1: -7}>>), 63_0(<<1>> h'f900')]\n",
+            b"[24(<<{1: -7}>>), 63(h'01f900')]\n",
         ),
         part("@/1", SIGNED, b"-7\n"),
-        part("2", MAP, b"float'3e00'\n"),
+        part("2", MAP, b"1.5\n"),
         part("a", b"\xa1\x61a\x03", b"3\n"),
     ]
 }
@@ -81,6 +80,7 @@ fn show_of(alloc: Global, case: &Case) -> Result<Show, Error> {
             form: case.form,
             embedded: case.embedded,
             notes: true,
+            widths: false,
         },
         steps: steps_of(alloc, case.path)?,
         one: false,
@@ -92,7 +92,7 @@ fn shown(rt: &impl Abort, alloc: Global, case: &Case) -> Result<bool, Error> {
     let show = show_of(alloc, case)?;
     let mut out = Vec::new(alloc);
     let shown = show_items(&show, case.input, &mut out);
-    if shown.end == End::Failed(Error::Memory) {
+    if shown.end == End::Memory {
         assert!(rt; out.is_empty());
         return Ok(true);
     }
@@ -110,7 +110,7 @@ fn streamed(rt: &impl Abort, alloc: Global, case: &Case) -> Result<bool, Error> 
     let _ = stream.show(&show, &mut out);
     stream.push(alloc, second)?;
     let end = stream.show(&show, &mut out);
-    if end == End::Failed(Error::Memory) {
+    if end == End::Memory {
         assert!(rt; out.is_empty());
         return Ok(true);
     }
@@ -148,19 +148,6 @@ fn lost(rt: &impl Abort, alloc: Global) -> Result<bool, Error> {
     Ok(false)
 }
 
-/// The place where a text stops being notation, and a float by its bits.
-fn texts(rt: &impl Abort, alloc: Global) -> Result<bool, AllocError> {
-    let fault = notation_fault(alloc, b"[1,]")?;
-    assert_eq!(rt; fault, Some((Error::Notation, 3)));
-    let float = float_of(alloc, "1.5")?;
-    let is_right = match float {
-        Some(text) => text.as_str() == "float'3e00'",
-        None => false,
-    };
-    assert!(rt; is_right);
-    Ok(false)
-}
-
 fn answer<E: Drop>(refused: Result<bool, E>) -> &'static str {
     match refused {
         Ok(false) => "ok",
@@ -190,7 +177,6 @@ fn a_call_answers_or_memory_is_refused(rt: HostRuntime) -> Result<(), Fail> {
             println!(rt; "recognized: {}", answer(refused))?;
         }
         println!(rt; "lost: {}", answer(lost(&rt, alloc)))?;
-        println!(rt; "texts: {}", answer(texts(&rt, alloc)))?;
     }
     Ok(())
 }

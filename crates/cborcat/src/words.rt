@@ -1,6 +1,7 @@
 //! The words of the command line.
 
 use crate::help::HELP;
+use crate::rules::{RULES, RuleSet, rules_of};
 use cbor_inspect::{Form, Input, Show, Style, steps_of};
 use clap::error::ErrorKind;
 use clap::{Arg, ArgAction, ArgMatches, Command};
@@ -31,6 +32,8 @@ pub struct Job<'a> {
     pub output: Option<&'a str>,
     /// Whether inputs are checked alone.
     pub check: bool,
+    /// The rules that a check asks for beyond those of RFC 8949's grammar.
+    pub rules: Option<RuleSet>,
     /// The files that are read; `-` for standard input.
     pub files: Vec<&'a str>,
 }
@@ -111,13 +114,20 @@ fn with_input<'a>(alloc: Global, command: Command<'a>) -> Result<Command<'a>, Al
 fn with_output<'a>(alloc: Global, command: Command<'a>) -> Result<Command<'a>, AllocError> {
     let to = option(alloc, "to").short('t').value_parser(TO.as_slice());
     let path = option(alloc, "path").short('p').allow_hyphen_values(true);
+    let check = option(alloc, "check")
+        .short('c')
+        .num_args(0..=1)
+        .require_equals(true)
+        .default_missing_value("rfc8949")
+        .value_parser(RULES.as_slice());
     command
         .arg(to)?
         .arg(path)?
         .arg(flag(alloc, "embedded").short('e'))?
         .arg(flag(alloc, "no-notes"))?
+        .arg(flag(alloc, "widths"))?
         .arg(option(alloc, "output").short('o'))?
-        .arg(flag(alloc, "check").short('c'))
+        .arg(check)
 }
 
 /// The form of an input that a word names.
@@ -148,6 +158,7 @@ fn style_of(matches: &ArgMatches) -> Style {
         form: form_of(matches.get_str("to")),
         embedded: matches.get_flag("embedded"),
         notes: !matches.get_flag("no-notes"),
+        widths: matches.get_flag("widths"),
     }
 }
 
@@ -170,6 +181,7 @@ fn job_of<'a>(rt: &HostRuntime, matches: &ArgMatches<'a>) -> Asked<'a> {
     let (Ok(steps), Ok(files)) = (steps_of(alloc, path), files_of(alloc, matches)) else {
         return out_of_memory(rt);
     };
+    let check = matches.get_str("check");
     let show = Show {
         style: style_of(matches),
         steps,
@@ -183,7 +195,8 @@ fn job_of<'a>(rt: &HostRuntime, matches: &ArgMatches<'a>) -> Asked<'a> {
         show,
         path,
         output: matches.get_str("output"),
-        check: matches.get_flag("check"),
+        check: check.is_some(),
+        rules: check.and_then(rules_of),
         files,
     })
 }

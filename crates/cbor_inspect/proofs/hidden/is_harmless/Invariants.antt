@@ -1,5 +1,5 @@
 use Rattle.std.proofs.Common.{◌-◌, IsTrue}
-use Rattle.cbor_inspect.specs.Hidden.{HidesNone}
+use Rattle.cbor_edn.specs.Hidden.{HidesNone}
 use Rattle.cbor_inspect.proofs.hidden.is_harmless.Given as goal
 
 -- no character that is not shown begins with one of the bytes before

@@ -1,5 +1,5 @@
 use Rattle.std.proofs.Common.{ℕ, ◌-◌, ◌<◌, length}
-use Rattle.cbor_inspect.specs.Hidden.{ShownAt}
+use Rattle.cbor_edn.specs.Hidden.{ShownAt}
 use Rattle.cbor_inspect.proofs.hidden.is_shown.Given as goal
 
 -- the characters before are shown as they are

@@ -1,5 +1,5 @@
 use Rattle.std.proofs.Common.{◌-◌, ◌≤◌}
-use Rattle.cbor_inspect.specs.Hidden.{ShownBetween}
+use Rattle.cbor_edn.specs.Hidden.{ShownBetween}
 use Rattle.cbor_inspect.proofs.hidden.is_shown_between.Given as goal
 
 -- the characters before are shown as they are

@@ -1,12 +1,17 @@
-use Rattle.cbor_inspect.specs.Ends.{Shows}
-use Rattle.cbor_inspect.proofs.Sequences.{one_shown}
+use Rattle.std.proofs.Common.{◌≡◌, length, rules}
+use Rattle.cbor_inspect.specs.Ends.{steps_of}
+use Rattle.cbor_inspect.proofs.OutputLemmas.{first_appended, whole_appended, no_steps}
 use Rattle.cbor_inspect.proofs.items.show_first.Goals as goal
 
-pub returns-in-Ok-extend_from_slice-clause-written : goal.returns-in-Ok-extend_from_slice-clause-written
-returns-in-Ok-extend_from_slice-clause-written c =
-    let front = c.in-Ok.ensures.written in (
-      c.in-Ok.front.0.items,
-      cc (c.in-Ok-extend_from_slice.ensures.items, c.deref.ensures.value),
-      one_shown (Shows c.args.show.now) c.args.bytes.now c.in-Ok.front.1 front.0 c.in-Ok.front.0.items
-          front.1.2 front.2,
-    )
+pub returns-then-is_empty-clause-written : goal.returns-then-is_empty-clause-written
+returns-then-is_empty-clause-written c =
+    let zero : length (steps_of c.args.show.now) ≡ 0 = search rules in
+    let none = no_steps (steps_of c.args.show.now) zero in
+    whole_appended c.args.show.now c.args.bytes.now _ _ c.push_front.result none c.push_front.ensures.written
+
+pub returns-then-is_empty-clause-ends : goal.returns-then-is_empty-clause-ends
+returns-then-is_empty-clause-ends c = c.push_front.ensures.ends (steps_of c.args.show.now)
+
+pub returns-else-is_empty-clause-written : goal.returns-else-is_empty-clause-written
+returns-else-is_empty-clause-written c =
+    first_appended c.args.show.now c.args.bytes.now _ _ c.push_part.result c.push_part.ensures.written

@@ -1,0 +1,43 @@
+"""Holds this reading of EDN against the examples, and against itself on items made at random."""
+
+import random
+import sys
+
+import cases
+from bytes_form import sequence, to_bytes
+from edn_examples import APPENDIX_A, TEXTS, WRITTEN
+from edn_form import edn_to_bytes
+from edn_text import Writer
+from item import Refused
+
+
+def answer(text):
+    try:
+        return edn_to_bytes(text.encode()).hex()
+    except Refused:
+        return None
+
+
+def check(wanted, found, at):
+    if wanted != found:
+        raise SystemExit(f"self-test of EDN: at {at!r:.300}\n wanted {wanted!r:.300}\n found  {found!r:.300}")
+
+
+def run(seed=1, count=2000):
+    for digits, text in APPENDIX_A:
+        check(digits, answer(text), text)
+        items, _ = sequence(bytes.fromhex(digits), 1)
+        check(WRITTEN.get(digits, text), Writer().item(items[0]), digits)
+    for text, digits in TEXTS:
+        check(digits, answer(text), text)
+    for number in range(count):
+        chance = random.Random(f"{seed} edn {number}")
+        item = cases.any_item(chance)
+        for writer in (Writer(), Writer(widths=True), Writer(embedded=True), Writer(True, True)):
+            text = writer.item(sequence(to_bytes(item), 1)[0][0])
+            check(to_bytes(item).hex(), answer(text), text)
+
+
+if __name__ == "__main__":
+    sys.setrecursionlimit(100_000)
+    run()

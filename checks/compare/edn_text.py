@@ -1,0 +1,132 @@
+"""Items written in EDN on one line, so that the same bytes are read back: docs/EDN.md."""
+
+import struct
+
+from bytes_form import sequence, to_bytes
+from edn_form import FORMATS, USUAL, nearest_or_none, value_of
+from fractions import Fraction
+from item import (
+    Array, Bytes, Float, IndefiniteBytes, IndefiniteText, Integer, Map, Negative, Simple, Tagged, Text,
+    shortest, utf8,
+)
+
+INDICATORS = {0: "_i", 1: "_0", 2: "_1", 4: "_2", 8: "_3"}
+# below these tags byte strings may have a note, and are no items
+NOTED = (2, 3, 37, 52, 54, 260)
+NAMES = {20: "false", 21: "true", 22: "null", 23: "undefined"}
+ESCAPED = {"\b": "\\b", "\f": "\\f", "\n": "\\n", "\r": "\\r", "\t": "\\t", '"': '\\"', "\\": "\\\\"}
+HIDDEN = {
+    *range(0x20), *range(0x7F, 0xA0), 0x61C, 0x200E, 0x200F, 0x2028, 0x2029, *range(0x202A, 0x202F),
+    *range(0x2066, 0x206A), 0xFEFF,
+}
+
+
+class Writer:
+    """What is written beside the items: every width, and byte strings as the items that they are."""
+
+    def __init__(self, widths=False, embedded=False):
+        self.widths, self.embedded = widths, embedded
+
+    def number(self, value, number, width):
+        shown = self.widths and shortest(number) > 0
+        return str(value) + (INDICATORS[width] if shown else longer(number, width))
+
+    def float(self, bits, width):
+        negative, size = bits >> 8 * width - 1, bits & (1 << 8 * width - 1) - 1
+        infinity = (2 ** (8 * width - 1 - {2: 10, 4: 23, 8: 52}[width]) - 1) << {2: 10, 4: 23, 8: 52}[width]
+        if size >= infinity:
+            return self.unusual(bits, width, size == infinity, negative)
+        value = value_of(size, width)
+        least = next(other for other in FORMATS if keeps(value, other))
+        text = ("-" if negative else "") + decimal_text(value)
+        return text + (INDICATORS[width] if width > least or self.widths else "")
+
+    def unusual(self, bits, width, infinite, negative):
+        """NaN and the infinities, by their words if these have the bits."""
+        quiet = {2: 0x7E00, 4: 0x7FC00000, 8: 0x7FF8 << 48}[width]
+        if not infinite and bits != quiet:
+            return f"float'{bits:0{2 * width}x}'"
+        word = ("-Infinity" if negative else "Infinity") if infinite else "NaN"
+        return word + (INDICATORS[width] if width > 2 or self.widths else "")
+
+    def bytes(self, item, level, tag):
+        """A byte string right below a tag, or below none."""
+        found = self.items_in(item.content, level, tag)
+        text = "h'" + item.content.hex() + "'"
+        if found is not None:
+            text = "<<" + ", ".join(self.item(inner, level + 1) for inner in found) + ">>"
+        return text + longer(len(item.content), item.width)
+
+    def items_in(self, content, level, tag):
+        """The items that are written between `<<` and `>>`, if these give the same bytes."""
+        found, rest = sequence(content, level + 1)
+        if rest or b"".join(map(to_bytes, found)) != content:
+            return None
+        if tag == 63 or tag == 24 and len(found) == 1:
+            return found
+        shown = self.embedded and tag not in (24, *NOTED) and len(found) == 1
+        return found if shown and isinstance(found[0], (Array, Map, Tagged)) else None
+
+    def text(self, item):
+        content = "".join(ESCAPED.get(one) or (f"\\u{ord(one):04x}" if ord(one) in HIDDEN else one)
+                          for one in item.content)
+        return f'"{content}"' + longer(len(utf8(item.content)), item.width)
+
+    def listed(self, opening, count, width, members, closing):
+        if width is None:
+            opening += "_ "
+        elif mark := longer(count, width):
+            opening += mark + " "
+        return opening + ", ".join(members) + closing
+
+    def chunks(self, item, level):
+        if not item.chunks:
+            return "''_" if isinstance(item, IndefiniteBytes) else '""_'
+        texts = [self.text(chunk) if isinstance(chunk, Text) else
+                 "h'" + chunk.content.hex() + "'" + longer(len(chunk.content), chunk.width)
+                 for chunk in item.chunks]
+        return "(_ " + ", ".join(texts) + ")"
+
+    def item(self, item, level=1, tag=None):
+        if isinstance(item, Integer):
+            return self.number(item.value, item.value, item.width)
+        if isinstance(item, Negative):
+            return self.number(-1 - item.value, item.value, item.width)
+        if isinstance(item, Float):
+            return self.float(item.bits, item.width)
+        if isinstance(item, Simple):
+            return NAMES.get(item.value, f"simple({item.value})")
+        if isinstance(item, Bytes):
+            return self.bytes(item, level, tag)
+        if isinstance(item, Text):
+            return self.text(item)
+        if isinstance(item, (IndefiniteBytes, IndefiniteText)):
+            return self.chunks(item, level)
+        if isinstance(item, Tagged):
+            number = self.number(item.number, item.number, item.width)
+            return number + "(" + self.item(item.value, level + 1, item.number) + ")"
+        if isinstance(item, Array):
+            members = [self.item(member, level + 1) for member in item.members]
+            return self.listed("[", len(members), item.width, members, "]")
+        pairs = [self.item(key, level + 1) + ": " + self.item(value, level + 1) for key, value in item.pairs]
+        return self.listed("{", len(pairs), item.width, pairs, "}")
+
+
+def longer(number, width):
+    """The indicator of a head that is longer than it has to be."""
+    return INDICATORS[width] if width > shortest(number) else ""
+
+
+def keeps(value, width):
+    bits = nearest_or_none(Fraction(value), width)
+    return bits is not None and value_of(bits, width) == value
+
+
+def decimal_text(value):
+    """The shortest digits of a double, which is not negative, with a point or an exponent."""
+    digits, _, exponent = repr(value).partition("e")
+    if not exponent:
+        return digits
+    if exponent == "-05":
+        return "0.0000" + digits.replace(".", "")
+    return f"{digits}e{int(exponent)}"

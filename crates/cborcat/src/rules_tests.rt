@@ -1,0 +1,126 @@
+//! What is said of the first breach of a set of rules, by the standards' words.
+
+use crate::rules::{Items, first_breach, rules_of};
+use std::alloc::Global;
+use std::process::Abort;
+use std::test::Fail;
+
+/// A set of rules, items, the place of the first breach, and what is said of it.
+type Row<'a> = (&'a str, &'a [u8], usize, &'a str);
+
+const CORE: [Row<'static>; 8] = [
+    (
+        "core",
+        b"\xa2\x61b\x02\x61a\x01",
+        4,
+        "not core deterministic: the key \"a\" comes after \"b\"",
+    ),
+    (
+        "core",
+        b"\xa2\x01\x02\x01\x03",
+        3,
+        "not core deterministic: the key 1 was at byte 11",
+    ),
+    (
+        "core",
+        b"\x38\x05",
+        0,
+        "not core deterministic: the number -6 takes 2 bytes; 1 is enough",
+    ),
+    (
+        "core",
+        b"\x59\0\x01\0",
+        0,
+        "not core deterministic: the length 1 takes 3 bytes; 1 is enough",
+    ),
+    (
+        "core",
+        b"\xfb\x3f\xf8\0\0\0\0\0\0",
+        0,
+        "not core deterministic: 1.5 takes 8 bytes; 2 are enough",
+    ),
+    (
+        "core",
+        b"\xfa\x7f\xc0\0\0",
+        0,
+        "not core deterministic: NaN takes 4 bytes; 2 are enough",
+    ),
+    (
+        "core",
+        b"\x9f\xff",
+        0,
+        "not core deterministic: an array of indefinite length",
+    ),
+    (
+        "core",
+        b"\xc2\x41\x05",
+        0,
+        "not core deterministic: a big number that fits an integer",
+    ),
+];
+
+const OTHERS: [Row<'static>; 4] = [
+    (
+        "ctap2",
+        b"\x81\xc1\0",
+        1,
+        "not CTAP2 canonical: CTAP2 has no tags",
+    ),
+    (
+        "ctap2",
+        b"\x81\x81\x81\x81\x80",
+        4,
+        "not CTAP2 canonical: CTAP2 has at most 4 levels of arrays and maps",
+    ),
+    (
+        "preferred",
+        b"\x98\x01\0",
+        0,
+        "not preferred: the count 1 takes 2 bytes; 1 is enough",
+    ),
+    (
+        "length-first",
+        b"\xa2\x62aa\0\x20\0",
+        5,
+        "not length-first deterministic: the key -1 comes after \"aa\"",
+    ),
+];
+
+fn check(rt: &impl Abort, alloc: Global, row: &Row) -> Result<(), Fail> {
+    let (word, bytes, place, text) = *row;
+    let set = rules_of(word).expect(rt, word);
+    let items = Items { bytes, begins: 10 };
+    let found = first_breach(alloc, set, items)?;
+    let (at, what) = found.expect(rt, text);
+    assert_eq!(rt; at, place, "{text}");
+    assert_eq!(rt; what.as_str(), text);
+    Ok(())
+}
+
+#[test]
+fn texts(rt: HostRuntime) -> Result<(), Fail> {
+    for row in &CORE {
+        check(&rt, rt.alloc(), row)?;
+    }
+    for row in &OTHERS {
+        check(&rt, rt.alloc(), row)?;
+    }
+    Ok(())
+}
+
+#[test]
+fn kept(rt: HostRuntime) -> Result<(), Fail> {
+    let rows: [(&str, &[u8]); 4] = [
+        ("core", b"\xa2\x61a\x01\x61b\x02"),
+        ("preferred", b"\xbf\x02\0\x01\0\xff"),
+        ("length-first", b"\xa2\x20\0\x62aa\0"),
+        ("ctap2", b"\xa1\x20\xfa\x3f\xc0\0\0"),
+    ];
+    for (word, bytes) in rows {
+        let set = rules_of(word).expect(&rt, word);
+        let found = first_breach(rt.alloc(), set, Items { bytes, begins: 0 })?;
+        assert!(rt; found.is_none(), "{word}");
+    }
+    assert!(rt; rules_of("rfc8949").is_none());
+    Ok(())
+}
