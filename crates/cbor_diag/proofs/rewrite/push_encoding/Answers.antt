@@ -1,9 +1,8 @@
 -- Bytes without a simple value that is too long are appended as they are, others as they are read and written.
-use Rattle.std.proofs.Common.{ℕ, List, ◌++◌, length, take, sym, ap, subst, ◌∙◌, arith}
+use Rattle.std.proofs.Common.{ℕ, List, ◌++◌, length, sym, ap, subst, ◌∙◌, arith}
 use Rattle.std.proofs.Math.Seq.{take-length}
 use Rattle.cbor_grammar.specs.Item.{Item}
 use Rattle.cbor_grammar.specs.Facts.{IsItem, BeginsWithItem}
-use Rattle.cbor_grammar.specs.Written.{encoded}
 use Rattle.cbor_grammar.proofs.bytes.FoundAgain.{spelled_begins}
 use Rattle.cbor_bytes.proofs.bytes.StrictHeads.{strict_is}
 use Rattle.cbor_diag.proofs.rewrite.push_encoding.Goals as goal
