@@ -44,8 +44,8 @@ enum cbor_diag_form {
 /*
  * EDN is what people write. There a float is decimal, texts have the escapes of JSON, and a width is stated where it is
  * not the shortest. What is written for an item is read back as the same bytes, but for a simple value below 24 in two
- * bytes, which RFC 8949 does not have; that is tested, not proved. An output in EDN has no control characters but line
- * feeds, which are outside of texts.
+ * bytes, which RFC 8949 does not have. An output in EDN has no control characters but line feeds, which are outside of
+ * texts.
  *
  * In both outputs in diagnostic notation a text string is shown as it is, with its line feeds and control characters:
  * of hostile input, a line is not one item, and a terminal obeys what it is sent. A dump and EDN escape them.

@@ -9,3 +9,4 @@ pub mod Blanks
 pub mod Members
 pub mod Levels
 pub mod writing
+pub mod back

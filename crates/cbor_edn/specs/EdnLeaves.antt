@@ -60,9 +60,15 @@ ends_note b = nat_lt b 32 || nat_lt 126 b || (b == 47)
 abbrev pub IsNote : List ℕ → Type 0
 IsNote note = list_any ends_note note ≡ false
 
+-- between slashes a note is a comment: `//` and `/*` would begin other ones
+abbrev pub begins_note : List ℕ → Bool
+begins_note [] = false
+begins_note (b ∷ note) = not (b == 42)
+
 -- a note between slashes, or nothing; and what is after an item, which is nothing where no notes are written
 abbrev pub AnyNote : Texts
-AnyNote t = (t ≡ []) ⊎ ((note : List ℕ) × IsNote note × (t ≡ codes " /" ++ (note ++ codes "/")))
+AnyNote t = (t ≡ [])
+    ⊎ ((note : List ℕ) × IsNote note × (t ≡ codes " /" ++ (note ++ codes "/")) × (begins_note note ≡ true))
 
 abbrev pub NoteAfter : EdnPlace → Texts
 NoteAfter p t = (t ≡ []) ⊎ ((p.style.notes ≡ true) × AnyNote t)

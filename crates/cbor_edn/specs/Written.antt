@@ -4,10 +4,12 @@ use Rattle.cbor_grammar.specs.declared.error.Error.{Error}
 use Rattle.cbor_grammar.specs.declared.error.Error.TheVariants as refusal
 use Rattle.cbor_grammar.specs.Item.{Item}
 use Rattle.cbor_grammar.specs.Answer.{Outcome, spelled, cut, fault}
+use Rattle.cbor_grammar.specs.Written.{encoded}
 use Rattle.cbor_notation.specs.Dialect.{TextsAt}
 use Rattle.cbor_edn.specs.declared.print.place.EdnPlace.{EdnPlace}
 use Rattle.cbor_edn.specs.declared.style.EdnStyle.{EdnStyle}
 use Rattle.cbor_edn.specs.Breaks.{Nothing, BreaksApart}
+use Rattle.cbor_edn.specs.Edn.{bytes_of_edn}
 use Rattle.cbor_edn.specs.EdnLeaves.{edn_leaves, layout_of}
 use Rattle.cbor_edn.specs.Hidden.{IsShown}
 
@@ -25,12 +27,14 @@ pub record IsOutermost (style : EdnStyle) (place : EdnPlace) : Type 0 where
   pub style_is : place.style ≡ style
   pub tag : place.tag ≡ None
 
--- The text is one that EDN has for the item: each part of it is what `edn_leaves` says. No character in it is hidden.
--- Where it has lines, line feeds are in no quotes and in no comment.
+-- The text is one that EDN has for the item: each part of it is what `edn_leaves` says. It is read back as the bytes of
+-- the item, all widths included. No character in it is hidden. Where it has lines, line feeds are in no quotes and in no
+-- comment.
 pub record IsEdnText (style : EdnStyle) (i : Item) (text : List ℕ) : Type 0 where
   pub place : EdnPlace
   pub outermost : IsOutermost style place
   pub written : TextsAt edn_leaves place i text
+  pub read_back : bytes_of_edn text ≡ Some (encoded i)
   pub shown : IsShown style.lines text
   pub breaks : BreaksApart Nothing text
 

@@ -1,6 +1,10 @@
--- What the dialect writes is EDN of the item.
-use Rattle.std.proofs.Common.{◌≡◌, ℕ, suc, List, [], ◌∷◌, ◌++◌, true, false, Bool, Result, Ok, Err, IfOk, refl, sym}
-use Rattle.std.proofs.Common.{subst}
+-- What the dialect writes is EDN of the item, and the same bytes are read back.
+use Rattle.std.proofs.Common.{◌≡◌, ℕ, suc, List, [], ◌∷◌, ◌++◌, true, false, Bool, Result, Ok, Err, IfOk, MatchResult}
+use Rattle.std.proofs.Common.{Some, Global, refl, sym, ap, subst, ◌∙◌}
+use Rattle.std.specs.String.{string_bytes}
+use Rattle.std.specs.declared.string.String.{String}
+use Rattle.cbor_grammar.specs.Facts.{IsItem, IsStrictItem}
+use Rattle.cbor_grammar.proofs.bytes.Strict.{strict_any, strict_only}
 use Rattle.cbor_grammar.specs.Item.{Item}
 use Rattle.cbor_grammar.specs.Reading.{read_item}
 use Rattle.cbor_grammar.specs.WellFormed.{WellFormed}
@@ -11,10 +15,12 @@ use Rattle.cbor_grammar.proofs.bytes.Found.{item_takes}
 use Rattle.cbor_grammar.specs.WellFormed.{levels_left}
 use Rattle.cbor_notation.specs.Dialect.{TextsOf, TextsAt}
 use Rattle.cbor_notation.specs.mirror.Straight.{Written}
+use Rattle.cbor_edn.specs.Edn.{bytes_of_edn}
 use Rattle.cbor_edn.specs.EdnLeaves.{edn_leaves, layout_of}
 use Rattle.cbor_edn.specs.Written.{IsOutermost, IsEdnText}
 use Rattle.cbor_edn.specs.declared.print.place.EdnPlace.{EdnPlace}
 use Rattle.cbor_edn.specs.declared.style.EdnStyle.{EdnStyle}
+use Rattle.cbor_edn.proofs.back.Items.{edn_back}
 use Rattle.cbor_edn.proofs.writing.Runs.{is_shown}
 use Rattle.cbor_edn.proofs.writing.Texts.{AllowsLayout, texts_apart}
 
@@ -41,7 +47,14 @@ module _ (style : EdnStyle) (p : EdnPlace) (outermost : IsOutermost style p) whe
       let apart = texts_apart style.lines 1 128 refl p i t
       (subst (AllowsLayout style.lines) (sym outermost.layout) (allowed style.lines)) well
       (subst (λ l. TextsOf edn_leaves (levels_left l) p i t) outermost.level text) in
-      record { place = p; outermost = outermost; written = text; shown = is_shown apart; breaks = apart.breaks }
+      record {
+        place = p;
+        outermost = outermost;
+        written = text;
+        read_back = edn_back p i t outermost.level well text;
+        shown = is_shown apart;
+        breaks = apart.breaks;
+      }
 
   pub edn_so : {A E : Type 0} (r : Result A E) (f : A → List ℕ) (b old new : List ℕ) → IsBytes b
       → IfOk r (λ x. Written (TextsAt edn_leaves p) (read_item 128 b) (f x) old new)
@@ -49,3 +62,11 @@ module _ (style : EdnStyle) (p : EdnPlace) (outermost : IsOutermost style p) whe
   edn_so (Ok x) f b old new bytes (i, is, t, text, written) =
       (i, is, t, is_edn b i (f x) t bytes is text, written)
   edn_so (Err e) f b old new bytes h = tt
+
+-- of bytes that are spelled as a writer spells them the text is read back as the bytes
+pub kept : {E : Type 0} (style : EdnStyle) (b : List ℕ) (i : Item) (r : Result (String Global) E) (other : E → Type 0)
+    → ((i : Item) → IsItem b i → MatchResult r (λ s. IsEdnText style i (string_bytes s)) other) → IsStrictItem b i
+    → IfOk r (λ s. bytes_of_edn (string_bytes s) ≡ Some b)
+kept style b i (Ok s) other every strict =
+    (every i (strict_any 1 b i strict)).read_back ∙ sym (ap Some (strict_only 1 b i strict))
+kept style b i (Err e) other every strict = tt

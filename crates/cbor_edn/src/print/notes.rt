@@ -4,7 +4,8 @@
 ghost use Rattle.std.specs.Prelude.{◌≡◌};
 ghost use Rattle.std.specs.List.{list_any};
 ghost use Rattle.cbor_notation.specs.Dialect.{Writes};
-ghost use Rattle.cbor_edn.specs.EdnLeaves.{ends_note as no_note_has, AnyNote, NoteAfter};
+ghost use Rattle.cbor_edn.specs.EdnLeaves.{ends_note as no_note_has, begins_note};
+ghost use Rattle.cbor_edn.specs.EdnLeaves.{AnyNote, NoteAfter};
 
 use crate::print::place::EdnPlace;
 use cbor_grammar::strings::StringContent;
@@ -64,11 +65,11 @@ pub(super) fn push_string_note(
     }
 }
 
-/// Writes a note, unless it has a character that no note has.
+/// Writes a note, unless it would end early or begin another comment.
 fn push_note(out: &mut String, note: &str) -> Result<(), AllocError>
     ensures { Writes result out.old out.new AnyNote }
 {
-    if has_other(note) {
+    if has_other(note) || !may_begin(note) {
         return Ok(());
     }
     out.push_str(" /")?;
@@ -83,6 +84,16 @@ fn push_some_note(out: &mut String, note: &Option<String>) -> Result<(), AllocEr
     match note {
         Some(note) => push_note(out, note),
         None => Ok(()),
+    }
+}
+
+/// Whether a note may begin so: `//` and `/*` begin other comments.
+fn may_begin(note: &str) -> bool
+    ensures { result ≡ begins_note note.now }
+{
+    match note.as_bytes().first() {
+        Some(first) => *first != b'*',
+        None => false,
     }
 }
 
