@@ -16,3 +16,4 @@ pub mod Lists
 pub mod Containers
 pub mod Embedded
 pub mod Items
+pub mod Lines

@@ -19,3 +19,4 @@ pub mod Written
 pub mod Escapes
 pub mod Same
 pub mod EdnLeaves
+pub mod Lines

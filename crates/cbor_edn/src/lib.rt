@@ -12,6 +12,7 @@ mod date;
 mod digits;
 mod error;
 mod float;
+mod laws;
 mod number;
 mod opening;
 mod print;
