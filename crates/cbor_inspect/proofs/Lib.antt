@@ -8,3 +8,4 @@ pub mod InputLemmas
 pub mod HiddenLemmas
 pub mod StreamLemmas
 pub mod OutputLemmas
+pub mod Lines

@@ -39,3 +39,9 @@ IsFormOf form.Bytes style i output = output ≡ encoded i
 -- the item in that style
 abbrev pub IsForm : Style → Item → List ℕ → Type 0
 IsForm style i output = IsFormOf style.form (edn_style style) i output
+
+-- the forms that are EDN
+abbrev pub IsEdn : Form → Type 0
+IsEdn form.Pretty = Unit {0}
+IsEdn form.Diag = Unit {0}
+IsEdn other = ⊥

@@ -1,7 +1,7 @@
 -- Items one after the other (RFC 8742), what is written of them, and where they end.
 use Rattle.std.specs.Prelude.{◌≡◌, ◌⊎◌, ℕ, List, [], ◌∷◌, ◌++◌}
 use Rattle.cbor_diag.specs.Item.{Item}
-use Rattle.cbor_diag.specs.Facts.{IsItem, BeginsWithItem}
+use Rattle.cbor_diag.specs.Facts.{IsItem, IsStrictItem, BeginsWithItem}
 
 -- the input is these items, each after the one before it, and then the rest
 abbrev pub ItemsThen : List ℕ → List Item → List ℕ → Type 0
@@ -20,6 +20,16 @@ OneAtMost input rest = (input ≡ rest) ⊎ OneThen input rest
 -- the input is items, one after the other, and nothing else
 abbrev pub IsSequence : List ℕ → Type 0
 IsSequence input = (items : List Item) × ItemsThen input items []
+
+-- the bytes are these items, one after the other and nothing else, and no simple value below 24 takes two bytes
+abbrev pub AreStrictItems : List ℕ → List Item → Type 0
+AreStrictItems b [] = b ≡ []
+AreStrictItems b (i ∷ is) =
+    (front after : List ℕ) × (b ≡ front ++ after) × IsStrictItem front i × AreStrictItems after is
+
+-- the bytes are such items
+abbrev pub IsStrictSequence : List ℕ → Type 0
+IsStrictSequence b = (items : List Item) × AreStrictItems b items
 
 -- the output is what is written of each of these items, in order
 abbrev pub ShowsEach : (Item → List ℕ → Type 0) → List Item → List ℕ → Type 0

@@ -21,6 +21,7 @@ mod form;
 mod heads;
 mod hidden;
 mod items;
+mod laws;
 mod loose;
 mod pasted;
 mod path;

@@ -1,0 +1,134 @@
+-- What is written of items in EDN, one after the other, is read back as their bytes.
+use Rattle.std.proofs.Common.{◌≡◌, ℕ, ◌<◌, ◌≤◌, List, [], ◌∷◌, ◌++◌, length, Some, refl, sym, ap, subst}
+use Rattle.std.proofs.Common.{◌∙◌, append_assoc, length-append, arith}
+use Rattle.std.specs.List.{AllByRecursion}
+use Rattle.cbor_grammar.specs.Bytes.{any, Spells}
+use Rattle.cbor_grammar.specs.Item.{Item, items_of}
+use Rattle.cbor_grammar.specs.Reading.{read_item}
+use Rattle.cbor_grammar.specs.WellFormed.{WellFormed}
+use Rattle.cbor_grammar.specs.Written.{encoded_items, resolve}
+use Rattle.cbor_grammar.proofs.bytes.FoundAgain.{item_again}
+use Rattle.cbor_grammar.proofs.bytes.Heads.{ok_is}
+use Rattle.cbor_grammar.proofs.bytes.Laws.{all_bytes-front, all_bytes-rest, bytes_at}
+use Rattle.cbor_grammar.proofs.bytes.Resolved.{resolved, spells_well}
+use Rattle.cbor_grammar.proofs.bytes.Sizes.{one_byte}
+use Rattle.cbor_grammar.proofs.bytes.Strict.{strict_any, strict_only}
+use Rattle.cbor_edn.specs.declared.style.EdnStyle.{EdnStyle}
+use Rattle.cbor_edn.specs.Edn.{bytes_of_edn}
+use Rattle.cbor_edn.specs.Lines.{AreEdnLines}
+use Rattle.cbor_edn.specs.Written.{IsEdnText}
+use Rattle.cbor_edn.proofs.back.Lines.{items_back}
+use Rattle.cbor_inspect.specs.declared.form.Form.{Form}
+use Rattle.cbor_inspect.specs.declared.form.Form.TheVariants as form
+use Rattle.cbor_inspect.specs.declared.items.Show.{Show}
+use Rattle.cbor_inspect.specs.declared.path.Step.{Step}
+use Rattle.cbor_inspect.specs.Ends.{Shows, steps_of}
+use Rattle.cbor_inspect.specs.Forms.{IsEdn, IsFormOf, IsLineOf, edn_style}
+use Rattle.cbor_inspect.specs.Paths.{LeadsTo}
+use Rattle.cbor_inspect.specs.Sequence.{ItemsThen, ShowsEach, IsShownOfFirst, AreStrictItems, IsStrictSequence}
+
+-- ---- the items of bytes
+
+-- the item at the front of bytes is one, and what follows it is too
+record SameFront (i j : Item) (after later : List ℕ) : Type 0 where
+  pub item : i ≡ j
+  pub rest : after ≡ later
+
+same_front : (b front after other later : List ℕ) (i j : Item) → b ≡ front ++ after → b ≡ other ++ later
+    → Spells any 1 front i → Spells any 1 other j → SameFront i j after later
+same_front b front after other later i j is also s t =
+    let both = sym (item_again 1 128 front i after refl s) ∙ ap (read_item 128) (sym is ∙ also)
+    ∙ item_again 1 128 other j later refl t in
+    let same = ok_is (i, after) (j, later) both in
+    record { item = ap (λ (x : Item × List ℕ). x.0) same; rest = ap (λ (x : Item × List ℕ). x.1) same }
+
+then_shorter : (b : List ℕ) (is : List Item) (rest : List ℕ) → ItemsThen b is rest → length rest ≤ length b
+then_shorter b [] rest is = omega (arith, ap length is)
+then_shorter b (i ∷ is) rest (front, after, whole, s, later) =
+    omega (arith, then_shorter after is rest later, ap length whole, length-append front after)
+
+-- bytes before the rest are these items, and so no others
+same_items : (is js : List Item) (b front rest : List ℕ) → b ≡ front ++ rest → ItemsThen b is rest
+    → AreStrictItems front js → is ≡ js
+same_items [] [] b front rest whole first strict = refl
+same_items [] (j ∷ js) b front rest whole first (other, later, is, s, more) =
+    absurd (omega (
+      arith,
+      one_byte 1 other j (strict_any 1 other j s),
+      ap length is,
+      length-append other later,
+      ap length whole,
+      ap length first,
+      length-append front rest,
+    ))
+same_items (i ∷ is) [] b front rest whole (other, after, splits, s, later) strict =
+    absurd (omega (
+      arith,
+      one_byte 1 other i s,
+      ap length splits,
+      length-append other after,
+      then_shorter after is rest later,
+      ap length whole,
+      ap length strict,
+      length-append front rest,
+    ))
+same_items (i ∷ is) (j ∷ js) b front rest whole (first, after, splits, s, later) (other, behind, is_front, t, more) =
+    let same = same_front b first after other (behind ++ rest) i j splits
+    (whole ∙ ap (λ x. x ++ rest) is_front ∙ append_assoc other behind rest) s (strict_any 1 other j t) in
+    ap (λ x. x ∷ is) same.item
+    ∙ ap (λ xs. j ∷ xs) (same_items is js after behind rest same.rest later more)
+
+-- they are well formed, and encoded as these bytes
+record Encoded (b : List ℕ) (is : List Item) : Type 0 where
+  pub well : AllByRecursion (WellFormed 1) is
+  pub same : encoded_items (items_of is) ≡ b
+
+strict_encoded_items : (b : List ℕ) (is : List Item) → AllByRecursion (λ x. x < 256) b → AreStrictItems b is
+    → Encoded b is
+strict_encoded_items b [] bytes is = record { well = tt; same = sym is }
+strict_encoded_items b (i ∷ is) bytes (front, after, whole, s, later) =
+    let both : AllByRecursion (λ x. x < 256) (front ++ after) = subst (AllByRecursion (λ x. x < 256)) whole bytes in
+    let more = strict_encoded_items after is (all_bytes-rest front after both) later in
+    record {
+      well = (
+        spells_well 1 front i (bytes_at front (all_bytes-front front after both)) (strict_any 1 front i s),
+        more.well,
+      );
+      same = ap (λ e. e ++ encoded_items (items_of is)) (sym (strict_only 1 front i s))
+          ∙ ap (λ e. front ++ e) more.same ∙ sym whole;
+    }
+
+-- ---- what is written
+
+edn_line : (f : Form) (style : EdnStyle) (i : Item) (output : List ℕ) → IsEdn f → IsFormOf f style i output
+    → IsLineOf style i output
+edn_line form.Pretty style i output is h = h
+edn_line form.Diag style i output is h = h
+edn_line form.Hex style i output is h = absurd is
+edn_line form.Digits style i output is h = absurd is
+edn_line form.Bytes style i output is h = absurd is
+
+edn_lines : (show : Show) → IsEdn show.style.form → steps_of show ≡ [] → (is : List Item) (b written : List ℕ)
+    → AreStrictItems b is → ShowsEach (Shows show) is written → AreEdnLines (edn_style show.style) is written
+edn_lines show edn whole [] b written strict none = none
+edn_lines show edn whole (i ∷ is) b written (front, after, splits, s, later)
+    (first, rest, joined, (part, leads, is_form), more) =
+    let line = edn_line show.style.form (edn_style show.style) (resolve part) first edn is_form in
+    let all : part ≡ i = subst (λ (steps : List Step). LeadsTo steps i part) whole leads in
+    let read : resolve part ≡ i = ap resolve all ∙ resolved 1 front i (strict_any 1 front i s) in (
+      line.0,
+      rest,
+      joined ∙ ap (λ t. t ++ rest) line.1 ∙ append_assoc line.0 (10 ∷ []) rest,
+      subst (λ x. IsEdnText (edn_style show.style) x line.0) read line.2,
+      edn_lines show edn whole is after rest later more,
+    )
+
+pub edn_read_back : (show : Show) (front rest written : List ℕ) → IsEdn show.style.form → steps_of show ≡ []
+    → AllByRecursion (λ b. b < 256) front → IsStrictSequence front
+    → IsShownOfFirst (Shows show) (front ++ rest) written rest → bytes_of_edn written ≡ Some front
+edn_read_back show front rest written edn whole bytes (js, strict) shown =
+    let same = same_items shown.items js (front ++ rest) front rest refl shown.input_is strict in
+    let each = subst (λ (is : List Item). ShowsEach (Shows show) is written) same shown.output_is in
+    let e = strict_encoded_items front js bytes strict in
+    items_back (edn_style show.style) js written e.well (edn_lines show edn whole js front written strict each)
+    ∙ ap (λ b. Some b) e.same
