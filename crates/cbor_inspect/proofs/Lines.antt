@@ -1,5 +1,5 @@
 -- What is written of items in EDN, one after the other, is read back as their bytes.
-use Rattle.std.proofs.Common.{◌≡◌, ℕ, ◌<◌, ◌≤◌, List, [], ◌∷◌, ◌++◌, length, Some, refl, sym, ap, subst}
+use Rattle.std.proofs.Common.{◌≡◌, ℕ, ◌≤◌, List, [], ◌∷◌, ◌++◌, length, Some, refl, sym, ap, subst}
 use Rattle.std.proofs.Common.{◌∙◌, append_assoc, length-append, arith}
 use Rattle.std.specs.List.{AllByRecursion}
 use Rattle.cbor_grammar.specs.Bytes.{any, Spells}
@@ -9,7 +9,7 @@ use Rattle.cbor_grammar.specs.WellFormed.{WellFormed}
 use Rattle.cbor_grammar.specs.Written.{encoded_items, resolve}
 use Rattle.cbor_grammar.proofs.bytes.FoundAgain.{item_again}
 use Rattle.cbor_grammar.proofs.bytes.Heads.{ok_is}
-use Rattle.cbor_grammar.proofs.bytes.Laws.{all_bytes-front, all_bytes-rest, bytes_at}
+use Rattle.cbor_grammar.proofs.bytes.Laws.{AllBytes, all_bytes-front, all_bytes-rest, bytes_at}
 use Rattle.cbor_grammar.proofs.bytes.Resolved.{resolved, spells_well}
 use Rattle.cbor_grammar.proofs.bytes.Sizes.{one_byte}
 use Rattle.cbor_grammar.proofs.bytes.Strict.{strict_any, strict_only}
@@ -78,25 +78,22 @@ same_items (i ∷ is) (j ∷ js) b front rest whole (first, after, splits, s, la
     ap (λ x. x ∷ is) same.item
     ∙ ap (λ xs. j ∷ xs) (same_items is js after behind rest same.rest later more)
 
--- they are well formed, and encoded as these bytes
-record Encoded (b : List ℕ) (is : List Item) : Type 0 where
-  pub well : AllByRecursion (WellFormed 1) is
-  pub same : encoded_items (items_of is) ≡ b
+-- so they are encoded
+strict_encoded : (b : List ℕ) (is : List Item) → AreStrictItems b is → encoded_items (items_of is) ≡ b
+strict_encoded b [] is = sym is
+strict_encoded b (i ∷ is) (front, after, whole, s, later) =
+    ap (λ e. e ++ encoded_items (items_of is)) (sym (strict_only 1 front i s))
+    ∙ ap (λ e. front ++ e) (strict_encoded after is later) ∙ sym whole
 
-strict_encoded_items : (b : List ℕ) (is : List Item) → AllByRecursion (λ x. x < 256) b → AreStrictItems b is
-    → Encoded b is
-strict_encoded_items b [] bytes is = record { well = tt; same = sym is }
-strict_encoded_items b (i ∷ is) bytes (front, after, whole, s, later) =
-    let both : AllByRecursion (λ x. x < 256) (front ++ after) = subst (AllByRecursion (λ x. x < 256)) whole bytes in
-    let more = strict_encoded_items after is (all_bytes-rest front after both) later in
-    record {
-      well = (
-        spells_well 1 front i (bytes_at front (all_bytes-front front after both)) (strict_any 1 front i s),
-        more.well,
-      );
-      same = ap (λ e. e ++ encoded_items (items_of is)) (sym (strict_only 1 front i s))
-          ∙ ap (λ e. front ++ e) more.same ∙ sym whole;
-    }
+-- items that bytes are have an encoding
+all_well : (b : List ℕ) (is : List Item) (rest : List ℕ) → AllBytes b → ItemsThen b is rest
+    → AllByRecursion (WellFormed 1) is
+all_well b [] rest bytes is = tt
+all_well b (i ∷ is) rest bytes (front, after, whole, s, later) =
+    let both : AllBytes (front ++ after) = subst AllBytes whole bytes in (
+      spells_well 1 front i (bytes_at front (all_bytes-front front after both)) s,
+      all_well after is rest (all_bytes-rest front after both) later,
+    )
 
 -- ---- what is written
 
@@ -108,27 +105,33 @@ edn_line form.Hex style i output is h = absurd is
 edn_line form.Digits style i output is h = absurd is
 edn_line form.Bytes style i output is h = absurd is
 
-edn_lines : (show : Show) → IsEdn show.style.form → steps_of show ≡ [] → (is : List Item) (b written : List ℕ)
-    → AreStrictItems b is → ShowsEach (Shows show) is written → AreEdnLines (edn_style show.style) is written
-edn_lines show edn whole [] b written strict none = none
-edn_lines show edn whole (i ∷ is) b written (front, after, splits, s, later)
-    (first, rest, joined, (part, leads, is_form), more) =
+edn_lines : (show : Show) → IsEdn show.style.form → steps_of show ≡ [] → (is : List Item) (b rest written : List ℕ)
+    → ItemsThen b is rest → ShowsEach (Shows show) is written → AreEdnLines (edn_style show.style) is written
+edn_lines show edn whole [] b rest written is none = none
+edn_lines show edn whole (i ∷ is) b rest written (front, after, splits, s, later)
+    (first, others, joined, (part, leads, is_form), more) =
     let line = edn_line show.style.form (edn_style show.style) (resolve part) first edn is_form in
     let all : part ≡ i = subst (λ (steps : List Step). LeadsTo steps i part) whole leads in
-    let read : resolve part ≡ i = ap resolve all ∙ resolved 1 front i (strict_any 1 front i s) in (
+    let read : resolve part ≡ i = ap resolve all ∙ resolved 1 front i s in (
       line.0,
-      rest,
-      joined ∙ ap (λ t. t ++ rest) line.1 ∙ append_assoc line.0 (10 ∷ []) rest,
+      others,
+      joined ∙ ap (λ t. t ++ others) line.1 ∙ append_assoc line.0 (10 ∷ []) others,
       subst (λ x. IsEdnText (edn_style show.style) x line.0) read line.2,
-      edn_lines show edn whole is after rest later more,
+      edn_lines show edn whole is after rest others later more,
     )
 
-pub edn_read_back : (show : Show) (front rest written : List ℕ) → IsEdn show.style.form → steps_of show ≡ []
-    → AllByRecursion (λ b. b < 256) front → IsStrictSequence front
-    → IsShownOfFirst (Shows show) (front ++ rest) written rest → bytes_of_edn written ≡ Some front
-edn_read_back show front rest written edn whole bytes (js, strict) shown =
-    let same = same_items shown.items js (front ++ rest) front rest refl shown.input_is strict in
-    let each = subst (λ (is : List Item). ShowsEach (Shows show) is written) same shown.output_is in
-    let e = strict_encoded_items front js bytes strict in
-    items_back (edn_style show.style) js written e.well (edn_lines show edn whole js front written strict each)
-    ∙ ap (λ b. Some b) e.same
+pub items_read_back : (show : Show) (input rest written : List ℕ)
+    (shown : IsShownOfFirst (Shows show) input written rest) → IsEdn show.style.form → steps_of show ≡ []
+    → AllBytes input → bytes_of_edn written ≡ Some (encoded_items (items_of shown.items))
+items_read_back show input rest written shown edn whole bytes =
+    items_back (edn_style show.style) shown.items written (all_well input shown.items rest bytes shown.input_is)
+    (edn_lines show edn whole shown.items input rest written shown.input_is shown.output_is)
+
+pub bytes_read_back : (show : Show) (front rest written : List ℕ)
+    → IsShownOfFirst (Shows show) (front ++ rest) written rest → IsEdn show.style.form → steps_of show ≡ []
+    → AllBytes (front ++ rest) → IsStrictSequence front → bytes_of_edn written ≡ Some front
+bytes_read_back show front rest written shown edn whole bytes (js, strict) =
+    items_read_back show (front ++ rest) rest written shown edn whole bytes
+    ∙ ap (λ (is : List Item). Some (encoded_items (items_of is)))
+    (same_items shown.items js (front ++ rest) front rest refl shown.input_is strict)
+    ∙ ap (λ b. Some b) (strict_encoded front js strict)
