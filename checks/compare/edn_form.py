@@ -2,6 +2,7 @@
 
 import base64
 import re
+import socket
 import struct
 from fractions import Fraction
 
@@ -11,6 +12,7 @@ SPACES = b" \t\r\n"
 WORD = re.compile(rb"[A-Za-z0-9_.]*")
 NUMBER = re.compile(rb"[-+]?(?:[A-Za-z0-9_.]|(?<=[eEpP])[-+])*")
 DECIMAL = re.compile(rb"[-+]?(?:[0-9]+\.?[0-9]*|\.[0-9]+)(?:[eE][-+]?[0-9]+)?")
+HEX_FLOAT = re.compile(rb"[-+]?0x(?P<whole>[0-9A-Fa-f]*)(?:\.(?P<fraction>[0-9A-Fa-f]*))?[pP](?P<exponent>[-+]?[0-9]+)")
 BASES = {b"0x": 16, b"0o": 8, b"0b": 2}
 STATED = {b"_i": 0, b"_0": 1, b"_1": 2, b"_2": 4, b"_3": 8}
 WORDS = {b"false": 20, b"true": 21, b"null": 22, b"undefined": 23}
@@ -63,9 +65,24 @@ def float_head(bits, width):
 
 
 def decimal(text, width):
-    """The bytes of a decimal number, of the shortest width that keeps its double if none is stated."""
-    negative = text.startswith(b"-")
-    value = fraction(text.lstrip(b"+-").decode().lower())
+    """The bytes of a decimal number."""
+    return float_item(text.startswith(b"-"), fraction(text.lstrip(b"+-").decode().lower()), width)
+
+
+def hexadecimal(text, width):
+    """The bytes of a number in base 16 with an exponent of 2."""
+    found = HEX_FLOAT.fullmatch(text)
+    if not found or not found["whole"] + (found["fraction"] or b""):
+        raise Refused("Notation")
+    number = int(found["whole"] + (found["fraction"] or b""), 16)
+    exponent = int(found["exponent"]) - 4 * len(found["fraction"] or b"")
+    if number >= 1 << 53 or not -1134 <= exponent <= 1023:
+        raise Refused("PastWidth")
+    return float_item(text.startswith(b"-"), number * Fraction(2) ** exponent, width)
+
+
+def float_item(negative, value, width):
+    """The bytes of a number, of the shortest width that keeps its double if none is stated."""
     double = nearest(value, 8)
     kept = value_of(double, 8)
     if width == 4:
@@ -203,6 +220,9 @@ def number_item(reader, level):
     front = re.match(rb"[^_f]*", word).group()
     if DECIMAL.fullmatch(front) and re.search(rb"[.eE]", front):
         return decimal(front, float_width(word[len(front):]))
+    front = word.partition(b"_")[0]
+    if re.match(rb"[-+]?0x.*[pP]", front):
+        return hexadecimal(front, float_width(word[len(front):]))
     return integer_item(*stated(word), level)
 
 
@@ -462,8 +482,42 @@ def simple(reader):
     return bytes([0xE0 | value]) if value < 24 else bytes([0xF8, value])
 
 
-def named(reader):
+def address(content, level):
+    """The tag of a network address, and the bytes of the address or of a prefix of it, which is an array."""
+    text, slash, digits = content.partition(b"/")
+    is_ipv6 = b":" in content
+    try:
+        found = socket.inet_pton(socket.AF_INET6 if is_ipv6 else socket.AF_INET, text.decode("ascii"))
+    except (OSError, ValueError):
+        raise Refused("Notation") from None
+    if not slash:
+        return 54 if is_ipv6 else 52, head(2, len(found)) + found
+    if level == DEEPEST:
+        raise Refused("TooDeep")
+    if not re.fullmatch(rb"0|[1-9][0-9]*", digits) or int(digits) > 8 * len(found):
+        raise Refused("Notation")
+    if int.from_bytes(found, "big") & (1 << 8 * len(found) - int(digits)) - 1:
+        raise Refused("Notation")
+    kept = found.rstrip(b"\0")
+    return 54 if is_ipv6 else 52, head(4, 2) + head(0, int(digits)) + head(2, len(kept)) + kept
+
+
+def named_address(reader, level, is_tagged):
+    """The bytes of an address or a prefix, which is one level deeper below its tag."""
+    end = reader.text.find(b"'", reader.at)
+    if end < 0:
+        raise Refused("Notation")
+    if is_tagged and level == DEEPEST:
+        raise Refused("TooDeep")
+    tag, found = address(reader.text[reader.at:end], level + is_tagged)
+    reader.at = end + 1
+    return head(6, tag) + found if is_tagged else found
+
+
+def named(reader, level):
     word = reader.word()
+    if word in (b"ip", b"IP") and reader.take(b"'"):
+        return named_address(reader, level, word == b"IP")
     if word == b"float" and reader.take(b"'"):
         found = re.compile(rb"([0-9A-Fa-f]{4}|[0-9A-Fa-f]{8}|[0-9A-Fa-f]{16})'").match(reader.text, reader.at)
         if not found:
@@ -495,7 +549,7 @@ def item(reader, level):
             return container(major, width, len(found), b"".join(found)), False
     if reader.take(b"("):
         return chunks(reader, level), True
-    return named(reader), False
+    return named(reader, level), False
 
 
 def edn_to_bytes(text):

@@ -1,13 +1,13 @@
 pub mod View
 pub mod mirror
 pub mod ItemAnswer
+pub mod DeadEnd
 -- what the crates below define, for callers
 pub use Rattle.cbor_grammar.specs.Answer
 pub use Rattle.cbor_grammar.specs.Bytes
 pub use Rattle.cbor_dump.specs.Comments
 pub use Rattle.cbor_grammar.specs.Compact
 pub use Rattle.cbor_grammar.specs.Context
-pub use Rattle.cbor_grammar.specs.DeadEnd
 pub use Rattle.cbor_dump.specs.Dump
 pub use Rattle.cbor_grammar.specs.Embedded
 pub use Rattle.cbor_grammar.specs.Estimate

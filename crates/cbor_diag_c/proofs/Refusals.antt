@@ -70,7 +70,7 @@ fault_byte text e end h other =
 
 -- the end of a text that is cut short
 pub cut_place : (text : List ℕ) (end : ℕ) → IsDiagFault text refusal.CutShort end → IsDiagPlace text (length text)
-cut_place text end h = inl (refl, (refl, h.1, h.2))
+cut_place text end h = inl (refl, (refl, h.1))
 
 -- a text that is no notation is none
 pub no_place : (text : List ℕ) → ((i : Item) → ¬ (IsNotation text i)) → ((i : Item) × IsNotation text i)

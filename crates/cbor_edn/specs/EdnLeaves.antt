@@ -189,6 +189,7 @@ edn_leaves = record {
   level = λ p. p.level;
   layout = λ p. p.layout;
   content = λ p b. content_under p.style.embedded p.level p.tag b;
+  joins = λ p kind. false;
   inside = λ c layout p. record {
     alloc = p.alloc;
     level = p.level + 1;

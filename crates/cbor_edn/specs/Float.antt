@@ -15,6 +15,7 @@ use Rattle.cbor_floats.specs.Decimal.{unsigned, parts_of, decimal_number}
 use Rattle.cbor_floats.specs.Nearest.{nearest_half}
 use Rattle.cbor_floats.specs.Value.{half_value, bits_of}
 use Rattle.cbor_edn.specs.Reading.{◌>>=◌}
+use Rattle.cbor_edn.specs.HexFloat.{hex_number, is_hex}
 
 -- ---- the number of a text
 
@@ -132,13 +133,31 @@ special_word word = special (name_and_width word).0 >>= λ text. width_after (na
 abbrev pub decimal_word : List ℕ → Option Atom
 decimal_word word = width_after (digits_and_width word).1 >>= λ width. float_in width (digits_and_width word).0
 
+-- the number x of a text in base 16 in a width: in 32 bits the single that is nearest
+abbrev pub hex_in_width : FloatWidth → Float → Option EncodedFloat
+hex_in_width Unknown x = Some (shortest_of x)
+hex_in_width Sixteen x = half_of x
+hex_in_width ThirtyTwo x = finite (round_to_format binary32 x) >>= λ y. Some (Single (to_bits binary32 y))
+hex_in_width SixtyFour x = Some (double_of x)
+
+-- the float that a text in base 16 is in this width
+unfoldable pub hex_in : FloatWidth → List ℕ → Option Atom
+hex_in width text = hex_number text >>= finite >>= hex_in_width width >>= λ f. Some (float_atom f)
+
+abbrev pub is_hex_word : List ℕ → Bool
+is_hex_word word = is_hex (name_and_width word).0
+
+-- a number in base 16 with an exponent, and with its width
+abbrev pub hex_word : List ℕ → Option Atom
+hex_word word = width_after (name_and_width word).1 >>= λ width. hex_in width (name_and_width word).0
+
 -- A number is a float by its form: one of the words, or a point or an exponent in it.
 abbrev pub is_float : List ℕ → Bool
-is_float word = is_special word || is_decimal (digits_and_width word).0
+is_float word = is_special word || is_decimal (digits_and_width word).0 || is_hex_word word
 
--- the float that a word of a number is
+-- the float that a word of a number is: none is both in base 10 and in base 16
 abbrev pub float_word : List ℕ → Option Atom
-float_word word = if is_special word then special_word word else decimal_word word
+float_word word = if is_special word then special_word word else option_or (decimal_word word) (hex_word word)
 
 -- ---- bits
 

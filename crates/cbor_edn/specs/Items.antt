@@ -21,6 +21,7 @@ use Rattle.cbor_edn.specs.Word.{word_of, after_word, begins_number}
 use Rattle.cbor_edn.specs.Number.{fits, integer_of, tag_number, unsigned}
 use Rattle.cbor_edn.specs.Float.{is_float, float_word, special_word, float_of_bytes}
 use Rattle.cbor_edn.specs.Big.{big_item}
+use Rattle.cbor_edn.specs.Address.{ip_item, tagged_ip}
 use Rattle.cbor_edn.specs.Digits.{read_digits}
 use Rattle.cbor_edn.specs.declared.digits.Base.TheVariants.{Hex}
 use Rattle.std.specs.Option.{option_or}
@@ -177,7 +178,8 @@ abbrev pub quoted_item : (List ℕ → Option Item) → List ℕ → Read Item
 quoted_item item text = position (λ b. b == 39) text >>= λ n. item (take n text) >>= λ i. Some (i, drop (n + 1) text)
 
 abbrev pub is_prefix : List ℕ → Bool
-is_prefix word = bytes_eq word (codes "float") || (bytes_eq word (codes "dt") || bytes_eq word (codes "DT"))
+is_prefix word = bytes_eq word (codes "float") || (bytes_eq word (codes "dt") || (bytes_eq word (codes "DT")
+    || (bytes_eq word (codes "ip") || bytes_eq word (codes "IP"))))
 
 -- what follows a word and an apostrophe
 abbrev pub read_prefixed : ℕ → List ℕ → List ℕ → Read Item
@@ -185,6 +187,8 @@ read_prefixed left word text =
     if bytes_eq word (codes "float") then read_float text
     else if bytes_eq word (codes "dt") then quoted_item (date_item left) text
     else if bytes_eq word (codes "DT") then quoted_item (tagged_date left) text
+    else if bytes_eq word (codes "ip") then quoted_item (ip_item left) text
+    else if bytes_eq word (codes "IP") then quoted_item (tagged_ip left) text
     else None
 
 abbrev pub word_or_prefix : ℕ → List ℕ → List ℕ → Option (List ℕ) → Read Item

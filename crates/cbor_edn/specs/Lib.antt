@@ -2,6 +2,7 @@ pub mod Reading
 pub mod Blank
 pub mod Word
 pub mod Number
+pub mod HexFloat
 pub mod Float
 pub mod Quoted
 pub mod Digits
@@ -10,6 +11,7 @@ pub mod Big
 pub mod mirror
 pub mod Lists
 pub mod Chunks
+pub mod Address
 pub mod Items
 pub mod Edn
 pub mod Expectations

@@ -1,7 +1,9 @@
 -- What is between quotes: text with JSON's escapes.
 use Rattle.std.specs.Prelude.{ℕ, ◌+◌, ◌-◌, ◌*◌, List, [], ◌∷◌, Option, Some, None, Bool, true, false}
 use Rattle.std.specs.Prelude.{◌==◌, ◌&&◌, ◌||◌, if◌then◌else◌, nat_lt, nat_le, encode_utf8, codes}
+use Rattle.std.specs.List.{position_or_len}
 use Rattle.std.specs.Char.{digit_value}
+use Rattle.cbor_tokens.specs.Token.{is_special}
 use Rattle.cbor_edn.specs.Reading.{Read, ◌>>=◌, after_bytes, repeated}
 
 abbrev pub is_hex : ℕ → Bool
@@ -72,6 +74,10 @@ escaped quote b =
 abbrev pub escape : ℕ → List ℕ → Read ℕ
 escape quote [] = None
 escape quote (b ∷ text) = if b == 117 then unicode_escape text else (escaped quote b >>= λ c. Some (c, text))
+
+-- how many bytes come before the first quote or `\`
+abbrev pub plain_len : ℕ → List ℕ → ℕ
+plain_len quote text = position_or_len (is_special quote) text
 
 -- one byte of content, an escape, or the closing quote
 abbrev pub content_turn : ℕ → List ℕ → Option (List ℕ × Bool × List ℕ)

@@ -33,6 +33,10 @@ opening_of text =
     (opens (Digits Base32) (after_bytes (codes "b32'") text)
     (opens (Digits Base32Hex) (after_bytes (codes "h32'") text) None))))))
 
+-- whether an opening may begin with this byte: `"`, `'`, `<`, `b` or `h`
+abbrev pub may_open : ℕ → Bool
+may_open b = (b == 34) || (b == 39) || (b == 60) || (b == 98) || (b == 104)
+
 abbrev pub begins_string : List ℕ → Bool
 begins_string text = is_some (opening_of text)
 

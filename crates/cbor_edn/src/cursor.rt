@@ -112,6 +112,16 @@ impl<'a> Cursor<'a> {
         &self.rest[..word_len(self.rest)]
     }
 
+    /// The word at the front, and a cursor behind it.
+    pub(crate) fn split_word(&self) -> (&'a [u8], Cursor<'a>)
+        ensures word { result.0.now ≡ word_of self.now }
+        ensures rest { result.1 ≡ after_word self.now }
+        ensures within { length result.1 + length (word_of self.now) ≡ length self.now }
+    {
+        let (word, rest) = self.rest.split_at(word_len(self.rest));
+        (word, Cursor::new(rest))
+    }
+
     /// Passes the word at the front.
     pub(crate) fn skip_word(&mut self)
         ensures rest { self.new ≡ after_word self.old }

@@ -84,16 +84,16 @@ fn date_item(alloc: Global, content: &[u8], inner: u8) -> Result<DataItem, Stop>
     seconds_item(alloc, seconds.as_bytes(), inner)
 }
 
-/// An item below tag 1.
-fn below_tag(alloc: Global, item: DataItem) -> Result<DataItem, Stop>
-    ensures is { IfOk result (λ x. view x ≡ tagged 1 Unknown (view item)) }
+/// An item below a tag of the shortest width.
+pub(crate) fn below_tag(alloc: Global, number: u64, item: DataItem) -> Result<DataItem, Stop>
+    ensures is { IfOk result (λ x. view x ≡ tagged number Unknown (view item)) }
     ensures memory { IfErr result (λ e. e ≡ Memory) }
     ensures well { IfOk result (λ x. (level : ℕ) → level < deepest
         → WellFormed (level + 1) (view item) → WellFormed level (view x)) }
 {
     let value = Box::new(alloc, item)?;
     Ok(DataItem::Tag {
-        tag: Tag(1),
+        tag: Tag(number),
         bitwidth: IntegerWidth::Unknown,
         value,
     })
@@ -110,7 +110,7 @@ fn tagged_date(alloc: Global, content: &[u8], inner: u8) -> Result<DataItem, Sto
         return Err(Stop::At(Expected::Levels));
     }
     let item = date_item(alloc, content, inner + 1)?;
-    let found = below_tag(alloc, item)?;
+    let found = below_tag(alloc, 1, item)?;
     Ok(found)
 }
 

@@ -13,6 +13,7 @@ use crate::blank::after_blank;
 use crate::cursor::Cursor;
 use crate::error::{Expected, Stop};
 use cbor_notation::content::base16;
+use memchr::memchr;
 use std::alloc::{AllocError, Global};
 
 /// What digits between apostrophes are, by the prefix before them.
@@ -216,11 +217,28 @@ fn decoded(alloc: Global, base: Base, digits: Vec<u8>) -> Result<Vec<u8>, Stop>
     }
 }
 
+/// The bytes that the first `end` characters are the hex digits of. Digits with no blanks between
+/// them, the usual case, are decoded in place; others are gathered first.
+fn hex_front(alloc: Global, text: &[u8], end: usize) -> Result<Vec<u8>, Stop>
+    requires { end ≤ length text.now }
+    ensures { Gives (λ x. x.items) result (decoded_front Base.Hex text.now end) }
+{
+    let content = &text[..end];
+    if let Some(bytes) = decode_hex(alloc, content)? {
+        return Ok(bytes);
+    }
+    let digits = digits_of(alloc, content, true)?;
+    decoded(alloc, Base::Hex, digits)
+}
+
 /// The bytes that the first `end` characters are the digits of.
 fn decoded_front(alloc: Global, text: &[u8], base: Base, end: usize) -> Result<Vec<u8>, Stop>
     requires { end ≤ length text.now }
     ensures { Gives (λ x. x.items) result (decoded_front base text.now end) }
 {
+    if let Base::Hex = base {
+        return hex_front(alloc, text, end);
+    }
     let digits = digits_of(alloc, &text[..end], base.slashes())?;
     decoded(alloc, base, digits)
 }
@@ -230,7 +248,7 @@ pub(crate) fn find_apostrophe(text: &[u8]) -> Option<usize>
     ensures at { result ≡ position (λ b. b == 39) text.now }
     ensures within { IfSome result (λ n. n < length text.now) }
 {
-    text.iter().position(|byte| *byte == b'\'')
+    memchr(b'\'', text)
 }
 
 /// The bytes of the digits up to the next apostrophe, and the index of what follows that.

@@ -4,10 +4,11 @@ ghost use Rattle.cbor_edn.specs.Expectations.{missing, text_of, words_of};
 ghost use Rattle.cbor_edn.specs.declared.error.Stop.TheVariants.{Memory};
 
 use crate::close::Close;
+use crate::word::word_len;
 use cbor_floats::half_value;
 use ryu::Buffer;
 use std::alloc::{AllocError, AllocFailed};
-use std::fmt;
+use std::{fmt, str};
 
 /// What has to be at the place of an error, in EDN.
 #[derive(Clone, Copy, PartialEq, Eq, Debug)]
@@ -49,12 +50,22 @@ pub enum Expected {
     LargestDouble,
     /// One of the indicators of a float, `_1`, `_2` and `_3`.
     FloatIndicator,
+    /// At most 53 binary digits, of a float in base 16.
+    HexDigits,
+    /// An exponent that floats of 64 bits have, of a float in base 16.
+    HexExponent,
     /// The 4, 8 or 16 digits of the bits of a float.
     FloatBits,
     /// A date with a time of day and an offset.
     Date,
     /// A moment from 1970 on, or one without a fraction of a second.
     LaterDate,
+    /// A network address.
+    Address,
+    /// How many bits a prefix has, after a network address and a slash.
+    PrefixLength,
+    /// A network address without a bit that is set after the prefix.
+    ClearBits,
     /// A blank, after the width of a count.
     BlankAfterWidth,
     /// A blank or what closes the list, after `_`.
@@ -114,7 +125,7 @@ impl Expected {
             Expected::NoEllipsis => "an ellipsis has no bytes",
             Expected::Name => "no item begins so",
             Expected::Prefix => {
-                "no such prefix is known; h, b64, b32, h32, dt, DT and float are"
+                "no such prefix is known; h, b64, b32, h32, dt, DT, ip, IP and float are"
             },
             Expected::FittingWidth => "the number does not fit the width that is stated",
             Expected::Indicator => "an indicator is _i, _0, _1, _2 or _3",
@@ -123,9 +134,14 @@ impl Expected {
             Expected::LargestSingle => "the largest float of 32 bits is 3.4028234663852886e38",
             Expected::LargestDouble => "the largest float of 64 bits is 1.7976931348623157e308",
             Expected::FloatIndicator => "an indicator of a float is _1, _2 or _3",
+            Expected::HexDigits => "a float in base 16 has up to 53 binary digits",
+            Expected::HexExponent => "the exponent is past those of floats of 64 bits",
             Expected::FloatBits => "the bits of a float are 4, 8 or 16 digits",
             Expected::Date => "a date with a time is written as in 2026-01-02T03:04:05Z",
             Expected::LaterDate => "a fraction of a second before 1970 is not read",
+            Expected::Address => "an address is written as in 192.0.2.1 or 2001:db8::1",
+            Expected::PrefixLength => "a prefix has up to 32 bits, or 128 of an IPv6 address",
+            Expected::ClearBits => "the address has a bit set after the prefix",
             Expected::BlankAfterWidth => {
                 "a blank has to follow: [_1 ] is an empty array, and [_ 1] one of indefinite length"
             },
@@ -196,6 +212,37 @@ impl fmt::Display for Expected {
         }
     }
 }
+
+impl Expected {
+    /// Returns the message on a text that goes on so from the place of the error.
+    pub fn in_text(self, rest: &[u8]) -> Message<'_> {
+        Message {
+            expected: self,
+            word: &rest[..word_len(rest)],
+        }
+    }
+}
+
+/// What an error says, with the word at its place where that is a prefix that is not known.
+#[derive(Clone, Copy)]
+pub struct Message<'a> {
+    expected: Expected,
+    word: &'a [u8],
+}
+
+impl<'a> fmt::Display for Message<'a> {
+    fn fmt<W: fmt::Write>(&self, f: &mut fmt::Formatter<W>) -> fmt::Result {
+        match (self.expected, str::from_utf8(self.word)) {
+            (Expected::Prefix, Ok(word)) => {
+                write!(f, "no prefix {word}'..' is known; {PREFIXES} are")
+            }
+            _ => write!(f, "{}", self.expected),
+        }
+    }
+}
+
+/// The prefixes that are known.
+const PREFIXES: &str = "h, b64, b32, h32, dt, DT, ip, IP and float";
 
 /// Writes the number of a float of 16 bits, if it is finite.
 fn write_half<W: fmt::Write>(bits: u16, f: &mut fmt::Formatter<W>) -> fmt::Result {

@@ -1,5 +1,6 @@
 //! Floats: the words that they are, and their bits.
-ghost use Rattle.std.specs.Prelude.{◌≡◌, ◌<◌, ◌≤◌, ◌==◌, ◌||◌, true, length, position, option_map, IfOk, IfSome};
+ghost use Rattle.std.specs.Prelude.{◌≡◌, ◌<◌, ◌≤◌, ◌==◌, ◌||◌, true, false, length, position};
+ghost use Rattle.std.specs.Prelude.{option_map, IfOk, IfSome};
 ghost use Rattle.cbor_grammar.specs.Item.{float};
 ghost use Rattle.cbor_grammar.specs.WellFormed.{FitsFloat};
 ghost use Rattle.cbor_edn.specs.Reading.{Gives};
@@ -7,12 +8,18 @@ ghost use Rattle.cbor_edn.specs.Float.{number_of, half_of, shortest_of, double_o
 ghost use Rattle.cbor_edn.specs.Float.{float_atom, float_in, width_after, special, special_word};
 ghost use Rattle.cbor_edn.specs.Float.{cut_at, name_and_width, digits_and_width, is_special, decimal_word, float_word};
 ghost use Rattle.cbor_edn.specs.Float.{is_decimal, is_float, float_of_bytes};
-ghost use Rattle.cbor_floats.specs.Decimal.{unsigned};
+ghost use Rattle.cbor_edn.specs.Float.{finite, hex_in_width, hex_in, is_hex_word, hex_word};
+ghost use Rattle.std.specs.Option.{option_or};
+ghost use Rattle.cbor_grammar.specs.declared.width.FloatWidth.TheVariants.{ThirtyTwo};
 
+use crate::cursor::after_byte;
 use crate::error::{Expected, Stop};
+use crate::hex_float::{hex_number, is_hex, unsigned};
+use crate::word::is_numeral;
 use cbor_floats::{EncodedFloat, NumberError, Width, parse_in_width, parse_number};
 use cbor_grammar::FloatWidth;
 use fast_float::Numeral;
+use std::num::{f32_to_bits_with_nan, nearest_f64_to_f32_with_nan};
 
 /// The number that a text writes, which has no indicator.
 fn number_of(text: &[u8]) -> Result<f64, Stop>
@@ -172,16 +179,6 @@ fn is_special(word: &[u8]) -> bool
     special(name_and_width(word).0).is_some()
 }
 
-/// The text without a sign at its front.
-fn unsigned(text: &[u8]) -> &[u8]
-    ensures { result.now ≡ unsigned text.now }
-{
-    match text {
-        [b'-' | b'+', rest @ ..] => rest,
-        _ => text,
-    }
-}
-
 /// Whether a text is a decimal number with a point or an exponent.
 fn is_decimal(text: &[u8]) -> bool
     ensures { result ≡ is_decimal text.now }
@@ -193,12 +190,39 @@ fn is_decimal(text: &[u8]) -> bool
         && (numeral.has_point() || !numeral.exponent().is_empty())
 }
 
+/// Whether a word is a decimal number with a point or an exponent, by its form.
+fn is_decimal_word(word: &[u8]) -> bool
+    ensures is { result ≡ is_decimal (digits_and_width word.now).0 }
+    ensures some { result ≡ true → 0 < length word.now }
+{
+    is_decimal(digits_and_width(word).0)
+}
+
+/// Whether a word is a number in base 16 with an exponent, by its form.
+fn is_hex_word(word: &[u8]) -> bool
+    ensures is { result ≡ is_hex_word word.now }
+    ensures some { result ≡ true → 0 < length word.now }
+{
+    is_hex(name_and_width(word).0)
+}
+
+/// Whether a word is digits, which a minus may precede. Most numbers are: then no form of a float
+/// is looked for.
+fn is_plain_integer(word: &[u8]) -> bool
+    ensures { result ≡ true → is_float word.now ≡ false }
+{
+    match after_byte(word, b'-') {
+        Some(digits) => is_numeral(digits),
+        None => is_numeral(word),
+    }
+}
+
 /// Whether a number is a float by its form: one of the words, or a point or an exponent in it.
 pub(crate) fn is_float(word: &[u8]) -> bool
     ensures is { result ≡ is_float word.now }
     ensures some { result ≡ true → 0 < length word.now }
 {
-    is_special(word) || is_decimal(digits_and_width(word).0)
+    !is_plain_integer(word) && (is_special(word) || is_decimal_word(word) || is_hex_word(word))
 }
 
 /// NaN or an infinity, with its width.
@@ -228,6 +252,76 @@ fn decimal_word(word: &[u8]) -> Result<(u64, FloatWidth), Stop>
     float_in(digits, width)
 }
 
+/// The number, if it is finite.
+fn finite(x: f64) -> Result<f64, Stop>
+    ensures { Gives (λ x. x) result (finite x) }
+{
+    if x.is_finite() {
+        Ok(x)
+    } else {
+        Err(Stop::At(Expected::LargestDouble))
+    }
+}
+
+/// The single that is nearest to a number.
+fn nearest_single(x: f64) -> Result<EncodedFloat, Stop>
+    ensures { Gives (λ f. f) result (hex_in_width ThirtyTwo x) }
+{
+    let nearest = nearest_f64_to_f32_with_nan(x);
+    if nearest.is_finite() {
+        Ok(EncodedFloat::Single(f32_to_bits_with_nan(nearest)))
+    } else {
+        Err(Stop::At(Expected::LargestSingle))
+    }
+}
+
+/// The float that a text in base 16 is in this width: its bits, and the width that they have.
+#[tactic(auto, unfolding(crate::specs::Float::hex_in))]
+fn hex_in(text: &[u8], width: FloatWidth) -> Result<(u64, FloatWidth), Stop>
+    ensures gives { Gives (λ x. float x.0 x.1) result (hex_in width text.now) }
+    ensures fits { IfOk result (λ x. FitsFloat x.1 x.0) }
+{
+    let number = hex_number(text)?;
+    let x = finite(number)?;
+    let found = match width {
+        FloatWidth::Unknown => shortest_of(x),
+        FloatWidth::Sixteen => half_of(x)?,
+        FloatWidth::ThirtyTwo => nearest_single(x)?,
+        FloatWidth::SixtyFour => double_of(x),
+    };
+    Ok(bits_and_width(found))
+}
+
+/// A number in base 16 with an exponent, and with its width.
+fn hex_word(word: &[u8]) -> Result<(u64, FloatWidth), Stop>
+    ensures gives { Gives (λ x. float x.0 x.1) result (hex_word word.now) }
+    ensures fits { IfOk result (λ x. FitsFloat x.1 x.0) }
+{
+    let (digits, suffix) = name_and_width(word);
+    let Some(width) = width_after(suffix) else {
+        return Err(Stop::At(Expected::FloatIndicator));
+    };
+    hex_in(digits, width)
+}
+
+/// A number with a point or an exponent, in base 10 or else in base 16.
+fn number_word(word: &[u8]) -> Result<(u64, FloatWidth), Stop>
+    ensures gives { Gives (λ x. float x.0 x.1) result
+        (option_or (decimal_word word.now) (hex_word word.now)) }
+    ensures fits { IfOk result (λ x. FitsFloat x.1 x.0) }
+{
+    let stop = match decimal_word(word) {
+        Ok(found) => return Ok(found),
+        Err(stop) => stop,
+    };
+    match (stop, hex_word(word)) {
+        (Stop::At(_), Err(Stop::At(expected))) if is_hex_word(word) => Err(Stop::At(expected)),
+        (Stop::At(expected), Err(Stop::At(_))) => Err(Stop::At(expected)),
+        (Stop::Memory, _) => Err(Stop::Memory),
+        (_, found) => found,
+    }
+}
+
 /// The float that a word of a number is.
 pub(crate) fn float_word(word: &[u8]) -> Result<(u64, FloatWidth), Stop>
     ensures gives { Gives (λ x. float x.0 x.1) result (float_word word.now) }
@@ -236,7 +330,7 @@ pub(crate) fn float_word(word: &[u8]) -> Result<(u64, FloatWidth), Stop>
     if is_special(word) {
         special_word(word)
     } else {
-        decimal_word(word)
+        number_word(word)
     }
 }
 

@@ -4,6 +4,7 @@
 //! Each width that a text states is kept, so the bytes are exactly those that it asks for.
 #![tactic(auto)]
 
+mod address;
 mod big;
 mod blank;
 mod close;
@@ -12,7 +13,9 @@ mod date;
 mod digits;
 mod error;
 mod float;
+mod hex_float;
 mod laws;
+mod network;
 mod number;
 mod opening;
 mod print;
@@ -25,7 +28,7 @@ mod word;
 mod write;
 
 pub use close::Close;
-pub use error::{EdnError, Expected};
+pub use error::{EdnError, Expected, Message};
 pub use read::{edn_to_bytes, parse_edn};
 pub use style::EdnStyle;
 pub use write::{bytes_to_edn, bytes_to_edn_pretty, push_bytes_to_edn, push_bytes_to_edn_partial};

@@ -1,6 +1,6 @@
 //! What a piece of a string begins with.
 ghost use Rattle.std.specs.Prelude.{◌≡◌, ◌<◌, length, option_map, IfSome};
-ghost use Rattle.cbor_edn.specs.Strings.{opening_of, kind_of, begins_string};
+ghost use Rattle.cbor_edn.specs.Strings.{may_open, opening_of, kind_of, begins_string};
 
 use crate::cursor::after_bytes;
 use crate::digits::Base;
@@ -31,13 +31,25 @@ impl Opening {
     }
 }
 
+/// Whether an opening may begin with this byte. Most items are told from strings by it.
+fn may_open(first: u8) -> bool
+    ensures { result ≡ may_open first }
+{
+    matches!(first, b'"' | b'\'' | b'<' | b'h' | b'b')
+}
+
 /// The opening of a piece at the front, and the text after it.
 #[tactic(auto, unfolding(crate::specs::Strings::opening_of))]
 pub(crate) fn opening_at(text: &[u8]) -> Option<(Opening, &[u8])>
     ensures gives { option_map (λ x. (x.0, x.1.now)) result ≡ opening_of text.now }
     ensures shorter { IfSome result (λ x. length x.1.now < length text.now) }
 {
-    if let Some(rest) = after_bytes(text, b"\"") {
+    let [first, ..] = text else {
+        return None;
+    };
+    if !may_open(*first) {
+        None
+    } else if let Some(rest) = after_bytes(text, b"\"") {
         Some((Opening::Quote, rest))
     } else if let Some(rest) = after_bytes(text, b"'") {
         Some((Opening::Apostrophe, rest))

@@ -24,7 +24,7 @@ use cbor_notation::dialect::Dialect;
 use cbor_notation::members::{push_end, push_start};
 use cbor_notation::parts::{Container, Leaf};
 use cbor_notation::scalars::push_number;
-use std::alloc::AllocError;
+use std::alloc::{AllocError, Global};
 
 /// EDN.
 pub(crate) struct Edn;
@@ -47,6 +47,11 @@ impl Dialect for Edn {
     #[inline(always)]
     fn content(place: &EdnPlace, bytes: &[u8]) -> Content {
         content_under(place.style.embedded, place.level, place.tag, bytes)
+    }
+
+    #[inline(always)]
+    fn joins(_place: &EdnPlace, _kind: StringKind) -> Option<Global> {
+        None
     }
 
     #[inline(always)]

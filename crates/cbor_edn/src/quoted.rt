@@ -1,13 +1,15 @@
 //! What is between quotes: text with JSON's escapes.
-ghost use Rattle.std.specs.Prelude.{◌≡◌, ◌<◌, ◌≤◌, ◌^◌, true, length, IfOk, IfSome, option_map};
+ghost use Rattle.std.specs.Prelude.{◌≡◌, ◌<◌, ◌≤◌, ◌^◌, ◌++◌, true, length, take, drop, IfOk, IfSome};
+ghost use Rattle.std.specs.Prelude.{option_map};
+ghost use Rattle.cbor_tokens.specs.Token.{is_special};
 ghost use Rattle.cbor_edn.specs.Reading.{Gives, TurnGives};
 ghost use Rattle.cbor_edn.specs.Quoted.{two_hex, four_hex, braced};
 ghost use Rattle.cbor_edn.specs.Quoted.{second_half, unicode_escape, escaped, escape};
-ghost use Rattle.cbor_edn.specs.Quoted.{content_turn, quoted, is_first_half, is_second_half};
+ghost use Rattle.cbor_edn.specs.Quoted.{plain_len, content_turn, quoted, is_first_half, is_second_half};
 
 use crate::cursor::{Cursor, after_byte, after_bytes};
 use crate::error::{Expected, Stop};
-use std::alloc::Global;
+use std::alloc::{AllocError, Global};
 
 /// The number that two hex digits are, and the text after them.
 fn two_hex(text: &[u8]) -> Option<(u32, &[u8])>
@@ -149,6 +151,23 @@ fn no_escape(text: &[u8]) -> Expected {
     }
 }
 
+/// Whether a byte is the quote or a `\`.
+fn is_special(quote: u8, byte: u8) -> bool
+    ensures { result ≡ is_special quote byte }
+{
+    byte == quote || byte == b'\\'
+}
+
+/// How many bytes come before the first quote or `\`.
+fn plain_len(text: &[u8], quote: u8) -> usize
+    ensures same { result ≡ plain_len quote text.now }
+    ensures within { result ≤ length text.now }
+{
+    text.iter()
+        .position(move |byte| is_special(quote, *byte))
+        .unwrap_or(text.len())
+}
+
 /// Adds one byte of content, or the character of an escape; returns false at the closing quote.
 fn content_turn(content: &mut Vec<u8>, text: &mut Cursor<'_>, quote: u8) -> Result<bool, Stop>
     ensures gives { TurnGives result content.old.items content.new.items text.new
@@ -179,6 +198,19 @@ fn content_turn(content: &mut Vec<u8>, text: &mut Cursor<'_>, quote: u8) -> Resu
     }
 }
 
+/// Adds the bytes before the first quote or backslash at once: byte by byte a text takes twice as
+/// long.
+fn push_plain(content: &mut Vec<u8>, text: &mut Cursor<'_>, quote: u8) -> Result<(), AllocError>
+    ensures content { IfOk result (λ _. content.new.items
+        ≡ content.old.items ++ take (plain_len quote text.old) text.old) }
+    ensures rest { text.new ≡ drop (plain_len quote text.old) text.old }
+    ensures within { length text.new ≤ length text.old }
+{
+    let (plain, rest) = text.rest().split_at(plain_len(text.rest(), quote));
+    *text = Cursor::new(rest);
+    content.extend_from_slice(plain)
+}
+
 /// The content up to the closing quote.
 pub(crate) fn read_quoted(alloc: Global, text: &mut Cursor<'_>, quote: u8) -> Result<Vec<u8>, Stop>
     ensures gives { Gives (λ x. (x.items, text.new)) result (quoted quote text.old) }
@@ -187,6 +219,7 @@ pub(crate) fn read_quoted(alloc: Global, text: &mut Cursor<'_>, quote: u8) -> Re
 {
     let mut content = Vec::new(alloc);
     'content: loop {
+        push_plain(&mut content, text, quote)?;
         let more = content_turn(&mut content, text, quote)?;
         if !more {
             return Ok(content);

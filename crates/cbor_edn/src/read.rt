@@ -303,9 +303,7 @@ fn read_number(alloc: Global, text: &mut Cursor<'_>, inner: u8) -> Result<DataIt
     ensures shorter { IfOk result (λ _. length text.new < length text.old) }
     ensures well { IfOk result (λ x. WellFormed (inner - 1) (view x)) }
 {
-    let word = text.word();
-    let mut after = Cursor::new(text.rest());
-    after.skip_word();
+    let (word, mut after) = text.split_word();
     if after.take_byte(b'(') {
         let number = tag_number(word)?;
         *text = after;

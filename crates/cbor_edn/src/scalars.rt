@@ -12,6 +12,7 @@ use crate::date::{read_date, read_tagged_date};
 use crate::digits::{Base, read_digits};
 use crate::error::{Expected, Stop};
 use crate::float::{float_of_bytes, float_word, is_float, special_word};
+use crate::network::{read_ip, read_tagged_ip};
 use crate::number::{negated, unsigned};
 use cbor_diag::DataItem;
 use cbor_grammar::{IntegerWidth, Simple};
@@ -146,7 +147,11 @@ fn name_item(word: &[u8]) -> Result<DataItem, Stop>
 fn is_prefix(word: &[u8]) -> bool
     ensures { result ≡ is_prefix word.now }
 {
-    word == b"float".as_slice() || word == b"dt".as_slice() || word == b"DT".as_slice()
+    word == b"float".as_slice()
+        || word == b"dt".as_slice()
+        || word == b"DT".as_slice()
+        || word == b"ip".as_slice()
+        || word == b"IP".as_slice()
 }
 
 /// What follows a word and an apostrophe.
@@ -169,6 +174,10 @@ fn read_prefixed(
         read_date(alloc, text, inner)
     } else if word == b"DT".as_slice() {
         read_tagged_date(alloc, text, inner)
+    } else if word == b"ip".as_slice() {
+        read_ip(alloc, text, inner)
+    } else if word == b"IP".as_slice() {
+        read_tagged_ip(alloc, text, inner)
     } else {
         Err(Stop::At(Expected::Prefix))
     }

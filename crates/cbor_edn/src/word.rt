@@ -1,6 +1,8 @@
 //! Words, and the widths that they state.
-ghost use Rattle.std.specs.Prelude.{◌≡◌, ◌≤◌, length, option_map};
-ghost use Rattle.cbor_edn.specs.Word.{is_word_byte, is_sign, is_exponent, begins_number, word_len};
+ghost use Rattle.std.specs.Prelude.{◌≡◌, ◌≤◌, length, true, option_map};
+ghost use Rattle.std.specs.List.{list_all};
+ghost use Rattle.std.specs.Str.Parse.{IsNumeral};
+ghost use Rattle.cbor_edn.specs.Word.{is_letter, is_word_byte, is_sign, is_exponent, begins_number, word_len};
 ghost use Rattle.cbor_edn.specs.Word.{width_by, width_of, is_digit};
 ghost use Rattle.cbor_edn.specs.Strings.{stated_by};
 
@@ -13,12 +15,19 @@ pub(crate) fn is_digit(byte: u8) -> bool
     byte >= b'0' && byte <= b'9'
 }
 
+/// Whether a byte is a letter.
+fn is_letter(byte: u8) -> bool
+    ensures { result ≡ is_letter byte }
+{
+    byte >= b'A' && byte <= b'Z' || byte >= b'a' && byte <= b'z'
+}
+
 /// Whether a byte is a letter, a digit, `_` or `.`.
 fn is_word_byte(byte: u8) -> bool
     ensures { result ≡ is_word_byte byte }
 {
-    let letter = byte >= b'A' && byte <= b'Z' || byte >= b'a' && byte <= b'z';
-    letter || is_digit(byte) || byte == b'_' || byte == b'.'
+    // Most words are digits.
+    is_digit(byte) || is_letter(byte) || byte == b'_' || byte == b'.'
 }
 
 /// Whether a byte is `+` or `-`.
@@ -33,6 +42,21 @@ fn is_exponent(byte: u8) -> bool
     ensures { result ≡ is_exponent byte }
 {
     byte == b'e' || byte == b'E' || byte == b'p' || byte == b'P'
+}
+
+/// Whether all bytes are digits.
+fn are_digits(word: &[u8]) -> bool
+    ensures { result ≡ list_all is_digit word.now }
+{
+    word.iter().all(|byte| is_digit(*byte))
+}
+
+/// Whether a word is digits alone, and is not empty.
+#[tactic(auto, using(crate::proofs::back::Digits::digits_alone))]
+pub(crate) fn is_numeral(word: &[u8]) -> bool
+    ensures { result ≡ true → IsNumeral 10 word.now }
+{
+    !word.is_empty() && are_digits(word)
 }
 
 /// Whether a text begins as a number does: with a digit, a sign or a point.

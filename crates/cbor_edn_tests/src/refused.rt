@@ -40,13 +40,49 @@ const REFUSED: &[(&str, usize, Expected)] = &[
     ("float'7e0'", 6, Expected::Digits),
     ("float'7e01", 6, Expected::Quote),
     ("float", 0, Expected::Name),
+    // floats in base 16
+    ("0x1.8", 0, Expected::Number),
+    ("0x1p", 0, Expected::Number),
+    ("0x1p+", 0, Expected::Number),
+    ("0xp1", 0, Expected::Number),
+    ("0x.p1", 0, Expected::Number),
+    ("0x1.8.1p0", 0, Expected::Number),
+    ("0x1gp0", 0, Expected::Number),
+    ("0x1p0x1", 0, Expected::Number),
+    ("0x1p0f", 0, Expected::Number),
+    ("1p3", 0, Expected::Number),
+    ("0x1p0_4", 0, Expected::FloatIndicator),
+    ("0x20000000000000p0", 0, Expected::HexDigits),
+    ("0x1p1024", 0, Expected::HexExponent),
+    ("0x1p-1135", 0, Expected::HexExponent),
+    ("0x0p99999999999999999999", 0, Expected::HexExponent),
+    ("0x1.fffffffffffffp1024", 0, Expected::LargestDouble),
+    ("0x1p128_2", 0, Expected::LargestSingle),
+    ("0x1p16_1", 0, Expected::LargestHalf),
+    ("0x1.001p0_1", 0, Expected::Half { nearest: 0x3c00 }),
     // dates
     ("dt'2013-03-21'", 3, Expected::Date),
     ("dt'2013-02-29T00:00:00Z'", 3, Expected::Date),
     ("DT''", 3, Expected::Date),
     ("dt'2013-03-21T20:04:00Z", 3, Expected::Quote),
     ("dt'1969-12-31T23:59:58.5Z'", 3, Expected::LaterDate),
-    ("ip'192.0.2.1'", 0, Expected::Prefix),
+    // network addresses and prefixes
+    ("ip''", 3, Expected::Address),
+    ("ip'192.0.2.256'", 3, Expected::Address),
+    ("ip'192.0.2.01'", 3, Expected::Address),
+    ("ip'192.0.2.1 '", 3, Expected::Address),
+    ("ip'2001:db8::g'", 3, Expected::Address),
+    ("IP'fe80::1%eth0'", 3, Expected::Address),
+    ("ip'192.0.2/24'", 3, Expected::Address),
+    ("ip'192.0.2.0/33'", 3, Expected::PrefixLength),
+    ("ip'192.0.2.0/024'", 3, Expected::PrefixLength),
+    ("ip'192.0.2.0/0x18'", 3, Expected::PrefixLength),
+    ("ip'192.0.2.0/'", 3, Expected::PrefixLength),
+    ("IP'::/129'", 3, Expected::PrefixLength),
+    ("IP'192.0.2.1/24'", 3, Expected::ClearBits),
+    ("ip'2001:db8:1234::/44'", 3, Expected::ClearBits),
+    ("ip'192.0.2.1", 3, Expected::Quote),
+    ("Ip'192.0.2.1'", 0, Expected::Prefix),
     // strings
     ("\"a", 2, Expected::Quote),
     ("\"\\x\"", 1, Expected::Escape),
@@ -163,5 +199,22 @@ fn errors_say_this(rt: HostRuntime) -> Result<(), AllocError> {
         let text = format!(in rt.alloc(); "{expected}")?;
         assert_eq!(rt; text.as_str(), *message);
     }
+    Ok(())
+}
+
+/// The message on a text, which has an error of this kind at its front.
+fn message(alloc: Global, expected: Expected, text: &str) -> Result<String, AllocError> {
+    format!(in alloc; "{}", expected.in_text(text.as_bytes()))
+}
+
+#[test]
+fn a_message_has_the_prefix(rt: HostRuntime) -> Result<(), AllocError> {
+    let prefix = message(rt.alloc(), Expected::Prefix, "hash'01' 2")?;
+    assert_eq!(rt;
+        prefix.as_str(),
+        "no prefix hash'..' is known; h, b64, b32, h32, dt, DT, ip, IP and float are"
+    );
+    let colon = message(rt.alloc(), Expected::Colon, "hash'01' 2")?;
+    assert_eq!(rt; colon.as_str(), "a colon has to follow the key");
     Ok(())
 }

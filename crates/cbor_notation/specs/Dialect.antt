@@ -15,6 +15,7 @@ use Rattle.cbor_grammar.specs.declared.layout.Layout.{Layout}
 use Rattle.cbor_grammar.specs.declared.strings.StringKind.{StringKind}
 use Rattle.cbor_grammar.specs.declared.strings.StringKind.TheVariants as kind
 use Rattle.cbor_grammar.specs.declared.width.IntegerWidth.{IntegerWidth}
+use Rattle.cbor_grammar.specs.declared.width.IntegerWidth.TheVariants.{Unknown}
 use Rattle.cbor_grammar.specs.Embedded.{embedded_at, sequence_at}
 use Rattle.cbor_grammar.specs.Estimate.{estimated_length}
 use Rattle.cbor_grammar.specs.Item as spec
@@ -39,6 +40,8 @@ pub record Leaves (Place : Type 0) : Type 1 where
   pub level : Place → ℕ
   pub layout : Place → Layout
   pub content : Place → List ℕ → Content
+  -- whether the chunks of a string of this kind are joined there, and written as one string
+  pub joins : Place → StringKind → Bool
   -- the place of the first member of a container whose members are laid out so; of the member after this one; of the
   -- value of this key; of what is below this tag
   pub inside : Container → Layout → Place → Place
@@ -168,11 +171,20 @@ ChunksText d p kind l [] t = d.no_parts p kind t
 ChunksText d p kind l (c ∷ cs) t =
     (ms : List (List ℕ)) × ChunkTexts d p kind (c ∷ cs) ms × Listed d p (Chunks kind) l ms t
 
+-- the chunks as one string
+abbrev pub joined : List Chunk → Chunk
+joined cs = record { bytes = flat_map (λ (c : Chunk). c.bytes) cs; width = Unknown }
+
+abbrev pub ChunkedText : {Place : Type 0} → Leaves Place → Place → StringKind → ContainerStyle → Bool → List Chunk
+    → Texts
+ChunkedText d p kind l false cs t = ChunksText d p kind l cs t
+ChunkedText d p kind l true cs t = d.string p kind (joined cs) t
+
 abbrev pub AtomText : {Place : Type 0} → Leaves Place → ℕ → Writer Place → Place → Atom → Texts
 AtomText d left write p (string kind.Bytes b) t = ContentText d left write (d.content p b.bytes) p b t
 AtomText d left write p (string kind.Text s) t = d.string p kind.Text s t
 AtomText d left write p (chunked_string kind cs) t =
-    ChunksText d p kind (style_at d p (atom (chunked_string kind cs))) cs t
+    ChunkedText d p kind (style_at d p (atom (chunked_string kind cs))) (d.joins p kind) cs t
 AtomText d left write p a t = d.leaf p a t
 
 abbrev pub TagText : {Place : Type 0} → Leaves Place → Writer Place → Place → ℕ → IntegerWidth → Item → Texts

@@ -19,7 +19,7 @@ use crate::scalars::{push_float, push_negative, push_number, push_simple, push_s
 use cbor_grammar::layout::{ContainerStyle, Content, Layout};
 use cbor_grammar::strings::{StringContent, StringKind};
 use cbor_grammar::{IntegerWidth, Simple, Tag};
-use std::alloc::AllocError;
+use std::alloc::{AllocError, Global};
 
 /// The notation that `cbor_view` writes.
 pub struct Diag;
@@ -42,6 +42,11 @@ impl Dialect for Diag {
     #[inline(always)]
     fn content(place: &NotationContext, _bytes: &[u8]) -> Content {
         place.content
+    }
+
+    #[inline(always)]
+    fn joins(_place: &NotationContext, _kind: StringKind) -> Option<Global> {
+        None
     }
 
     #[inline(always)]

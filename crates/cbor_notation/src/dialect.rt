@@ -2,7 +2,7 @@
 //! it reads, goes from item to item, and lays containers out. A dialect writes the leaves, and what
 //! is around members.
 
-ghost use Rattle.std.specs.Prelude.{◌≡◌, ◌+◌, ◌<◌, ◌≤◌, ◌^◌, ℕ, Ok};
+ghost use Rattle.std.specs.Prelude.{◌≡◌, ◌+◌, ◌<◌, ◌≤◌, ◌^◌, ℕ, Ok, IfSome, is_some};
 ghost use Rattle.std.specs.Io.{StartsWith};
 ghost use Rattle.std.specs.String.{string_bytes};
 ghost use Rattle.cbor_grammar.specs.Item.{Item};
@@ -18,7 +18,7 @@ use crate::parts::{Container, Leaf};
 use cbor_grammar::IntegerWidth;
 use cbor_grammar::layout::{ContainerStyle, Content, Layout};
 use cbor_grammar::strings::{StringContent, StringKind};
-use std::alloc::AllocError;
+use std::alloc::{AllocError, Global};
 
 /// A dialect of notation. Each method that writes appends to `out`; the only error is out of
 /// memory, and after it a part of the text may have been appended.
@@ -39,6 +39,12 @@ pub trait Dialect {
     /// What the bytes of this byte string there are shown as.
     fn content(place: &Self::Place, bytes: &[u8]) -> Content
         ensures { result ≡ leaves.content place.now bytes.now };
+
+    /// If the chunks of a string of this kind are joined there, and written as one string, the
+    /// allocator for that. Only those of a byte string may be.
+    fn joins(place: &Self::Place, kind: StringKind) -> Option<Global>
+        ensures joins { is_some result ≡ leaves.joins place.now kind }
+        ensures bytes { IfSome result (λ _. kind ≡ StringKind.Bytes) };
 
     /// The place of the first member of a container there, whose members are laid out so.
     fn inside(place: &Self::Place, container: Container, layout: Layout) -> Self::Place

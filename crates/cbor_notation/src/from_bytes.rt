@@ -7,7 +7,7 @@
 //! functions; what was written of them is cut back where they can't be read.
 #![tactic(auto, using(cbor_grammar::proofs::shared::Appending::appending_steps))]
 
-ghost use Rattle.std.specs.Prelude.{◌≡◌, ◌+◌, ◌*◌, ◌<◌, ◌≤◌, ◌^◌, IfOk, IfErr, OnErr};
+ghost use Rattle.std.specs.Prelude.{◌≡◌, ◌+◌, ◌*◌, ◌<◌, ◌≤◌, ◌^◌, IfOk, IfErr, OnErr, true, false};
 ghost use Rattle.std.specs.Io.{StartsWith};
 ghost use Rattle.std.specs.String.{string_bytes};
 ghost use Rattle.cbor_grammar.specs.declared.layout.Content.TheVariants as shown;
@@ -31,7 +31,7 @@ use cbor_grammar::layout::{ContainerStyle, Content};
 use cbor_grammar::level::DEEPEST;
 use cbor_grammar::strings::{StringContent, StringKind};
 use cbor_grammar::{Error, IntegerWidth};
-use std::alloc::AllocError;
+use std::alloc::{AllocError, Global};
 
 /// Whether the simple value at the front takes two bytes.
 #[inline(always)]
@@ -342,6 +342,63 @@ fn push_chunks_front<'a, D: Dialect>(
     bytes: &'a [u8],
     place: &D::Place,
 ) -> cbor_grammar::Result<&'a [u8]>
+    requires level { D.leaves.level place.now ≤ deepest }
+    requires indent { IsLaidOut D.leaves place.now }
+    ensures printed { IfOk result (λ rest. Written (TextsAt D.leaves place.now)
+        (read_behind (D.leaves.level place.now)
+        (ItemHead.String kind Argument.Indefinite) bytes.now)
+        rest.now (string_bytes out.old) (string_bytes out.new)) }
+    ensures refused { IfErr result (λ e. Fails e (read_behind (D.leaves.level place.now)
+        (ItemHead.String kind Argument.Indefinite) bytes.now)) }
+    ensures begun { OnErr result (StartsWith (string_bytes out.new) (string_bytes out.old)) }
+{
+    match D::joins(place, kind) {
+        Some(alloc) => push_joined_front::<D>(out, bytes, place, alloc),
+        None => push_parts_front::<D>(out, kind, bytes, place),
+    }
+}
+
+/// Writes an indefinite byte string after its opening byte, its chunks as one string.
+#[inline(never)]
+fn push_joined_front<'a, D: Dialect>(
+    out: &mut String,
+    bytes: &'a [u8],
+    place: &D::Place,
+    alloc: Global,
+) -> cbor_grammar::Result<&'a [u8]>
+    requires joins { D.leaves.joins place.now StringKind.Bytes ≡ true }
+    requires level { D.leaves.level place.now ≤ deepest }
+    ensures printed { IfOk result (λ rest. Written (TextsAt D.leaves place.now)
+        (read_behind (D.leaves.level place.now)
+        (ItemHead.String StringKind.Bytes Argument.Indefinite) bytes.now)
+        rest.now (string_bytes out.old) (string_bytes out.new)) }
+    ensures refused { IfErr result (λ e. Fails e (read_behind (D.leaves.level place.now)
+        (ItemHead.String StringKind.Bytes Argument.Indefinite) bytes.now)) }
+    ensures begun { OnErr result (StartsWith (string_bytes out.new) (string_bytes out.old)) }
+{
+    let mut joined = Vec::new(alloc);
+    let mut rest = bytes;
+    'chunks: loop {
+        let (chunk, after) = next_chunk(StringKind::Bytes, rest)?;
+        let Some((content, _)) = chunk else {
+            let content = StringContent::Bytes(&joined);
+            D::string(out, content, IntegerWidth::Unknown, place)?;
+            return Ok(after);
+        };
+        joined.extend_from_slice(content.as_bytes())?;
+        rest = after;
+    }
+}
+
+/// Writes an indefinite string after its opening byte, chunk by chunk.
+#[inline(never)]
+fn push_parts_front<'a, D: Dialect>(
+    out: &mut String,
+    kind: StringKind,
+    bytes: &'a [u8],
+    place: &D::Place,
+) -> cbor_grammar::Result<&'a [u8]>
+    requires parts { D.leaves.joins place.now kind ≡ false }
     requires level { D.leaves.level place.now ≤ deepest }
     requires indent { IsLaidOut D.leaves place.now }
     ensures printed { IfOk result (λ rest. Written (TextsAt D.leaves place.now)

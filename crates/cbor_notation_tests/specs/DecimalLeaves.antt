@@ -33,6 +33,7 @@ decimal_leaves = record {
   level = diag_leaves.level;
   layout = diag_leaves.layout;
   content = diag_leaves.content;
+  joins = diag_leaves.joins;
   inside = diag_leaves.inside;
   next = diag_leaves.next;
   value = diag_leaves.value;

@@ -53,6 +53,10 @@ impl Dialect for Decimal {
         Diag::content(place, bytes)
     }
 
+    fn joins(place: &NotationContext, kind: StringKind) -> Option<Global> {
+        Diag::joins(place, kind)
+    }
+
     fn inside(place: &NotationContext, container: Container, layout: Layout) -> NotationContext {
         Diag::inside(place, container, layout)
     }

@@ -1,5 +1,6 @@
 -- What is not read whatever follows the text, by what the text begins with.
 use Rattle.std.proofs.Common.{◌≡◌, ℕ, ◌<◌, false, List, [], ◌∷◌, ◌++◌, length, None, ◌⊎◌, sym, ap, ◌∙◌, subst}
+use Rattle.std.proofs.Common.{refl, arith}
 use Rattle.cbor_tokens.specs.TokenReading.{unquoted}
 use Rattle.cbor_notation.specs.declared.start.Start.{Start}
 use Rattle.cbor_notation.specs.declared.start.Start.TheVariants as start
@@ -7,27 +8,13 @@ use Rattle.cbor_grammar.specs.declared.strings.StringKind.TheVariants.{Bytes}
 use Rattle.cbor_notation.specs.mirror.NotationReading.{first_start, rest_of, read_item, piece_of, read_piece}
 use Rattle.cbor_notation.specs.mirror.NotationReading.{read_embedded, b_notation, h_notation, read_core, read_length}
 use Rattle.cbor_notation.specs.mirror.NotationReading.{read_members, read_pair, read_string_item}
-use Rattle.cbor_diag.specs.mirror.DeadEnds.{NeverReads}
+use Rattle.cbor_diag.specs.mirror.DeadEnds.{NotRead, NeverReads}
 use Rattle.cbor_diag.proofs.notation.Cores.{bytes_core}
 use Rattle.cbor_diag.proofs.notation.DeadTokens.{not_by}
 use Rattle.cbor_diag.proofs.notation.DeadItems.{core_dead, array_dead, map_dead}
 
 module _ (left : ℕ) where
   -- ---- cores
-
-  pub bracket_dead : (text rest opened : List ℕ) → opened ≡ (read_length rest).1 → start.Bracket ≡ first_start text
-      → rest ≡ rest_of text → 0 < length text → NeverReads (read_members (read_item left) 93) opened
-      → NeverReads (read_core (read_item left)) text
-  bracket_dead text rest opened is at behind some never =
-      core_dead left start.Bracket text rest at behind some
-      (array_dead left rest (subst (NeverReads (read_members (read_item left) 93)) is never))
-
-  pub brace_dead : (text rest opened : List ℕ) → opened ≡ (read_length rest).1 → start.Brace ≡ first_start text
-      → rest ≡ rest_of text → 0 < length text → NeverReads (read_members (read_pair (read_item left)) 125) opened
-      → NeverReads (read_core (read_item left)) text
-  brace_dead text rest opened is at behind some never =
-      core_dead left start.Brace text rest at behind some
-      (map_dead left rest (subst (NeverReads (read_members (read_pair (read_item left)) 125)) is never))
 
   pub bytes_dead : (s : Start) (text rest : List ℕ)
       → ((s ≡ start.Apostrophe) ⊎ (s ≡ start.Angle) ⊎ (s ≡ start.LetterB) ⊎ (s ≡ start.LetterH))
@@ -40,7 +27,7 @@ module _ (left : ℕ) where
 
   -- ---- pieces
 
-  piece_at : (s : Start) (text rest : List ℕ) → (s ≡ start.Other → ⊥) → s ≡ first_start text → rest ≡ rest_of text
+  pub piece_at : (s : Start) (text rest : List ℕ) → (s ≡ start.Other → ⊥) → s ≡ first_start text → rest ≡ rest_of text
       → NeverReads (piece_of (read_item left) s) rest → NeverReads (read_piece (read_item left)) text
   unfolding read_piece
   piece_at s [] rest some is behind never more = absurd (some is)
@@ -48,25 +35,3 @@ module _ (left : ℕ) where
       not_by (piece_of (read_item left) s (rest ++ more)) _
       (ap (λ (z : Start). piece_of (read_item left) z (text ++ more)) (sym is)
       ∙ ap (λ (t : List ℕ). piece_of (read_item left) s (t ++ more)) (sym behind)) (never more)
-
-  pub quote_dead : (text rest : List ℕ) → start.Quote ≡ first_start text → rest ≡ rest_of text
-      → ((more : List ℕ) → unquoted 34 false (rest ++ more) ≡ None) → NeverReads (read_piece (read_item left)) text
-  quote_dead text rest is behind none =
-      piece_at start.Quote text rest (λ e. absurd cc) is behind (λ more. rw (none more) tt)
-
-  pub apostrophe_dead : (text rest : List ℕ) → start.Apostrophe ≡ first_start text → rest ≡ rest_of text
-      → ((more : List ℕ) → unquoted 39 false (rest ++ more) ≡ None) → NeverReads (read_piece (read_item left)) text
-  apostrophe_dead text rest is behind none =
-      piece_at start.Apostrophe text rest (λ e. absurd cc) is behind (λ more. rw (none more) tt)
-
-  pub angle_dead : (text rest : List ℕ) → start.Angle ≡ first_start text → rest ≡ rest_of text
-      → NeverReads (read_embedded (read_item left)) rest → NeverReads (read_piece (read_item left)) text
-  angle_dead text rest is behind never = piece_at start.Angle text rest (λ e. absurd cc) is behind never
-
-  pub letter_b_dead : (text rest : List ℕ) → start.LetterB ≡ first_start text → rest ≡ rest_of text
-      → NeverReads b_notation rest → NeverReads (read_piece (read_item left)) text
-  letter_b_dead text rest is behind never = piece_at start.LetterB text rest (λ e. absurd cc) is behind never
-
-  pub letter_h_dead : (text rest : List ℕ) → start.LetterH ≡ first_start text → rest ≡ rest_of text
-      → NeverReads h_notation rest → NeverReads (read_piece (read_item left)) text
-  letter_h_dead text rest is behind never = piece_at start.LetterH text rest (λ e. absurd cc) is behind never

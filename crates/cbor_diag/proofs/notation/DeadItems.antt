@@ -4,15 +4,12 @@ use Rattle.std.proofs.Common.{Option, Some, None, Result, Ok, Err, refl, sym, ap
 use Rattle.std.proofs.lemmas.Bool.{false≢true}
 use Rattle.cbor_grammar.specs.declared.error.Error.{Error}
 use Rattle.cbor_grammar.specs.declared.error.Error.TheVariants as refusal
-use Rattle.cbor_diag.specs.declared.parse.notation.fault.Member.{Member}
-use Rattle.cbor_diag.specs.declared.parse.notation.fault.Member.TheVariants as member
 use Rattle.cbor_notation.specs.declared.start.Start.{Start}
 use Rattle.cbor_grammar.specs.declared.width.IntegerWidth.{IntegerWidth}
-use Rattle.cbor_grammar.specs.declared.width.IntegerWidth.TheVariants.{Unknown}
-use Rattle.cbor_grammar.specs.Item.{Chunk, Item}
+use Rattle.cbor_grammar.specs.Item.{Item}
 use Rattle.cbor_grammar.specs.declared.strings.StringKind.{StringKind}
 use Rattle.cbor_grammar.specs.declared.strings.StringKind.TheVariants.{Bytes, Text}
-use Rattle.cbor_grammar.specs.StringKind.{IsContent, no_chunks}
+use Rattle.cbor_grammar.specs.StringKind.{no_chunks}
 use Rattle.cbor_grammar.specs.Reading.{Read, ◌>>=◌}
 use Rattle.cbor_notation.specs.mirror.NotationReading.{or_refused, skip_blank, after_byte, after_word, after_end}
 use Rattle.cbor_notation.specs.mirror.NotationReading.{members_from, members_or_end, read_members, read_pair}
@@ -23,33 +20,21 @@ use Rattle.cbor_notation.specs.mirror.NotationReading.{read_map}
 use Rattle.cbor_notation.specs.mirror.NotationReading.{read_length, read_integer, integer_or_tag, read_unsigned_number}
 use Rattle.cbor_notation.specs.mirror.NotationReading.{read_core, core_of, read_item, read_string_item}
 use Rattle.cbor_notation.specs.mirror.NotationReading.{notation_of, whole}
-use Rattle.cbor_diag.specs.mirror.DeadEnds.{NotRead, NeverReads, NeverMembers, NeverPieces, read_member, is_firm}
+use Rattle.cbor_diag.specs.mirror.DeadEnds.{NotRead, NeverReads, NeverMembers, NeverPieces, Open, is_firm}
 use Rattle.cbor_diag.specs.mirror.DeadEnds.{ends_blank}
-use Rattle.cbor_grammar.proofs.shared.Utf8.{utf8_passes, utf8_fails}
 use Rattle.cbor_notation.proofs.notation.Pieces.{pieces_go}
 use Rattle.cbor_diag.proofs.notation.GrownTokens.{blank_grown, byte_grown, no_byte_grown}
 use Rattle.cbor_diag.proofs.notation.DeadTokens.{not_bind, not_by}
 use Rattle.cbor_diag.proofs.notation.GrownReads.{Grows}
-use Rattle.cbor_diag.proofs.notation.GrownLists.{members_grown, pair_grows}
-use Rattle.cbor_diag.proofs.notation.GrownStrings.{chunk_grows, content_grows, piece_closed, first_grown}
+use Rattle.cbor_diag.proofs.notation.GrownLists.{members_grown}
+use Rattle.cbor_diag.proofs.notation.GrownStrings.{content_grows, piece_closed, first_grown}
 use Rattle.cbor_diag.proofs.notation.GrownItems.{item_grows, item_begins, no_byte_firm, unsigned_grows}
 use Rattle.cbor_notation.proofs.notation.sound.Steps.{a_test, after_byte_is}
 use Rattle.cbor_notation.proofs.notation.ItemsFound.{notation_again}
 use Rattle.cbor_grammar.specs.WellFormed.{deepest}
-use Rattle.cbor_grammar.specs.Notation.{IsNotation, Reads}
-use Rattle.cbor_grammar.specs.DeadEnd.{CutOf, IsDeadEnd, IsDiagFault}
-use Rattle.cbor_grammar.specs.NotationRefused.{IsAnswered, IsNoNotation}
-use Rattle.cbor_notation.proofs.notation.sound.Items.{notation_sound}
-
--- no list ends here
-abbrev pub Open : ℕ → List ℕ → Type 0
-Open close text = (more : List ℕ) → after_end close (text ++ more) ≡ None
-
-pub member_grows : (m : Member) (left : ℕ) → Grows (read_member m (read_item left))
-member_grows member.Item left = item_grows left
-member_grows member.Pair left = pair_grows (read_item left) (item_grows left) (item_begins left)
-member_grows (member.Chunk kind) left =
-    chunk_grows (read_item left) (item_grows left) (item_begins left) kind
+use Rattle.cbor_grammar.specs.Notation.{Reads}
+use Rattle.cbor_diag.specs.DeadEnd.{IsDeadEnd, IsDiagFault}
+use Rattle.cbor_grammar.specs.NotationRefused.{IsNoNotation}
 
 module _ {X : Type 0} (read : List ℕ → Read X) (close : ℕ) where
   pub list_begun : (text rest : List ℕ) → rest ≡ skip_blank text → ends_blank rest ≡ true → Open close rest
@@ -153,23 +138,20 @@ module _ (left : ℕ) where
       ∙ ap (λ (t : List ℕ). read_pieces read kind n t >>= λ xs. Ok (bytes ++ xs.0, xs.1)) blank)
       (not_bind (read_pieces read kind n (rest ++ more)) _ (never n more))
 
-  pub string_start_dead : (kind : StringKind) (text : List ℕ) → begins_string kind (first_start text) ≡ false
-      → 0 < length text → NeverReads (read_string (read_item left) kind) text
-  unfolding read_string
-  string_start_dead kind [] none some more = absurd (omega (arith, some))
-  string_start_dead kind (b ∷ text) none some more = rw none tt
-
-  pub string_pieces_dead : (kind : StringKind) (text : List ℕ) → begins_string kind (first_start text) ≡ true
-      → NeverPieces (read_item left) kind text → NeverReads (read_string (read_item left) kind) text
-  unfolding read_string
-  string_pieces_dead kind [] goes never more = absurd (no_first kind goes)
+  pub content_pieces_dead : (kind : StringKind) (text : List ℕ) → begins_string kind (first_start text) ≡ true
+      → NeverPieces (read_item left) kind text → NeverReads (read_content (read_item left) kind) text
+  content_pieces_dead kind [] goes never more = absurd (no_first kind goes)
     where
       no_first : (k : StringKind) → begins_string k (first_start []) ≡ true → ⊥
       no_first Bytes e = false≢true e
       no_first Text e = false≢true e
-  string_pieces_dead kind (b ∷ text) goes never more =
-      rw goes (not_bind (read_pieces (read_item left) kind (suc (length (b ∷ (text ++ more)))) (b ∷ (text ++ more))) _
-      (never (suc (length (b ∷ (text ++ more)))) more))
+  content_pieces_dead kind (b ∷ text) goes never more =
+      rw goes (never (suc (length (b ∷ (text ++ more)))) more)
+
+  pub string_dead : (kind : StringKind) (text : List ℕ) → NeverReads (read_content (read_item left) kind) text
+      → NeverReads (read_string (read_item left) kind) text
+  unfolding read_string
+  string_dead kind text never more = not_bind (read_content (read_item left) kind (text ++ more)) _ (never more)
 
   pub string_content_dead : (kind : StringKind) (text content rest : List ℕ)
       → read_content (read_item left) kind text ≡ Ok (content, rest) → ends_blank (skip_blank rest) ≡ true
@@ -187,11 +169,6 @@ module _ (left : ℕ) where
 
   -- ---- containers
 
-  pub embedded_list_dead : (text first : List ℕ) → after_byte 60 text ≡ Some first
-      → NeverReads (read_members (read_item left) 62) first → NeverReads (read_embedded (read_item left)) text
-  embedded_list_dead text first at never more =
-      rw (byte_grown 60 text more first at) (not_bind (read_members (read_item left) 62 (first ++ more)) _ (never more))
-
   pub embedded_close_dead : (text first : List ℕ) (is : List Item) (rest : List ℕ) → after_byte 60 text ≡ Some first
       → read_members (read_item left) 62 first ≡ Ok (is, rest) → 0 < length rest → after_byte 62 rest ≡ None
       → NeverReads (read_embedded (read_item left)) text
@@ -202,16 +179,6 @@ module _ (left : ℕ) where
         members_grown (read_item left) (item_grows left) (item_begins left) 62 refl first more (is, b ∷ rest) found,
         no_byte_grown 62 b rest more none,
       ) tt
-
-  pub embedded_open_dead : (text : List ℕ) → after_byte 60 text ≡ None → 0 < length text
-      → NeverReads (read_embedded (read_item left)) text
-  embedded_open_dead [] none some more = absurd (omega (arith, some))
-  embedded_open_dead (b ∷ text) none some more = rw (no_byte_grown 60 b text more none) tt
-
-  pub chunks_open_dead : (text : List ℕ) → after_byte 95 text ≡ None → 0 < length text
-      → NeverReads (read_chunks (read_item left)) text
-  chunks_open_dead [] none some more = absurd (omega (arith, some))
-  chunks_open_dead (b ∷ text) none some more = rw (no_byte_grown 95 b text more none) tt
 
   pub chunks_list_dead : (text opened first : List ℕ) (kind : StringKind) → after_byte 95 text ≡ Some opened
       → first ≡ skip_blank opened → ends_blank first ≡ true → kind ≡ kind_from (first_start first)
@@ -267,7 +234,7 @@ module _ (left : ℕ) where
   firm_open [] = refl
   firm_open (b ∷ text) = refl
 
-  tag_grown : (text more : List ℕ) (n : ℕ × IntegerWidth) (after inner : List ℕ)
+  pub tag_grown : (text more : List ℕ) (n : ℕ × IntegerWidth) (after inner : List ℕ)
       → read_unsigned_number text ≡ Ok (n, after) → after_byte 40 after ≡ Some inner
       → read_integer (read_item left) (text ++ more) ≡ integer_or_tag (read_item left) n.0 n.1 (after ++ more)
       (Some (inner ++ more))
@@ -276,21 +243,6 @@ module _ (left : ℕ) where
       (after_byte 40 n.1)) (unsigned_grows text more (n, after) found
       (subst (λ (t : List ℕ). is_firm t ≡ true) (sym (after_byte_is 40 after inner at)) (firm_open inner)))
       ∙ ap (integer_or_tag (read_item left) n.0 n.1 (after ++ more)) (byte_grown 40 after more inner at)
-
-  pub tag_item_dead : (text : List ℕ) (n : ℕ × IntegerWidth) (after inner : List ℕ)
-      → read_unsigned_number text ≡ Ok (n, after) → after_byte 40 after ≡ Some inner → NeverReads (read_item left) inner
-      → NeverReads (read_integer (read_item left)) text
-  tag_item_dead text n after inner found at never more =
-      not_by _ (read_integer (read_item left) (text ++ more)) (tag_grown text more n after inner found at)
-      (not_bind (read_item left (inner ++ more)) _ (never more))
-
-  pub tag_close_dead : (text : List ℕ) (n : ℕ × IntegerWidth) (after inner : List ℕ) (x : Item) (rest : List ℕ)
-      → read_unsigned_number text ≡ Ok (n, after) → after_byte 40 after ≡ Some inner
-      → read_item left inner ≡ Ok (x, rest) → is_firm rest ≡ true → after_byte 41 rest ≡ None
-      → NeverReads (read_integer (read_item left)) text
-  tag_close_dead text n after inner x rest found at item firm none more =
-      not_by _ (read_integer (read_item left) (text ++ more)) (tag_grown text more n after inner found at)
-      (rw (item_grows left inner more (x, rest) item firm, no_byte_firm 41 rest more firm none) tt)
 
   -- ---- items
 
@@ -332,31 +284,6 @@ rest_dead text x (b ∷ rest) found firm more i =
     (not_by (Err refusal.Notation) _ (ap (λ (r : Read Item). r >>= λ i. whole i.0 i.1)
     (item_grows deepest text more (x, b ∷ rest) found firm)) tt)
 
--- ---- what was read before
-
-pub pair_found : (left : ℕ) (text after next rest : List ℕ) (x y : Item) → read_item left text ≡ Ok (x, after)
-    → or_refused (after_byte 58 after) ≡ Ok next → read_item left next ≡ Ok (y, rest)
-    → (z : Item × Item) × (read_pair (read_item left) text ≡ Ok (z, rest))
-pair_found left text after next rest x y key colon value = ((x, y), rw (key, colon, value) refl)
-
-pub content_found : (kind : StringKind) (content : List ℕ) → IsContent kind content
-    → checked kind content ≡ Ok (record { bytes = content; width = Unknown })
-content_found Bytes content is = refl
-content_found Text content is = rw (utf8_passes content is) refl
-
-pub chunk_found : (left : ℕ) (kind : StringKind) (text core content rest : List ℕ) → core ≡ skip_blank text
-    → read_content (read_item left) kind core ≡ Ok (content, rest) → IsContent kind content
-    → (c : Chunk) × (read_chunk (read_item left) kind text ≡ Ok (c, rest))
-unfolding read_string
-chunk_found left kind text core content rest is found holds = (
-  record { bytes = content; width = Unknown },
-  ap (read_string (read_item left) kind) (sym is) ∙ rw (found, content_found kind content holds) refl,
-)
-
-pub no_content : (kind : StringKind) (content : List ℕ) → ¬ (IsContent kind content) → NotRead (checked kind content)
-no_content Bytes content not = absurd (not tt)
-no_content Text content not = rw (utf8_fails content not) tt
-
 -- ---- what is answered
 
 pub fault_is : (text : List ℕ) (e : Error) (end : ℕ) → IsNoNotation text e → end ≤ length text
@@ -371,33 +298,3 @@ fault_is text refusal.OddHex end is within dead = (is, within, dead)
 fault_is text refusal.BadHex end is within dead = (is, within, dead)
 fault_is text refusal.Notation end is within dead = (is, within, dead)
 fault_is text refusal.PastWidth end is within dead = (is, within, dead)
-
-pub cut_is : (text : List ℕ) (e : Error) → IsNoNotation text e → CutOf IsNotation text
-    → IsDiagFault text refusal.CutShort (length text)
-cut_is text e is cut = (refl, is.none, cut)
-
--- what is no notation the reader refuses
-pub refused_by : (text : List ℕ) → ((i : Item) → ¬ (IsNotation text i)) → NotRead (notation_of deepest text)
-refused_by text none = by (notation_of deepest text) (notation_sound deepest text)
-  where
-    by : (r : Result Item Error) → IsAnswered deepest text r → NotRead r
-    by (Ok i) answered = none i answered
-    by (Err e) answered = tt
-
--- ---- what the functions of `fault.rt` name
-
-pub ruleset item_laws = (item_dead, too_deep)
-
-pub ruleset integer_laws = (number_dead, tag_item_dead, tag_close_dead)
-
-pub ruleset pair_laws = (pair_key_dead, pair_colon_dead, pair_value_dead)
-
-pub ruleset chunks_laws = (chunks_open_dead, chunks_list_dead)
-
-pub ruleset embedded_laws = (embedded_open_dead, embedded_close_dead, embedded_list_dead)
-
-pub ruleset string_laws = (string_start_dead, string_pieces_dead, string_content_dead)
-
-pub ruleset end_laws = (item_end_dead, rest_dead)
-
-pub ruleset fault_laws = (fault_is, cut_is, refused_by)

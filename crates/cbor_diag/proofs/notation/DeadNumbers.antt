@@ -1,5 +1,5 @@
 -- Numbers, simple values and floats that are wrong, whatever follows the text.
-use Rattle.std.proofs.Common.{◌≡◌, ◌≢◌, ℕ, zero, suc, ◌^◌, ◌<◌, ◌≤◌, Bool, false, nat_lt, ◌==◌}
+use Rattle.std.proofs.Common.{◌≡◌, ◌≢◌, ℕ, zero, suc, ◌^◌, ◌<◌, ◌≤◌, Bool, true, false, not, nat_lt, ◌==◌}
 use Rattle.std.proofs.Common.{◌&&◌, List, [], ◌∷◌, ◌++◌, length, Option, Some, None, Ok, Err, Result}
 use Rattle.std.proofs.Common.{inl, inr, refl, sym, ap, ◌∙◌, subst, arith}
 use Rattle.std.proofs.lemmas.Bool.{false≢true, and_right, or_parts, cases_lt, le-ltb, ltb-false}
@@ -187,3 +187,7 @@ negative_capped text v indicator rest =
           let same : capped v ≡ v = omega (arith, small) in
           ap (λ (m : ℕ). may_be_negative text m indicator rest) same
     ]
+
+pub some_length : (text : List ℕ) (b : Bool) → b ≡ (length text == 0) → not b ≡ true → 0 < length text
+some_length [] b is some = absurd (false≢true (sym (ap not is) ∙ some))
+some_length (c ∷ text) b is some = omega arith

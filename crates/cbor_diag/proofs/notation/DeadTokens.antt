@@ -23,7 +23,7 @@ use Rattle.cbor_notation.specs.mirror.NotationReading.{float_of}
 use Rattle.cbor_notation.specs.mirror.NotationReading.{numeral, read_word, b_notation, h_notation, read_decoded}
 use Rattle.cbor_tokens.specs.HexDigits.{base16_of}
 use Rattle.cbor_notation.specs.mirror.NotationReading.{base32_of, base64_of}
-use Rattle.cbor_grammar.specs.DeadEnd.{closes}
+use Rattle.cbor_diag.specs.mirror.DeadEnds.{closes}
 use Rattle.cbor_diag.specs.mirror.DeadEnds.{NotRead, IsRealError, NeverReads, HasEnd, grown, is_settled}
 use Rattle.cbor_diag.proofs.notation.GrownTokens.{byte_grown, no_byte_grown, word_grown, number_grown}
 use Rattle.cbor_diag.proofs.notation.GrownTokens.{decoded_grown}
@@ -323,7 +323,7 @@ float_closed text more y e = by (position (λ b. b == 39) text) refl e
         ∙ ap (float_after count (take count text)) (drop-append-le (count + 1) text more (omega (arith, place.0)))
         ∙ float_more (float_of count) (numeral 16 (take count text)) (drop (count + 1) text) more y is
 
--- ---- what the functions of `fault/tokens.rt` name
+-- ---- what the functions of `tokens.rt` name
 
 pub ruleset open_laws = (comma_open, other_open)
 

@@ -5,7 +5,7 @@ use Rattle.std.proofs.Common.{refl}
 use Rattle.std.proofs.Common.{sym, ap, ◌∙◌, subst, arith, append_assoc}
 use Rattle.std.specs.List.{list_all, position}
 use Rattle.std.specs.Char.{digit_value}
-use Rattle.std.specs.Str.Parse.{digits_value}
+use Rattle.std.specs.Str.Parse.{digits_value, AllDigits}
 use Rattle.std.proofs.lemmas.List.{length-append, length-take}
 use Rattle.std.proofs.lemmas.Bool.{false≢true, and_parts, and_cases, and_from, or_parts, or_cases, lt-ltb, ltb-true}
 use Rattle.std.proofs.lemmas.Bool.{eq-eqb, eqb-true, cases_lt, le-ltb}
@@ -30,10 +30,15 @@ use Rattle.cbor_diag.proofs.notation.DeadTokens.{float_after}
 use Rattle.cbor_diag.proofs.notation.GrownReads.{of_some}
 use Rattle.cbor_diag.proofs.notation.LaterNumbers.{number_later}
 use Rattle.cbor_diag.proofs.notation.DeadNumbers.{no_number}
-use Rattle.cbor_diag.proofs.notation.CutNumbers.{all_decimal}
 use Rattle.cbor_notation.proofs.notation.sound.Steps.{a_test, after_byte_is}
 
 -- ---- lists
+
+all_decimal : (text : List ℕ) → list_all (λ c. nat_lt (digit_value c) 10) text ≡ true → AllDigits 10 text
+all_decimal [] e = tt
+all_decimal (d ∷ text) e =
+    let parts = and_parts (nat_lt (digit_value d) 10) _ e in
+    (ltb-true (digit_value d) 10 parts.0, all_decimal text parts.1)
 
 -- two ways to part a text
 parted : (a b c d : List ℕ) → a ++ b ≡ c ++ d → length a ≤ length c
@@ -214,32 +219,3 @@ not_float text count at none =
           (taken text count at) width))
       | inr hex ↦ inr (no_numeral digits hex)
     ]))
-
-some_width : (count : ℕ) → ((count == 4) || (count == 8) || (count == 16)) ≡ true
-    → (w : FloatWidth) × (float_of count ≡ Some w)
-some_width count e =
-    elim (or_cases ((count == 4) || (count == 8)) (count == 16) e) [
-      | inl two ↦ elim (or_cases (count == 4) (count == 8) two) [
-        | inl is ↦ (_, ap float_of (eqb-true count 4 is))
-        | inr is ↦ (_, ap float_of (eqb-true count 8 is))
-      ]
-      | inr is ↦ (_, ap float_of (eqb-true count 16 is))
-    ]
-
-some_numeral : (digits : List ℕ) → list_all (λ c. nat_lt (digit_value c) 16) digits ≡ true
-    → ((length digits == 4) || (length digits == 8) || (length digits == 16)) ≡ true
-    → (n : ℕ) × (numeral 16 digits ≡ Some n)
-some_numeral [] all e = absurd (false≢true e)
-some_numeral (d ∷ digits) all e = (digits_value 16 (d ∷ digits), rw all refl)
-
-pub float_read : (text : List ℕ) (count : ℕ) → position (λ b. b == 39) text ≡ Some count
-    → is_float (take count text) ≡ true → NotRead (read_float text) → ⊥
-float_read text count at is not =
-    let digits : List ℕ = take count text in
-    let parts = and_parts ((length digits == 4) || (length digits == 8) || (length digits == 16)) _ is in
-    let width = some_width count (subst (λ (n : ℕ). ((n == 4) || (n == 8) || (n == 16)) ≡ true)
-    (taken text count at) parts.0) in
-    let bits = some_numeral digits parts.1 parts.0 in
-    let here : NotRead (float_end (float_of count) (numeral 16 digits) (drop (count + 1) text)) =
-    not_by (read_float text) _ (sym (ap (float_at text) at)) not in
-    rw (width.1, bits.1) at here

@@ -37,7 +37,7 @@ firm_close : (close : ℕ) (text : List ℕ) → IsClose close → is_firm (clos
 firm_close close [] closes = holds_of (λ c. is_firm (c ∷ [])) list_closes close refl closes
 firm_close close (b ∷ text) closes = holds_of (λ c. is_firm (c ∷ b ∷ text)) list_closes close refl closes
 
-firm_comma : (text : List ℕ) → is_firm (44 ∷ text) ≡ true
+pub firm_comma : (text : List ℕ) → is_firm (44 ∷ text) ≡ true
 firm_comma [] = refl
 firm_comma (b ∷ text) = refl
 

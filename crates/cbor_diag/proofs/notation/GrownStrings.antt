@@ -25,7 +25,7 @@ use Rattle.cbor_notation.specs.mirror.NotationReading.{base64_of}
 use Rattle.cbor_tokens.specs.Base32.{standard, extended_hex}
 use Rattle.cbor_grammar.specs.Written.{encoded_items}
 use Rattle.cbor_grammar.specs.declared.width.IntegerWidth.TheVariants.{Unknown}
-use Rattle.cbor_grammar.specs.DeadEnd.{closes}
+use Rattle.cbor_diag.specs.mirror.DeadEnds.{closes}
 use Rattle.cbor_diag.specs.mirror.DeadEnds.{ends_blank, is_firm, grown}
 use Rattle.cbor_grammar.proofs.bytes.Heads.{bind_ok, ok_is}
 use Rattle.cbor_notation.proofs.notation.Ends.{passed_twice}

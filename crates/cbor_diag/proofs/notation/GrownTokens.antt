@@ -19,7 +19,7 @@ use Rattle.cbor_tokens.proofs.tokens.Numbers.{number_of-reaches}
 use Rattle.cbor_notation.specs.mirror.NotationReading.{skip_blank, after_byte, after_word}
 use Rattle.cbor_notation.specs.mirror.NotationReading.{or_refused, read_decoded}
 use Rattle.cbor_grammar.specs.Reading.{◌>>=◌}
-use Rattle.cbor_grammar.specs.DeadEnd.{closes}
+use Rattle.cbor_diag.specs.mirror.DeadEnds.{closes}
 use Rattle.cbor_diag.specs.mirror.DeadEnds.{ends_blank, is_settled, grown}
 use Rattle.cbor_notation.proofs.notation.Ends.{passed_twice}
 use Rattle.cbor_notation.proofs.notation.sound.Steps.{a_test, none_some, after_byte_is, after_word_is}

@@ -20,22 +20,27 @@ members_closed read close text rest after front none blank e =
     ap (λ b. members_or_end read close b (after_end close b)) (sym blank) ∙ ap (members_or_end read close rest) e
     ∙ ap (λ f. Ok (f, after)) (sym none)
 
--- before the first member
-pub members_begin : {X : Type 0} (read : List ℕ → Read X) (close : ℕ) (text rest : List ℕ) (front : List X) → front ≡ []
-    → rest ≡ skip_blank text → after_end close rest ≡ None
-    → (n : ℕ) × (length rest < n) × (onto (λ xs. front ++ xs) (members_from read close n rest) ≡ read_members read close
-    text)
+-- a list that is not closed before any member
+pub members_first : {X : Type 0} (read : List ℕ → Read X) (close : ℕ) (text rest : List ℕ) → rest ≡ skip_blank text
+    → after_end close rest ≡ None → read_members read close text ≡ members_from read close (suc (length rest)) rest
 unfolding read_members
-members_begin read close text rest front none blank e = (suc (length rest), omega arith, whole) where
+members_first read close text rest blank e =
+    ap (λ b. members_or_end read close b (after_end close b)) (sym blank) ∙ ap (members_or_end read close rest) e
+
+-- before the first member
+pub members_begin : {X : Type 0} (read : List ℕ → Read X) (close : ℕ) (text : List ℕ) (front : List X) → front ≡ []
+    → (n : ℕ) × (length text < n) × (onto (λ xs. front ++ xs) (members_from read close n text)
+    ≡ members_from read close (suc (length text)) text)
+members_begin read close text front none = (suc (length text), omega arith, whole) where
   onto_nothing : {X : Type 0} (r : Read (List X)) → onto (λ xs. [] ++ xs) r ≡ r
   onto_nothing (Ok r) = refl
   onto_nothing (Err e) = refl
 
-  whole : onto (λ xs. front ++ xs) (members_from read close (suc (length rest)) rest) ≡ read_members read close text
+  whole : onto (λ xs. front ++ xs) (members_from read close (suc (length text)) text)
+      ≡ members_from read close (suc (length text)) text
   whole =
-      ap (λ f. onto (λ xs. f ++ xs) (members_from read close (suc (length rest)) rest)) none
-      ∙ onto_nothing (members_from read close (suc (length rest)) rest)
-      ∙ sym (ap (members_or_end read close rest) e) ∙ ap (λ b. members_or_end read close b (after_end close b)) blank
+      ap (λ f. onto (λ xs. f ++ xs) (members_from read close (suc (length text)) text)) none
+      ∙ onto_nothing (members_from read close (suc (length text)) text)
 
 pub more_from : {X : Type 0} (front front' : List X) (x : X) (r : Read (List X)) → front' ≡ front ++ x ∷ []
     → onto (λ xs. front ++ xs) (r >>= λ xs. Ok (x ∷ xs.0, xs.1)) ≡ onto (λ xs. front' ++ xs) r

@@ -1,5 +1,5 @@
 -- From what the reader of notation gives to what its callers read.
-use Rattle.std.proofs.Common.{◌≡◌, ℕ, List, Result, Ok, Err, IfOk, ◌⊎◌, inl, inr, refl, sym, subst, ◌∙◌}
+use Rattle.std.proofs.Common.{◌≡◌, ◌≢◌, ℕ, List, Result, Ok, Err, IfOk, ◌⊎◌, inl, inr, refl, sym, subst, ◌∙◌}
 use Rattle.cbor_grammar.specs.declared.error.Error.{Error}
 use Rattle.cbor_grammar.specs.declared.error.Error.TheVariants as refusal
 use Rattle.cbor_diag.specs.declared.syntax.DataItem.{DataItem}
@@ -84,3 +84,14 @@ text_refused text (Err e) h =
         ];
       }
     ]
+
+-- what was read of a cursor that begins with a text
+pub given : (text rest : List ℕ) (r : Result DataItem Error) → rest ≡ text → Gives view r (notation_of deepest rest)
+    → Gives view r (notation_of deepest text)
+given text rest r is h = subst (λ (t : List ℕ). Gives view r (notation_of deepest t)) is h
+
+-- what an error says of a text that is no notation
+pub no_notation : (text rest : List ℕ) (e : Error) → rest ≡ text → e ≢ refusal.Memory
+    → Fails e (notation_of deepest rest) → IsNoNotation text e
+no_notation text rest e is real fails =
+    text_refused text (Err e) (given text rest (Err e) is fails) real

@@ -1,20 +1,19 @@
--- Texts that nothing can continue so that they are read, as the code of `parse/notation/fault.rt` finds them. No
--- public clause names these.
-use Rattle.std.specs.Prelude.{◌≡◌, ◌≢◌, ℕ, Bool, true, false, not, ◌==◌, ◌||◌, ◌&&◌, List, [], ◌∷◌, ◌++◌}
-use Rattle.std.specs.Prelude.{Option, Result, Ok, Err}
-use Rattle.cbor_tokens.specs.Ascii.{quote}
+-- Where the code of `parse/notation.rt` stops at an error: at the end of the text, or before a byte that shows that the
+-- text is not read, whatever follows it. No public clause names these.
+use Rattle.std.specs.Prelude.{◌≡◌, ◌≢◌, ◌<◌, ℕ, Bool, true, false, not, ◌==◌, ◌||◌, ◌&&◌, if◌then◌else◌, List, []}
+use Rattle.std.specs.Prelude.{◌∷◌, ◌++◌, length, Option, None, Result, Ok, Err}
+use Rattle.cbor_tokens.specs.Ascii.{apostrophe, slash}
+use Rattle.cbor_tokens.specs.TokenReading.{unquoted}
 use Rattle.cbor_grammar.specs.declared.error.Error.{Error}
 use Rattle.cbor_grammar.specs.declared.error.Error.TheVariants as refusal
-use Rattle.cbor_diag.specs.declared.parse.notation.fault.Member.{Member}
-use Rattle.cbor_diag.specs.declared.parse.notation.fault.Member.TheVariants as member
-use Rattle.cbor_grammar.specs.Item.{Chunk, Item}
+use Rattle.cbor_grammar.specs.Item.{Item}
 use Rattle.cbor_grammar.specs.declared.strings.StringKind.{StringKind}
 use Rattle.cbor_grammar.specs.Reading.{Read}
-use Rattle.cbor_grammar.specs.Notation.{Blanked, Notation, PairOf, StringOf}
-use Rattle.cbor_grammar.specs.DeadEnd.{CutOf, closes_text}
-use Rattle.cbor_notation.specs.mirror.NotationReading.{skip_blank, read_number, read_pair, read_chunk, members_from}
-use Rattle.cbor_notation.specs.mirror.NotationReading.{read_pieces, first_start}
-use Rattle.cbor_notation.specs.declared.start.Start.TheVariants as start
+use Rattle.cbor_notation.specs.mirror.NotationReading.{skip_blank, read_number, members_from, read_pieces, after_end}
+use Rattle.cbor_notation.specs.mirror.NotationReading.{read_unsigned_number, read_negative_number, read_word}
+use Rattle.cbor_notation.specs.mirror.NotationReading.{b_notation, h_notation}
+use Rattle.cbor_diag.specs.declared.parse.notation.stop.Token.{Token}
+use Rattle.cbor_diag.specs.declared.parse.notation.stop.Token.TheVariants as token
 
 abbrev pub NotRead : {Y : Type 0} → Result Y Error → Type 0
 NotRead (Ok y) = ⊥
@@ -23,6 +22,11 @@ NotRead (Err e) = Unit {0}
 -- whatever follows this text, it is not read
 abbrev pub NeverReads : {Y : Type 0} → (List ℕ → Result Y Error) → List ℕ → Type 0
 NeverReads read text = (more : List ℕ) → NotRead (read (text ++ more))
+
+-- After an error that leaves some text this holds, unless memory ran out.
+abbrev pub Stuck : {X : Type 0} → Result X Error → List ℕ → Type 0 → Type 0
+Stuck (Ok x) rest P = Unit {0}
+Stuck (Err e) rest P = e ≢ refusal.Memory → 0 < length rest → P
 
 -- an error other than out of memory
 abbrev pub IsRealError : {Y : Type 0} → Result Y Error → Type 0
@@ -55,36 +59,37 @@ HasEnd text = ((more : List ℕ) → read_number (text ++ more) ≡ grown more (
 abbrev pub is_firm : List ℕ → Bool
 is_firm text = let rest = skip_blank text in ends_blank rest && is_settled rest
 
--- what the members of a list are
-abbrev pub Value : Member → Type 0
-Value member.Item = Item
-Value member.Pair = Item × Item
-Value (member.Chunk kind) = Chunk
+-- Whether an apostrophe closes these digits. In a comment it does not; the first argument says whether there are
+-- comments, and the second whether the digits begin in one.
+abbrev pub closes : Bool → Bool → List ℕ → Bool
+closes comments inside [] = false
+closes comments true (b ∷ text) = closes comments (not (b == slash)) text
+closes comments false (b ∷ text) = if b == apostrophe then true else closes comments (comments && (b == slash)) text
 
-abbrev pub read_member : (m : Member) → (List ℕ → Read Item) → List ℕ → Read (Value m)
-read_member member.Item read text = read text
-read_member member.Pair read text = read_pair read text
-read_member (member.Chunk kind) read text = read_chunk read kind text
+-- the blank at the front ends, and what follows it is not read, whatever follows the text
+abbrev pub NeverBegins : {Y : Type 0} → (List ℕ → Result Y Error) → List ℕ → Type 0
+NeverBegins read text = (ends_blank (skip_blank text) ≡ true) × NeverReads read text
+
+-- no list ends here, whatever follows
+abbrev pub Open : ℕ → List ℕ → Type 0
+Open close text = (more : List ℕ) → after_end close (text ++ more) ≡ None
 
 -- however many members are looked for
 abbrev pub NeverMembers : {X : Type 0} → (List ℕ → Read X) → ℕ → List ℕ → Type 0
 NeverMembers read close text = (n : ℕ) → NeverReads (members_from read close n) text
 
+-- the same, and the blank before the first member ends
+abbrev pub NeverListed : {X : Type 0} → (List ℕ → Read X) → ℕ → List ℕ → Type 0
+NeverListed read close text = (ends_blank (skip_blank text) ≡ true) × NeverMembers read close text
+
 abbrev pub NeverPieces : (List ℕ → Read Item) → StringKind → List ℕ → Type 0
 NeverPieces read kind text = (n : ℕ) → NeverReads (read_pieces read kind n) text
 
--- a chunk of an indefinite string, with the blanks round it
-abbrev pub ChunkIs : StringKind → (List ℕ → Item → Type 0) → List ℕ → Chunk → Type 0
-ChunkIs kind R text c = Blanked (λ core. StringOf kind R core c) text
-
--- a member of a list, in the words of the grammar
-abbrev pub MemberIs : (m : Member) → (List ℕ → Item → Type 0) → List ℕ → Value m → Type 0
-MemberIs member.Item R text x = R text x
-MemberIs member.Pair R text x = PairOf R text x
-MemberIs (member.Chunk kind) R text c = ChunkIs kind R text c
-
--- A piece of a string that is cut short: a text without a closing quote, or a notation of bytes.
-abbrev pub IsPieceCut : (List ℕ → Item → Type 0) → List ℕ → Type 0
-IsPieceCut R text = (first_start text ≡ start.Quote
-    → (content : List ℕ) × (text ≡ quote ∷ content) × (closes_text quote false content ≡ false))
-    × (¬ (first_start text ≡ start.Quote) → CutOf (Notation R) text)
+-- Whatever follows this text, it is no such token. Digits are decoded before.
+abbrev pub NeverToken : Token → List ℕ → Type 0
+NeverToken token.Unsigned text = NeverReads read_unsigned_number text
+NeverToken token.Negative text = NeverReads read_negative_number text
+NeverToken token.Word text = (ends_blank text ≡ true) × NeverReads read_word text
+NeverToken (token.Quoted quote) text = (more : List ℕ) → unquoted quote false (text ++ more) ≡ None
+NeverToken token.LetterB text = NotRead (b_notation text) → NeverReads b_notation text
+NeverToken token.LetterH text = NotRead (h_notation text) → NeverReads h_notation text

@@ -2,17 +2,19 @@
 //! nesting.
 //!
 //! Each private function reads at a cursor over the text, as bytes of UTF-8. It returns a value and
-//! leaves the cursor behind it, or returns the first error from the left; then the place of the
-//! cursor says nothing. The first byte decides what comes next, except for `''_` and `""_`, and for
+//! leaves the cursor behind it, or returns the first error from the left; then it leaves the cursor
+//! where `stop` says, which is what `diag_fault` asks for. The first byte decides what comes next, except for `''_` and `""_`, and for
 //! a list's last comma, after which whitespace and the closing byte are looked for. The text is
 //! read once, and a string's first piece once more if the fast path of `strings` does not apply.
 //! What is between `read_core` and the list that keeps its item is inlined, and a map's loop reads
 //! key and value itself, so that an item is not moved from one to the other.
 mod fault;
+mod stop;
 mod strings;
+mod tokens;
 mod word;
 
-ghost use Rattle.std.specs.Prelude.{◌≡◌, ◌-◌, ◌≤◌, ℕ, length, map, IfOk};
+ghost use Rattle.std.specs.Prelude.{◌≡◌, ◌-◌, ◌≤◌, ℕ, suc, length, map, true, IfOk};
 ghost use Rattle.cbor_diag.specs.ItemAnswer.{GaveItem};
 ghost use Rattle.cbor_grammar.specs.Answer.{RefusedSo};
 ghost use Rattle.cbor_diag.specs.View.{view, items_view, pairs_view};
@@ -25,20 +27,26 @@ ghost use Rattle.cbor_grammar.specs.Notation.{IsNotation, ReadsUnder};
 ghost use Rattle.cbor_grammar.specs.NotationRefused.{IsNoNotation};
 ghost use Rattle.cbor_diag.specs.ItemAnswer.{GaveOrTooDeep};
 ghost use Rattle.cbor_grammar.specs.Reading.{Gives};
+ghost use Rattle.cbor_diag.specs.DeadEnd.{IsDeadEnd};
+ghost use Rattle.cbor_diag.specs.mirror.DeadEnds.{NeverBegins, NeverListed, NeverReads, Stuck};
+ghost use Rattle.cbor_diag.specs.mirror.DeadEnds.{ends_blank};
 ghost use Rattle.cbor_notation.specs.mirror.NotationReading.{read_core, read_integer, read_item};
 ghost use Rattle.cbor_notation.specs.mirror.NotationReading.{read_tagged};
-ghost use Rattle.cbor_notation.specs.mirror.NotationReading.{read_members, notation_of, read_pair};
+ghost use Rattle.cbor_notation.specs.mirror.NotationReading.{members_from, notation_of, read_pair};
+ghost use Rattle.cbor_notation.specs.mirror.NotationReading.{read_members, skip_blank};
 
 use crate::syntax::DataItem;
 use cbor_grammar::level::DEEPEST;
 use cbor_grammar::{Error, IntegerWidth, Result, Tag};
 use cbor_notation::cursor::Cursor;
-use cbor_notation::number::{read_negative_number, read_unsigned_number};
 use cbor_notation::start::Start;
 pub use fault::diag_fault;
 use std::alloc::Global;
+use stop::{
+    expect_after_item, negative_number, stop_after_item, stop_in_list, take_comma, unsigned_number,
+    word,
+};
 use strings::{read_byte_item, read_chunks, read_text_item};
-use word::read_word;
 
 /// The item at the front, which is at `level`, from 1 to 129, with the blanks around it. No item is
 /// allowed at level 129.
@@ -50,8 +58,11 @@ fn read_item(alloc: Global, text: &mut Cursor<'_>, level: u8) -> Result<DataItem
         (read_item (levels_left level) text.old) }
     ensures shorter { IfOk result (λ _. length text.new ≤ length text.old) }
     ensures well { IfOk result (λ x. WellFormed level (view x)) }
+    ensures stuck { Stuck result text.new
+        (NeverBegins (read_item (levels_left level)) text.old) }
 {
     if level > DEEPEST {
+        stop_after_item(text);
         return Err(Error::TooDeep);
     }
     text.skip_blank();
@@ -71,12 +82,14 @@ fn read_core(alloc: Global, text: &mut Cursor<'_>, inner: u8) -> Result<DataItem
         (read_core (read_item (levels_left inner)) text.old) }
     ensures shorter { IfOk result (λ _. length text.new ≤ length text.old) }
     ensures well { IfOk result (λ x. WellFormed (inner - 1) (view x)) }
+    ensures stuck { Stuck result text.new ((ends_blank text.old ≡ true)
+        × NeverReads (read_core (read_item (levels_left inner))) text.old) }
 {
     match text.start() {
         Start::Digit => integer_or_tag(alloc, text, inner),
         Start::Minus => {
             text.skip_byte();
-            let (value, bitwidth) = read_negative_number(text)?;
+            let (value, bitwidth) = negative_number(text)?;
             Ok(DataItem::Negative { value, bitwidth })
         }
         Start::Bracket => {
@@ -99,7 +112,7 @@ fn read_core(alloc: Global, text: &mut Cursor<'_>, inner: u8) -> Result<DataItem
             read_byte_item(alloc, text, inner)
         }
         Start::Quote => read_text_item(alloc, text, inner),
-        Start::Other => read_word(text),
+        Start::Other => word(text),
     }
 }
 
@@ -112,8 +125,10 @@ fn integer_or_tag(alloc: Global, text: &mut Cursor<'_>, inner: u8) -> Result<Dat
         (read_integer (read_item (levels_left inner)) text.old) }
     ensures shorter { IfOk result (λ _. length text.new ≤ length text.old) }
     ensures well { IfOk result (λ x. WellFormed (inner - 1) (view x)) }
+    ensures stuck { Stuck result text.new
+        (NeverReads (read_integer (read_item (levels_left inner))) text.old) }
 {
-    let (value, bitwidth) = read_unsigned_number(text)?;
+    let (value, bitwidth) = unsigned_number(text)?;
     if text.take_byte(b'(') {
         read_tagged(alloc, (value, bitwidth), text, inner)
     } else {
@@ -138,9 +153,11 @@ fn read_tagged(
         (read_tagged (read_item (levels_left inner)) number.0 number.1 text.old) }
     ensures shorter { IfOk result (λ _. length text.new ≤ length text.old) }
     ensures well { IfOk result (λ x. WellFormed (inner - 1) (view x)) }
+    ensures stuck { Stuck result text.new (NeverReads
+        (read_tagged (read_item (levels_left inner)) number.0 number.1) text.old) }
 {
     let item = read_item(alloc, text, inner)?;
-    text.expect_byte(b')')?;
+    expect_after_item(text, b')')?;
     let (tag, value) = (Tag(number.0), Box::new(alloc, item)?);
     Ok(DataItem::Tag {
         tag,
@@ -149,8 +166,7 @@ fn read_tagged(
     })
 }
 
-/// The items of a list after its opening byte, up to its closing byte. Memory is reserved for two
-/// at first, since many lists are no longer.
+/// The items of a list after its opening byte, up to its closing byte.
 #[cycle(diag)]
 fn read_items(alloc: Global, close: u8, text: &mut Cursor<'_>, level: u8) -> Result<Vec<DataItem>>
     requires { level ≤ 129 }
@@ -158,15 +174,40 @@ fn read_items(alloc: Global, close: u8, text: &mut Cursor<'_>, level: u8) -> Res
         (read_members (read_item (levels_left level)) close text.old) }
     ensures shorter { IfOk result (λ _. length text.new ≤ length text.old) }
     ensures well { IfOk result (λ x. WellFormedItems level (items_view x.items)) }
+    ensures stuck { Stuck result text.new
+        (NeverReads (read_members (read_item (levels_left level)) close) text.old) }
 {
     text.skip_blank();
     if text.take_end(close) {
         return Ok(Vec::new(alloc));
     }
+    let first = text.rest();
+    match some_items(alloc, close, text, level) {
+        Ok(items) => Ok(items),
+        Err(error) => {
+            stop_in_list(first, close, text);
+            Err(error)
+        }
+    }
+}
+
+/// The items of a list from the first one on, up to its closing byte. Memory is reserved for two
+/// at first, since many lists are no longer.
+#[cycle(diag)]
+#[inline(always)]
+fn some_items(alloc: Global, close: u8, text: &mut Cursor<'_>, level: u8) -> Result<Vec<DataItem>>
+    requires { level ≤ 129 }
+    ensures gives { Gives (λ x. (map view x.items, text.new)) result
+        (members_from (read_item (levels_left level)) close (suc (length text.old)) text.old) }
+    ensures shorter { IfOk result (λ _. length text.new ≤ length text.old) }
+    ensures well { IfOk result (λ x. WellFormedItems level (items_view x.items)) }
+    ensures stuck { Stuck result text.new
+        (NeverListed (read_item (levels_left level)) close text.old) }
+{
     let mut items = Vec::with_capacity(alloc, 2)?;
     'items: loop {
         let item = read_item(alloc, text, level)?;
-        let more = text.take_comma(close)?;
+        let more = take_comma(text, close)?;
         items.push(item)?;
         if !more {
             return Ok(items);
@@ -174,8 +215,7 @@ fn read_items(alloc: Global, close: u8, text: &mut Cursor<'_>, level: u8) -> Res
     }
 }
 
-/// The pairs of a map after its opening byte, up to its closing byte. Memory is reserved for one at
-/// first.
+/// The pairs of a map after its opening byte, up to its closing byte.
 #[cycle(diag)]
 fn read_pairs(alloc: Global, text: &mut Cursor<'_>, level: u8) -> Result<Vec<(DataItem, DataItem)>>
     requires { level ≤ 129 }
@@ -183,17 +223,43 @@ fn read_pairs(alloc: Global, text: &mut Cursor<'_>, level: u8) -> Result<Vec<(Da
         (read_members (read_pair (read_item (levels_left level))) 125 text.old) }
     ensures shorter { IfOk result (λ _. length text.new ≤ length text.old) }
     ensures well { IfOk result (λ x. WellFormedPairs level (pairs_view x.items)) }
+    ensures stuck { Stuck result text.new
+        (NeverReads (read_members (read_pair (read_item (levels_left level))) 125) text.old) }
 {
     text.skip_blank();
     if text.take_end(b'}') {
         return Ok(Vec::new(alloc));
     }
+    let first = text.rest();
+    match some_pairs(alloc, text, level) {
+        Ok(pairs) => Ok(pairs),
+        Err(error) => {
+            stop_in_list(first, b'}', text);
+            Err(error)
+        }
+    }
+}
+
+/// The pairs of a map from the first one on, up to its closing byte. Memory is reserved for one at
+/// first.
+#[cycle(diag)]
+#[inline(always)]
+fn some_pairs(alloc: Global, text: &mut Cursor<'_>, level: u8) -> Result<Vec<(DataItem, DataItem)>>
+    requires { level ≤ 129 }
+    ensures gives { Gives (λ x. (map (λ p. (view p.0, view p.1)) x.items, text.new)) result
+        (members_from (read_pair (read_item (levels_left level))) 125 (suc (length text.old))
+        text.old) }
+    ensures shorter { IfOk result (λ _. length text.new ≤ length text.old) }
+    ensures well { IfOk result (λ x. WellFormedPairs level (pairs_view x.items)) }
+    ensures stuck { Stuck result text.new
+        (NeverListed (read_pair (read_item (levels_left level))) 125 text.old) }
+{
     let mut pairs = Vec::with_capacity(alloc, 1)?;
     'pairs: loop {
         let key = read_item(alloc, text, level)?;
-        text.expect_byte(b':')?;
+        expect_after_item(text, b':')?;
         let value = read_item(alloc, text, level)?;
-        let more = text.take_comma(b'}')?;
+        let more = take_comma(text, b'}')?;
         pairs.push((key, value))?;
         if !more {
             return Ok(pairs);
@@ -202,13 +268,14 @@ fn read_pairs(alloc: Global, text: &mut Cursor<'_>, level: u8) -> Result<Vec<(Da
 }
 
 /// The item that a text is, all of it.
-fn whole_text(alloc: Global, text: &str) -> Result<DataItem>
-    ensures gives { Gives view result (notation_of deepest text.now) }
+fn whole_text(alloc: Global, text: &mut Cursor<'_>) -> Result<DataItem>
+    ensures gives { Gives view result (notation_of deepest text.old) }
     ensures well_formed { IfOk result (λ i. IsWellFormed (view i)) }
+    ensures stuck { Stuck result text.new (IsDeadEnd text.old) }
 {
-    let mut rest = Cursor::new(text.as_bytes());
-    let item = read_item(alloc, &mut rest, 1)?;
-    if !rest.is_empty() {
+    let item = read_item(alloc, text, 1)?;
+    if !text.is_empty() {
+        stop_after_item(text);
         return Err(Error::Notation);
     }
     Ok(item)
@@ -252,5 +319,5 @@ pub fn parse_diag(alloc: Global, text: &str) -> Result<DataItem>
     // The item has an encoding.
     ensures well_formed { IfOk result (λ i. IsWellFormed (view i)) }
 {
-    whole_text(alloc, text)
+    whole_text(alloc, &mut Cursor::new(text.as_bytes()))
 }

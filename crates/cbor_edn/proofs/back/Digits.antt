@@ -1,8 +1,8 @@
 -- Digits as they are written, perhaps after a minus and before a width: the number that they are, which is no float.
 use Rattle.std.proofs.Common.{◌≡◌, ℕ, ◌+◌, ◌-◌, ◌^◌, ◌<◌, ◌≤◌, ◌==◌, ◌&&◌, ◌||◌, not, Bool, true, false, List, []}
 use Rattle.std.proofs.Common.{◌∷◌, ◌++◌, length, position, Some, refl, sym, ap, ap₂, subst, ◌∙◌, arith, append-nil}
-use Rattle.std.proofs.Common.{append_assoc, nat_lt, is_some, add-one, None}
-use Rattle.std.specs.List.{AllByRecursion}
+use Rattle.std.proofs.Common.{append_assoc, nat_lt, nat_eq, is_some, add-one, None, codes, if◌then◌else◌}
+use Rattle.std.specs.List.{AllByRecursion, list_all}
 use Rattle.std.specs.Fmt.{decimal, sign_text}
 use Rattle.std.specs.Char.{digit_value}
 use Rattle.std.specs.Str.Parse.{AllDigits, IsNumeral}
@@ -11,7 +11,10 @@ use Rattle.std.proofs.lemmas.Bool.{cond-true, cond-false, agree_below, agree_bel
 use Rattle.std.proofs.lemmas.Float.Parse.{scan_numeral-text_of}
 use Rattle.std.proofs.lemmas.Fmt.{decimal_is_IsNumeral_wide}
 use Rattle.std.proofs.lemmas.List.{take_at, drop_at}
+use Rattle.std.proofs.lemmas.Str.{digit_value_digit}
 use Rattle.std.proofs.lemmas.Str.Parse.{digit_from_value}
+use Rattle.std.proofs.lemmas.Bool.{and_parts, eqb-true}
+use Rattle.std.proofs.lemmas.Bool.Decides.{nat_tests}
 use Rattle.cbor_tokens.specs.TokenReading.{number_of}
 use Rattle.cbor_tokens.proofs.tokens.Numbers.{number_of-append}
 use Rattle.cbor_tokens.proofs.tokens.WrittenNumbers.{decimal_IsNumber}
@@ -22,7 +25,8 @@ use Rattle.cbor_grammar.specs.declared.width.IntegerWidth.TheVariants.{Unknown, 
 use Rattle.cbor_grammar.specs.declared.width.IntegerWidth.TheVariants.{SixtyFour}
 use Rattle.cbor_grammar.specs.Item.{integer}
 use Rattle.cbor_grammar.specs.NotationText.{number, indicator}
-use Rattle.cbor_edn.specs.Reading.{◌>>=◌}
+use Rattle.cbor_edn.specs.HexFloat.{has_p, is_hex}
+use Rattle.cbor_edn.specs.Reading.{◌>>=◌, after_byte, after_bytes}
 use Rattle.cbor_edn.specs.Float.{special, cut_at, is_decimal, is_float}
 use Rattle.cbor_edn.specs.Number.{fits, parted, whole, number_from, magnitude, fitting, one_less, unsigned, negated}
 use Rattle.cbor_edn.specs.Number.{integer_of, tag_number}
@@ -206,6 +210,27 @@ no_decimal signed ds h =
     && (p.point || nat_lt 0 (length p.exponent))) parts
     ∙ last_false (length (ds ++ []) == length (decimals.unsigned text)) (has_digits (digit_parts ds))
 
+-- the second byte is no `x`
+no_prefix : (ds : List ℕ) → AllDigits 10 ds → has_p (after_bytes (codes "0x") ds) ≡ false
+no_prefix [] h = refl
+no_prefix (d ∷ []) h = either (nat_eq 48 d)
+  where
+    either : (first : Bool) → has_p (if first && false then Some [] else None) ≡ false
+    either true = refl
+    either false = refl
+no_prefix (d ∷ e ∷ ds) h =
+    either (nat_eq 48 d) (nat_eq 120 e) (not-true _ (digit_passes (λ e. not (nat_eq 120 e)) e refl h.1.0))
+  where
+    either : (first second : Bool) → second ≡ false
+        → has_p (if first && (second && true) then Some ds else None) ≡ false
+    either true true none = absurd cc
+    either true false none = refl
+    either false second none = refl
+
+no_hex : (signed : Bool) (ds : List ℕ) → IsNumeral 10 ds → is_hex (sign_text signed ++ ds) ≡ false
+unfolding is_hex
+no_hex signed ds h = ap (λ t. has_p (after_bytes (codes "0x") t)) (unsigned_is signed ds h) ∙ no_prefix ds h.1
+
 pub no_float : (signed : Bool) (ds : List ℕ) (w : IntegerWidth) → IsNumeral 10 ds
     → is_float (sign_text signed ++ (ds ++ indicator w)) ≡ false
 no_float signed ds w h =
@@ -214,5 +239,40 @@ no_float signed ds w h =
     let digits = cut_front (λ b. (b == 95) || (b == 102)) front refl
     (none_of_signed (λ b. (b == 95) || (b == 102)) signed ds refl refl h.1) w in
     ap is_float (sym (append_assoc (sign_text signed) ds (indicator w)))
-    ∙ ap₂ (λ name digits. is_some (special name) || is_decimal digits) name digits
-    ∙ ap₂ (λ a b. a || b) (no_special signed ds h) (no_decimal signed ds h)
+    ∙ ap₂ (λ name digits. is_some (special name) || is_decimal digits || is_hex name) name digits
+    ∙ rw (no_special signed ds h, no_decimal signed ds h) (no_hex signed ds h)
+
+-- ---- digits alone
+
+digit_below : (d : ℕ) → is_digit d ≡ true → digit_value d < 10
+digit_below d is =
+    let low : 48 ≤ d = grind (arith, nat_tests, is) in
+    let high : d ≤ 57 = grind (arith, nat_tests, is) in
+    let same = digit_value_digit d (low, high) in
+    omega (arith, same)
+
+all_digits : (ds : List ℕ) → list_all is_digit ds ≡ true → AllDigits 10 ds
+all_digits [] all = tt
+all_digits (d ∷ ds) all =
+    let parts = and_parts (is_digit d) (list_all is_digit ds) all in
+    (digit_below d parts.0, all_digits ds parts.1)
+
+pub digits_alone : (ds : List ℕ) → 0 < length ds → list_all is_digit ds ≡ true → IsNumeral 10 ds
+digits_alone ds some all = (some, all_digits ds all)
+
+-- digits are no float, with a minus before them or without
+pub integer_no_float : (signed : Bool) (ds : List ℕ) → IsNumeral 10 ds → is_float (sign_text signed ++ ds) ≡ false
+integer_no_float signed ds h =
+    ap (λ rest. is_float (sign_text signed ++ rest)) (sym (append-nil ds)) ∙ no_float signed ds Unknown h
+
+minus_first : (b : ℕ) (text digits : List ℕ) (minus : Bool) → (b == 45) ≡ minus
+    → Some digits ≡ (if minus then Some text else None) → 45 ∷ digits ≡ b ∷ text
+minus_first b text digits true is found = let same = eqb-true b 45 is in cc (same, found)
+minus_first b text digits false is found = cc found
+
+pub minus_no_float : (word digits : List ℕ) → Some digits ≡ after_byte 45 word → IsNumeral 10 digits
+    → is_float word ≡ false
+minus_no_float [] digits found h = cc found
+minus_no_float (b ∷ text) digits found h =
+    subst (λ word. is_float word ≡ false) (minus_first b text digits (b == 45) refl found)
+    (integer_no_float true digits h)

@@ -237,7 +237,7 @@ module _ (left : ℕ) (m : Option FloatWidth) (text : List ℕ) (decimal : is_de
   decimal_item : (a : Atom) → float_in (marked_width m) text ≡ Some a
       → number_item left (text ++ mark_of m) ≡ Some (atom a)
   decimal_item a found =
-      rw (decimal_none, decimal_is) (ap (λ r. r >>= λ a. Some (atom a)) (decimal_found a found))
+      rw (decimal_none, decimal_is, decimal_found a found) refl
 
   decimal_whole : run_len true true (text ++ mark_of m) ≡ length (text ++ mark_of m)
   decimal_whole =

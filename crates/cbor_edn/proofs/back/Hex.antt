@@ -62,7 +62,7 @@ unquoted : (digits : List ℕ) → AllByRecursion IsDigit digits → list_any (�
 unquoted [] h = refl
 unquoted (d ∷ digits) h = rw h.0.quote (unquoted digits h.1)
 
-all_found : (digits : List ℕ) → AllByRecursion IsDigit digits → digits_of true digits ≡ Some digits
+pub all_found : (digits : List ℕ) → AllByRecursion IsDigit digits → digits_of true digits ≡ Some digits
 all_found digits h =
     ap (λ text. digits_of true text) (sym (append-nil digits))
     ∙ ap (λ r. r >>= λ x. Some x.0) (taken_all (digits_taken digits h) [] [] []

@@ -1,5 +1,5 @@
 -- The notation that `cbor_view` writes, as a dialect.
-use Rattle.std.specs.Prelude.{◌≡◌, ◌+◌, ◌++◌, List, [], ℕ, codes, None}
+use Rattle.std.specs.Prelude.{◌≡◌, ◌+◌, ◌++◌, List, [], ℕ, codes, None, false}
 use Rattle.cbor_grammar.specs.declared.layout.Content.TheVariants as shown
 use Rattle.cbor_grammar.specs.declared.layout.ContainerStyle.{ContainerStyle}
 use Rattle.cbor_grammar.specs.Item.{Atom, integer, negative, float, simple}
@@ -37,6 +37,7 @@ diag_leaves = record {
   level = λ p. p.level;
   layout = λ p. p.layout;
   content = λ p b. p.content;
+  joins = λ p kind. false;
   inside = λ c layout p. record {
     level = p.level + 1;
     layout = layout;

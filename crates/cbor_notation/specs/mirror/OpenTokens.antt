@@ -1,10 +1,9 @@
--- Tokens that are not read, but with more text behind them, as `parse/notation/fault/tokens.rt` of `cbor_diag` finds
+-- Tokens that are not read, but with more text behind them, as `parse/notation/tokens.rt` of `cbor_diag` finds
 -- them. No public clause names these.
 use Rattle.std.specs.Prelude.{ℕ, zero, suc, ◌^◌, Bool, true, false, ◌==◌, ◌&&◌, ◌||◌, nat_lt, List, [], ◌∷◌, Option}
-use Rattle.std.specs.Prelude.{Some, None, ◌≡◌, ◌⊎◌, ◌++◌, length}
+use Rattle.std.specs.Prelude.{Some, None, length}
 use Rattle.std.specs.List.{list_all}
 use Rattle.std.specs.Char.{digit_value}
-use Rattle.cbor_notation.specs.mirror.NotationReading.{after_word}
 
 abbrev pub is_end : List ℕ → Bool
 is_end [] = true
@@ -45,7 +44,3 @@ is_small value digits rest = nat_lt value 256 && list_all (λ c. nat_lt (digit_v
 abbrev pub is_float : List ℕ → Bool
 is_float digits = ((length digits == 4) || (length digits == 8) || (length digits == 16))
     && list_all (λ c. nat_lt (digit_value c) 16) digits
-
--- The text begins with the word, or more text makes it the word.
-abbrev pub Near : List ℕ → List ℕ → Type 0
-Near word text = ((rest : List ℕ) × (after_word word text ≡ Some rest)) ⊎ ((more : List ℕ) × (text ++ more ≡ word))

@@ -13,7 +13,12 @@ ghost use Rattle.cbor_grammar.specs.Written.{encoded_items};
 ghost use Rattle.cbor_grammar.specs.Item.{Item, atom, chunked_string};
 ghost use Rattle.cbor_grammar.specs.Reading.{Gives, Read};
 ghost use Rattle.cbor_tokens.specs.HexDigits.{base16_of};
+ghost use Rattle.cbor_diag.specs.mirror.DeadEnds.{NeverBegins, NeverListed, NeverPieces};
+ghost use Rattle.cbor_diag.specs.mirror.DeadEnds.{NeverReads, Stuck, ends_blank};
+ghost use Rattle.cbor_grammar.specs.StringKind.{no_chunks};
+ghost use Rattle.cbor_grammar.specs.Strings.{text_chunk};
 ghost use Rattle.cbor_notation.specs.mirror.NotationReading.{read_string_item, checked};
+ghost use Rattle.cbor_notation.specs.mirror.NotationReading.{after_word, members_from, skip_blank};
 ghost use Rattle.cbor_notation.specs.mirror.NotationReading.{read_chunk, read_chunks};
 ghost use Rattle.cbor_notation.specs.mirror.NotationReading.{read_embedded};
 ghost use Rattle.cbor_notation.specs.mirror.NotationReading.{ends_string, read_item, read_members};
@@ -22,11 +27,15 @@ ghost use Rattle.cbor_notation.specs.mirror.NotationReading.{read_string, read_c
 ghost use Rattle.cbor_diag.specs.mirror.ChunkList.{chunk_list, list_kind};
 
 use super::read_items;
+use super::stop::{
+    expect_here, letter_b, letter_h, quoted, stop_after_blank, stop_after_string, stop_in_list,
+    stop_unless_apart, take_comma,
+};
 use crate::encode::push_items;
 use crate::syntax::DataItem;
 use cbor_grammar::strings::{DefiniteString, StringKind};
 use cbor_grammar::{ByteString, Error, IntegerWidth, TextString};
-use cbor_notation::content::{b_notation, base16, h_notation, read_plain, read_quoted};
+use cbor_notation::content::{base16, read_plain};
 use cbor_notation::cursor::Cursor;
 use cbor_notation::scan::{after_byte, after_word};
 use cbor_notation::start::Start;
@@ -119,34 +128,34 @@ fn read_embedded(alloc: Global, text: &mut Cursor<'_>, inner: u8) -> cbor_gramma
     ensures gives { Gives (λ x. (x.items, text.new)) result
         (read_embedded (read_item (levels_left inner)) text.old) }
     ensures shorter { IfOk result (λ _. length text.new < length text.old) }
+    ensures stuck { Stuck result text.new
+        (NeverReads (read_embedded (read_item (levels_left inner))) text.old) }
 {
-    text.expect_byte(b'<')?;
+    expect_here(text, b'<')?;
     let items = read_items(alloc, b'>', text, inner)?;
-    text.expect_byte(b'>')?;
+    expect_here(text, b'>')?;
     Ok(encoded(alloc, &items)?)
 }
 
 /// A piece of a string: a text, or a notation of bytes, whose items are at `inner`.
 #[cycle(diag)]
 #[tactic(auto, using(crate::proofs::notation::Cores::piece_by))]
-pub(super) fn read_piece(
-    alloc: Global,
-    text: &mut Cursor<'_>,
-    inner: u8,
-) -> cbor_grammar::Result<Vec<u8>>
+fn read_piece(alloc: Global, text: &mut Cursor<'_>, inner: u8) -> cbor_grammar::Result<Vec<u8>>
     requires { inner ≤ 129 }
     ensures gives { Gives (λ x. (x.items, text.new)) result
         (read_piece (read_item (levels_left inner)) text.old) }
     ensures shorter { IfOk result (λ _. length text.new < length text.old) }
+    ensures stuck { Stuck result text.new
+        (NeverReads (read_piece (read_item (levels_left inner))) text.old) }
 {
     let start = text.start();
     text.skip_byte();
     match start {
-        Start::Quote => read_quoted(alloc, text, b'"'),
-        Start::Apostrophe => read_quoted(alloc, text, b'\''),
+        Start::Quote => quoted(alloc, text, b'"'),
+        Start::Apostrophe => quoted(alloc, text, b'\''),
         Start::Angle => read_embedded(alloc, text, inner),
-        Start::LetterB => b_notation(alloc, text),
-        Start::LetterH => h_notation(alloc, text),
+        Start::LetterB => letter_b(alloc, text),
+        Start::LetterH => letter_h(alloc, text),
         _ => Err(Error::Notation),
     }
 }
@@ -164,6 +173,8 @@ fn read_pieces(
         (read_pieces (read_item (levels_left inner)) kind
         (suc (length text.old)) text.old) }
     ensures shorter { IfOk result (λ _. length text.new ≤ length text.old) }
+    ensures stuck { Stuck result text.new
+        (NeverPieces (read_item (levels_left inner)) kind text.old) }
 {
     let mut content = Vec::new(alloc);
     'pieces: while text.start().begins_piece(kind) {
@@ -177,7 +188,7 @@ fn read_pieces(
 /// The content of a string of this kind and of definite length, with the blank after it.
 #[cycle(diag)]
 #[tactic(auto, using(crate::proofs::notation::Cores::content_by))]
-pub(super) fn read_content(
+fn read_content(
     alloc: Global,
     kind: StringKind,
     text: &mut Cursor<'_>,
@@ -187,11 +198,64 @@ pub(super) fn read_content(
     ensures gives { Gives (λ x. (x.items, text.new)) result
         (read_content (read_item (levels_left inner)) kind text.old) }
     ensures shorter { IfOk result (λ _. length text.new ≤ length text.old) }
+    ensures stuck { Stuck result text.new ((ends_blank text.old ≡ true)
+        × NeverReads (read_content (read_item (levels_left inner)) kind) text.old) }
 {
     if !text.start().begins_string(kind) {
+        stop_after_blank(text);
         return Err(Error::Notation);
     }
     read_pieces(alloc, kind, text, inner)
+}
+
+/// The content of a string item, which is not an indefinite one of no chunks.
+#[cycle(diag)]
+#[inline(always)]
+fn read_item_content(
+    alloc: Global,
+    kind: StringKind,
+    text: &mut Cursor<'_>,
+    inner: u8,
+) -> cbor_grammar::Result<Vec<u8>>
+    requires { inner ≤ 129 }
+    ensures gives { Gives (λ x. (x.items, text.new)) result
+        (read_content (read_item (levels_left inner)) kind text.old) }
+    ensures shorter { IfOk result (λ _. length text.new ≤ length text.old) }
+    ensures stuck { Stuck result text.new
+        (((more : List ℕ) → after_word (no_chunks kind) (text.old ++ more) ≡ None)
+        × NeverReads (read_content (read_item (levels_left inner)) kind) text.old) }
+{
+    let front = text.rest();
+    match read_content(alloc, kind, text, inner) {
+        Ok(content) => Ok(content),
+        Err(error) => {
+            stop_unless_apart(kind, front, text);
+            Err(error)
+        }
+    }
+}
+
+/// The text string of this content, which was read from `front`, and the text after it.
+#[inline(always)]
+fn checked_text<'a>(
+    content: Vec<u8>,
+    front: &'a [u8],
+    text: &mut Cursor<'a>,
+) -> cbor_grammar::Result<TextString>
+    ensures gives { Gives text_chunk result (checked StringKind.Text content.items) }
+    ensures well { IfOk result (λ x. IsChunk StringKind.Text (text_chunk x)) }
+    ensures rest { IfOk result (λ _. text.new ≡ text.old) }
+    ensures stuck { Stuck result text.new ((ends_blank (skip_blank text.old) ≡ true)
+        × ((more : List ℕ) → after_word (no_chunks StringKind.Text) (front.now ++ more) ≡ None)) }
+{
+    match unstated(content) {
+        Ok(string) => Ok(string),
+        Err(error) => {
+            stop_after_string(text);
+            stop_unless_apart(StringKind::Text, front, text);
+            Err(error)
+        }
+    }
 }
 
 /// Whether a string ends before this text: a list goes on or closes here. Neither a blank nor a
@@ -235,6 +299,8 @@ pub(super) fn read_byte_item(
         (read_string_item (read_item (levels_left inner)) StringKind.Bytes text.old) }
     ensures shorter { IfOk result (λ _. length text.new ≤ length text.old) }
     ensures well { IfOk result (λ x. WellFormed (inner - 1) (view x)) }
+    ensures stuck { Stuck result text.new (NeverReads
+        (read_string_item (read_item (levels_left inner)) StringKind.Bytes) text.old) }
 {
     // The digits of most byte strings are decoded in place.
     if let Some((digits, rest)) = read_plain_hex(text.rest()) {
@@ -246,7 +312,7 @@ pub(super) fn read_byte_item(
     if text.take_word(b"''_") {
         return Ok(DataItem::IndefiniteByteString(Vec::new(alloc)));
     }
-    let content = read_content(alloc, StringKind::Bytes, text, inner)?;
+    let content = read_item_content(alloc, StringKind::Bytes, text, inner)?;
     Ok(DataItem::ByteString(unstated(content)?))
 }
 
@@ -281,18 +347,22 @@ pub(super) fn read_text_item(
         (read_string_item (read_item (levels_left inner)) StringKind.Text text.old) }
     ensures shorter { IfOk result (λ _. length text.new ≤ length text.old) }
     ensures well { IfOk result (λ x. WellFormed (inner - 1) (view x)) }
+    ensures stuck { Stuck result text.new (NeverReads
+        (read_string_item (read_item (levels_left inner)) StringKind.Text) text.old) }
 {
     // The content of most texts is copied from where it is.
     if let Some((content, rest)) = read_plain_text(text.rest()) {
-        let content = content.to_vec(alloc)?;
-        *text = Cursor::new(rest);
-        return Ok(DataItem::TextString(unstated(content)?));
+        if let Ok(string) = unstated(content.to_vec(alloc)?) {
+            *text = Cursor::new(rest);
+            return Ok(DataItem::TextString(string));
+        }
     }
+    let front = text.rest();
     if text.take_word(b"\"\"_") {
         return Ok(DataItem::IndefiniteTextString(Vec::new(alloc)));
     }
-    let content = read_content(alloc, StringKind::Text, text, inner)?;
-    Ok(DataItem::TextString(unstated(content)?))
+    let content = read_item_content(alloc, StringKind::Text, text, inner)?;
+    Ok(DataItem::TextString(checked_text(content, front, text)?))
 }
 
 /// The chunks of an indefinite string of this kind after its opening, up to its closing byte.
@@ -310,17 +380,54 @@ fn read_chunk_list(
     ensures kind { IfOk result (λ x. list_kind x ≡ kind) }
     ensures well { IfOk result (λ x.
         AllByRecursion (IsChunk kind) (chunk_list x)) }
+    ensures stuck { Stuck result text.new (NeverBegins
+        (read_members (read_chunk (read_item (levels_left inner)) kind) 41) text.old) }
 {
-    let mut chunks = Chunks::new(alloc, kind);
     text.skip_blank();
     if text.take_end(b')') {
-        return Ok(chunks);
+        return Ok(Chunks::new(alloc, kind));
     }
+    let first = text.rest();
+    match some_chunks(alloc, kind, text, inner) {
+        Ok(chunks) => Ok(chunks),
+        Err(error) => {
+            stop_in_list(first, b')', text);
+            Err(error)
+        }
+    }
+}
+
+/// The chunks of an indefinite string from the first one on, up to its closing byte.
+#[cycle(diag)]
+fn some_chunks(
+    alloc: Global,
+    kind: StringKind,
+    text: &mut Cursor<'_>,
+    inner: u8,
+) -> cbor_grammar::Result<Chunks>
+    requires { inner ≤ 129 }
+    ensures gives { Gives (λ x. (chunk_list x, text.new)) result
+        (members_from (read_chunk (read_item (levels_left inner)) kind) 41 (suc (length text.old))
+        text.old) }
+    ensures shorter { IfOk result (λ _. length text.new ≤ length text.old) }
+    ensures kind { IfOk result (λ x. list_kind x ≡ kind) }
+    ensures well { IfOk result (λ x.
+        AllByRecursion (IsChunk kind) (chunk_list x)) }
+    ensures stuck { Stuck result text.new
+        (NeverListed (read_chunk (read_item (levels_left inner)) kind) 41 text.old) }
+{
+    let mut chunks = Chunks::new(alloc, kind);
     'chunks: loop {
         text.skip_blank();
         let content = read_content(alloc, kind, text, inner)?;
-        chunks.push(content)?;
-        let more = text.take_comma(b')')?;
+        match chunks.push(content) {
+            Ok(()) => {}
+            Err(error) => {
+                stop_after_string(text);
+                return Err(error);
+            }
+        }
+        let more = take_comma(text, b')')?;
         if !more {
             return Ok(chunks);
         }
@@ -341,8 +448,10 @@ pub(super) fn read_chunks(
         (read_chunks (read_item (levels_left inner)) text.old) }
     ensures shorter { IfOk result (λ _. length text.new ≤ length text.old) }
     ensures well { IfOk result (λ x. WellFormed (inner - 1) (view x)) }
+    ensures stuck { Stuck result text.new
+        (NeverReads (read_chunks (read_item (levels_left inner))) text.old) }
 {
-    text.expect_byte(b'_')?;
+    expect_here(text, b'_')?;
     text.skip_blank();
     let kind = text.start().kind();
     let chunks = read_chunk_list(alloc, kind, text, inner)?;

@@ -1,0 +1,148 @@
+"""What `checks/cborcat` checks of places: cuts, faults, the lines of -t paths, and --at."""
+import random
+
+import places
+from bytes_form import to_bytes
+from cases import any_item
+
+
+class Program:
+    """The program, and what counts a check."""
+
+    def __init__(self, run, same, examples):
+        self.run, self.same, self.examples = run, same, examples
+
+    def data(self, name):
+        return self.run("-t", "bytes", f"{self.examples}/{name}")[0]
+
+    def as_bytes(self, text):
+        return self.run("-f", "diag", "-t", "bytes", data=text.encode())[0]
+
+
+def check(run, same, examples):
+    """All of it: run runs the program, and same compares."""
+    program = Program(run, same, examples)
+    cuts_and_faults(program)
+    leaves(program)
+    any_leaves(program)
+    odd_paths(program)
+    bytes_at(program)
+    partial(program)
+
+
+def cuts_and_faults(program):
+    """Bytes that are cut at each place, and a wrong byte at each head, against a decoder of places."""
+    run, same = program.run, program.same
+    for name in ("cwt-claims.hex", "cose-sign1.hex", "log.cbor"):
+        data = program.data(name)
+        for end in range(len(data)):
+            said = places.said(data[:end])
+            wanted = (b"", f"cborcat: standard input: {said}", 1) if said else (b"", "", 0)
+            same(f"{name} cut at {end}", run("-f", "bytes", "-c", data=data[:end]), wanted)
+        for at in places.heads(data):
+            wrong = data[:at] + b"\x1f" + data[at + 1:]
+            error, status = run("-f", "bytes", "-c", data=wrong)[1:]
+            lines = error.splitlines(keepends=True)
+            said = f"cborcat: standard input: {places.said(wrong)}"
+            same(f"{name} wrong at {at}", ("".join(lines[:-2]), status), (said, 1))
+
+
+def leaves(program):
+    """The lines of -t paths: their places, their items, and where their paths lead; and --at for each."""
+    run, same = program.run, program.same
+    for name in ("cwt-claims.hex", "cose-sign1.hex", "cwt-signed.hex", "webauthn.hex", "uri.hex"):
+        data = program.data(name)
+        lines = [it.split("  ", 2) for it in run("-t", "paths", f"{program.examples}/{name}")[0].decode().splitlines()]
+        decoder = places.Decoder(data)
+        decoder.items()
+        found = [(int(at, 16), path, program.as_bytes(text)) for at, path, text in lines]
+        same(f"{name}: lines", found, decoder.leaves)
+        for at, path, text in lines:
+            part = run("-f", "bytes", "-t", "bytes", "-p", path, data=data)[0]
+            same(f"{name}: {path}", part, program.as_bytes(text))
+            shown = run("-f", "bytes", f"--at={int(at, 16)}", data=data)[0].decode()
+            same(f"{name}: --at={at}", shown.splitlines()[0], f"path: {path}")
+
+
+def any_leaves(program):
+    """Of items made by a seed: the bytes at the place of each line are its item."""
+    chance = random.Random(2)
+    for _ in range(100):
+        data = b"".join(to_bytes(any_item(chance)) for _ in range(chance.randrange(1, 4)))
+        for line in program.run("-f", "bytes", "-t", "paths", data=data)[0].decode().splitlines():
+            at, last = int(line.split("  ")[0], 16), line.rsplit("  ", 1)[1]
+            item = program.as_bytes(last)
+            program.same(f"{data.hex()}: {line}", data[at:at + len(item)], item)
+
+
+ODD = r"""{"": 0, "@": 1, "a b": 2, "\\": 3, "a/b": 4, "1": 5, 1: 6, "true": 7, "a\"b": 8, {"\"/": 1}: 9, h'2f': 10,
+    "\u00e9": 11, 1.5: 12, [1, 2]: 13, "(x": 14, "a'": 15, "*": 16}"""
+
+
+def odd_paths(program):
+    """Keys that need quotes, a value in more than one item, many lines, and what has no paths."""
+    run, same = program.run, program.same
+    lines = run("-t", "paths", "-f", "diag", "-x", f"[{ODD}]")[0].decode().splitlines()
+    same("odd keys", len(lines), 17)
+    for number, line in enumerate(lines):
+        path, text = line.split("  ", 1)[1].rsplit("  ", 1)
+        same(f"the path {path}", text, str(number))
+        found = run("-f", "diag", "-t", "diag", "-p", path, "-x", f"[{ODD}]")[0]
+        # A key that is an array, a map or a tagged item is found by no path.
+        is_found = not path.startswith(("0/[", "0/{"))
+        same(f"-p {path}", found, f"{number}\n".encode() if is_found else b"")
+    same("of two items", run("-t", "paths", "-f", "hex", "-x", "01 8102"), (b"0x0  /  1\n0x2  0  2\n", "", 0))
+    many = b"\x99\xea\x60" + b"\x01" * 60000
+    same("many lines", run("-t", "paths", data=many)[0].count(b"\n"), 60000)
+    same("no -p", run("-t", "paths", "-p", "1", "-x", "[1, 2]")[::2], (b"", 2))
+    same("before a cut", run("-t", "paths", data=b"\x01\x82\x02"), (
+        b"0x0  /  1\n", "cborcat: standard input: cut short: the array at byte 1 has 2 items, 1 is there\n", 1))
+
+
+def bytes_at(program):
+    """The item that a byte of the data belongs to."""
+    def same_at(what, byte, digits, lines, said="", words=()):
+        found = program.run(f"--at={byte}", *words, data=bytes.fromhex(digits))
+        program.same(what, found, ("".join(f"{it}\n" for it in lines).encode(), said, 1 if said else 0))
+
+    item = "8201a16161420001"
+    same_at("in a string", 6, item, ["path: 1/a", "head: 42 # bytes(2)", "item: bytes 5 to 7 (0x5 to 0x7)"])
+    same_at("in a key", 3, item, ["path: 1, in a key", "head: 61 # text(1)", "item: bytes 3 to 4 (0x3 to 0x4)"])
+    same_at("in a later item", 2, "01810200", ["path: 0", "head: 02 # 2", "item: byte 2 (0x2)"])
+    same_at("after an offset", 2, "ff018102", ["path: /", "head: 81 # array(1)", "item: bytes 2 to 3 (0x2 to 0x3)"],
+            words=["--offset=1"])
+    same_at("past the end", 2, "0105", [],
+            "cborcat: standard input: byte 2: no item has this byte; 2 bytes came\n", ["-f", "bytes"])
+    same_at("before a fault", 1, "82011f", ["path: 0", "head: 01 # 1", "item: byte 1 (0x1)"],
+            "cborcat: standard input: byte 2 (0x2): no item can have this head\n"
+            "    at 1, in the array of 2 at byte 0, of which 1 is there\n    82 01 1f\n          ^^\n")
+    same_at("of a cut text", 3, "82016361", ["path: 1", "head: 63 # text(3)", "item: from byte 2 (0x2) on, not whole"],
+            "cborcat: standard input: cut short: the text at 1 (byte 2) has 3 bytes, 1 is there\n")
+    same_at("before an offset", 0, "01ff05", [],
+            "cborcat: standard input: byte 0: no item has this byte; 3 bytes came\n", ["--offset=2"])
+    for words in (["-t", "hex"], ["-p", "1"], ["-c"]):
+        program.same(f"--at {words}", program.run("--at=1", *words, data=b"\x81\xff")[2], 2)
+
+
+def partial(program):
+    """What is there of an item that is not whole."""
+    def same_partial(what, form, data, wanted):
+        out, error, status = program.run("-f", "bytes", "--partial", "-t", form, data=data)
+        program.same(what, (out.decode(), error != "", status), (wanted, True, 1))
+
+    fault = "/fault: no item can have this head/"
+    same_partial("a fault", "diag", b"\x01\xa1\x61a\x83\x01\x02\x1f\x00", f"1\n{{\"a\": [1, 2, {fault} h'1f00']}}\n")
+    same_partial("a cut", "diag", b"\x82\x01\x62a", "[1, /cut short/ h'6261']\n")
+    same_partial("between items", "diag", b"\x82\x01", "[1, /cut short/ h'']\n")
+    same_partial("in lines", "pretty", b"\x82\x01\x1f", f"[\n    1,\n    {fault} h'1f'\n]\n")
+    same_partial("a dump", "hex", b"\x82\x01\x1f\x00",
+                 "82 # array(2)\n   01 # unsigned(1)\n   # fault: no item can have this head\n   1f00\n")
+    same_partial("digits", "digits", b"\x01\x82\x01", "01\n")
+    program.same("a whole item", program.run("--partial", "-t", "diag", data=b"\x81\x01"), (b"[1]\n", "", 0))
+    for word in ("-c", "--path=1"):
+        program.same(f"--partial {word}", program.run("--partial", word, data=b"\x81\xff")[2], 2)
+    data = program.data("cwt-claims.hex")
+    for end in range(1, len(data)):
+        text = program.run("-f", "bytes", "--partial", "-t", "hex", data=data[:end])[0]
+        again = program.run("-f", "hex", "--partial", "-t", "hex", data=text)[0]
+        program.same(f"claims in part to {end}", again, text)

@@ -1,0 +1,182 @@
+//! Items of network addresses between apostrophes, and of prefixes of them.
+ghost use Rattle.std.specs.Prelude.{◌≡◌, ◌==◌, ◌+◌, ◌-◌, ◌<◌, ◌≤◌, ℕ, length, position, IfOk};
+ghost use Rattle.std.specs.Prelude.{IfErr, IfSome};
+ghost use Rattle.cbor_edn.specs.declared.error.Stop.TheVariants.{Memory};
+ghost use Rattle.cbor_diag.specs.View.{view};
+ghost use Rattle.cbor_grammar.specs.WellFormed.{deepest, levels_left, WellFormed};
+ghost use Rattle.cbor_edn.specs.Reading.{Gives};
+ghost use Rattle.cbor_edn.specs.Address.{bytes_item, address_item, pair_of, prefix_array};
+ghost use Rattle.cbor_edn.specs.Address.{prefix_of, prefix_item, ip_item, ip_tag, tagged_ip};
+ghost use Rattle.cbor_edn.specs.Items.{quoted_item};
+
+use crate::address::{address_bytes, bit_count, is_clear_after, is_ipv6, used};
+use crate::cursor::Cursor;
+use crate::date::below_tag;
+use crate::digits::find_apostrophe;
+use crate::error::{Expected, Stop};
+use crate::strings::string_item;
+use cbor_diag::DataItem;
+use cbor_grammar::IntegerWidth;
+use cbor_grammar::level::DEEPEST;
+use cbor_grammar::strings::StringKind;
+use std::alloc::Global;
+
+/// A byte string, its length in the shortest width.
+fn bytes_item(alloc: Global, bytes: Vec<u8>) -> Result<DataItem, Stop>
+    ensures gives { Gives view result (bytes_item bytes.items) }
+    ensures well { IfOk result (λ x. (level : ℕ) → level ≤ deepest → WellFormed level (view x)) }
+{
+    string_item(alloc, StringKind::Bytes, bytes, Some(IntegerWidth::Unknown))
+}
+
+/// The byte string of an address.
+fn address_item(alloc: Global, six: bool, text: &[u8]) -> Result<DataItem, Stop>
+    ensures gives { Gives view result (address_item six text.now) }
+    ensures well { IfOk result (λ x. (level : ℕ) → level ≤ deepest → WellFormed level (view x)) }
+{
+    let bytes = address_bytes(alloc, six, text)?;
+    bytes_item(alloc, bytes)
+}
+
+/// A count of bits and a string of the bytes that they are in.
+fn pair(alloc: Global, bits: u8, bytes: DataItem) -> Result<DataItem, Stop>
+    ensures is { IfOk result (λ x. view x ≡ pair_of bits (view bytes)) }
+    ensures memory { IfErr result (λ e. e ≡ Memory) }
+    ensures well { IfOk result (λ x. (level : ℕ) → level < deepest
+        → WellFormed (level + 1) (view bytes) → WellFormed level (view x)) }
+{
+    let count = DataItem::Integer {
+        value: bits as u64,
+        bitwidth: IntegerWidth::Unknown,
+    };
+    let mut content = Vec::with_capacity(alloc, 2)?;
+    content.push(count)?;
+    content.push(bytes)?;
+    Ok(DataItem::Array {
+        content,
+        bitwidth: Some(IntegerWidth::Unknown),
+    })
+}
+
+/// A count of bits and the bytes that they are in, without the zeros at the end.
+fn prefix_array(alloc: Global, bits: u8, bytes: Vec<u8>) -> Result<DataItem, Stop>
+    ensures gives { Gives view result (prefix_array bits bytes.items) }
+    ensures well { IfOk result (λ x. (level : ℕ) → level < deepest → WellFormed level (view x)) }
+{
+    let mut bytes = bytes;
+    let len = used(&bytes);
+    bytes.truncate(len);
+    let item = bytes_item(alloc, bytes)?;
+    let found = pair(alloc, bits, item)?;
+    Ok(found)
+}
+
+/// The first bits of an address, which has no bit set after them.
+fn prefix_of(alloc: Global, bytes: Vec<u8>, bits: u8) -> Result<DataItem, Stop>
+    ensures gives { Gives view result (prefix_of bytes.items bits) }
+    ensures well { IfOk result (λ x. (level : ℕ) → level < deepest → WellFormed level (view x)) }
+{
+    if is_clear_after(bits, &bytes) {
+        prefix_array(alloc, bits, bytes)
+    } else {
+        Err(Stop::At(Expected::ClearBits))
+    }
+}
+
+/// A prefix of an address, by the digits of how many bits it has.
+fn prefix_item(alloc: Global, six: bool, text: &[u8], digits: &[u8]) -> Result<DataItem, Stop>
+    ensures gives { Gives view result (prefix_item six text.now digits.now) }
+    ensures well { IfOk result (λ x. (level : ℕ) → level < deepest → WellFormed level (view x)) }
+{
+    let bytes = address_bytes(alloc, six, text)?;
+    let bits = bit_count(six, digits)?;
+    prefix_of(alloc, bytes, bits)
+}
+
+/// The index of the first slash.
+fn find_slash(content: &[u8]) -> Option<usize>
+    ensures at { result ≡ position (λ b. b == 47) content.now }
+    ensures within { IfSome result (λ n. n < length content.now) }
+{
+    content.iter().position(|byte| *byte == b'/')
+}
+
+/// An address, or a prefix of one, if a level is left for the items in it.
+#[tactic(auto, unfolding(crate::specs::Address::ip_item))]
+fn ip_item(alloc: Global, content: &[u8], inner: u8) -> Result<DataItem, Stop>
+    requires low { 2 ≤ inner }
+    requires high { inner ≤ 129 }
+    ensures gives { Gives view result (ip_item (levels_left inner) content.now) }
+    ensures well { IfOk result (λ x. WellFormed (inner - 1) (view x)) }
+{
+    let six = is_ipv6(content);
+    let Some(end) = find_slash(content) else {
+        return address_item(alloc, six, content);
+    };
+    if inner > DEEPEST {
+        return Err(Stop::At(Expected::Levels));
+    }
+    prefix_item(alloc, six, &content[..end], &content[end + 1..])
+}
+
+/// The tag of an address.
+fn ip_tag(content: &[u8]) -> u64
+    ensures { result ≡ ip_tag content.now }
+{
+    if is_ipv6(content) { 54 } else { 52 }
+}
+
+/// An address or a prefix of one, below its tag.
+fn tagged_ip(alloc: Global, content: &[u8], inner: u8) -> Result<DataItem, Stop>
+    requires low { 2 ≤ inner }
+    requires high { inner ≤ 129 }
+    ensures gives { Gives view result (tagged_ip (levels_left inner) content.now) }
+    ensures well { IfOk result (λ x. WellFormed (inner - 1) (view x)) }
+{
+    if inner > DEEPEST {
+        return Err(Stop::At(Expected::Levels));
+    }
+    let item = ip_item(alloc, content, inner + 1)?;
+    let found = below_tag(alloc, ip_tag(content), item)?;
+    Ok(found)
+}
+
+/// An address or a prefix of one, after `ip'`.
+pub(crate) fn read_ip(alloc: Global, text: &mut Cursor<'_>, inner: u8) -> Result<DataItem, Stop>
+    requires low { 2 ≤ inner }
+    requires high { inner ≤ 129 }
+    ensures gives { Gives (λ x. (view x, text.new)) result
+        (quoted_item (ip_item (levels_left inner)) text.old) }
+    ensures within { length text.new ≤ length text.old }
+    ensures well { IfOk result (λ x. WellFormed (inner - 1) (view x)) }
+{
+    let rest = text.rest();
+    let Some(end) = find_apostrophe(rest) else {
+        return Err(Stop::At(Expected::Quote));
+    };
+    let item = ip_item(alloc, &rest[..end], inner)?;
+    *text = Cursor::new(&rest[end + 1..]);
+    Ok(item)
+}
+
+/// The same below its tag, after `IP'`.
+pub(crate) fn read_tagged_ip(
+    alloc: Global,
+    text: &mut Cursor<'_>,
+    inner: u8,
+) -> Result<DataItem, Stop>
+    requires low { 2 ≤ inner }
+    requires high { inner ≤ 129 }
+    ensures gives { Gives (λ x. (view x, text.new)) result
+        (quoted_item (tagged_ip (levels_left inner)) text.old) }
+    ensures within { length text.new ≤ length text.old }
+    ensures well { IfOk result (λ x. WellFormed (inner - 1) (view x)) }
+{
+    let rest = text.rest();
+    let Some(end) = find_apostrophe(rest) else {
+        return Err(Stop::At(Expected::Quote));
+    };
+    let item = tagged_ip(alloc, &rest[..end], inner)?;
+    *text = Cursor::new(&rest[end + 1..]);
+    Ok(item)
+}
