@@ -1,0 +1,2 @@
+pub mod Unescaped
+pub mod Shown

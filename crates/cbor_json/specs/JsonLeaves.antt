@@ -1,0 +1,284 @@
+-- JSON as a dialect of notation (RFC 8949 section 6.1): what is written of numbers, strings and what is round members.
+-- A key is a text as it is, an integer by its digits, and anything else by its EDN, in which no width is stated and
+-- chunks are joined.
+use Rattle.std.specs.Prelude.{◌≡◌, ◌⊎◌, ℕ, ◌+◌, List, [], ◌∷◌, ◌++◌, codes, Bool, true, false, Some, None, ◌&&◌, ◌||◌}
+use Rattle.std.specs.Prelude.{if◌then◌else◌, nat_le, nat_lt, ◌==◌, not, Option}
+use Rattle.std.specs.Float.{float_is_finite}
+use Rattle.std.specs.Float.Ieee.{Float}
+use Rattle.hex.specs.Hex.{encode_lower}
+use Rattle.cbor_floats.specs.declared.float.EncodedFloat.{EncodedFloat}
+use Rattle.cbor_floats.specs.declared.float.EncodedFloat.TheVariants.{Half, Single, Double}
+use Rattle.cbor_floats.specs.Decimal.{IsTextOf}
+use Rattle.cbor_floats.specs.Value.{value_of, IsEncodingOf}
+use Rattle.cbor_escapes.specs.Escapes.{escaped_text}
+use Rattle.cbor_grammar.specs.declared.encoding.Encoding.TheVariants.{Base16}
+use Rattle.cbor_grammar.specs.declared.layout.Content.{Content}
+use Rattle.cbor_grammar.specs.declared.layout.Content.TheVariants as shown
+use Rattle.cbor_grammar.specs.declared.strings.StringKind.{StringKind}
+use Rattle.cbor_grammar.specs.declared.strings.StringKind.TheVariants as kind
+use Rattle.cbor_grammar.specs.declared.width.FloatWidth.{FloatWidth}
+use Rattle.cbor_grammar.specs.declared.width.FloatWidth.TheVariants as float_width
+use Rattle.cbor_grammar.specs.declared.width.IntegerWidth.TheVariants.{Unknown}
+use Rattle.cbor_grammar.specs.Item.{Chunk, Atom, integer, negative, float, simple}
+use Rattle.cbor_grammar.specs.NotationText.{number, float_text, simple_text, quoted, encoded_bytes, encoding_below}
+use Rattle.cbor_notation.specs.Dialect.{Leaves, Texts}
+use Rattle.cbor_notation.specs.declared.parts.Container.{Container}
+use Rattle.cbor_notation.specs.declared.parts.Container.TheVariants.{Array, Map, Chunks, Embedded}
+use Rattle.cbor_json.specs.Spots.{inside_spot, next_spot, value_spot, below_spot}
+use Rattle.cbor_json.specs.declared.print.place.JsonPlace.{JsonPlace}
+use Rattle.cbor_json.specs.declared.print.place.Spot.{Spot}
+use Rattle.cbor_json.specs.declared.print.place.Spot.TheVariants as spot
+
+-- ---- numbers
+
+abbrev pub integer_text : ℕ → List ℕ
+integer_text n = number n Unknown
+
+-- by the number that is encoded, which is one less than the amount
+abbrev pub negative_text : ℕ → List ℕ
+negative_text n = codes "-" ++ number (n + 1) Unknown
+
+-- the bits as they are encoded; an unstated width is 64 bits
+abbrev pub encoded_float : ℕ → FloatWidth → EncodedFloat
+encoded_float bits float_width.Sixteen = Half bits
+encoded_float bits float_width.ThirtyTwo = Single bits
+encoded_float bits w = Double bits
+
+-- the digits of a finite number, always with a point or an exponent; JSON has no others
+abbrev pub NumberIf : Bool → Float → Texts
+NumberIf true x t = IsTextOf t x
+NumberIf false x t = t ≡ codes "null"
+
+abbrev pub NumberOrNull : Float → Texts
+NumberOrNull x t = NumberIf (float_is_finite x) x t
+
+-- in EDN: the number or its word, and by its bits where these are not those of its number
+abbrev pub EdnFloat : EncodedFloat → List ℕ → Texts
+EdnFloat f by_bits t =
+    (IsEncodingOf f (value_of f) × IsTextOf t (value_of f)) ⊎ (¬ (IsEncodingOf f (value_of f)) × (t ≡ by_bits))
+
+-- ---- what holds no item, as a value and in a key
+
+-- of the simple values JSON has three; the others are null
+abbrev pub json_simple : ℕ → List ℕ
+json_simple n = if n == 20 then codes "false" else if n == 21 then codes "true" else codes "null"
+
+abbrev pub ValueLeaf : Atom → Texts
+ValueLeaf (integer n w) t = t ≡ integer_text n
+ValueLeaf (negative n w) t = t ≡ negative_text n
+ValueLeaf (float bits w) t = NumberOrNull (value_of (encoded_float bits w)) t
+ValueLeaf (simple n) t = t ≡ json_simple n
+ValueLeaf other t = ⊥
+
+abbrev pub EdnLeaf : Atom → Texts
+EdnLeaf (integer n w) t = t ≡ integer_text n
+EdnLeaf (negative n w) t = t ≡ negative_text n
+EdnLeaf (float bits w) t = EdnFloat (encoded_float bits w) (float_text bits w) t
+EdnLeaf (simple n) t = t ≡ simple_text n
+EdnLeaf other t = ⊥
+
+-- a JSON string of this content
+abbrev pub in_quotes : List ℕ → List ℕ
+in_quotes t = codes "\"" ++ (t ++ codes "\"")
+
+-- one of these texts between quotes
+abbrev pub InQuotes : Texts → Texts
+InQuotes texts t = (core : List ℕ) × texts core × (t ≡ in_quotes core)
+
+abbrev pub LeafAt : Spot → Atom → Texts
+LeafAt spot.Key a t = InQuotes (EdnLeaf a) t
+LeafAt spot.InKey a t = EdnLeaf a t
+LeafAt s a t = ValueLeaf a t
+
+-- ---- strings
+
+-- the content of a text in EDN that is in a JSON string: escaped for EDN, and that for JSON
+abbrev pub twice_escaped : List ℕ → List ℕ
+twice_escaped s = escaped_text (escaped_text s)
+
+-- a text in such EDN, and bytes
+abbrev pub edn_string : StringKind → Chunk → List ℕ
+edn_string kind.Bytes c = quoted Base16 c.bytes
+edn_string kind.Text c = codes "\\\"" ++ (twice_escaped c.bytes ++ codes "\\\"")
+
+abbrev pub string_at : JsonPlace → Spot → StringKind → Chunk → List ℕ
+string_at p spot.InKey k c = edn_string k c
+string_at p spot.Key kind.Bytes c = in_quotes (quoted Base16 c.bytes)
+string_at p s kind.Bytes c = in_quotes (encoded_bytes p.encoding c.bytes)
+string_at p s kind.Text c = in_quotes (escaped_text c.bytes)
+
+-- a chunk, without quotes
+abbrev pub part_at : JsonPlace → Spot → StringKind → Chunk → List ℕ
+part_at p spot.InKey kind.Text c = twice_escaped c.bytes
+part_at p s kind.Text c = escaped_text c.bytes
+part_at p spot.Key kind.Bytes c = encode_lower c.bytes
+part_at p spot.InKey kind.Bytes c = encode_lower c.bytes
+part_at p s kind.Bytes c = encoded_bytes p.encoding c.bytes
+
+-- ---- lists
+
+-- in EDN that is in a JSON string
+abbrev pub edn_opening : Container → List ℕ
+edn_opening (Array count) = codes "["
+edn_opening (Map count) = codes "{"
+edn_opening (Chunks kind.Bytes) = codes "h'"
+edn_opening (Chunks kind.Text) = codes "\\\""
+edn_opening (Embedded len) = codes "<<"
+
+abbrev pub edn_closing : Container → List ℕ
+edn_closing (Array count) = codes "]"
+edn_closing (Map count) = codes "}"
+edn_closing (Chunks kind.Bytes) = codes "'"
+edn_closing (Chunks kind.Text) = codes "\\\""
+edn_closing (Embedded len) = codes ">>"
+
+-- a key begins and ends with a quote; one of the chunks of a text is that text, and any other is EDN
+abbrev pub key_opening : Container → List ℕ
+key_opening (Array count) = codes "\"["
+key_opening (Map count) = codes "\"{"
+key_opening (Chunks kind.Bytes) = codes "\"h'"
+key_opening (Chunks kind.Text) = codes "\""
+key_opening (Embedded len) = codes "\"<<"
+
+abbrev pub key_closing : Container → List ℕ
+key_closing (Array count) = codes "]\""
+key_closing (Map count) = codes "}\""
+key_closing (Chunks kind.Bytes) = codes "'\""
+key_closing (Chunks kind.Text) = codes "\""
+key_closing (Embedded len) = codes ">>\""
+
+-- an item in a byte string is as it is, and joined chunks are one string
+abbrev pub value_opening : Container → List ℕ
+value_opening (Array count) = codes "["
+value_opening (Map count) = codes "{"
+value_opening (Chunks k) = codes "\""
+value_opening (Embedded len) = []
+
+abbrev pub value_closing : Container → List ℕ
+value_closing (Array count) = codes "]"
+value_closing (Map count) = codes "}"
+value_closing (Chunks k) = codes "\""
+value_closing (Embedded len) = []
+
+abbrev pub opening_at : Spot → Container → List ℕ
+opening_at spot.Key c = key_opening c
+opening_at spot.InKey c = edn_opening c
+opening_at s c = value_opening c
+
+abbrev pub closing_at : Spot → Container → List ℕ
+closing_at spot.Key c = key_closing c
+closing_at spot.InKey c = edn_closing c
+closing_at s c = value_closing c
+
+-- a string of no chunks
+abbrev pub empty_at : Spot → StringKind → List ℕ
+empty_at spot.Key kind.Bytes = codes "\"h''\""
+empty_at spot.InKey kind.Bytes = codes "h''"
+empty_at spot.InKey kind.Text = codes "\\\"\\\""
+empty_at s k = codes "\"\""
+
+-- the bytes of chunks are joined before they are made digits
+abbrev pub joins_at : Spot → StringKind → Bool
+joins_at spot.Value kind.Bytes = true
+joins_at spot.Named kind.Bytes = true
+joins_at s k = false
+
+-- chunks are joined
+abbrev pub before_member : Container → Bool → List ℕ
+before_member (Chunks k) first = []
+before_member c first = if first then [] else codes ", "
+
+-- ---- tags
+
+abbrev pub tag_at : Spot → ℕ → List ℕ
+tag_at spot.Key n = codes "\"" ++ (integer_text n ++ codes "(")
+tag_at spot.InKey n = integer_text n ++ codes "("
+tag_at s n = []
+
+abbrev pub tag_end_at : Spot → List ℕ
+tag_end_at spot.Key = codes ")\""
+tag_end_at spot.InKey = codes ")"
+tag_end_at s = []
+
+-- ---- byte strings as items
+
+-- the first byte of an array, a map or a tagged item
+abbrev pub begins_container : List ℕ → Bool
+begins_container [] = false
+begins_container (b ∷ bs) = nat_le 0x80 b && nat_lt b 0xe0
+
+-- no key, and no part of one
+abbrev pub is_value : Spot → Bool
+is_value spot.Key = false
+is_value spot.InKey = false
+is_value s = true
+
+-- right below these tags bytes are a big number, a UUID or an address, or are asked for as digits
+abbrev pub wants_bytes : Option ℕ → Bool
+wants_bytes None = false
+wants_bytes (Some tag) =
+    (tag == 2) || (tag == 3) || (tag == 21) || (tag == 22) || (tag == 23) || (tag == 37) || (tag == 52) || (tag == 54)
+    || (tag == 260)
+
+abbrev pub content_at : JsonPlace → List ℕ → Content
+content_at p b =
+    if p.style.embedded && (not (wants_bytes p.tag) && (is_value p.spot && begins_container b)) then shown.Item
+    else shown.Bytes
+
+-- ---- the dialect
+
+abbrev pub json_leaves : Leaves JsonPlace
+json_leaves = record {
+  level = λ p. p.level;
+  layout = λ p. p.layout;
+  content = content_at;
+  joins = λ p k. joins_at p.spot k;
+  inside = λ c layout p. record {
+    alloc = p.alloc;
+    level = p.level + 1;
+    layout = layout;
+    style = p.style;
+    spot = inside_spot c p.spot;
+    encoding = p.encoding;
+    tag = None;
+  };
+  next = λ p. record {
+    alloc = p.alloc;
+    level = p.level;
+    layout = p.layout;
+    style = p.style;
+    spot = next_spot p.spot;
+    encoding = p.encoding;
+    tag = p.tag;
+  };
+  value = λ k p. record {
+    alloc = p.alloc;
+    level = p.level;
+    layout = p.layout;
+    style = p.style;
+    spot = value_spot p.spot;
+    encoding = p.encoding;
+    tag = p.tag;
+  };
+  below = λ n p. record {
+    alloc = p.alloc;
+    level = p.level + 1;
+    layout = p.layout;
+    style = p.style;
+    spot = below_spot p.spot;
+    encoding = encoding_below n p.encoding;
+    tag = Some n;
+  };
+  leaf = λ p a t. LeafAt p.spot a t;
+  string = λ p k c t. t ≡ string_at p p.spot k c;
+  part = λ p k c t. t ≡ part_at p p.spot k c;
+  no_parts = λ p k t. t ≡ empty_at p.spot k;
+  opening = λ p c l t. t ≡ opening_at p.spot c;
+  closing = λ p c l t. t ≡ closing_at p.spot c;
+  rest = λ p c b t. t ≡ [];
+  tag = λ p n w t. t ≡ tag_at p.spot n;
+  tag_end = λ p n t. t ≡ tag_end_at p.spot;
+  start = λ c l first. before_member c first;
+  end = λ c l. [];
+  colon = λ l. codes ": ";
+}

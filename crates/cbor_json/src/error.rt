@@ -1,0 +1,55 @@
+//! Why bytes are not written as JSON.
+
+use cbor_grammar::Error;
+use std::alloc::AllocError;
+use std::fmt;
+
+/// Where two keys of a map are that become the same in JSON, as `1` and `"1"`.
+#[derive(Clone, Copy, PartialEq, Eq, Debug)]
+pub struct Clash {
+    /// The first byte of the first of the two.
+    pub first: usize,
+    /// The first byte of the second.
+    pub second: usize,
+}
+
+/// Why bytes are not written as JSON.
+#[derive(Clone, Copy, PartialEq, Eq, Debug)]
+pub enum JsonError {
+    /// The bytes are not an item, or memory ran out.
+    Cbor(Error),
+    /// Two keys of a map become the same.
+    SameKeys(Clash),
+}
+
+impl From<Error> for JsonError {
+    ghost use Rattle.std.specs.Prelude.{◌≡◌};
+    ghost use Rattle.cbor_json.specs.declared.error.JsonError.TheVariants.{Cbor};
+
+    ghost from_gives = { λ e x. x ≡ Cbor e };
+
+    fn from(error: Error) -> JsonError {
+        JsonError::Cbor(error)
+    }
+}
+
+impl From<AllocError> for JsonError {
+    ghost use Rattle.std.specs.Prelude.{◌≡◌};
+    ghost use Rattle.cbor_grammar.specs.declared.error.Error.TheVariants.{Memory};
+    ghost use Rattle.cbor_json.specs.declared.error.JsonError.TheVariants.{Cbor};
+
+    ghost from_gives = { λ _ x. x ≡ Cbor Memory };
+
+    fn from(_refused: AllocError) -> JsonError {
+        JsonError::Cbor(Error::Memory)
+    }
+}
+
+impl fmt::Display for JsonError {
+    fn fmt<W: fmt::Write>(&self, f: &mut fmt::Formatter<W>) -> Result<(), fmt::Error> {
+        match self {
+            JsonError::Cbor(error) => error.fmt(f),
+            JsonError::SameKeys(_) => f.write_str("two keys of a map become the same in JSON"),
+        }
+    }
+}

@@ -1,0 +1,14 @@
+//! Writes CBOR as JSON (RFC 8949 section 6.1), straight from bytes: no item is built. docs/JSON.md
+//! has the rules.
+#![tactic(auto)]
+
+mod clash;
+mod error;
+mod judge;
+mod print;
+mod style;
+mod write;
+
+pub use error::{Clash, JsonError};
+pub use style::JsonStyle;
+pub use write::{bytes_to_json, push_bytes_to_json, push_bytes_to_json_partial};

@@ -1,0 +1,176 @@
+//! JSON as a dialect of notation, which is written straight from bytes.
+#![tactic(auto, using(cbor_grammar::proofs::shared::Appending::appending_steps))]
+
+mod leaf;
+mod lists;
+mod numbers;
+pub(crate) mod place;
+pub(crate) mod text;
+
+ghost use Rattle.cbor_json.specs.JsonLeaves.{json_leaves};
+
+use crate::print::leaf::push_leaf;
+use crate::print::lists::{
+    push_closing, push_empty, push_opening, push_start, push_tag, push_tag_end,
+};
+use crate::print::place::{JsonPlace, Spot};
+use crate::print::text::{content_at, push_part, push_string};
+use cbor_grammar::IntegerWidth;
+use cbor_grammar::layout::{ContainerStyle, Content, Layout};
+use cbor_grammar::strings::{StringContent, StringKind};
+use cbor_notation::dialect::Dialect;
+use cbor_notation::parts::{Container, Leaf};
+use std::alloc::{AllocError, Global};
+
+/// JSON.
+pub(crate) struct Json;
+
+impl Dialect for Json {
+    type Place = JsonPlace;
+
+    ghost leaves = { json_leaves };
+
+    #[inline(always)]
+    fn level(place: &JsonPlace) -> u8 {
+        place.level
+    }
+
+    #[inline(always)]
+    fn layout(place: &JsonPlace) -> Layout {
+        place.layout
+    }
+
+    #[inline(always)]
+    fn content(place: &JsonPlace, bytes: &[u8]) -> Content {
+        content_at(place, bytes)
+    }
+
+    #[inline(always)]
+    fn joins(place: &JsonPlace, kind: StringKind) -> Option<Global> {
+        match (kind, place.spot) {
+            (StringKind::Bytes, Spot::Value | Spot::Named) => Some(place.alloc),
+            _ => None,
+        }
+    }
+
+    #[inline(always)]
+    fn inside(place: &JsonPlace, container: Container, layout: Layout) -> JsonPlace {
+        place.inside(container, layout)
+    }
+
+    #[inline(always)]
+    fn pass(place: &mut JsonPlace) {
+        place.spot = place.spot.next();
+    }
+
+    #[inline(always)]
+    fn pass_key(place: &mut JsonPlace, _bytes: &[u8], _rest: &[u8]) {
+        place.spot = place.spot.value();
+    }
+
+    #[inline(always)]
+    fn below(place: &JsonPlace, tag: u64) -> JsonPlace {
+        place.below(tag)
+    }
+
+    #[inline(always)]
+    fn leaf(out: &mut String, leaf: Leaf, place: &JsonPlace) -> Result<(), AllocError> {
+        push_leaf(out, leaf, place.spot)
+    }
+
+    /// The width of the length is not shown.
+    #[inline(always)]
+    fn string(
+        out: &mut String,
+        content: StringContent<'_>,
+        width: IntegerWidth,
+        place: &JsonPlace,
+    ) -> Result<(), AllocError> {
+        push_string(out, content, width, place)
+    }
+
+    #[inline(always)]
+    fn part(
+        out: &mut String,
+        content: StringContent<'_>,
+        width: IntegerWidth,
+        place: &JsonPlace,
+    ) -> Result<(), AllocError> {
+        push_part(out, content, width, place)
+    }
+
+    #[inline(always)]
+    fn no_parts(out: &mut String, kind: StringKind, place: &JsonPlace) -> Result<(), AllocError> {
+        push_empty(out, kind, place.spot)
+    }
+
+    #[inline(always)]
+    fn opening(
+        out: &mut String,
+        container: Container,
+        _style: ContainerStyle,
+        place: &JsonPlace,
+    ) -> Result<(), AllocError> {
+        push_opening(out, container, place.spot)
+    }
+
+    #[inline(always)]
+    fn closing(
+        out: &mut String,
+        container: Container,
+        _style: ContainerStyle,
+        place: &JsonPlace,
+    ) -> Result<(), AllocError> {
+        push_closing(out, container, place.spot)
+    }
+
+    /// Nothing: no byte string is shown as several items.
+    #[inline(always)]
+    fn rest(
+        _out: &mut String,
+        _container: Container,
+        _rest: &[u8],
+        _place: &JsonPlace,
+    ) -> Result<(), AllocError> {
+        Ok(())
+    }
+
+    #[inline(always)]
+    fn tag(
+        out: &mut String,
+        tag: u64,
+        _width: IntegerWidth,
+        place: &JsonPlace,
+    ) -> Result<(), AllocError> {
+        push_tag(out, tag, place.spot)
+    }
+
+    #[inline(always)]
+    fn tag_end(out: &mut String, _tag: u64, place: &JsonPlace) -> Result<(), AllocError> {
+        push_tag_end(out, place.spot)
+    }
+
+    #[inline(always)]
+    fn start(
+        out: &mut String,
+        container: Container,
+        _style: ContainerStyle,
+        first: bool,
+    ) -> Result<(), AllocError> {
+        push_start(out, container, first)
+    }
+
+    #[inline(always)]
+    fn end(
+        _out: &mut String,
+        _container: Container,
+        _style: ContainerStyle,
+    ) -> Result<(), AllocError> {
+        Ok(())
+    }
+
+    #[inline(always)]
+    fn colon(out: &mut String, _style: ContainerStyle) -> Result<(), AllocError> {
+        out.push_str(": ")
+    }
+}

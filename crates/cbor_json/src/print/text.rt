@@ -1,0 +1,167 @@
+//! Strings.
+#![tactic(auto, using(cbor_grammar::proofs::shared::Appending::appending_steps))]
+
+ghost use Rattle.std.specs.Prelude.{◌≡◌};
+ghost use Rattle.cbor_escapes.specs.Escapes.{escaped_text};
+ghost use Rattle.cbor_grammar.specs.declared.encoding.Encoding.TheVariants.{Base16};
+ghost use Rattle.cbor_grammar.specs.mirror.StringView.{kind_of, borrowed_chunk};
+ghost use Rattle.cbor_grammar.specs.NotationText.{encoded_bytes, quoted};
+ghost use Rattle.cbor_tokens.specs.Appends.{AppendsText};
+ghost use Rattle.cbor_json.specs.JsonLeaves.{in_quotes, twice_escaped, edn_string, string_at};
+ghost use Rattle.cbor_json.specs.JsonLeaves.{part_at, content_at as content_there};
+ghost use Rattle.cbor_json.specs.JsonLeaves.{begins_container as begins, is_value as is_value_spot};
+ghost use Rattle.cbor_json.specs.JsonLeaves.{wants_bytes};
+
+use crate::print::place::{JsonPlace, Spot};
+use base64::engine::general_purpose::{STANDARD, URL_SAFE_NO_PAD};
+use cbor_bytes::quoted::push_quoted;
+use cbor_escapes::push_escaped;
+use cbor_grammar::IntegerWidth;
+use cbor_grammar::encoding::Encoding;
+use cbor_grammar::layout::Content;
+use cbor_grammar::strings::StringContent;
+use cbor_tokens::push_hex;
+use std::alloc::{AllocError, Global};
+
+/// Whether bytes begin as an array, a map or a tagged item does.
+pub(crate) fn begins_container(bytes: &[u8]) -> bool
+    ensures { result ≡ begins bytes.now }
+{
+    match bytes {
+        [first, ..] => 0x80 <= *first && *first < 0xe0,
+        [] => false,
+    }
+}
+
+/// Whether this is no key, and no part of one.
+fn is_value(spot: Spot) -> bool
+    ensures { result ≡ is_value_spot spot }
+{
+    match spot {
+        Spot::Key | Spot::InKey => false,
+        Spot::Value | Spot::Named => true,
+    }
+}
+
+/// Whether bytes right below this tag are a big number, a UUID or an address, or are asked for as
+/// digits.
+pub(crate) fn wants_bytes(tag: Option<u64>) -> bool
+    ensures { result ≡ wants_bytes tag }
+{
+    matches!(tag, Some(2 | 3 | 21 | 22 | 23 | 37 | 52 | 54 | 260))
+}
+
+/// What the bytes of a byte string there are written as.
+pub(super) fn content_at(place: &JsonPlace, bytes: &[u8]) -> Content
+    ensures { result ≡ content_there place.now bytes.now }
+{
+    let may_be_item = place.style.embedded && !wants_bytes(place.tag) && is_value(place.spot);
+    if may_be_item && begins_container(bytes) {
+        Content::Item
+    } else {
+        Content::Bytes
+    }
+}
+
+/// Writes bytes as digits.
+fn push_encoded(out: &mut String, bytes: &[u8], encoding: Encoding) -> Result<(), AllocError>
+    ensures { AppendsText result out.old out.new (encoded_bytes encoding bytes.now) }
+{
+    match encoding {
+        Encoding::Base16 => push_hex(out, bytes),
+        Encoding::Base64 => STANDARD.encode_string(bytes, out),
+        Encoding::Base64Url => URL_SAFE_NO_PAD.encode_string(bytes, out),
+    }
+}
+
+/// Writes bytes as a JSON string of digits.
+fn push_bytes(out: &mut String, bytes: &[u8], encoding: Encoding) -> Result<(), AllocError>
+    ensures { AppendsText result out.old out.new (in_quotes (encoded_bytes encoding bytes.now)) }
+{
+    out.push('"')?;
+    push_encoded(out, bytes, encoding)?;
+    out.push('"')
+}
+
+/// Writes bytes as a key, by their EDN.
+fn push_bytes_key(out: &mut String, bytes: &[u8]) -> Result<(), AllocError>
+    ensures { AppendsText result out.old out.new (in_quotes (quoted Base16 bytes.now)) }
+{
+    out.push('"')?;
+    push_quoted(out, bytes, Encoding::Base16)?;
+    out.push('"')
+}
+
+/// Writes a text as a JSON string.
+fn push_text(out: &mut String, text: &str) -> Result<(), AllocError>
+    ensures { AppendsText result out.old out.new (in_quotes (escaped_text text.now)) }
+{
+    out.push('"')?;
+    push_escaped(out, text)?;
+    out.push('"')
+}
+
+/// Writes the content of a text that is a part of a key.
+fn push_twice_escaped(out: &mut String, text: &str, alloc: Global) -> Result<(), AllocError>
+    ensures { AppendsText result out.old out.new (twice_escaped text.now) }
+{
+    let mut edn = String::new(alloc);
+    push_escaped(&mut edn, text)?;
+    push_escaped(out, edn.as_str())
+}
+
+/// Writes a text that is a part of a key.
+fn push_edn_text(out: &mut String, text: &str, alloc: Global) -> Result<(), AllocError>
+    ensures { AppendsText result out.old out.new
+        (edn_string (kind_of (StringContent.Text text.entry))
+        (borrowed_chunk IntegerWidth.Unknown (StringContent.Text text.entry))) }
+{
+    out.push_str("\\\"")?;
+    push_twice_escaped(out, text, alloc)?;
+    out.push_str("\\\"")
+}
+
+/// Writes a string of definite length.
+pub(super) fn push_string(
+    out: &mut String,
+    content: StringContent<'_>,
+    width: IntegerWidth,
+    place: &JsonPlace,
+) -> Result<(), AllocError>
+    ensures { AppendsText result out.old out.new (string_at place.now place.now.spot
+        (kind_of content.entry) (borrowed_chunk width content.entry)) }
+{
+    match content {
+        StringContent::Bytes(bytes) => match place.spot {
+            Spot::Key => push_bytes_key(out, bytes),
+            Spot::InKey => push_quoted(out, bytes, Encoding::Base16),
+            Spot::Value | Spot::Named => push_bytes(out, bytes, place.encoding),
+        },
+        StringContent::Text(text) => match place.spot {
+            Spot::InKey => push_edn_text(out, text, place.alloc),
+            Spot::Key | Spot::Value | Spot::Named => push_text(out, text),
+        },
+    }
+}
+
+/// Writes a chunk, without quotes.
+pub(super) fn push_part(
+    out: &mut String,
+    content: StringContent<'_>,
+    width: IntegerWidth,
+    place: &JsonPlace,
+) -> Result<(), AllocError>
+    ensures { AppendsText result out.old out.new (part_at place.now place.now.spot
+        (kind_of content.entry) (borrowed_chunk width content.entry)) }
+{
+    match content {
+        StringContent::Bytes(bytes) => match place.spot {
+            Spot::Key | Spot::InKey => push_hex(out, bytes),
+            Spot::Value | Spot::Named => push_encoded(out, bytes, place.encoding),
+        },
+        StringContent::Text(text) => match place.spot {
+            Spot::InKey => push_twice_escaped(out, text, place.alloc),
+            Spot::Key | Spot::Value | Spot::Named => push_escaped(out, text),
+        },
+    }
+}
