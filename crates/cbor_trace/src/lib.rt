@@ -1,0 +1,41 @@
+//! Which containers are open at a byte of an item, and where an item is cut or has a fault.
+//!
+//! [`part_at`] goes one container inwards, and [`innermost`] all the way. [`chunk_at`] finds the
+//! chunk of a string of indefinite length, [`head_at`] the head of an item, and [`end_at`] where an
+//! item ends. None of them takes memory.
+//!
+//! The containers around a byte, the outermost first:
+//!
+//! ```rust
+//! use cbor_trace::{Open, Spot, part_at};
+//!
+//! // [1, {"a": 2}], and the byte of the 2.
+//! let bytes = b"\x82\x01\xa1\x61\x61\x02";
+//! let mut spot = Spot::outermost();
+//! for _ in 0..128 {
+//!     let Some(part) = part_at(bytes, spot, 5) else {
+//!         break;
+//!     };
+//!     match part.open {
+//!         Open::Array { index, .. } => assert_eq!(rt; (spot.start, index), (0, 1)),
+//!         Open::Value { index, key, .. } => assert_eq!(rt; (spot.start, index, key), (2, 0, 3)),
+//!         _ => assert!(rt; false),
+//!     }
+//!     spot = spot.of_part(part);
+//! }
+//! assert_eq!(rt; (spot.start, spot.level), (5, 3));
+//! ```
+#![tactic(auto)]
+
+mod chunk;
+mod item;
+mod laws;
+mod open;
+mod part;
+mod walk;
+
+pub use chunk::{Chunk, chunk_at};
+pub use item::{end_at, head_at};
+pub use open::Open;
+pub use part::{Part, Spot, part_at};
+pub use walk::innermost;

@@ -1,0 +1,124 @@
+//! The part of a container that a byte belongs to.
+ghost use Rattle.std.specs.Prelude.{◌≡◌, ℕ, ◌+◌, ◌<◌, ◌≤◌, List, length, IfSome, IfNone, Ok, Some};
+ghost use Rattle.cbor_grammar.specs.Item.{Item};
+ghost use Rattle.cbor_grammar.specs.Reading.{read_head, read_item};
+ghost use Rattle.cbor_grammar.specs.WellFormed.{deepest, levels_left};
+ghost use Rattle.cbor_trace.specs.Around.{head_of, parts_before, IsPartOf, IsPartAt, outermost};
+ghost use Rattle.cbor_trace.specs.Around.{spot_of};
+
+use crate::open::Open;
+use cbor_bytes::head::read_head;
+use cbor_bytes::skip::after_front;
+use cbor_grammar::level::DEEPEST;
+
+/// Where an item begins, and its level; the outermost is at level 1.
+#[derive(Clone, Copy, PartialEq, Eq, Debug)]
+pub struct Spot {
+    pub start: usize,
+    pub level: u8,
+}
+
+/// A container that is open at a byte, and where its part begins that the byte belongs to.
+#[derive(Clone, Copy)]
+pub struct Part {
+    pub open: Open,
+    pub start: usize,
+}
+
+impl Spot {
+    /// That of the item at the front.
+    pub fn outermost() -> Spot
+        ensures { result ≡ outermost }
+    {
+        Spot { start: 0, level: 1 }
+    }
+
+    /// That of a part of the item here.
+    pub fn of_part(self, part: Part) -> Spot
+        requires { self.level ≤ deepest }
+        ensures { result ≡ spot_of self part }
+    {
+        Spot {
+            start: part.start,
+            level: self.level + 1,
+        }
+    }
+}
+
+/// The bytes after the item at the front, read from `level`, if it ends within the first `most`
+/// bytes. It reads no others.
+fn after_within(bytes: &[u8], level: u8, most: usize) -> Option<&[u8]>
+    requires from { 1 ≤ level }
+    requires to { level ≤ deepest + 1 }
+    ensures some { IfSome result (λ rest. (i : Item)
+        × (read_item (levels_left level) bytes.now ≡ Ok (i, rest.now))
+        × (length bytes.now ≤ most + length rest.now)) }
+    ensures none { IfNone result ((i : Item) (rest : List ℕ)
+        → read_item (levels_left level) bytes.now ≡ Ok (i, rest)
+        → most + length rest < length bytes.now) }
+{
+    let (front, _) = bytes.split_at(most.min(bytes.len()));
+    let Some(unread) = after_front(front, level) else {
+        return None;
+    };
+    let (_, rest) = bytes.split_at(front.len() - unread.len());
+    Some(rest)
+}
+
+/// The first part from `bytes` on that does not end at the byte `at` or before it. The bytes are
+/// the last of `total`, and `first` is what the head before them opens.
+fn part_from(total: usize, level: u8, first: Open, bytes: &[u8], at: usize) -> Option<Part>
+    requires level { level ≤ deepest }
+    requires first { parts_before first ≡ 0 }
+    requires total { length bytes.now ≤ total }
+    requires passed { total ≤ at + length bytes.now }
+    ensures some { (b : List ℕ) → read_head b ≡ Ok (head_of first, bytes.now)
+        → IfSome result (λ p. IsPartOf total level b at p) }
+    ensures every { (b : List ℕ) → read_head b ≡ Ok (head_of first, bytes.now)
+        → (p : Part) → IsPartOf total level b at p → result ≡ Some p }
+{
+    let mut open = first;
+    let mut rest = bytes;
+    'parts: loop {
+        if !open.goes_on(rest) {
+            return None;
+        }
+        let start = total - rest.len();
+        let Some(after) = after_within(rest, level + 1, at - start) else {
+            return Some(Part { open, start });
+        };
+        let Some(next) = open.after_part(start) else {
+            return None;
+        };
+        open = next;
+        rest = after;
+    }
+}
+
+/// The part that the byte `at` belongs to, of the container that the item at this spot is. It is
+/// the first part that does not end before the byte. A part that is cut or has a fault ends
+/// nowhere, so a byte after a fault leads to the fault, and the length of cut bytes to where they
+/// are cut.
+///
+/// Returns `None` if the byte belongs to no part: if the item is no container, if the byte is in
+/// its head, or if the parts end before the byte.
+///
+/// It reads the container up to the byte, once.
+pub fn part_at(bytes: &[u8], spot: Spot, at: usize) -> Option<Part>
+    // The part, exactly if it is one.
+    ensures part { IfSome result (λ p. IsPartAt bytes.now spot at p) }
+    ensures every_part { (p : Part) → IsPartAt bytes.now spot at p → result ≡ Some p }
+{
+    if spot.level > DEEPEST || spot.start > bytes.len() {
+        return None;
+    }
+    let (_, item) = bytes.split_at(spot.start);
+    let Ok((head, rest)) = read_head(item) else {
+        return None;
+    };
+    let first = Open::new(head)?;
+    if at < bytes.len() - rest.len() {
+        return None;
+    }
+    part_from(bytes.len(), spot.level, first, rest, at)
+}
