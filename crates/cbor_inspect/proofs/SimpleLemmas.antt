@@ -1,7 +1,9 @@
 -- Bytes in which no byte below 32 follows 0xf8, and items by RFC 8949.
 use Rattle.std.proofs.Common.{◌≡◌, ℕ, zero, suc, ◌+◌, ◌<◌, ◌≤◌, ◌⊎◌, List, [], ◌∷◌, ◌++◌, length, take, drop}
 use Rattle.std.proofs.Common.{Option, Some, None, inl, inr, refl, sym, ap, subst, ◌∙◌, arith}
-use Rattle.std.proofs.Common.{length-append, take-append-drop, append_assoc, Result, Ok, Err, OnOk}
+use Rattle.std.proofs.Common.{length-append, take-append-drop, append_assoc, Result, Ok, Err, OnOk, get_or, true}
+use Rattle.std.proofs.lemmas.Bool.{eq-eqb}
+use Rattle.memchr.specs.Find.{IsFirstByte, is_byte}
 use Rattle.std.specs.declared.alloc.AllocError.{AllocError}
 use Rattle.cbor_grammar.specs.declared.width.IntegerWidth.{IntegerWidth}
 use Rattle.cbor_grammar.specs.Head.{head, opening}
@@ -121,6 +123,24 @@ none_at_end [] (suc k) le = tt
 none_at_end (a ∷ []) zero le = tt
 none_at_end (a ∷ (n ∷ b)) zero le = absurd (omega (arith, le))
 none_at_end (a ∷ b) (suc k) le = none_at_end b k (omega (arith, le))
+
+-- where no byte before a place is 0xf8, and no pair stands from there on
+clear_before : (b : List ℕ) (at : ℕ) → ((k : ℕ) → k < at → k < length b → ¬ (is_byte 0xf8 (get_or b k 0) ≡ true))
+    → NoPair (drop at b) → NoPair b
+clear_before b zero clear none = none
+clear_before [] (suc at) clear none = tt
+clear_before (a ∷ []) (suc at) clear none = tt
+clear_before (a ∷ (n ∷ b)) (suc at) clear none = (
+  (λ is. absurd (clear 0 (omega arith) (omega arith) (eq-eqb a 0xf8 is))),
+  clear_before (n ∷ b) at (λ k lt within. clear (suc k) (omega arith) (omega arith)) none,
+)
+
+pub no_f8 : (b : List ℕ) → IsFirstByte (is_byte 0xf8) b None → NoPair b
+no_f8 b none =
+    clear_before b (length b) (λ k lt within. none k (omega arith) within) (none_at_end b (length b) (omega arith))
+
+pub before_f8 : (b : List ℕ) (at : ℕ) → IsFirstByte (is_byte 0xf8) b (Some at) → NoPair (drop at b) → NoPair b
+before_f8 b at first = clear_before b at (λ k lt within. first.0.before k (omega arith) lt)
 
 -- ---- items one after the other
 

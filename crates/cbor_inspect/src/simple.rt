@@ -1,5 +1,6 @@
 //! Simple values below 32 in two bytes, which RFC 8949 forbids (section 3.3) and RFC 7049 allows.
-ghost use Rattle.std.specs.Prelude.{◌↔◌, ◌+◌, ◌<◌, length, IsTrue, IfOk, IfSome, IfNone};
+ghost use Rattle.std.specs.Prelude.{◌↔◌, ◌+◌, ◌<◌, ◌≤◌, length, drop, IsTrue};
+ghost use Rattle.std.specs.Prelude.{IfOk, IfSome, IfNone};
 ghost use Rattle.cbor_diag.specs.Item.{Item};
 ghost use Rattle.cbor_diag.specs.View.{view, items_view, pairs_view};
 ghost use Rattle.cbor_diag.specs.Facts.{IsItem};
@@ -8,6 +9,7 @@ ghost use Rattle.cbor_inspect.specs.Simple.{Is8949, IsTwoByteSimple, NoPair};
 
 use crate::heads::step;
 use cbor_diag::{DataItem, Error, parse_bytes};
+use memchr::memchr;
 use std::alloc::Global;
 
 /// Whether a byte below 32 follows `f8` at this place.
@@ -16,6 +18,20 @@ fn is_pair(bytes: &[u8], at: usize) -> bool
     ensures { IsTrue result ↔ IsTwoByteSimple bytes.now at }
 {
     bytes[at] == 0xf8 && bytes[at + 1] < 32
+}
+
+/// The next place of the byte `f8` from here on, or else the end. Most inputs have few of them, and
+/// are passed many bytes at once.
+fn next_f8(bytes: &[u8], at: usize) -> usize
+    requires { at ≤ length bytes.now }
+    ensures none { NoPair (drop result bytes.now) → NoPair (drop at bytes.now) }
+    ensures from { at ≤ result }
+{
+    let (_, rest) = bytes.split_at(at);
+    match memchr(0xf8, rest) {
+        Some(next) => at + next,
+        None => bytes.len(),
+    }
 }
 
 /// The first place at which a byte below 32 follows `f8`, at a head or not.
@@ -27,12 +43,12 @@ fn first_pair(bytes: &[u8]) -> Option<usize>
         return None;
     }
     let last = bytes.len() - 1;
-    let mut at = 0;
+    let mut at = next_f8(bytes, 0);
     'bytes: while at < last {
         if is_pair(bytes, at) {
             return Some(at);
         }
-        at += 1;
+        at = next_f8(bytes, at + 1);
     }
     None
 }

@@ -1,6 +1,6 @@
 -- Bytes that are items that keep the rules are read without a breach.
 use Rattle.std.proofs.Common.{◌≡◌, ℕ, zero, suc, ◌+◌, ◌-◌, ◌<◌, ◌≤◌, Bool, true, cond}
-use Rattle.std.proofs.Common.{List, [], ◌∷◌, ◌++◌, length, Option, Some, None, Ok, inl, inr, refl, sym, ap, subst}
+use Rattle.std.proofs.Common.{List, [], ◌∷◌, ◌++◌, length, take, Option, Some, None, Ok, inl, inr, refl, sym, ap, subst}
 use Rattle.std.proofs.Common.{◌∙◌, append_assoc, arith}
 use Rattle.std.proofs.lemmas.Bool.{le-ltb, ne_eqb}
 use Rattle.std.specs.List.{AllByRecursion}
@@ -21,19 +21,30 @@ use Rattle.cbor_grammar.specs.Reading.{read_head, head_of, read_content, read_ch
 use Rattle.cbor_grammar.proofs.bytes.Heads.{bind_ok, ok_is, byte_of, head_append, head_again}
 use Rattle.cbor_grammar.proofs.bytes.Chunks.{content_again, chunk_again, chunk_parts, chunks_append}
 use Rattle.cbor_grammar.proofs.bytes.FoundAgain.{kind_major, string_head, head_behind}
-use Rattle.cbor_bytes.specs.mirror.Skipping.{rest_of, skip_content}
+use Rattle.cbor_bytes.specs.mirror.Skipping.{rest_of}
 use Rattle.cbor_rules.specs.declared.rules.Rules.{Rules}
 use Rattle.cbor_rules.specs.declared.kind.BreachKind.TheVariants as kind_of_breach
 use Rattle.cbor_rules.specs.declared.check.Chunk.TheVariants as code
 use Rattle.cbor_rules.specs.FirstBreach.{Kept, kept_then, opened}
-use Rattle.cbor_rules.specs.FirstBreach.{head_breach, number_breach, simple_breach}
+use Rattle.cbor_rules.specs.FirstBreach.{head_breach, number_breach, two_byte_breach}
 use Rattle.cbor_rules.specs.FirstBreach.{at, unless, chunk_content}
 use Rattle.cbor_rules.specs.FirstBreach.{kept_chunk, chunks_after, kept_chunks, kept_body, kept_item}
-use Rattle.cbor_rules.specs.Keeps.{KeepsChunk, KeepsAtom}
+use Rattle.cbor_rules.specs.FirstBreach.{kept_content, text_breach}
+use Rattle.cbor_rules.specs.Keeps.{KeepsContent, KeepsChunk, KeepsAtom}
+use Rattle.cbor_rules.proofs.Texts.{text_again}
 use Rattle.cbor_floats.specs.declared.float.EncodedFloat.TheVariants.{Half, Single, Double}
 use Rattle.cbor_rules.proofs.Floats.{float_again}
-use Rattle.cbor_rules.proofs.Heads.{test_kept, number_again}
+use Rattle.cbor_rules.proofs.Heads.{test_kept, number_again, simple_again}
 use Rattle.cbor_rules.proofs.Found.{by_length, chunk_at, content_width}
+
+-- a content that keeps the rules
+content_goes : (rules : Rules) (total : ℕ) (b : List ℕ) (kind : StringKind) (n : ℕ) (w : IntegerWidth)
+    (r after : List ℕ) (c : Chunk) → read_content kind n w r ≡ Ok (c, after) → KeepsContent rules kind c.bytes
+    → kept_content rules total b kind n w r ≡ Ok after
+content_goes rules total b kind n w r after c e keeps =
+    let is = content_width kind n w r after c e in
+    ap (λ q. kept_then (at total b (rest_of q)) (unless total b (text_breach rules kind (take n r)))) e
+    ∙ ap (λ k. unless total b k after) (ap (text_breach rules kind) is.2 ∙ text_again rules kind c.bytes keeps)
 
 -- ---- chunks
 
@@ -72,7 +83,7 @@ chunk_length kind b after c h =
         }
 
 chunk_kept : (rules : Rules) (total : ℕ) (kind : StringKind) (b after : List ℕ) (c : Chunk)
-    → ChunkThen kind c b (λ r. r ≡ after) → KeepsChunk rules c
+    → ChunkThen kind c b (λ r. r ≡ after) → KeepsChunk rules kind c
     → kept_chunk rules total kind b ≡ Ok (code.Content, after)
 chunk_kept rules total kind b after c h keeps =
     let l = chunk_length kind b after c h in
@@ -80,11 +91,12 @@ chunk_kept rules total kind b after c h keeps =
     let short : number_breach rules l.number l.width ≡ None =
     subst (λ (k : ℕ). number_breach rules k l.width ≡ None) is.1
     (subst (λ (k : IntegerWidth). number_breach rules (length c.bytes) k ≡ None) is.0
-    (number_again rules (length c.bytes) c.width keeps)) in
+    (number_again rules (length c.bytes) c.width keeps.0)) in
     ap (λ q. kept_then (at total b q) (λ c. chunk_content rules total kind b c.0 c.1)) l.len
     ∙ ap (λ k. kept_then (unless total b k l.rest)
-    (λ r. kept_then (at total b (skip_content kind l.number l.width r)) (λ after. Ok (code.Content, after)))) short
-    ∙ ap (λ q. kept_then (at total b (rest_of q)) (λ after. Ok (code.Content, after))) l.content
+    (λ r. kept_then (kept_content rules total b kind l.number l.width r) (λ after. Ok (code.Content, after)))) short
+    ∙ ap (λ q. kept_then q (λ after. Ok (code.Content, after)))
+    (content_goes rules total b kind l.number l.width l.rest after c l.content keeps.1)
 
 break_kept : (rules : Rules) (total : ℕ) (kind : StringKind) (b rest : List ℕ) → b ≡ break_byte ∷ rest
     → kept_chunk rules total kind b ≡ Ok (code.Break, rest)
@@ -92,7 +104,7 @@ unfolding read_chunk_length
 break_kept rules total kind b rest e = ap (λ (x : List ℕ). kept_chunk rules total kind x) e
 
 chunks_again : (n : ℕ) (rules : Rules) (total : ℕ) (kind : StringKind) (b rest : List ℕ) (cs : List Chunk)
-    → length b < n → SpellsChunks kind b cs (break_byte ∷ rest) → AllByRecursion (KeepsChunk rules) cs
+    → length b < n → SpellsChunks kind b cs (break_byte ∷ rest) → AllByRecursion (KeepsChunk rules kind) cs
     → kept_chunks n rules total kind b ≡ Ok rest
 unfolding kept_chunks
 chunks_again zero rules total kind b rest cs lt h keeps = absurd (omega arith)
@@ -135,7 +147,7 @@ module _ (rules : Rules) (total level left : ℕ) (sum : level + suc left ≡ 12
   pub definite_again : (t : Bool) → ¬ (t ≡ true) → cond t (Some kind_of_breach.Indefinite) None ≡ None
   definite_again t never = test_kept t kind_of_breach.Indefinite never
 
-  simple_first : (n : ℕ) (c : List ℕ) → n < 24 → simple_breach ((224 + n) ∷ c) ≡ None
+  simple_first : (n : ℕ) (c : List ℕ) → n < 24 → two_byte_breach ((224 + n) ∷ c) ≡ None
   simple_first n [] lt = refl
   simple_first n (m ∷ c) lt =
       let other : ¬ (224 + n ≡ 0xf8) = λ e. omega arith in rw (ne_eqb (224 + n) 0xf8 other) refl
@@ -160,8 +172,9 @@ module _ (rules : Rules) (total level left : ℕ) (sum : level + suc left ≡ 12
   atom_again (string kind k) x c h keeps =
       by_head (x ++ c) (k.bytes ++ c) (item_head.String kind (Number (length k.bytes) k.width))
       (string_read kind k x c h)
-      (number_again rules (length k.bytes) k.width keeps)
-      ∙ ap (λ q. at total (x ++ c) (rest_of q)) (content_again kind k c h.0)
+      (number_again rules (length k.bytes) k.width keeps.0)
+      ∙ content_goes rules total (x ++ c) kind (length k.bytes) k.width (k.bytes ++ c) c k (content_again kind k c h.0)
+      keeps.1
   atom_again (chunked_string kind cs) x c h keeps =
       let r : List ℕ = h.0 ++ c in
       by_head (x ++ c) r (item_head.String kind Indefinite)
@@ -183,9 +196,11 @@ module _ (rules : Rules) (total level left : ℕ) (sum : level + suc left ≡ 12
   atom_again (simple n) x c (inl h) keeps =
       number_alone 7 n Zero (x ++ c) c (item_head.Simple n) (omega arith)
       (h.0, c, ap (λ (y : List ℕ). y ++ c) h.1, refl) refl
-      (subst (λ (y : List ℕ). simple_breach (y ++ c) ≡ None) (sym h.1) (simple_first n c h.0)) refl
+      (simple_again rules n (x ++ c)
+      (subst (λ (y : List ℕ). two_byte_breach (y ++ c) ≡ None) (sym h.1) (simple_first n c h.0)) keeps) refl
   atom_again (simple n) x c (inr h) keeps =
-      let least : 32 ≤ n = elim keeps [ inl lt ↦ absurd (omega arith) | inr le ↦ le ] in
+      let least : 32 ≤ n = elim keeps.0 [ inl lt ↦ absurd (omega arith) | inr le ↦ le ] in
       number_alone 7 n Eight (x ++ c) c (item_head.Simple n) (omega arith)
       (h.1, c, ap (λ (y : List ℕ). y ++ c) h.2 ∙ ap (λ (y : List ℕ). 0xf8 ∷ (y ++ c)) (sym (byte_of n h.1)), refl) refl
-      (subst (λ (y : List ℕ). simple_breach (y ++ c) ≡ None) (sym h.2) (rw (le-ltb n 32 least) refl)) refl
+      (simple_again rules n (x ++ c)
+      (subst (λ (y : List ℕ). two_byte_breach (y ++ c) ≡ None) (sym h.2) (rw (le-ltb n 32 least) refl)) keeps) refl

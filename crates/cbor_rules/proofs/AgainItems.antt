@@ -24,13 +24,15 @@ use Rattle.cbor_rules.specs.declared.rules.Rules.{Rules}
 use Rattle.cbor_rules.specs.declared.kind.BreachKind.TheVariants as kind
 use Rattle.cbor_rules.specs.FirstBreach.{Kept, kept_then, KeyAt, Open, members, pairs, value, after_end, front}
 use Rattle.cbor_rules.specs.FirstBreach.{number_breach, tag_breach, breach_or_else, argument_breach, container_breach}
-use Rattle.cbor_rules.specs.FirstBreach.{compared, key_breach, after_part, unless}
-use Rattle.cbor_rules.specs.FirstBreach.{ended_or, kept_parts, kept_item, place_of, breach_or, breach_from}
+use Rattle.cbor_rules.specs.FirstBreach.{compared, order_breach, twice_breach, key_breach, after_part, unless}
+use Rattle.cbor_rules.specs.FirstBreach.{Places, no_places, with_key, key_at}
+use Rattle.cbor_rules.specs.FirstBreach.{ended_or, kept_parts, kept_item, breach_or, breach_from}
 use Rattle.cbor_rules.specs.FirstBreach.{first_breach}
 use Rattle.cbor_rules.specs.KeyOrder.{key_cmp}
 use Rattle.cbor_rules.specs.Keeps.{KeepsCount, KeysAfter, Keeps, KeepsItems, KeepsPairs}
 use Rattle.cbor_rules.specs.Keeps.{KeepsRules}
 use Rattle.cbor_rules.proofs.Heads.{test_kept, number_again}
+use Rattle.cbor_rules.proofs.KeysTwice.{KeysFresh, fresh_first, fresh_rest, all_fresh}
 use Rattle.cbor_rules.proofs.FoundParts.{CountIs, close, KeysOk, front_is}
 use Rattle.cbor_rules.proofs.Again.{by_head, atom_again}
 use Rattle.cbor_rules.proofs.Opens.{counted, opens, array_head, map_head, tag_head}
@@ -105,16 +107,37 @@ one_left Indefinite k b count none = record { some = none; count = tt; same_end 
 next_is : (b x r rest : List ℕ) → b ≡ x ++ r → b ++ rest ≡ x ++ (r ++ rest)
 next_is b x r rest e = ap (λ (y : List ℕ). y ++ rest) e ∙ append_assoc x r rest
 
-key_kept : (rules : Rules) (last : Option KeyAt) (x s : List ℕ) (level : ℕ) (k v : Item) (ps : Pairs)
+order_kept : (rules : Rules) (last : Option KeyAt) (x s : List ℕ) (level : ℕ) (k v : Item) (ps : Pairs)
     → Spells strict level x k → KeysOk rules last (pair k v ps)
-    → (key_breach rules last (front (x ++ s) s) ≡ None) × KeysAfter rules.key_order (front (x ++ s) s) ps
-key_kept rules None x s level k v ps spells keys =
+    → (order_breach rules last (front (x ++ s) s) ≡ None) × KeysAfter rules.key_order (front (x ++ s) s) ps
+order_kept rules None x s level k v ps spells keys =
     let is = sym (front_is x s (x ++ s) refl ∙ strict_only level x k spells) in
     (refl, subst (λ (key : List ℕ). KeysAfter rules.key_order key ps) is keys)
-key_kept rules (Some last) x s level k v ps spells keys =
+order_kept rules (Some last) x s level k v ps spells keys =
     let is = sym (front_is x s (x ++ s) refl ∙ strict_only level x k spells) in
     let less = subst (λ (key : List ℕ). key_cmp rules.key_order last.bytes key ≡ Less) is keys.0 in
     (ap (λ o. compared o last.place) less, subst (λ (key : List ℕ). KeysAfter rules.key_order key ps) is keys.1)
+
+-- what a key that keeps the rules leaves to the keys after it
+record KeyKept (rules : Rules) (total : ℕ) (last : Option KeyAt) (seen : Places) (b r : List ℕ) (ps : Pairs)
+    : Type 0 where
+  pub none : key_breach rules last seen (front b r) ≡ None
+  pub after : KeysAfter rules.key_order (front b r) ps
+  pub fresh : KeysFresh rules (with_key rules (key_at total b r) seen) ps
+
+key_kept : (rules : Rules) (total : ℕ) (last : Option KeyAt) (seen : Places) (x s : List ℕ) (level : ℕ) (k v : Item)
+    (ps : Pairs) → Spells strict level x k → KeysOk rules last (pair k v ps) → KeysFresh rules seen (pair k v ps)
+    → KeyKept rules total last seen (x ++ s) s ps
+key_kept rules total last seen x s level k v ps spells keys fresh =
+    let o = order_kept rules last x s level k v ps spells keys in
+    let key = key_at total (x ++ s) s in
+    let is = front_is x s (x ++ s) refl ∙ strict_only level x k spells in
+    record {
+      none = ap (λ q. breach_or_else q (twice_breach rules seen key.bytes)) o.0
+          ∙ fresh_first rules seen key k v ps is fresh;
+      after = o.1;
+      fresh = fresh_rest rules seen key k v ps is fresh;
+    }
 
 -- one less than a number above another
 less_one : (n k : ℕ) → k < n → (m : ℕ) × (n ≡ suc m) × (k ≤ m)
@@ -146,8 +169,8 @@ mutual
       by_head rules total level left sum (x ++ c) (o.inner ++ c) (item_head.Map a)
       (head_again 5 a (item_head.Map a) (x ++ c) (o.inner ++ c) (omega arith) o.is (map_head a))
       (container_kept rules level n w keeps.0 keeps.1)
-      ∙ pairs_again ps rules total (level + 1) left (suc (length (o.inner ++ c))) None a o.inner c (omega arith)
-      (omega arith) o.spells keeps.2 keeps.3 (is_counted w n)
+      ∙ pairs_again ps rules total (level + 1) left (suc (length (o.inner ++ c))) None no_places a o.inner c
+      (omega arith) (omega arith) o.spells keeps.2 keeps.3 (λ on. all_fresh ps (keeps.4 on)) (is_counted w n)
   item_again (tagged t w i) rules total level (suc left) x c sum h keeps =
       let inner = h.1.1 in
       let r = inner ++ c in
@@ -187,14 +210,15 @@ mutual
       (omega (arith, m.2, ap length parts, length-append x r))
       (subst (λ (e : List ℕ). SpellsItems strict level h.1 is e) o.same_end h.4) keeps.1 o.count
 
-  pairs_again : (ps : Pairs) (rules : Rules) (total level left n : ℕ) (last : Option KeyAt) (a : Argument)
-      (b rest : List ℕ) → level + left ≡ 129 → length (b ++ rest) < n → SpellsPairs strict level b ps (close a)
-      → KeepsPairs rules level ps → KeysOk rules last ps → CountIs a (pair_count ps)
-      → kept_parts n rules total (kept_item left rules total) (pairs last a) (b ++ rest) ≡ Ok rest
-  pairs_again no_pairs rules total level left n last a b rest sum lt h keeps keys count =
-      parts_over n rules total (kept_item left rules total) (pairs last a) (b ++ rest) rest (omega arith)
+  pairs_again : (ps : Pairs) (rules : Rules) (total level left n : ℕ) (last : Option KeyAt) (seen : Places)
+      (a : Argument) (b rest : List ℕ) → level + left ≡ 129 → length (b ++ rest) < n
+      → SpellsPairs strict level b ps (close a) → KeepsPairs rules level ps → KeysOk rules last ps
+      → KeysFresh rules seen ps → CountIs a (pair_count ps)
+      → kept_parts n rules total (kept_item left rules total) (pairs last seen a) (b ++ rest) ≡ Ok rest
+  pairs_again no_pairs rules total level left n last seen a b rest sum lt h keeps keys fresh count =
+      parts_over n rules total (kept_item left rules total) (pairs last seen a) (b ++ rest) rest (omega arith)
       (none_left a 0 b rest count refl h)
-  pairs_again (pair k v ps) rules total level left n last a b rest sum lt h keeps keys count =
+  pairs_again (pair k v ps) rules total level left n last seen a b rest sum lt h keeps keys fresh count =
       let x = h.0 in
       let y = h.1 in
       let r = h.2 ++ rest in
@@ -208,17 +232,20 @@ mutual
       let more : length s < m.0 = omega (arith, m.2, ap length parts, length-append x s) in
       let j = less_one m.0 (length s) more in
       let o = one_left a (pair_count ps) (x ++ s) count (no_break_at x s (spelled_begins level x k its_key)) in
-      let key : KeyAt = record { place = place_of total (x ++ s); bytes = front (x ++ s) s } in
-      let kept = key_kept rules last x s level k v ps h.4 keys in
-      ap (kept_parts n rules total (kept_item left rules total) (pairs last a)) parts
-      ∙ parts_more n m.0 rules total (kept_item left rules total) (pairs last a) (value key (one_less a)) (x ++ s) s m.1
-      o.some (item_again k rules total level left x s sum h.4 keeps.0)
-      (ap (λ q. unless total (x ++ s) q (value key (one_less a))) kept.0)
-      ∙ parts_more m.0 j.0 rules total (kept_item left rules total) (value key (one_less a))
-      (pairs (Some key) (one_less a)) s r j.1 refl (item_again v rules total level left y r sum h.5 keeps.1) refl
-      ∙ pairs_again ps rules total level left j.0 (Some key) (one_less a) h.2 rest sum
+      let key = key_at total (x ++ s) s in
+      let more_seen = with_key rules key seen in
+      let its_value = value key more_seen (one_less a) in
+      let kept = key_kept rules total last seen x s level k v ps h.4 keys fresh in
+      ap (kept_parts n rules total (kept_item left rules total) (pairs last seen a)) parts
+      ∙ parts_more n m.0 rules total (kept_item left rules total) (pairs last seen a) its_value (x ++ s) s m.1 o.some
+      (item_again k rules total level left x s sum h.4 keeps.0)
+      (ap (λ q. unless total (x ++ s) q its_value) kept.none)
+      ∙ parts_more m.0 j.0 rules total (kept_item left rules total) its_value
+      (pairs (Some key) more_seen (one_less a)) s r j.1 refl (item_again v rules total level left y r sum h.5 keeps.1)
+      refl
+      ∙ pairs_again ps rules total level left j.0 (Some key) more_seen (one_less a) h.2 rest sum
       (omega (arith, j.2, length-append y r))
-      (subst (λ (e : List ℕ). SpellsPairs strict level h.2 ps e) o.same_end h.6) keeps.2 kept.1 o.count
+      (subst (λ (e : List ℕ). SpellsPairs strict level h.2 ps e) o.same_end h.6) keeps.2 kept.after kept.fresh o.count
 
 -- ---- items one after the other
 

@@ -142,7 +142,7 @@ module _ (rules : Rules) (d : IsDeterministic rules) where
       let same_kind : kind ≡ other = cc in
       let same_whole : whole c.bytes ≡ whole f.bytes = cc in
       let bytes : c.bytes ≡ f.bytes = ap (λ (x : Chunk). x.bytes) same_whole in
-      let width = width_once (length c.bytes) (length f.bytes) c.width f.width h k (ap (λ (x : List ℕ). length x) bytes)
+      let width = width_once (length c.bytes) (length f.bytes) c.width f.width h k.0 (ap (λ (x : List ℕ). length x) bytes)
       in
       let chunk = chunk_once c f bytes width in
       cc
@@ -164,11 +164,11 @@ module _ (rules : Rules) (d : IsDeterministic rules) where
       → said rules.shortest_floats a ≡ said rules.shortest_floats b → a ≡ b
   atom_once level (integer n w) b g h e = integer_once n w b g.1 h.1 e
   atom_once level (negative n w) b g h e = negative_once n w b g.1 h.1 e
-  atom_once level (string kind c) b g h e = string_once kind c b g.1 h.1 e
+  atom_once level (string kind c) b g h e = string_once kind c b g.1.0 h.1 e
   atom_once level (chunked_string kind cs) b g h e = absurd (g.1.0 d.lengths)
   atom_once level (simple n) b g h e = simple_once n b h.1 e
   atom_once level (float bits w) (float other v) g h e =
-      float_once rules.shortest_floats g.0.0 h.0.0 bits other w v g.0.1.1 h.0.1.1 g.1 h.1 e
+      float_once rules.shortest_floats g.0.0 h.0.0 bits other w v g.0.1.1 h.0.1.1 g.1.1 h.1.1 e
   atom_once level (float bits w) (integer m v) g h e =
       absurd (no_float (integer m Unknown) bits w (sym e) (λ m u f. cc))
   atom_once level (float bits w) (negative m v) g h e =

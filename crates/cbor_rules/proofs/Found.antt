@@ -26,7 +26,7 @@ use Rattle.cbor_grammar.proofs.bytes.Heads.{head_takes}
 use Rattle.cbor_grammar.proofs.bytes.Chunks.{chunk_takes, one_takes, chunk_with, chunks_front}
 use Rattle.cbor_grammar.proofs.bytes.Found.{item_takes}
 use Rattle.cbor_grammar.proofs.bytes.Frames.{Spelled}
-use Rattle.cbor_bytes.specs.mirror.Skipping.{rest_of, skip_content}
+use Rattle.cbor_bytes.specs.mirror.Skipping.{rest_of}
 use Rattle.cbor_rules.specs.declared.rules.Rules.{Rules}
 use Rattle.cbor_rules.specs.declared.check.Chunk as code_chunk
 use Rattle.cbor_rules.specs.declared.check.Chunk.TheVariants as code
@@ -34,6 +34,8 @@ use Rattle.cbor_rules.specs.declared.kind.BreachKind.TheVariants as kind_of_brea
 use Rattle.cbor_rules.specs.FirstBreach.{kept_then, opened}
 use Rattle.cbor_rules.specs.FirstBreach.{head_breach, number_breach, at, unless, chunk_content}
 use Rattle.cbor_rules.specs.FirstBreach.{kept_chunk, kept_chunks, chunks_after, kept_atom, simple_breach}
+use Rattle.cbor_rules.specs.FirstBreach.{kept_content, text_breach}
+use Rattle.cbor_rules.proofs.Texts.{text_found, content_kept}
 use Rattle.cbor_rules.specs.Keeps.{float_of, KeepsChunk, KeepsAtom, Keeps}
 use Rattle.cbor_rules.proofs.Floats.{float_found}
 use Rattle.cbor_rules.proofs.Heads.{then_kept, unless_kept, at_kept, kept_is, test_none, number_found, simple_found}
@@ -92,12 +94,12 @@ by_length kind (first ∷ b) =
 record FoundChunks (rules : Rules) (kind : StringKind) (b rest : List ℕ) : Type 0 where
   pub chunks : List Chunk
   pub spells : SpellsChunks kind b chunks (break_byte ∷ rest)
-  pub keeps : AllByRecursion (KeepsChunk rules) chunks
+  pub keeps : AllByRecursion (KeepsChunk rules kind) chunks
   pub rest_bytes : IsBytes rest
 
--- the width and the length of a content that was read
+-- the width, the length and the bytes of a content that was read
 pub content_width : (kind : StringKind) (n : ℕ) (w : IntegerWidth) (b rest : List ℕ) (c : Chunk)
-    → read_content kind n w b ≡ Ok (c, rest) → (c.width ≡ w) × (length c.bytes ≡ n)
+    → read_content kind n w b ≡ Ok (c, rest) → (c.width ≡ w) × (length c.bytes ≡ n) × (take n b ≡ c.bytes)
 unfolding read_content
 content_width kind n w b rest c e =
     let a = bind_ok (reading.split_at n b) (λ s. reading.checked_chunk kind w s.0 >>= λ c. Ok (c, s.1)) (c, rest) e in
@@ -110,6 +112,7 @@ content_width kind n w b rest c e =
       ap (λ (k : Chunk). k.width) (sym same ∙ sym is),
       ap (λ (k : Chunk). length k.bytes) (sym same ∙ sym is) ∙ ap (λ (k : List ℕ). length k) (sym text)
           ∙ (let whole : length (take n b) ≡ n = omega (arith, length-take n b) in whole),
+      text ∙ ap (λ (k : Chunk). k.bytes) (is ∙ same),
     )
   where
     checked : (kind : StringKind) (s : List ℕ) (k : Chunk) → reading.checked_chunk kind w s ≡ Ok k
@@ -120,7 +123,7 @@ content_width kind n w b rest c e =
 -- a chunk that keeps the rules, or the break
 abbrev OneFound : Rules → StringKind → List ℕ → code_chunk.Chunk → List ℕ → Type 0
 OneFound rules kind b code.Content rest =
-    (c : Chunk) × ChunkThen kind c b (λ r. r ≡ rest) × KeepsChunk rules c × IsBytes rest
+    (c : Chunk) × ChunkThen kind c b (λ r. r ≡ rest) × KeepsChunk rules kind c × IsBytes rest
 OneFound rules kind b code.Break rest = (b ≡ break_byte ∷ rest) × IsBytes rest
 
 chunk_found : (rules : Rules) (total : ℕ) (kind : StringKind) (b r : List ℕ) (o : Option (ℕ × IntegerWidth))
@@ -134,11 +137,11 @@ chunk_found rules total kind b r None x fits len e =
     (is, IsBytes-rest break_byte r (subst IsBytes is fits))
 chunk_found rules total kind b r (Some n) x fits len e =
     let u = then_kept (unless total b (number_breach rules n.0 n.1) r)
-    (λ r. kept_then (at total b (skip_content kind n.0 n.1 r)) (λ after. Ok (code.Content, after))) x e in
+    (λ r. kept_then (kept_content rules total b kind n.0 n.1 r) (λ after. Ok (code.Content, after))) x e in
     let none = unless_kept total b (number_breach rules n.0 n.1) r u.0 u.1 in
-    let t = then_kept (at total b (skip_content kind n.0 n.1 u.0)) (λ after. Ok (code.Content, after)) x u.2 in
-    let c = content_read (read_content kind n.0 n.1 u.0) t.0
-    (at_kept total b (skip_content kind n.0 n.1 u.0) t.0 t.1) in
+    let t = then_kept (kept_content rules total b kind n.0 n.1 u.0) (λ after. Ok (code.Content, after)) x u.2 in
+    let k = content_kept rules total b kind n.0 n.1 u.0 t.0 t.1 in
+    let c = content_read (read_content kind n.0 n.1 u.0) t.0 k.0 in
     let its_content : read_content kind n.0 n.1 r ≡ Ok (c.0, t.0) =
     subst (λ (x : List ℕ). read_content kind n.0 n.1 x ≡ Ok (c.0, t.0)) (sym none.1) c.1 in
     let read : read_chunk kind b ≡ Ok (Some c.0, t.0) =
@@ -147,8 +150,10 @@ chunk_found rules total kind b r (Some n) x fits len e =
     let takes = chunk_takes kind b t.0 c.0 fits read in
     let is = content_width kind n.0 n.1 r t.0 c.0 its_content in
     let short : number_breach rules (length c.0.bytes) c.0.width ≡ None = rw (is.0, is.1) none.0 in
+    let bytes : take n.0 u.0 ≡ c.0.bytes = ap (λ (y : List ℕ). take n.0 y) (sym none.1) ∙ is.2 in
+    let text = text_found rules kind c.0.bytes (subst (λ (y : List ℕ). text_breach rules kind y ≡ None) bytes k.1) in
     subst (λ (p : code_chunk.Chunk × List ℕ). OneFound rules kind b p.0 p.1) (kept_is (code.Content, t.0) x t.2)
-    (c.0, takes.0, number_found rules (length c.0.bytes) c.0.width takes.0.1.0 short, takes.1)
+    (c.0, takes.0, (number_found rules (length c.0.bytes) c.0.width takes.0.1.0 short, text), takes.1)
 
 one_found : (rules : Rules) (total : ℕ) (kind : StringKind) (b : List ℕ) (x : code_chunk.Chunk × List ℕ) → IsBytes b
     → kept_chunk rules total kind b ≡ Ok x → OneFound rules kind b x.0 x.1
@@ -222,13 +227,15 @@ module _ (rules : Rules) (total level left : ℕ) (b r rest : List ℕ) (sum : l
       (by_head left b r (item_head.Negative n w) head ∙ ap (λ x. Ok (atom (negative n w), x)) (kept_is r rest e))
       (λ s. (s.spells.1, number_found rules n w s.spells.1.0 breach))
   atom_found (item_head.String kind (Number n w)) head breach none e =
-      let c = content_read (read_content kind n w r) rest (at_kept total b (skip_content kind n w r) rest e) in
+      let k = content_kept rules total b kind n w r rest e in
+      let c = content_read (read_content kind n w r) rest k.0 in
       let is = content_width kind n w r rest c.0 c.1 in
       let short : number_breach rules (length c.0.bytes) c.0.width ≡ None = rw (is.0, is.1) breach in
+      let text = text_found rules kind c.0.bytes (subst (λ (y : List ℕ). text_breach rules kind y ≡ None) is.2 k.1) in
       made (string kind c.0)
       (by_head left b r (item_head.String kind (Number n w)) head
       ∙ ap (λ q. ◌>>=◌ q (λ c. Ok (atom (string kind c.0), c.1))) c.1)
-      (λ s. (s.spells.1, number_found rules (length c.0.bytes) c.0.width s.spells.1.1.0 short))
+      (λ s. (s.spells.1, (number_found rules (length c.0.bytes) c.0.width s.spells.1.1.0 short, text)))
   atom_found (item_head.String kind Indefinite) head breach none e =
       let is = head_takes b r (item_head.String kind Indefinite) fits head in
       let cs = chunks_found (suc (length r)) rules total kind r rest is.1 e in
@@ -248,7 +255,8 @@ module _ (rules : Rules) (total level left : ℕ) (b r rest : List ℕ) (sum : l
   atom_found (item_head.Simple n) head breach none e =
       made (simple n)
       (by_head left b r (item_head.Simple n) head ∙ ap (λ x. Ok (atom (simple n), x)) (kept_is r rest e))
-      (λ s. simple_found n s.front rest s.spells.1 (subst (λ x. simple_breach x ≡ None) s.parts breach))
+      (λ s. simple_found rules n s.front rest s.spells.1
+      (subst (λ x. simple_breach rules n x ≡ None) s.parts breach))
   atom_found (item_head.Array a) head breach none e = absurd cc
   atom_found (item_head.Map a) head breach none e = absurd cc
   atom_found (item_head.Tag n w) head breach none e = absurd cc

@@ -18,15 +18,14 @@ use Rattle.cbor_grammar.proofs.bytes.Heads.{IsBytes, ArgumentThen, head_takes}
 use Rattle.cbor_grammar.proofs.bytes.Strict.{strict_any}
 use Rattle.cbor_grammar.proofs.bytes.Sizes.{one_byte}
 use Rattle.cbor_rules.specs.declared.rules.Rules.{Rules}
-use Rattle.cbor_rules.specs.declared.kind.BreachKind.{BreachKind}
 use Rattle.cbor_rules.specs.declared.kind.BreachKind.TheVariants as kind
 use Rattle.cbor_rules.specs.declared.kind.Breach.{Breach}
 use Rattle.cbor_rules.specs.FirstBreach.{Kept, opened, kept_head, head_breach, number_breach}
-use Rattle.cbor_rules.specs.FirstBreach.{tag_breach, breach_or_else}
+use Rattle.cbor_rules.specs.FirstBreach.{tag_breach, breach_or_else, no_places}
 use Rattle.cbor_rules.specs.FirstBreach.{argument_breach, at, unless, kept_body, kept_item}
 use Rattle.cbor_rules.specs.FirstBreach.{breach_or, breach_from, first_breach}
 use Rattle.cbor_rules.specs.Keeps.{KeepsNumber, KeepsCount, KeepsItems, KeepsRules}
-use Rattle.cbor_rules.proofs.Heads.{then_kept, unless_kept, at_kept, some_first, number_found}
+use Rattle.cbor_rules.proofs.Heads.{then_kept, unless_kept, at_kept, some_first, both_none, number_found}
 use Rattle.cbor_rules.proofs.BigNumbers.{big_found}
 use Rattle.cbor_rules.proofs.Found.{Found, atom_found, definite_found}
 use Rattle.cbor_rules.proofs.FoundParts.{CountIs, close, FoundMembers, members_found, pairs_found}
@@ -56,10 +55,6 @@ whole major k Indefinite b r inner rest Members is parts count inside = record {
 }
 
 -- ---- the head of a container
-
-first_none : (x y : Option BreachKind) → breach_or_else x y ≡ None → (x ≡ None) × (y ≡ None)
-first_none (Some k) y e = absurd cc
-first_none None y e = (refl, e)
 
 some_last : {A : Type 0} (t : Bool) (x : A) (y : Option A) → cond t y (Some x) ≡ None → (t ≡ true) × (y ≡ None)
 some_last true x y e = (refl, e)
@@ -119,7 +114,7 @@ module _ (rules : Rules) (total level left : ℕ) (b r rest : List ℕ) (sum : l
       }
   body_found read finds (item_head.Map a) reads none e =
       let is = head_takes b r (item_head.Map a) fits reads in
-      let m = pairs_found rules total (level + 1) read finds (suc (length r)) None a r rest is.1 e in
+      let m = pairs_found rules total (level + 1) read finds (suc (length r)) None no_places a r rest is.1 e in
       let k = pair_count m.pairs in
       let its_head = some_first (ltb rules.deepest level) kind.TooDeep (argument_breach rules a) none in
       let w = whole 5 k a b r m.front rest (λ x end. SpellsPairs strict (level + 1) x m.pairs end) is.0 m.parts m.count
@@ -134,6 +129,7 @@ module _ (rules : Rules) (total level left : ℕ) (b r rest : List ℕ) (sum : l
           count_found rules 5 k a b r is.0 m.count its_head.1,
           m.keeps,
           m.keys,
+          λ on. (m.fresh on).1,
         );
         rest_bytes = m.rest_bytes;
       }
@@ -143,7 +139,7 @@ module _ (rules : Rules) (total level left : ℕ) (b r rest : List ℕ) (sum : l
       (members_found rules total (level + 1) read finds (suc (length r)) (Number 1 Zero) r rest is.1 e) in
       let tag_none = some_last rules.tags kind.Tag
       (breach_or_else (number_breach rules n w) (tag_breach rules n r)) none in
-      let its_head = first_none (number_breach rules n w) (tag_breach rules n r) tag_none.1 in
+      let its_head = both_none (number_breach rules n w) (tag_breach rules n r) tag_none.1 in
       let big = big_found rules n f.item (level + 1) f.front rest f.spells
       (subst (λ (y : List ℕ). tag_breach rules n y ≡ None) f.parts its_head.1) in
       let tag = head 6 n w in

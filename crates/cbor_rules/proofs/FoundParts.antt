@@ -15,10 +15,12 @@ use Rattle.cbor_grammar.proofs.bytes.Found.{break_ways}
 use Rattle.cbor_grammar.proofs.bytes.Strict.{strict_only}
 use Rattle.cbor_rules.specs.declared.rules.Rules.{Rules}
 use Rattle.cbor_rules.specs.FirstBreach.{Kept, kept_then, KeyAt, Open, members, pairs, value, front, key_breach}
-use Rattle.cbor_rules.specs.FirstBreach.{unless, kept_parts, compared, place_of}
+use Rattle.cbor_rules.specs.FirstBreach.{unless, kept_parts, compared, key_at, Places, with_key}
+use Rattle.cbor_rules.specs.FirstBreach.{order_breach, twice_breach}
 use Rattle.cbor_rules.specs.KeyOrder.{key_cmp}
 use Rattle.cbor_rules.specs.Keeps.{KeysAfter, KeysInOrder, KeepsItems, KeepsPairs}
-use Rattle.cbor_rules.proofs.Heads.{then_kept, unless_kept, kept_is}
+use Rattle.cbor_rules.proofs.Heads.{then_kept, unless_kept, kept_is, both_none}
+use Rattle.cbor_rules.proofs.KeysTwice.{KeysFresh, no_fresh, fresh_more}
 use Rattle.cbor_rules.proofs.Found.{Found}
 
 -- this many are to come, or any number
@@ -45,7 +47,8 @@ abbrev pub KeysOk : Rules → Option KeyAt → Pairs → Type 0
 KeysOk rules None ps = KeysInOrder rules.key_order ps
 KeysOk rules (Some last) ps = KeysAfter rules.key_order last.bytes ps
 
-pub record FoundPairs (rules : Rules) (level : ℕ) (last : Option KeyAt) (a : Argument) (b rest : List ℕ) : Type 0 where
+pub record FoundPairs (rules : Rules) (level : ℕ) (last : Option KeyAt) (seen : Places) (a : Argument)
+    (b rest : List ℕ) : Type 0 where
   pub pairs : Pairs
   pub front : List ℕ
   pub parts : b ≡ front ++ rest
@@ -53,13 +56,15 @@ pub record FoundPairs (rules : Rules) (level : ℕ) (last : Option KeyAt) (a : A
   pub spells : SpellsPairs strict level front pairs (close a)
   pub keeps : KeepsPairs rules level pairs
   pub keys : KeysOk rules last pairs
+  pub fresh : KeysFresh rules seen pairs
   pub rest_bytes : IsBytes rest
 
 -- the value of a key, and then pairs
-record FoundValue (rules : Rules) (level : ℕ) (key : KeyAt) (a : Argument) (b rest : List ℕ) : Type 0 where
+record FoundValue (rules : Rules) (level : ℕ) (key : KeyAt) (seen : Places) (a : Argument)
+    (b rest : List ℕ) : Type 0 where
   pub after : List ℕ
   pub found : Found rules level b after
-  pub more : FoundPairs rules level (Some key) a after rest
+  pub more : FoundPairs rules level (Some key) seen a after rest
 
 -- ---- lists
 
@@ -149,7 +154,7 @@ module _ (rules : Rules) (total level : ℕ) (read : List ℕ → Kept (List ℕ
   -- ---- pairs
 
   keys_more : (last : Option KeyAt) (b r : List ℕ) (f : Found rules level b r) (v : Item) (ps : Pairs)
-      → key_breach rules last (front b r) ≡ None → KeysAfter rules.key_order (front b r) ps
+      → order_breach rules last (front b r) ≡ None → KeysAfter rules.key_order (front b r) ps
       → KeysOk rules last (pair f.item v ps)
   keys_more None b r f v ps none after =
       let is = front_is f.front r b f.parts ∙ strict_only level f.front f.item f.spells in
@@ -161,12 +166,12 @@ module _ (rules : Rules) (total level : ℕ) (read : List ℕ → Kept (List ℕ
         subst (λ (k : List ℕ). KeysAfter rules.key_order k ps) is after,
       )
 
-  pair_more : (last : Option KeyAt) (a a' : Argument) (b r rest : List ℕ) → close a' ≡ close a
+  pair_more : (last : Option KeyAt) (seen : Places) (a a' : Argument) (b r rest : List ℕ) → close a' ≡ close a
       → ((k : ℕ) → CountIs a' k → CountIs a (suc k)) → Found rules level b r
-      → key_breach rules last (front b r) ≡ None
-      → FoundValue rules level (record { place = place_of total b; bytes = front b r }) a' r rest
-      → FoundPairs rules level last a b rest
-  pair_more last a a' b r rest same_end more f none v = record {
+      → key_breach rules last seen (front b r) ≡ None
+      → FoundValue rules level (key_at total b r) (with_key rules (key_at total b r) seen) a' r rest
+      → FoundPairs rules level last seen a b rest
+  pair_more last seen a a' b r rest same_end more f none v = record {
     pairs = pair f.item v.found.item v.more.pairs;
     front = f.front ++ (v.found.front ++ v.more.front);
     parts = two_parts b f.front r (v.found.front ++ v.more.front) rest f.parts
@@ -182,36 +187,43 @@ module _ (rules : Rules) (total level : ℕ) (read : List ℕ → Kept (List ℕ
       subst (λ (e : List ℕ). SpellsPairs strict level v.more.front v.more.pairs e) same_end v.more.spells,
     );
     keeps = (f.keeps, v.found.keeps, v.more.keeps);
-    keys = keys_more last b r f v.found.item v.more.pairs none v.more.keys;
+    keys = keys_more last b r f v.found.item v.more.pairs
+        (both_none (order_breach rules last (front b r)) (twice_breach rules seen (front b r)) none).0 v.more.keys;
+    fresh = fresh_more rules seen (key_at total b r) f.item v.found.item v.more.pairs
+        (front_is f.front r b f.parts ∙ strict_only level f.front f.item f.spells)
+        (both_none (order_breach rules last (front b r)) (twice_breach rules seen (front b r)) none).1 v.more.fresh;
     rest_bytes = v.more.rest_bytes;
   }
 
   -- a key that was read, and what was read after it
-  key_found : (last : Option KeyAt) (a a' : Argument) (b rest : List ℕ) (after : Open → List ℕ → Kept (List ℕ))
-      → IsBytes b → close a' ≡ close a → ((k : ℕ) → CountIs a' k → CountIs a (suc k))
-      → ((key : KeyAt) (r : List ℕ) → IsBytes r → after (value key a') r ≡ Ok rest
-      → FoundValue rules level key a' r rest)
-      → kept_then (read b) (λ r. kept_then (unless total b (key_breach rules last (front b r))
-      (value (record { place = place_of total b; bytes = front b r }) a')) (λ p. after p r)) ≡ Ok rest
-      → FoundPairs rules level last a b rest
-  key_found last a a' b rest after fits same_end more values e =
-      let t = then_kept (read b) (λ r. kept_then (unless total b (key_breach rules last (front b r))
-      (value (record { place = place_of total b; bytes = front b r }) a')) (λ p. after p r)) rest e in
+  key_found : (last : Option KeyAt) (seen : Places) (a a' : Argument) (b rest : List ℕ)
+      (after : Open → List ℕ → Kept (List ℕ)) → IsBytes b → close a' ≡ close a
+      → ((k : ℕ) → CountIs a' k → CountIs a (suc k))
+      → ((key : KeyAt) (seen' : Places) (r : List ℕ) → IsBytes r → after (value key seen' a') r ≡ Ok rest
+      → FoundValue rules level key seen' a' r rest)
+      → kept_then (read b) (λ r. kept_then (unless total b (key_breach rules last seen (front b r))
+      (value (key_at total b r) (with_key rules (key_at total b r) seen) a')) (λ p. after p r)) ≡ Ok rest
+      → FoundPairs rules level last seen a b rest
+  key_found last seen a a' b rest after fits same_end more values e =
+      let t = then_kept (read b) (λ r. kept_then (unless total b (key_breach rules last seen (front b r))
+      (value (key_at total b r) (with_key rules (key_at total b r) seen) a')) (λ p. after p r)) rest e in
       let r = t.0 in
-      let key : KeyAt = record { place = place_of total b; bytes = front b r } in
+      let key = key_at total b r in
+      let seen' = with_key rules key seen in
       let f = finds b r fits t.1 in
-      let u = then_kept (unless total b (key_breach rules last (front b r)) (value key a')) (λ p. after p r) rest t.2 in
-      let none = unless_kept total b (key_breach rules last (front b r)) (value key a') u.0 u.1 in
+      let breach = key_breach rules last seen (front b r) in
+      let u = then_kept (unless total b breach (value key seen' a')) (λ p. after p r) rest t.2 in
+      let none = unless_kept total b breach (value key seen' a') u.0 u.1 in
       let its_value = subst (λ (p : Open). after p r ≡ Ok rest) (sym none.1) u.2 in
-      pair_more last a a' b r rest same_end more f none.0 (values key r f.rest_bytes its_value)
+      pair_more last seen a a' b r rest same_end more f none.0 (values key seen' r f.rest_bytes its_value)
 
   mutual
     unfolding kept_parts
 
-    pub pairs_found : (n : ℕ) (last : Option KeyAt) (a : Argument) (b rest : List ℕ) → IsBytes b
-        → kept_parts n rules total read (pairs last a) b ≡ Ok rest → FoundPairs rules level last a b rest
-    pairs_found zero last a b rest fits e = absurd cc
-    pairs_found (suc n) last (Number zero w) b rest fits e =
+    pub pairs_found : (n : ℕ) (last : Option KeyAt) (seen : Places) (a : Argument) (b rest : List ℕ) → IsBytes b
+        → kept_parts n rules total read (pairs last seen a) b ≡ Ok rest → FoundPairs rules level last seen a b rest
+    pairs_found zero last seen a b rest fits e = absurd cc
+    pairs_found (suc n) last seen (Number zero w) b rest fits e =
         let same = kept_is b rest e in
         record {
           pairs = no_pairs;
@@ -221,12 +233,13 @@ module _ (rules : Rules) (total level : ℕ) (read : List ℕ → Kept (List ℕ
           spells = refl;
           keeps = tt;
           keys = no_keys rules last;
+          fresh = no_fresh rules seen;
           rest_bytes = subst IsBytes same fits;
         }
-    pairs_found (suc n) last (Number (suc k) w) b rest fits e =
-        key_found last (Number (suc k) w) (Number k w) b rest (kept_parts n rules total read) fits refl
-        (λ j is. ap suc is) (λ key r fits e. value_found n key (Number k w) r rest fits e) e
-    pairs_found (suc n) last Indefinite b rest fits e =
+    pairs_found (suc n) last seen (Number (suc k) w) b rest fits e =
+        key_found last seen (Number (suc k) w) (Number k w) b rest (kept_parts n rules total read) fits refl
+        (λ j is. ap suc is) (λ key s r fits e. value_found n key s (Number k w) r rest fits e) e
+    pairs_found (suc n) last seen Indefinite b rest fits e =
         elim (break_ways b) [
           | inl at ↦
               let same = kept_is at.0 rest (rw at.2 at e) in
@@ -238,16 +251,17 @@ module _ (rules : Rules) (total level : ℕ) (read : List ℕ → Kept (List ℕ
                 spells = refl;
                 keeps = tt;
                 keys = no_keys rules last;
+                fresh = no_fresh rules seen;
                 rest_bytes = subst IsBytes same (IsBytes-rest break_byte at.0 (subst IsBytes at.1 fits));
               }
-          | inr none ↦ key_found last Indefinite Indefinite b rest (kept_parts n rules total read) fits refl
-              (λ j is. tt) (λ key r fits e. value_found n key Indefinite r rest fits e) (rw none at e)
+          | inr none ↦ key_found last seen Indefinite Indefinite b rest (kept_parts n rules total read) fits refl
+              (λ j is. tt) (λ key s r fits e. value_found n key s Indefinite r rest fits e) (rw none at e)
         ]
 
-    value_found : (n : ℕ) (key : KeyAt) (a : Argument) (b rest : List ℕ) → IsBytes b
-        → kept_parts n rules total read (value key a) b ≡ Ok rest → FoundValue rules level key a b rest
-    value_found zero key a b rest fits e = absurd cc
-    value_found (suc n) key a b rest fits e =
-        let t = then_kept (read b) (λ r. kept_parts n rules total read (pairs (Some key) a) r) rest e in
+    value_found : (n : ℕ) (key : KeyAt) (seen : Places) (a : Argument) (b rest : List ℕ) → IsBytes b
+        → kept_parts n rules total read (value key seen a) b ≡ Ok rest → FoundValue rules level key seen a b rest
+    value_found zero key seen a b rest fits e = absurd cc
+    value_found (suc n) key seen a b rest fits e =
+        let t = then_kept (read b) (λ r. kept_parts n rules total read (pairs (Some key) seen a) r) rest e in
         let f = finds b t.0 fits t.1 in
-        record { after = t.0; found = f; more = pairs_found n (Some key) a t.0 rest f.rest_bytes t.2 }
+        record { after = t.0; found = f; more = pairs_found n (Some key) seen a t.0 rest f.rest_bytes t.2 }

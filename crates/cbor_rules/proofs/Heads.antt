@@ -1,7 +1,7 @@
 -- A head breaks no rule exactly if what it says keeps the rules.
-use Rattle.std.proofs.Common.{◌≡◌, ℕ, ◌<◌, ◌≤◌, ◌⊎◌, Bool, true, false, cond, ◌&&◌, ltb, List, ◌∷◌, ◌++◌}
-use Rattle.std.proofs.Common.{Option, Some, None, Result, Ok, Err, inl, inr, refl, ap, arith}
-use Rattle.std.proofs.lemmas.Bool.{le-ltb, ltb-false}
+use Rattle.std.proofs.Common.{◌≡◌, ℕ, ◌<◌, ◌≤◌, ◌⊎◌, Bool, true, false, cond, ◌&&◌, ◌||◌, ltb, leb, List, ◌∷◌, ◌++◌}
+use Rattle.std.proofs.Common.{Option, Some, None, Result, Ok, Err, inl, inr, refl, ap, ◌∙◌, arith}
+use Rattle.std.proofs.lemmas.Bool.{le-ltb, ltb-false, le-leb, leb-true}
 use Rattle.cbor_grammar.specs.declared.width.IntegerWidth.{IntegerWidth}
 use Rattle.cbor_grammar.specs.declared.width.IntegerWidth.TheVariants.{Unknown, Zero, Eight, Sixteen, ThirtyTwo}
 use Rattle.cbor_grammar.specs.declared.width.IntegerWidth.TheVariants.{SixtyFour}
@@ -13,7 +13,8 @@ use Rattle.cbor_rules.specs.declared.rules.Rules.{Rules}
 use Rattle.cbor_rules.specs.declared.kind.BreachKind.{BreachKind}
 use Rattle.cbor_rules.specs.declared.kind.BreachKind.TheVariants as kind
 use Rattle.cbor_rules.specs.FirstBreach.{Kept, kept_then, unless, at, is_long, number_breach, simple_breach}
-use Rattle.cbor_rules.specs.Keeps.{KeepsNumber}
+use Rattle.cbor_rules.specs.FirstBreach.{two_byte_breach, other_breach, breach_or_else}
+use Rattle.cbor_rules.specs.Keeps.{KeepsNumber, KeepsSimple}
 
 -- ---- what was read without a breach
 
@@ -48,6 +49,18 @@ test_kept false x never = refl
 pub some_first : {A : Type 0} (t : Bool) (x : A) (y : Option A) → cond t (Some x) y ≡ None → (t ≡ false) × (y ≡ None)
 some_first true x y e = absurd cc
 some_first false x y e = (refl, e)
+
+pub tested : {A : Type 0} (t : Bool) (x : Option A) → t ≡ true → cond t x None ≡ None → x ≡ None
+tested true x on e = e
+tested false x on e = absurd cc
+
+pub untested : {A : Type 0} (t : Bool) (x : Option A) → (t ≡ true → x ≡ None) → cond t x None ≡ None
+untested true x none = none refl
+untested false x none = refl
+
+pub both_none : (x y : Option BreachKind) → breach_or_else x y ≡ None → (x ≡ None) × (y ≡ None)
+both_none (Some k) y e = absurd cc
+both_none None y e = (refl, e)
 
 -- ---- numbers
 
@@ -101,11 +114,41 @@ number_again rules n w keeps =
 
 -- ---- simple values
 
--- a simple value without a breach takes the bytes that it has to
-pub simple_found : (n : ℕ) (front rest : List ℕ) → SpellsSimple any front n → simple_breach (front ++ rest) ≡ None
+-- it takes the bytes that it has to
+strict_found : (n : ℕ) (front rest : List ℕ) → SpellsSimple any front n → two_byte_breach (front ++ rest) ≡ None
     → SpellsSimple strict front n × ((n < 24) ⊎ (32 ≤ n))
-simple_found n front rest (inl s) e = (inl s, inl s.0)
-simple_found n front rest (inr s) e =
-    let two : simple_breach (0xf8 ∷ n ∷ rest) ≡ None = rw s.1 at e in
+strict_found n front rest (inl s) e = (inl s, inl s.0)
+strict_found n front rest (inr s) e =
+    let two : two_byte_breach (0xf8 ∷ n ∷ rest) ≡ None = rw s.1 at e in
     let least : 32 ≤ n = ltb-false n 32 (test_none (ltb n 32) kind.LongSimple two) in
     (inr (omega arith, s.0, s.1), inr least)
+
+-- it is one that there may be
+other_found : (t : Bool) (n : ℕ) → cond (t || (leb 20 n && leb n 22)) None (Some (kind.OtherSimple n)) ≡ None
+    → (t ≡ true) ⊎ ((20 ≤ n) × (n ≤ 22))
+other_found true n e = inl refl
+other_found false n e = inr (go (leb 20 n) (leb n 22) refl refl e)
+  where
+    go : (l m : Bool) → leb 20 n ≡ l → leb n 22 ≡ m → cond (l && m) None (Some (kind.OtherSimple n)) ≡ None
+        → (20 ≤ n) × (n ≤ 22)
+    go true true a b e = (leb-true 20 n a, leb-true n 22 b)
+    go true false a b e = absurd cc
+    go false m a b e = absurd cc
+
+other_again : (t : Bool) (n : ℕ) → (t ≡ true) ⊎ ((20 ≤ n) × (n ≤ 22))
+    → cond (t || (leb 20 n && leb n 22)) None (Some (kind.OtherSimple n)) ≡ None
+other_again true n h = refl
+other_again false n (inl is) = absurd cc
+other_again false n (inr h) = rw (le-leb 20 n h.0, le-leb n 22 h.1) refl
+
+pub simple_found : (rules : Rules) (n : ℕ) (front rest : List ℕ) → SpellsSimple any front n
+    → simple_breach rules n (front ++ rest) ≡ None → SpellsSimple strict front n × KeepsSimple rules n
+simple_found rules n front rest s e =
+    let p = both_none (two_byte_breach (front ++ rest)) (other_breach rules n) e in
+    let q = strict_found n front rest s p.0 in
+    (q.0, (q.1, other_found rules.other_simple n p.1))
+
+pub simple_again : (rules : Rules) (n : ℕ) (b : List ℕ) → two_byte_breach b ≡ None → KeepsSimple rules n
+    → simple_breach rules n b ≡ None
+simple_again rules n b none keeps =
+    ap (λ k. breach_or_else k (other_breach rules n)) none ∙ other_again rules.other_simple n keeps.1

@@ -1,3 +1,7 @@
+pub mod DoubleSizes
+pub mod Texts
+pub mod KeysTwice
+pub mod Stops
 pub mod Turns
 pub mod Heads
 pub mod Floats
@@ -10,3 +14,4 @@ pub mod BigNumbers
 pub mod AgainItems
 pub mod SortedPairs
 pub mod Deterministic
+pub mod Exactly

@@ -2,7 +2,9 @@
 -- at before what it opens, and a key is compared with the one before it where it ends. The clause
 -- `none` of `breach` says which bytes have no breach.
 use Rattle.std.specs.Prelude.{ℕ, zero, suc, ◌-◌, List, [], ◌∷◌, length, take, Option, Some, None}
-use Rattle.std.specs.Prelude.{Bool, ◌&&◌, ◌||◌, Result, Ok, Err, nat_lt, ◌==◌, if◌then◌else◌}
+use Rattle.std.specs.Prelude.{Bool, false, ◌&&◌, ◌||◌, Result, Ok, Err, nat_lt, nat_le, ◌==◌, if◌then◌else◌, not}
+use Rattle.std.specs.Prelude.{is_nan, chars, bytes_eq}
+use Rattle.unicode_normalization.specs.Forms.{is_nfc}
 use Rattle.std.specs.declared.cmp.Ordering.{Ordering}
 use Rattle.std.specs.declared.cmp.Ordering.TheVariants.{Less, Equal, Greater}
 use Rattle.cbor_grammar.specs.declared.width.IntegerWidth.{IntegerWidth}
@@ -15,13 +17,14 @@ use Rattle.cbor_grammar.specs.declared.argument.Argument.TheVariants.{Number, In
 use Rattle.cbor_grammar.specs.declared.head.ItemHead.{ItemHead}
 use Rattle.cbor_grammar.specs.declared.head.ItemHead.TheVariants as item_head
 use Rattle.cbor_grammar.specs.declared.strings.StringKind.{StringKind}
-use Rattle.cbor_grammar.specs.declared.strings.StringKind.TheVariants.{Bytes}
+use Rattle.cbor_grammar.specs.declared.strings.StringKind.TheVariants.{Bytes, Text}
 use Rattle.cbor_grammar.specs.StringKind.{major_of}
 use Rattle.cbor_grammar.specs.WellFormed.{deepest}
 use Rattle.cbor_grammar.specs.Reading.{Read, read_head, read_chunk_length, after_members, one_less, no_level_left}
 use Rattle.cbor_bytes.specs.mirror.Skipping.{skip_content}
 use Rattle.cbor_floats.specs.Preferred.{shorter}
 use Rattle.cbor_floats.specs.declared.float.EncodedFloat.{EncodedFloat}
+use Rattle.cbor_floats.specs.declared.float.EncodedFloat.TheVariants.{Half}
 use Rattle.cbor_rules.specs.Keeps.{float_of}
 use Rattle.cbor_rules.specs.declared.rules.Rules.{Rules}
 use Rattle.cbor_rules.specs.declared.kind.Breach.{Breach}
@@ -30,6 +33,7 @@ use Rattle.cbor_rules.specs.declared.kind.BreachKind.TheVariants as kind
 use Rattle.cbor_rules.specs.declared.check.Chunk.{Chunk}
 use Rattle.cbor_rules.specs.declared.check.Chunk.TheVariants as chunk
 use Rattle.cbor_rules.specs.KeyOrder.{key_cmp}
+use Rattle.cbor_rules.specs.Reduced.{number_of, reduced}
 
 -- ---- one head
 
@@ -58,13 +62,44 @@ abbrev pub long_float : EncodedFloat → Option EncodedFloat → Option BreachKi
 long_float float None = None
 long_float float (Some shortest) = Some (kind.LongFloat float shortest)
 
+-- of a float that is that integer
+abbrev pub integer_float : EncodedFloat → Option (Bool × ℕ) → Option BreachKind
+integer_float float None = None
+integer_float float (Some n) = Some (kind.IntegerFloat float n.0 n.1)
+
+abbrev pub is_usual_nan : EncodedFloat → Bool
+is_usual_nan (Half bits) = bits == 0x7e00
+is_usual_nan float = false
+
+abbrev pub nan_breach : EncodedFloat → Option BreachKind
+nan_breach float = if is_nan (number_of float) && not (is_usual_nan float) then Some (kind.OtherNan float) else None
+
+abbrev pub breach_or_else : Option BreachKind → Option BreachKind → Option BreachKind
+breach_or_else (Some kind) other = Some kind
+breach_or_else None other = other
+
+-- of a float where numbers are reduced
+abbrev pub reduced_breach : EncodedFloat → Option BreachKind
+reduced_breach float = breach_or_else (integer_float float (reduced float)) (nan_breach float)
+
 abbrev pub float_breach : Rules → EncodedFloat → Option BreachKind
-float_breach rules float = if rules.shortest_floats then long_float float (shorter float) else None
+float_breach rules float =
+    breach_or_else (if rules.reduced_floats then reduced_breach float else None)
+    (if rules.shortest_floats then long_float float (shorter float) else None)
 
 -- a simple value in two bytes is not below 32
-abbrev pub simple_breach : List ℕ → Option BreachKind
-simple_breach (first ∷ n ∷ b) = if (first == 0xf8) && nat_lt n 32 then Some kind.LongSimple else None
-simple_breach b = None
+abbrev pub two_byte_breach : List ℕ → Option BreachKind
+two_byte_breach (first ∷ n ∷ b) = if (first == 0xf8) && nat_lt n 32 then Some kind.LongSimple else None
+two_byte_breach b = None
+
+-- of a simple value that may be none but false, true and null
+abbrev pub other_breach : Rules → ℕ → Option BreachKind
+other_breach rules n =
+    if rules.other_simple || (nat_le 20 n && nat_le n 22) then None else Some (kind.OtherSimple n)
+
+-- of a simple value; the bytes begin with its head
+abbrev pub simple_breach : Rules → ℕ → List ℕ → Option BreachKind
+simple_breach rules n b = breach_or_else (two_byte_breach b) (other_breach rules n)
 
 -- of the content of a big number, of this length, which begins with these bytes: an integer has up to 8 bytes
 abbrev pub content_breach : ℕ → List ℕ → Option BreachKind
@@ -84,10 +119,6 @@ abbrev pub tag_breach : Rules → ℕ → List ℕ → Option BreachKind
 tag_breach rules t rest =
     if rules.big_numbers && ((t == 2) || (t == 3)) then big_breach (read_head rest) else None
 
-abbrev pub breach_or_else : Option BreachKind → Option BreachKind → Option BreachKind
-breach_or_else (Some kind) other = Some kind
-breach_or_else None other = other
-
 -- of a head at this level; the bytes begin with it, and the rest comes after it
 abbrev pub head_breach : Rules → ℕ → List ℕ → ItemHead → List ℕ → Option BreachKind
 head_breach rules level b (item_head.Integer n w) rest = number_breach rules n w
@@ -98,7 +129,7 @@ head_breach rules level b (item_head.Map a) rest = container_breach rules level 
 head_breach rules level b (item_head.Tag n w) rest =
     if rules.tags then breach_or_else (number_breach rules n w) (tag_breach rules n rest) else Some kind.Tag
 head_breach rules level b (item_head.Float bits w) rest = float_breach rules (float_of bits w)
-head_breach rules level b (item_head.Simple n) rest = simple_breach b
+head_breach rules level b (item_head.Simple n) rest = simple_breach rules n b
 
 -- ---- keys
 
@@ -113,9 +144,34 @@ compared Equal place = Some (kind.KeyTwice place)
 compared Greater place = Some (kind.KeyOrder place)
 
 -- of a key after the one before it in its map
-abbrev pub key_breach : Rules → Option KeyAt → List ℕ → Option BreachKind
-key_breach rules None key = None
-key_breach rules (Some last) key = compared (key_cmp rules.key_order last.bytes key) last.place
+abbrev pub order_breach : Rules → Option KeyAt → List ℕ → Option BreachKind
+order_breach rules None key = None
+order_breach rules (Some last) key = compared (key_cmp rules.key_order last.bytes key) last.place
+
+-- where each key of a map is
+abbrev pub Places : Type 0
+Places = List ℕ → Option ℕ
+
+abbrev pub no_places : Places
+no_places key = None
+
+-- one key more
+abbrev pub placed : KeyAt → Places → Places
+placed k seen key = if bytes_eq k.bytes key then Some k.place else seen key
+
+abbrev pub twice : Option ℕ → Option BreachKind
+twice None = None
+twice (Some place) = Some (kind.KeyTwice place)
+
+-- of a key after those that were seen
+abbrev pub twice_breach : Rules → Places → List ℕ → Option BreachKind
+twice_breach rules seen key = if rules.distinct_keys then twice (seen key) else None
+
+abbrev pub key_breach : Rules → Option KeyAt → Places → List ℕ → Option BreachKind
+key_breach rules last seen key = breach_or_else (order_breach rules last key) (twice_breach rules seen key)
+
+abbrev pub with_key : Rules → KeyAt → Places → Places
+with_key rules k seen = if rules.distinct_keys then placed k seen else seen
 
 -- ---- reading
 
@@ -149,13 +205,27 @@ abbrev pub kept_head : Rules → ℕ → ℕ → List ℕ → Kept (ItemHead × 
 kept_head rules total level b =
     kept_then (at total b (read_head b)) (λ h. unless total b (head_breach rules level b h.0 h.1) h)
 
+-- of the content of a text
+abbrev pub nfc_breach : List ℕ → Option BreachKind
+nfc_breach content = if is_nfc (chars content) then None else Some kind.NotNfc
+
+-- of the content of a string
+abbrev pub text_breach : Rules → StringKind → List ℕ → Option BreachKind
+text_breach rules Text content = if rules.nfc then nfc_breach content else None
+text_breach rules Bytes content = None
+
+-- the bytes after the content of a string or a chunk, whose head is at these bytes
+abbrev pub kept_content : Rules → ℕ → List ℕ → StringKind → ℕ → IntegerWidth → List ℕ → Kept (List ℕ)
+kept_content rules total b kind n w rest =
+    kept_then (at total b (skip_content kind n w rest)) (unless total b (text_breach rules kind (take n rest)))
+
 -- what comes after the head of a chunk at these bytes: its content, or nothing after the break
 abbrev pub chunk_content : Rules → ℕ → StringKind → List ℕ → Option (ℕ × IntegerWidth) → List ℕ
     → Kept (Chunk × List ℕ)
 chunk_content rules total kind b None rest = Ok (chunk.Break, rest)
 chunk_content rules total kind b (Some n) rest =
     kept_then (unless total b (number_breach rules n.0 n.1) rest)
-    (λ r. kept_then (at total b (skip_content kind n.0 n.1 r)) (λ after. Ok (chunk.Content, after)))
+    (λ r. kept_then (kept_content rules total b kind n.0 n.1 r) (λ after. Ok (chunk.Content, after)))
 
 -- the next chunk of an indefinite string, or its break, and the bytes after it
 abbrev pub kept_chunk : Rules → ℕ → StringKind → List ℕ → Kept (Chunk × List ℕ)
@@ -177,36 +247,40 @@ kept_chunks (suc n) rules total kind b =
 -- ---- containers
 
 -- What is still to come in an open container: this many members, or all up to a break; pairs, with keys after the last
--- one; or the value of a key, and then pairs. A tag is a container of one member.
+-- one and those that were seen; or the value of a key, and then pairs. A tag is a container of one member.
 pub data Open : Type 0 where
   members : Argument → Open
-  pairs : Option KeyAt → Argument → Open
-  value : KeyAt → Argument → Open
+  pairs : Option KeyAt → Places → Argument → Open
+  value : KeyAt → Places → Argument → Open
 
 -- the container that a head opens, if it opens one
 abbrev pub opened : ItemHead → Option Open
 opened (item_head.Array a) = Some (members a)
-opened (item_head.Map a) = Some (pairs None a)
+opened (item_head.Map a) = Some (pairs None no_places a)
 opened (item_head.Tag n w) = Some (members (Number 1 Zero))
 opened _ = None
 
 -- the bytes after the container, if it ends here
 abbrev pub after_end : Open → List ℕ → Option (List ℕ)
 after_end (members left) b = after_members left b
-after_end (pairs last left) b = after_members left b
-after_end (value key left) b = None
+after_end (pairs last seen left) b = after_members left b
+after_end (value key seen left) b = None
 
 -- the bytes before these last ones
 abbrev pub front : List ℕ → List ℕ → List ℕ
 front b rest = take (length b - length rest) b
 
+-- the key that was read up to the rest
+abbrev pub key_at : ℕ → List ℕ → List ℕ → KeyAt
+key_at total b rest = record { place = place_of total b; bytes = front b rest }
+
 -- what is to come after one part more, which was read up to the rest
 abbrev pub after_part : Rules → ℕ → Open → List ℕ → List ℕ → Kept Open
 after_part rules total (members left) b rest = Ok (members (one_less left))
-after_part rules total (pairs last left) b rest =
-    unless total b (key_breach rules last (front b rest))
-    (value (record { place = place_of total b; bytes = front b rest }) (one_less left))
-after_part rules total (value key left) b rest = Ok (pairs (Some key) left)
+after_part rules total (pairs last seen left) b rest =
+    unless total b (key_breach rules last seen (front b rest))
+    (value (key_at total b rest) (with_key rules (key_at total b rest) seen) (one_less left))
+after_part rules total (value key seen left) b rest = Ok (pairs (Some key) seen left)
 
 abbrev pub ended_or : Option (List ℕ) → Kept (List ℕ) → Kept (List ℕ)
 ended_or (Some after) more = Ok after
@@ -224,7 +298,7 @@ kept_parts (suc n) rules total read o b =
 
 -- the bytes after the content of a string; its head is at these bytes and is read already
 abbrev pub kept_string : Rules → ℕ → List ℕ → StringKind → Argument → List ℕ → Kept (List ℕ)
-kept_string rules total b kind (Number n w) rest = at total b (skip_content kind n w rest)
+kept_string rules total b kind (Number n w) rest = kept_content rules total b kind n w rest
 kept_string rules total b kind Indefinite rest = kept_chunks (suc (length rest)) rules total kind rest
 
 -- the bytes after an item; its head is at these bytes and is read already

@@ -1,4 +1,5 @@
 pub mod KeyOrder
+pub mod Reduced
 pub mod FirstBreach
 pub mod Keeps
 pub mod Same

@@ -1,53 +1,36 @@
 //! Finds the first breach, going from head to head. A container is a call of [`Check::after_item`],
-//! at most 128 deep, which keeps how many parts are still to come and where its last key is.
+//! at most 128 deep, which keeps how many parts are still to come, where its last key is and, where
+//! no key may stand twice, where each key is.
 ghost use Rattle.std.specs.Prelude.{◌≡◌, ◌≢◌, ℕ, suc, ◌+◌, ◌-◌, ◌<◌, ◌≤◌, length, take, None, IfOk};
-ghost use Rattle.std.specs.Prelude.{IfErr, IfSome, option_map, ◌↔◌};
+ghost use Rattle.std.specs.Prelude.{IfErr, IsErr, OnOk, IfSome, option_map, true, ◌↔◌};
 ghost use Rattle.std.specs.Result.{result_map_both};
 ghost use Rattle.cbor_grammar.specs.declared.width.IntegerWidth.{IntegerWidth};
-ghost use Rattle.cbor_grammar.specs.Reading.{after_members, one_less, read_head};
+ghost use Rattle.cbor_grammar.specs.StringKind.{IsContent};
 ghost use Rattle.cbor_grammar.specs.WellFormed.{deepest};
 ghost use Rattle.cbor_bytes.specs.mirror.Skipping.{skip_content};
-ghost use Rattle.cbor_rules.specs.FirstBreach.{is_long, number_breach, float_breach};
-ghost use Rattle.cbor_rules.specs.FirstBreach.{argument_breach};
-ghost use Rattle.cbor_rules.specs.FirstBreach.{container_breach, simple_breach, head_breach};
-ghost use Rattle.cbor_rules.specs.FirstBreach.{content_breach, big_breach, tag_breach};
-ghost use Rattle.cbor_rules.specs.FirstBreach.{compared, key_breach, place_of, breach_at, at};
-ghost use Rattle.cbor_rules.specs.FirstBreach.{kept_head, kept_chunk, kept_chunks, opened};
-ghost use Rattle.cbor_rules.specs.FirstBreach.{after_end, front, after_part, kept_atom, kept_parts};
-ghost use Rattle.cbor_rules.specs.FirstBreach.{kept_item, first_breach};
-ghost use Rattle.cbor_rules.specs.Keeps.{float_of, KeepsRules};
-ghost use Rattle.cbor_rules.specs.mirror.Opened.{open_of, key_of, FloatFits};
+ghost use Rattle.cbor_rules.specs.FirstBreach.{text_breach, compared, order_breach, key_breach};
+ghost use Rattle.cbor_rules.specs.FirstBreach.{with_key, no_places, place_of, breach_at};
+ghost use Rattle.cbor_rules.specs.FirstBreach.{kept_head, kept_content, kept_chunk, kept_chunks};
+ghost use Rattle.cbor_rules.specs.FirstBreach.{front, after_part, kept_string, kept_atom};
+ghost use Rattle.cbor_rules.specs.FirstBreach.{kept_parts, kept_item, first_breach};
+ghost use Rattle.cbor_rules.specs.Keeps.{KeepsRules, without_memory};
+ghost use Rattle.cbor_rules.specs.mirror.Opened.{open_of, key_of, places_of, is_on, Gives};
+ghost use Rattle.cbor_rules.specs.mirror.Opened.{StopFits, HasMemory};
 
-use crate::head::{big_breach, float_of, is_long, simple_breach};
+use crate::container::{Open, one_less};
+use crate::keys::{Key, Keys};
 use crate::kind::{Breach, BreachKind};
 use crate::rules::Rules;
+use crate::text::nfc_breach;
 use cbor_bytes::head::{no_level_left, read_head};
 use cbor_bytes::strings::read_chunk_length;
-use cbor_floats::EncodedFloat;
-use cbor_grammar::argument::{Argument, after_break};
+use cbor_grammar::Error;
+use cbor_grammar::argument::Argument;
 use cbor_grammar::head::ItemHead;
 use cbor_grammar::level::DEEPEST;
 use cbor_grammar::strings::StringKind;
-use cbor_grammar::{Error, IntegerWidth};
+use std::alloc::{AllocError, Global};
 use std::cmp::Ordering;
-
-/// An encoded key, and how many bytes come before it.
-#[derive(Clone, Copy)]
-struct Key<'a> {
-    place: usize,
-    bytes: &'a [u8],
-}
-
-/// What is still to come in an open container. A tag is a container of one member.
-#[derive(Clone, Copy)]
-enum Open<'a> {
-    /// This many members, or all up to a break.
-    Members(Argument),
-    /// Pairs, after one with this key.
-    Pairs(Option<Key<'a>>, Argument),
-    /// The value of this key, and then pairs.
-    Value(Key<'a>, Argument),
-}
 
 /// What the next chunk of an indefinite string is.
 #[derive(Clone, Copy)]
@@ -58,41 +41,30 @@ enum Chunk {
     Break,
 }
 
-/// The bytes after a content of `count` bytes.
-fn after_content(kind: StringKind, count: u64, bytes: &[u8]) -> Result<&[u8], Error>
+/// Why reading ends before the bytes do.
+#[derive(Clone, Copy)]
+enum Stop {
+    /// A rule is broken.
+    Breach(Breach),
+    /// There is no memory to find out whether one is.
+    OutOfMemory,
+}
+
+/// A content of `count` bytes, and the bytes after it.
+fn read_content(kind: StringKind, count: u64, bytes: &[u8]) -> Result<(&[u8], &[u8]), Error>
     ensures gives { (w : IntegerWidth) → skip_content kind count w bytes.now
-        ≡ result_map_both (λ x. x.now) (λ e. e) result }
-    ensures shorter { IfOk result (λ rest. length rest.now ≤ length bytes.now) }
+        ≡ result_map_both (λ x. x.1.now) (λ e. e) result }
+    ensures content { IfOk result (λ x. (x.0.now ≡ take count bytes.now) × IsContent kind x.0.now) }
+    ensures shorter { IfOk result (λ x. length x.1.now ≤ length bytes.now) }
 {
     if (bytes.len() as u64) < count {
         return Err(Error::CutShort);
     }
     let (content, rest) = bytes.split_at(count as usize);
     if kind.may_hold(content) {
-        Ok(rest)
+        Ok((content, rest))
     } else {
         Err(Error::Utf8)
-    }
-}
-
-/// How many are still to come after one more; all up to a break stay all.
-fn one_less(left: Argument) -> Argument
-    ensures { result ≡ one_less left }
-{
-    match left {
-        Argument::Number(count, width) if count > 0 => Argument::Number(count - 1, width),
-        _ => left,
-    }
-}
-
-/// The bytes after the members or pairs, if none is to come.
-fn after_members(left: Argument, bytes: &[u8]) -> Option<&[u8]>
-    ensures { option_map (λ x. x.now) result ≡ after_members left bytes.now }
-{
-    match left {
-        Argument::Number(0, _) => Some(bytes),
-        Argument::Number(..) => None,
-        Argument::Indefinite => after_break(bytes),
     }
 }
 
@@ -114,35 +86,13 @@ fn compared(order: Ordering, place: usize) -> Option<BreachKind>
     }
 }
 
-impl<'a> Open<'a> {
-    /// The container that a head opens, if it opens one.
-    fn new(head: ItemHead) -> Option<Open<'a>>
-        ensures { option_map open_of result ≡ opened head }
-    {
-        match head {
-            ItemHead::Array(count) => Some(Open::Members(count)),
-            ItemHead::Map(count) => Some(Open::Pairs(None, count)),
-            ItemHead::Tag(..) => Some(Open::Members(Argument::Number(1, IntegerWidth::Zero))),
-            _ => None,
-        }
-    }
-
-    /// The bytes after the container, if it ends here.
-    fn after_end(self, bytes: &[u8]) -> Option<&[u8]>
-        ensures { option_map (λ x. x.now) result ≡ after_end (open_of self.entry) bytes.now }
-    {
-        match self {
-            Open::Members(left) | Open::Pairs(_, left) => after_members(left, bytes),
-            Open::Value(..) => None,
-        }
-    }
-}
-
-/// Bytes that are checked: the rules, and how many bytes there are.
+/// Bytes that are checked: the rules, how many bytes there are, and an allocator for the rules whose
+/// check takes memory.
 #[derive(Clone, Copy)]
 struct Check {
     rules: Rules,
     len: usize,
+    alloc: Option<Global>,
 }
 
 impl Check {
@@ -153,85 +103,22 @@ impl Check {
         self.len.saturating_sub(bytes.len())
     }
 
-    /// What is wrong with the number of a head.
-    fn number_breach(self, number: u64, width: IntegerWidth) -> Option<BreachKind>
-        ensures { result ≡ number_breach self.rules number width }
+    /// What is wrong with the content of a string.
+    fn text_breach(self, kind: StringKind, content: &[u8]) -> Result<Option<BreachKind>, AllocError>
+        requires memory { HasMemory self.alloc self.rules }
+        requires content { IsContent kind content.now }
+        ensures is { IfOk result (λ found. found ≡ text_breach self.rules kind content.now) }
+        ensures memory { IsErr result → self.alloc ≢ None }
     {
-        if self.rules.shortest_heads && is_long(width, number) {
-            Some(BreachKind::LongHead { number, width })
-        } else {
-            None
-        }
-    }
-
-    /// What is wrong with a float.
-    fn float_breach(self, float: EncodedFloat) -> Option<BreachKind>
-        ensures { result ≡ float_breach self.rules float }
-    {
-        if !self.rules.shortest_floats {
-            return None;
-        }
-        let shortest = float.shorter()?;
-        Some(BreachKind::LongFloat { float, shortest })
-    }
-
-    /// What is wrong with a length or a count.
-    fn argument_breach(self, argument: Argument) -> Option<BreachKind>
-        ensures { result ≡ argument_breach self.rules argument }
-    {
-        match argument {
-            Argument::Number(number, width) => self.number_breach(number, width),
-            Argument::Indefinite if self.rules.definite_lengths => Some(BreachKind::Indefinite),
-            Argument::Indefinite => None,
-        }
-    }
-
-    /// What is wrong with the head of an array or a map at this level.
-    fn container_breach(self, level: u8, count: Argument) -> Option<BreachKind>
-        ensures { result ≡ container_breach self.rules level count }
-    {
-        if level > self.rules.deepest {
-            Some(BreachKind::TooDeep)
-        } else {
-            self.argument_breach(count)
-        }
-    }
-
-    /// What is wrong with a tag before these bytes.
-    fn tag_breach(self, tag: u64, rest: &[u8]) -> Option<BreachKind>
-        ensures { result ≡ tag_breach self.rules tag rest.now }
-    {
-        if self.rules.big_numbers && (tag == 2 || tag == 3) {
-            big_breach(rest)
-        } else {
-            None
-        }
-    }
-
-    /// What is wrong with the head at the front of these bytes, after which `rest` comes.
-    fn head_breach(self, level: u8, bytes: &[u8], head: ItemHead, rest: &[u8]) -> Option<BreachKind>
-        requires { FloatFits head }
-        ensures { result ≡ head_breach self.rules level bytes.now head rest.now }
-    {
-        match head {
-            ItemHead::Integer(number, width) | ItemHead::Negative(number, width) => {
-                self.number_breach(number, width)
-            }
-            ItemHead::String(_, length) => self.argument_breach(length),
-            ItemHead::Array(count) | ItemHead::Map(count) => self.container_breach(level, count),
-            ItemHead::Tag(..) if !self.rules.tags => Some(BreachKind::Tag),
-            ItemHead::Tag(number, width) => match self.number_breach(number, width) {
-                Some(kind) => Some(kind),
-                None => self.tag_breach(number, rest),
-            },
-            ItemHead::Float(bits, width) => self.float_breach(float_of(bits, width)),
-            ItemHead::Simple(_) => simple_breach(bytes),
+        match (kind, self.alloc) {
+            (StringKind::Text, Some(alloc)) if self.rules.nfc => nfc_breach(alloc, content),
+            _ => Ok(None),
         }
     }
 
     /// What is wrong with a key after the one before it.
-    fn key_breach(self, last: Option<Key>, key: &[u8]) -> Option<BreachKind>
-        ensures { result ≡ key_breach self.rules (option_map key_of last.entry) key.now }
+    fn order_breach(self, last: Option<Key>, key: &[u8]) -> Option<BreachKind>
+        ensures { result ≡ order_breach self.rules (option_map key_of last.entry) key.now }
     {
         let last = last?;
         let order = self.rules.key_order.compare(last.bytes, key);
@@ -239,28 +126,28 @@ impl Check {
     }
 
     /// The breach of that kind at these bytes.
-    fn breach_at(self, bytes: &[u8], kind: BreachKind) -> Breach
-        ensures is { result ≡ breach_at self.len bytes.now kind }
-        ensures within { result.place ≤ self.len }
+    fn stop_at(self, bytes: &[u8], kind: BreachKind) -> Stop
+        ensures is { result ≡ Stop.Breach (breach_at self.len bytes.now kind) }
+        ensures within { StopFits self.alloc self.len result }
     {
         let place = self.place(bytes);
-        Breach { place, kind }
+        Stop::Breach(Breach { place, kind })
     }
 
     /// The head of an item at this level, and the bytes after it.
-    fn read_head<'a>(self, level: u8, bytes: &'a [u8]) -> Result<(ItemHead, &'a [u8]), Breach>
-        ensures gives { kept_head self.rules self.len level bytes.now
-            ≡ result_map_both (λ x. (x.0, x.1.now)) (λ e. e) result }
+    fn read_head<'a>(self, level: u8, bytes: &'a [u8]) -> Result<(ItemHead, &'a [u8]), Stop>
+        ensures gives { Gives (kept_head self.rules self.len level bytes.now)
+            (result_map_both (λ x. (x.0, x.1.now)) (λ e. e) result) }
         ensures shorter { IfOk result (λ x. length x.1.now < length bytes.now) }
-        ensures within { IfErr result (λ b. b.place ≤ self.len) }
+        ensures within { IfErr result (λ s. StopFits self.alloc self.len s) }
     {
         let (head, rest) = match read_head(bytes) {
             Ok(read) => read,
-            Err(error) => return Err(self.breach_at(bytes, BreachKind::NoItem(error))),
+            Err(error) => return Err(self.stop_at(bytes, BreachKind::NoItem(error))),
         };
-        match self.head_breach(level, bytes, head, rest) {
+        match self.rules.head_breach(level, bytes, head, rest) {
             None => Ok((head, rest)),
-            Some(kind) => Err(self.breach_at(bytes, kind)),
+            Some(kind) => Err(self.stop_at(bytes, kind)),
         }
     }
 
@@ -271,46 +158,55 @@ impl Check {
         kind: StringKind,
         count: u64,
         rest: &'a [u8],
-    ) -> Result<&'a [u8], Breach>
+    ) -> Result<&'a [u8], Stop>
+        requires memory { HasMemory self.alloc self.rules }
         ensures gives { (w : IntegerWidth)
-            → at self.len bytes.now (skip_content kind count w rest.now)
-            ≡ result_map_both (λ x. x.now) (λ e. e) result }
+            → Gives (kept_content self.rules self.len bytes.now kind count w rest.now)
+            (result_map_both (λ x. x.now) (λ e. e) result) }
         ensures shorter { IfOk result (λ after. length after.now ≤ length rest.now) }
-        ensures within { IfErr result (λ b. b.place ≤ self.len) }
+        ensures within { IfErr result (λ s. StopFits self.alloc self.len s) }
     {
-        match after_content(kind, count, rest) {
-            Ok(after) => Ok(after),
-            Err(error) => Err(self.breach_at(bytes, BreachKind::NoItem(error))),
+        let (content, after) = match read_content(kind, count, rest) {
+            Ok(read) => read,
+            Err(error) => return Err(self.stop_at(bytes, BreachKind::NoItem(error))),
+        };
+        match self.text_breach(kind, content) {
+            Ok(None) => Ok(after),
+            Ok(Some(kind)) => Err(self.stop_at(bytes, kind)),
+            Err(_) => Err(Stop::OutOfMemory),
         }
     }
 
     /// The next chunk of an indefinite string, or its break, and the bytes after it.
-    fn read_chunk<'a>(self, kind: StringKind, bytes: &'a [u8]) -> Result<(Chunk, &'a [u8]), Breach>
-        ensures gives { kept_chunk self.rules self.len kind bytes.now
-            ≡ result_map_both (λ x. (x.0, x.1.now)) (λ e. e) result }
+    fn read_chunk<'a>(self, kind: StringKind, bytes: &'a [u8]) -> Result<(Chunk, &'a [u8]), Stop>
+        requires memory { HasMemory self.alloc self.rules }
+        ensures gives { Gives (kept_chunk self.rules self.len kind bytes.now)
+            (result_map_both (λ x. (x.0, x.1.now)) (λ e. e) result) }
         ensures shorter { IfOk result (λ x. length x.1.now < length bytes.now) }
-        ensures within { IfErr result (λ b. b.place ≤ self.len) }
+        ensures within { IfErr result (λ s. StopFits self.alloc self.len s) }
     {
         let (length, rest) = match read_chunk_length(kind.major(), bytes) {
             Ok(read) => read,
-            Err(error) => return Err(self.breach_at(bytes, BreachKind::NoItem(error))),
+            Err(error) => return Err(self.stop_at(bytes, BreachKind::NoItem(error))),
         };
         let Some((count, width)) = length else {
             return Ok((Chunk::Break, rest));
         };
-        if let Some(breach) = self.number_breach(count, width) {
-            return Err(self.breach_at(bytes, breach));
+        if let Some(breach) = self.rules.number_breach(count, width) {
+            return Err(self.stop_at(bytes, breach));
         }
         let after = self.after_content(bytes, kind, count, rest)?;
         Ok((Chunk::Content, after))
     }
 
     /// The bytes after the break of an indefinite string.
-    fn after_chunks<'a>(self, kind: StringKind, bytes: &'a [u8]) -> Result<&'a [u8], Breach>
-        ensures gives { kept_chunks (suc (length bytes.now)) self.rules self.len kind bytes.now
-            ≡ result_map_both (λ x. x.now) (λ e. e) result }
+    fn after_chunks<'a>(self, kind: StringKind, bytes: &'a [u8]) -> Result<&'a [u8], Stop>
+        requires memory { HasMemory self.alloc self.rules }
+        ensures gives { Gives
+            (kept_chunks (suc (length bytes.now)) self.rules self.len kind bytes.now)
+            (result_map_both (λ x. x.now) (λ e. e) result) }
         ensures shorter { IfOk result (λ rest. length rest.now ≤ length bytes.now) }
-        ensures within { IfErr result (λ b. b.place ≤ self.len) }
+        ensures within { IfErr result (λ s. StopFits self.alloc self.len s) }
     {
         let mut rest = bytes;
         'chunks: loop {
@@ -322,24 +218,75 @@ impl Check {
         }
     }
 
-    /// The bytes after an item without parts, whose head is at `bytes` and is read already.
-    fn after_atom<'a>(
+    /// The bytes after the content of a string, whose head is at `bytes` and is read already.
+    fn after_string<'a>(
         self,
         bytes: &[u8],
-        head: ItemHead,
+        kind: StringKind,
+        count: Argument,
         rest: &'a [u8],
-    ) -> Result<&'a [u8], Breach>
-        ensures gives { kept_atom self.rules self.len bytes.now head rest.now
-            ≡ result_map_both (λ x. x.now) (λ e. e) result }
+    ) -> Result<&'a [u8], Stop>
+        requires memory { HasMemory self.alloc self.rules }
+        ensures gives { Gives (kept_string self.rules self.len bytes.now kind count rest.now)
+            (result_map_both (λ x. x.now) (λ e. e) result) }
         ensures shorter { IfOk result (λ after. length after.now ≤ length rest.now) }
-        ensures within { IfErr result (λ b. b.place ≤ self.len) }
+        ensures within { IfErr result (λ s. StopFits self.alloc self.len s) }
+    {
+        match count {
+            Argument::Number(count, _) => self.after_content(bytes, kind, count, rest),
+            Argument::Indefinite => self.after_chunks(kind, rest),
+        }
+    }
+
+    /// The bytes after an item without parts, whose head is at `bytes` and is read already.
+    fn after_atom<'a>(self, bytes: &[u8], head: ItemHead, rest: &'a [u8]) -> Result<&'a [u8], Stop>
+        requires memory { HasMemory self.alloc self.rules }
+        ensures gives { Gives (kept_atom self.rules self.len bytes.now head rest.now)
+            (result_map_both (λ x. x.now) (λ e. e) result) }
+        ensures shorter { IfOk result (λ after. length after.now ≤ length rest.now) }
+        ensures within { IfErr result (λ s. StopFits self.alloc self.len s) }
     {
         match head {
-            ItemHead::String(kind, Argument::Number(count, _)) => {
-                self.after_content(bytes, kind, count, rest)
-            }
-            ItemHead::String(kind, Argument::Indefinite) => self.after_chunks(kind, rest),
+            ItemHead::String(kind, count) => self.after_string(bytes, kind, count, rest),
             _ => Ok(rest),
+        }
+    }
+
+    /// No keys yet, which are seen if none may stand twice.
+    fn no_keys<'a>(self) -> Keys<'a>
+        requires memory { HasMemory self.alloc self.rules }
+        ensures none { places_of result ≡ no_places }
+        ensures on { is_on result ≡ self.rules.distinct_keys }
+    {
+        if self.rules.distinct_keys {
+            Keys::new(self.alloc)
+        } else {
+            Keys::new(None)
+        }
+    }
+
+    /// What is wrong with a key after the one before it and those that were seen, among which it is
+    /// then.
+    fn key_breach<'a>(
+        self,
+        last: Option<Key<'a>>,
+        keys: &mut Keys<'a>,
+        key: Key<'a>,
+    ) -> Result<Option<BreachKind>, AllocError>
+        requires on { is_on keys.old ≡ self.rules.distinct_keys }
+        ensures is { IfOk result (λ found. found
+            ≡ key_breach self.rules (option_map key_of last.entry) (places_of keys.old) key.entry.bytes.now) }
+        ensures seen { IfOk result (λ found. found ≡ None
+            → places_of keys.new ≡ with_key self.rules (key_of key.entry) (places_of keys.old)) }
+        ensures on { is_on keys.new ≡ self.rules.distinct_keys }
+        ensures memory { IsErr result → self.rules.distinct_keys ≡ true }
+    {
+        if let Some(kind) = self.order_breach(last, key.bytes) {
+            return Ok(Some(kind));
+        }
+        match keys.see(key)? {
+            None => Ok(None),
+            Some(first) => Ok(Some(BreachKind::KeyTwice { first })),
         }
     }
 
@@ -347,22 +294,31 @@ impl Check {
     fn after_part<'a>(
         self,
         container: Open<'a>,
+        keys: &mut Keys<'a>,
         bytes: &'a [u8],
         rest: &[u8],
-    ) -> Result<Open<'a>, Breach>
-        ensures gives { after_part self.rules self.len (open_of container.entry) bytes.now rest.now
-            ≡ result_map_both open_of (λ e. e) result }
-        ensures within { IfErr result (λ b. b.place ≤ self.len) }
+    ) -> Result<Open<'a>, Stop>
+        requires memory { HasMemory self.alloc self.rules }
+        requires on { is_on keys.old ≡ self.rules.distinct_keys }
+        ensures gives { Gives (after_part self.rules self.len
+            (open_of container.entry (places_of keys.old)) bytes.now rest.now)
+            (result_map_both (λ o. open_of o (places_of keys.new)) (λ e. e) result) }
+        ensures on { is_on keys.new ≡ self.rules.distinct_keys }
+        ensures within { IfErr result (λ s. StopFits self.alloc self.len s) }
     {
         match container {
             Open::Members(left) => Ok(Open::Members(one_less(left))),
             Open::Pairs(last, left) => {
-                let key = front(bytes, rest);
-                if let Some(kind) = self.key_breach(last, key) {
-                    return Err(self.breach_at(bytes, kind));
-                }
                 let place = self.place(bytes);
-                Ok(Open::Value(Key { place, bytes: key }, one_less(left)))
+                let key = Key {
+                    place,
+                    bytes: front(bytes, rest),
+                };
+                match self.key_breach(last, keys, key) {
+                    Ok(None) => Ok(Open::Value(key, one_less(left))),
+                    Ok(Some(kind)) => Err(self.stop_at(bytes, kind)),
+                    Err(_) => Err(Stop::OutOfMemory),
+                }
             }
             Open::Value(key, left) => Ok(Open::Pairs(Some(key), left)),
         }
@@ -371,16 +327,17 @@ impl Check {
     /// The bytes after an item that keeps the rules, with `left` levels left for it and the items
     /// in it.
     #[cycle(item)]
-    fn after_item<'a>(self, left: u8, bytes: &'a [u8]) -> Result<&'a [u8], Breach>
-        requires { left ≤ deepest }
-        ensures gives { kept_item left self.rules self.len bytes.now
-            ≡ result_map_both (λ x. x.now) (λ e. e) result }
+    fn after_item<'a>(self, left: u8, bytes: &'a [u8]) -> Result<&'a [u8], Stop>
+        requires level { left ≤ deepest }
+        requires memory { HasMemory self.alloc self.rules }
+        ensures gives { Gives (kept_item left self.rules self.len bytes.now)
+            (result_map_both (λ x. x.now) (λ e. e) result) }
         ensures shorter { IfOk result (λ rest. length rest.now < length bytes.now) }
-        ensures within { IfErr result (λ b. b.place ≤ self.len) }
+        ensures within { IfErr result (λ s. StopFits self.alloc self.len s) }
     {
         if left == 0 {
             let error = no_level_left(bytes);
-            return Err(self.breach_at(bytes, BreachKind::NoItem(error)));
+            return Err(self.stop_at(bytes, BreachKind::NoItem(error)));
         }
         let left = left - 1;
         let (head, rest) = self.read_head(DEEPEST - left, bytes)?;
@@ -397,14 +354,16 @@ impl Check {
         left: u8,
         container: Open<'a>,
         bytes: &'a [u8],
-    ) -> Result<&'a [u8], Breach>
-        requires { left < deepest }
-        ensures gives { kept_parts (suc (length bytes.now)) self.rules self.len
-            (kept_item left self.rules self.len) (open_of container.entry) bytes.now
-            ≡ result_map_both (λ x. x.now) (λ e. e) result }
+    ) -> Result<&'a [u8], Stop>
+        requires level { left < deepest }
+        requires memory { HasMemory self.alloc self.rules }
+        ensures gives { Gives (kept_parts (suc (length bytes.now)) self.rules self.len
+            (kept_item left self.rules self.len) (open_of container.entry no_places) bytes.now)
+            (result_map_both (λ x. x.now) (λ e. e) result) }
         ensures shorter { IfOk result (λ rest. length rest.now ≤ length bytes.now) }
-        ensures within { IfErr result (λ b. b.place ≤ self.len) }
+        ensures within { IfErr result (λ s. StopFits self.alloc self.len s) }
     {
+        let mut keys = self.no_keys();
         let mut container = container;
         let mut rest = bytes;
         'parts: loop {
@@ -412,9 +371,28 @@ impl Check {
                 return Ok(after);
             }
             let after = self.after_item(left, rest)?;
-            container = self.after_part(container, rest, after)?;
+            container = self.after_part(container, &mut keys, rest, after)?;
             rest = after;
         }
+    }
+
+    /// The first breach in these bytes.
+    fn first(self, bytes: &[u8]) -> Result<Option<Breach>, AllocError>
+        requires memory { HasMemory self.alloc self.rules }
+        requires len { self.len ≡ length bytes.now }
+        ensures first { IfOk result (λ found. found ≡ first_breach self.rules bytes.now) }
+        ensures within { IfOk result (λ found. IfSome found (λ b. b.place ≤ length bytes.now)) }
+        ensures memory { IsErr result → self.alloc ≢ None }
+    {
+        let mut rest = bytes;
+        'items: while !rest.is_empty() {
+            match self.after_item(DEEPEST, rest) {
+                Ok(after) => rest = after,
+                Err(Stop::Breach(breach)) => return Ok(Some(breach)),
+                Err(Stop::OutOfMemory) => return Err(AllocError),
+            }
+        }
+        Ok(None)
     }
 }
 
@@ -424,21 +402,39 @@ impl Check {
 ///
 /// The bytes are read once, from left to right. A head is looked at before what it opens, and a key
 /// is compared with the one before it where it ends.
+///
+/// It takes no memory. So it does not look at the two rules whose check takes some, `nfc` and
+/// `distinct_keys`, at which [`breach_in`] looks, too.
 pub fn breach(bytes: &[u8], rules: Rules) -> Option<Breach>
-    ensures none { (result ≡ None) ↔ KeepsRules rules bytes.now }
-    ensures first { result ≡ first_breach rules bytes.now }
+    ensures none { (result ≡ None) ↔ KeepsRules (without_memory rules) bytes.now }
+    ensures first { result ≡ first_breach (without_memory rules) bytes.now }
     ensures within { IfSome result (λ b. b.place ≤ length bytes.now) }
+{
+    let check = Check {
+        rules: rules.without_memory(),
+        len: bytes.len(),
+        alloc: None,
+    };
+    match check.first(bytes) {
+        Ok(found) => found,
+        // No memory is taken.
+        Err(_) => None,
+    }
+}
+
+/// As [`breach`], with all the rules.
+///
+/// A map whose keys are not to stand twice takes memory for the places of its keys, and a text that
+/// is to be in NFC takes some where it cannot be told from its characters one by one.
+pub fn breach_in(alloc: Global, bytes: &[u8], rules: Rules) -> Result<Option<Breach>, AllocError>
+    ensures none { IfOk result (λ found. (found ≡ None) ↔ KeepsRules rules bytes.now) }
+    ensures first { IfOk result (λ found. found ≡ first_breach rules bytes.now) }
+    ensures within { IfOk result (λ found. IfSome found (λ b. b.place ≤ length bytes.now)) }
 {
     let check = Check {
         rules,
         len: bytes.len(),
+        alloc: Some(alloc),
     };
-    let mut rest = bytes;
-    'items: while !rest.is_empty() {
-        match check.after_item(DEEPEST, rest) {
-            Ok(after) => rest = after,
-            Err(breach) => return Some(breach),
-        }
-    }
-    None
+    check.first(bytes)
 }

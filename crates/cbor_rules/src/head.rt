@@ -2,10 +2,15 @@
 ghost use Rattle.std.specs.Prelude.{◌≡◌};
 ghost use Rattle.cbor_grammar.specs.Reading.{read_head};
 ghost use Rattle.cbor_grammar.specs.WellFormed.{FitsFloat};
-ghost use Rattle.cbor_rules.specs.FirstBreach.{is_long, simple_breach, content_breach, big_breach};
+ghost use Rattle.cbor_rules.specs.FirstBreach.{is_long, two_byte_breach, content_breach, big_breach};
+ghost use Rattle.cbor_rules.specs.FirstBreach.{number_breach, float_breach, simple_breach};
+ghost use Rattle.cbor_rules.specs.FirstBreach.{argument_breach, container_breach, tag_breach, head_breach};
+ghost use Rattle.cbor_rules.specs.mirror.Opened.{FloatFits};
 ghost use Rattle.cbor_rules.specs.Keeps.{float_of};
 
 use crate::kind::BreachKind;
+use crate::reduced::reduced_breach;
+use crate::rules::Rules;
 use cbor_bytes::head::read_head;
 use cbor_floats::EncodedFloat;
 use cbor_grammar::argument::Argument;
@@ -39,8 +44,8 @@ pub fn float_of(bits: u64, width: FloatWidth) -> EncodedFloat
 }
 
 /// What is wrong with a simple value at the front, if it takes two bytes and is below 32.
-pub fn simple_breach(bytes: &[u8]) -> Option<BreachKind>
-    ensures { result ≡ simple_breach bytes.now }
+pub fn two_byte_breach(bytes: &[u8]) -> Option<BreachKind>
+    ensures { result ≡ two_byte_breach bytes.now }
 {
     match bytes {
         [first, value, ..] if *first == 0xf8 && *value < 32 => Some(BreachKind::LongSimple),
@@ -68,5 +73,108 @@ pub fn big_breach(bytes: &[u8]) -> Option<BreachKind>
             content_breach(count, rest)
         }
         _ => None,
+    }
+}
+
+impl Rules {
+    /// What is wrong with the number of a head.
+    pub(crate) fn number_breach(self, number: u64, width: IntegerWidth) -> Option<BreachKind>
+        ensures { result ≡ number_breach self number width }
+    {
+        if self.shortest_heads && is_long(width, number) {
+            Some(BreachKind::LongHead { number, width })
+        } else {
+            None
+        }
+    }
+
+    /// What is wrong with a float.
+    pub(crate) fn float_breach(self, float: EncodedFloat) -> Option<BreachKind>
+        ensures { result ≡ float_breach self float }
+    {
+        if self.reduced_floats {
+            if let Some(kind) = reduced_breach(float) {
+                return Some(kind);
+            }
+        }
+        if !self.shortest_floats {
+            return None;
+        }
+        let shortest = float.shorter()?;
+        Some(BreachKind::LongFloat { float, shortest })
+    }
+
+    /// What is wrong with a simple value at the front of these bytes.
+    pub(crate) fn simple_breach(self, value: u8, bytes: &[u8]) -> Option<BreachKind>
+        ensures { result ≡ simple_breach self value bytes.now }
+    {
+        if let Some(kind) = two_byte_breach(bytes) {
+            return Some(kind);
+        }
+        if self.other_simple || matches!(value, 20..=22) {
+            None
+        } else {
+            Some(BreachKind::OtherSimple(value))
+        }
+    }
+
+    /// What is wrong with a length or a count.
+    pub(crate) fn argument_breach(self, argument: Argument) -> Option<BreachKind>
+        ensures { result ≡ argument_breach self argument }
+    {
+        match argument {
+            Argument::Number(number, width) => self.number_breach(number, width),
+            Argument::Indefinite if self.definite_lengths => Some(BreachKind::Indefinite),
+            Argument::Indefinite => None,
+        }
+    }
+
+    /// What is wrong with the head of an array or a map at this level.
+    pub(crate) fn container_breach(self, level: u8, count: Argument) -> Option<BreachKind>
+        ensures { result ≡ container_breach self level count }
+    {
+        if level > self.deepest {
+            Some(BreachKind::TooDeep)
+        } else {
+            self.argument_breach(count)
+        }
+    }
+
+    /// What is wrong with a tag before these bytes.
+    pub(crate) fn tag_breach(self, tag: u64, rest: &[u8]) -> Option<BreachKind>
+        ensures { result ≡ tag_breach self tag rest.now }
+    {
+        if self.big_numbers && (tag == 2 || tag == 3) {
+            big_breach(rest)
+        } else {
+            None
+        }
+    }
+
+    /// What is wrong with the head at the front of these bytes, after which `rest` comes.
+    pub(crate) fn head_breach(
+        self,
+        level: u8,
+        bytes: &[u8],
+        head: ItemHead,
+        rest: &[u8],
+    ) -> Option<BreachKind>
+        requires { FloatFits head }
+        ensures { result ≡ head_breach self level bytes.now head rest.now }
+    {
+        match head {
+            ItemHead::Integer(number, width) | ItemHead::Negative(number, width) => {
+                self.number_breach(number, width)
+            }
+            ItemHead::String(_, length) => self.argument_breach(length),
+            ItemHead::Array(count) | ItemHead::Map(count) => self.container_breach(level, count),
+            ItemHead::Tag(..) if !self.tags => Some(BreachKind::Tag),
+            ItemHead::Tag(number, width) => match self.number_breach(number, width) {
+                Some(kind) => Some(kind),
+                None => self.tag_breach(number, rest),
+            },
+            ItemHead::Float(bits, width) => self.float_breach(float_of(bits, width)),
+            ItemHead::Simple(value) => self.simple_breach(value, bytes),
+        }
     }
 }

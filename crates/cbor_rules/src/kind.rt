@@ -24,11 +24,26 @@ pub enum BreachKind {
         number: u64,
         width: IntegerWidth,
     },
+    /// A text, or a chunk of one, is not in the normal form NFC.
+    NotNfc,
     /// A shorter width has the float.
     LongFloat {
         float: EncodedFloat,
         shortest: EncodedFloat,
     },
+    /// The float is the integer of this size, which is below zero if `negative` is set. -0.0 is the
+    /// integer 0, of size 0.
+    IntegerFloat {
+        float: EncodedFloat,
+        negative: bool,
+        size: u64,
+    },
+    /// A NaN other than that of the bytes f97e00.
+    OtherNan {
+        float: EncodedFloat,
+    },
+    /// A simple value other than false, true and null.
+    OtherSimple(u8),
     /// A string, an array or a map of indefinite length.
     Indefinite,
     /// A tag.

@@ -30,3 +30,9 @@ fn ctap2() -> Rules
 {
     Rules::CTAP2
 }
+
+fn dcbor() -> Rules
+    ensures { IsDeterministic result }
+{
+    Rules::DCBOR
+}

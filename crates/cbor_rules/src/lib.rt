@@ -1,7 +1,8 @@
 //! Rules that an encoding keeps beyond the grammar of CBOR, such as those of deterministic encoding
 //! (RFC 8949 section 4.2).
 //!
-//! [`breach`] finds the first place at which bytes break one of the rules of a [`Rules`].
+//! [`breach`] finds the first place at which bytes break one of the rules of a [`Rules`]. It takes no
+//! memory; [`breach_in`] looks at the rules that take some, too.
 //!
 //! ```rust
 //! use cbor_rules::{Breach, BreachKind, Rules, breach};
@@ -14,11 +15,15 @@
 #![tactic(auto)]
 
 mod check;
+mod container;
 mod head;
+mod keys;
 mod kind;
 mod laws;
+mod reduced;
 mod rules;
+mod text;
 
-pub use check::breach;
+pub use check::{breach, breach_in};
 pub use kind::{Breach, BreachKind};
 pub use rules::{KeyOrder, Rules};

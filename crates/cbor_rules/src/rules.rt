@@ -1,6 +1,7 @@
 //! Sets of rules.
 ghost use Rattle.std.specs.Prelude.{◌≡◌};
 ghost use Rattle.cbor_rules.specs.KeyOrder.{key_cmp, major_type};
+ghost use Rattle.cbor_rules.specs.Keeps.{without_memory};
 
 use cbor_grammar::level::DEEPEST;
 use std::cmp::Ordering;
@@ -29,13 +30,24 @@ pub struct Rules {
     /// Each float is in the shortest width that has it: the number with its sign, and of a NaN the
     /// sign and the payload (RFC 8949 sections 4.1 and 4.2.2).
     pub shortest_floats: bool,
+    /// No float is an integer from -2^63 to 2^64 - 1, which is written as that integer instead, -0.0
+    /// as 0; and no NaN stands but that of the bytes f97e00 (dCBOR).
+    pub reduced_floats: bool,
+    /// There may be simple values other than false, true and null.
+    pub other_simple: bool,
     /// No string, array or map is of indefinite length (RFC 8949 section 4.2.1).
     pub definite_lengths: bool,
     /// A big number (tags 2 and 3) whose content is a byte string of definite length has no zero
     /// byte in front and is not one that an integer can have (RFC 8949 section 3.4.3).
     pub big_numbers: bool,
+    /// Each text, and each chunk of a text of indefinite length, is in the normal form NFC (Unicode
+    /// Standard Annex 15). Checking this takes memory.
+    pub nfc: bool,
     /// The order of the keys in each map.
     pub key_order: KeyOrder,
+    /// No key stands twice in a map, by its bytes. Checking this takes memory; where keys have an
+    /// order, none does.
+    pub distinct_keys: bool,
     /// There may be tags.
     pub tags: bool,
     /// The deepest level that an array or a map may have. The outermost item is at level 1; the
@@ -49,11 +61,22 @@ impl Rules {
     pub const RFC_8949: Rules = Rules {
         shortest_heads: false,
         shortest_floats: false,
+        reduced_floats: false,
+        other_simple: true,
         definite_lengths: false,
         big_numbers: false,
+        nfc: false,
         key_order: KeyOrder::Any,
+        distinct_keys: false,
         tags: true,
         deepest: DEEPEST,
+    };
+
+    /// Basic validity (RFC 8949 section 5.3.1): no key stands twice in a map, by its bytes. Texts are
+    /// UTF-8 in each set.
+    pub const VALID: Rules = Rules {
+        distinct_keys: true,
+        ..Rules::RFC_8949
     };
 
     /// Preferred serialization (RFC 8949 section 4.1): shortest heads and floats, and big numbers
@@ -61,49 +84,55 @@ impl Rules {
     pub const PREFERRED: Rules = Rules {
         shortest_heads: true,
         shortest_floats: true,
-        definite_lengths: false,
         big_numbers: true,
-        key_order: KeyOrder::Any,
-        tags: true,
-        deepest: DEEPEST,
+        ..Rules::RFC_8949
     };
 
     /// Core deterministic encoding (RFC 8949 section 4.2.1): preferred serialization, definite
     /// lengths, and keys in the order of their bytes.
     pub const CORE: Rules = Rules {
-        shortest_heads: true,
-        shortest_floats: true,
         definite_lengths: true,
-        big_numbers: true,
         key_order: KeyOrder::Bytes,
-        tags: true,
-        deepest: DEEPEST,
+        ..Rules::PREFERRED
     };
 
     /// Length-first deterministic encoding (RFC 8949 section 4.2.3), which RFC 7049 called
     /// canonical: as core, but the shorter key comes first.
     pub const LENGTH_FIRST: Rules = Rules {
-        shortest_heads: true,
-        shortest_floats: true,
-        definite_lengths: true,
-        big_numbers: true,
         key_order: KeyOrder::Length,
-        tags: true,
-        deepest: DEEPEST,
+        ..Rules::CORE
+    };
+
+    /// dCBOR: as core, and no integer is written as a float, the only NaN is f97e00, the only simple
+    /// values are false, true and null, and texts are in NFC.
+    pub const DCBOR: Rules = Rules {
+        reduced_floats: true,
+        other_simple: false,
+        nfc: true,
+        ..Rules::CORE
     };
 
     /// CTAP2 canonical CBOR (CTAP 2.1 section 8): shortest heads, definite lengths, keys in the
     /// order of their major types, then lengths, then bytes, no tags, and at most 4 levels of
     /// arrays and maps. Floats keep the width that they have.
     pub const CTAP2: Rules = Rules {
-        shortest_heads: true,
         shortest_floats: false,
-        definite_lengths: true,
-        big_numbers: true,
         key_order: KeyOrder::MajorType,
         tags: false,
         deepest: 4,
+        ..Rules::CORE
     };
+
+    /// The rules without those whose check takes memory.
+    pub fn without_memory(self) -> Rules
+        ensures { result ≡ without_memory self }
+    {
+        Rules {
+            nfc: false,
+            distinct_keys: false,
+            ..self
+        }
+    }
 }
 
 /// The major type of the head at the front; 0 of no bytes.

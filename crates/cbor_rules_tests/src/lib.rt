@@ -4,6 +4,8 @@
 #[cfg(test)]
 mod big_numbers;
 #[cfg(test)]
+mod dcbor;
+#[cfg(test)]
 mod doc_examples;
 #[cfg(test)]
 mod floats;
@@ -15,3 +17,5 @@ mod keys;
 mod levels;
 #[cfg(test)]
 mod sets;
+#[cfg(test)]
+mod valid;

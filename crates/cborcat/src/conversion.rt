@@ -1,13 +1,17 @@
 //! The conversion of one input, as its bytes come.
 
+use crate::at::lines_at;
+use crate::encode::Encoding;
 use crate::input::{MORE, block_len, read_into};
 use crate::lost::report_lost;
 use crate::messages::{Left, Place, TWO_BYTES, report_byte, report_end, report_long, say};
 use crate::output::{Target, Written, write, write_dump};
+use crate::partial::partial_text;
+use crate::paths::Paths;
 use crate::rules::{Items, first_breach};
 use crate::run::Runner;
 use crate::status::{Next, Status};
-use crate::words::Job;
+use crate::words::{Job, View};
 use cbor_diag::Error;
 use cbor_inspect::{End, Form, Stream, two_byte_simple};
 use std::io;
@@ -34,6 +38,10 @@ pub struct Conversion<'a> {
     noted: bool,
     /// Whether a rule that the check names is broken.
     broken: bool,
+    /// Whether the byte that is asked for was written of.
+    found: bool,
+    /// How many bytes were passed last.
+    passed: usize,
     /// What is written next.
     out: Vec<u8>,
 }
@@ -69,6 +77,8 @@ impl<'a> Conversion<'a> {
             any: false,
             noted: false,
             broken: false,
+            found: false,
+            passed: 0,
             out: Vec::new(rt.alloc()),
         }
     }
@@ -122,14 +132,16 @@ impl<'a> Conversion<'a> {
         for _ in 0..u64::MAX {
             let end = self.some_items();
             match self.write() {
-                Written::Whole => self.out.clear(),
-                Written::Closed => return Next::Nothing,
-                Written::Failed => {
+                Ok(Written::Whole) => self.out.clear(),
+                Ok(Written::Closed) => return Next::Nothing,
+                Ok(Written::Failed) => {
                     self.ended(Status::Trouble);
                     return Next::Nothing;
                 }
+                Err(_) => return self.stop(End::Memory),
             }
             match end {
+                _ if self.found => return Next::NextInput,
                 End::Full => {}
                 End::Done | End::Cut if !at_end => return self.wait(),
                 End::Done => return self.done(),
@@ -146,13 +158,93 @@ impl<'a> Conversion<'a> {
         Next::More
     }
 
-    /// Writes what was made of items.
-    fn write(&mut self) -> Written {
-        if self.job.show.style.form == Form::Hex {
-            write_dump(self.rt, self.target, &self.out)
-        } else {
-            write(self.rt, self.target, &self.out)
+    /// Writes what was made of the items that were passed last.
+    fn write(&mut self) -> Result<Written, Error> {
+        match self.job.view {
+            View::Paths => self.write_paths(),
+            View::At(byte) => self.write_at(byte),
+            View::Items if self.job.show.style.form == Form::Hex => {
+                Ok(write_dump(self.rt, self.target, &self.out))
+            }
+            View::Items => Ok(write(self.rt, self.target, &self.out)),
         }
+    }
+
+    /// Writes a line for each item of these that holds no other.
+    fn write_paths(&mut self) -> Result<Written, Error> {
+        let alloc = self.rt.alloc();
+        let begins = self.begins().saturating_sub(self.passed);
+        let bytes = self.stream.passed(self.passed);
+        let items = Items { bytes, begins };
+        let mut paths = Paths::new(alloc, items, self.job.show.style);
+        let mut lines = String::new(alloc);
+        for _ in 0..u64::MAX {
+            if paths.is_done() {
+                break;
+            }
+            lines.clear();
+            paths.push_block(&mut lines)?;
+            match write(self.rt, self.target, lines.as_bytes()) {
+                Written::Whole => {}
+                end => return Ok(end),
+            }
+        }
+        Ok(Written::Whole)
+    }
+
+    /// Writes what is said of a byte of the data, if it is in the items that were passed last.
+    fn write_at(&mut self, byte: usize) -> Result<Written, Error> {
+        let end = self.begins();
+        let begins = end.saturating_sub(self.passed);
+        if byte < begins || byte >= end {
+            return Ok(Written::Whole);
+        }
+        let bytes = self.stream.passed(self.passed);
+        let lines = lines_at(self.rt.alloc(), Left { begins, bytes }, byte)?;
+        self.found = true;
+        Ok(write(self.rt, self.target, lines.as_bytes()))
+    }
+
+    /// Writes what is there of an item that is not whole, if it is asked for.
+    fn write_left(&mut self, end: End) -> Result<Written, Error> {
+        match self.job.view {
+            View::At(byte) => self.write_at_left(byte),
+            View::Items if self.job.partial => self.write_partial(end),
+            View::Items | View::Paths => Ok(Written::Whole),
+        }
+    }
+
+    /// Writes the whole parts of an item that is cut or has a fault, and some of what remains.
+    fn write_partial(&mut self, end: End) -> Result<Written, Error> {
+        let alloc = self.rt.alloc();
+        let said = match end {
+            End::Fault { error, .. } => format!(in alloc; "fault: {error}")?,
+            End::Cut => String::from_str(alloc, "cut short")?,
+            _ => return Ok(Written::Whole),
+        };
+        let style = self.job.show.style;
+        let bytes = self.stream.rest();
+        let text = match style.form {
+            Form::Pretty | Form::Diag | Form::Hex if !bytes.is_empty() => {
+                partial_text(alloc, style, bytes, &said)?
+            }
+            _ => return Ok(Written::Whole),
+        };
+        if style.form == Form::Hex {
+            return Ok(write_dump(self.rt, self.target, text.as_bytes()));
+        }
+        Ok(write(self.rt, self.target, text.as_bytes()))
+    }
+
+    /// Writes what is said of a byte of an item that is not whole.
+    fn write_at_left(&mut self, byte: usize) -> Result<Written, Error> {
+        let begins = self.begins();
+        if byte < begins || byte >= self.came {
+            return Ok(Written::Whole);
+        }
+        let bytes = self.stream.rest();
+        let lines = lines_at(self.rt.alloc(), Left { begins, bytes }, byte)?;
+        Ok(write(self.rt, self.target, lines.as_bytes()))
     }
 
     /// Converts some items, and tells what follows them.
@@ -162,12 +254,14 @@ impl<'a> Conversion<'a> {
         if show.one && self.any && before > 0 {
             return End::Remaining;
         }
-        let end = if self.job.check {
-            self.stream.check(self.rt.alloc(), show.one)
-        } else {
-            self.stream.show(show, &mut self.out)
+        let end = match self.job.view {
+            View::Items if self.job.check => self.stream.check(self.rt.alloc(), show.one),
+            View::Items if self.job.encode.is_some() => self.show_encoded(),
+            View::Items => self.stream.show(show, &mut self.out),
+            View::Paths | View::At(_) => self.stream.skip(show.one),
         };
         let passed = before - self.stream.rest().len().min(before);
+        self.passed = passed;
         self.any |= passed > 0;
         self.note_simple(passed);
         match self.note_breach(passed) {
@@ -176,10 +270,26 @@ impl<'a> Conversion<'a> {
         }
     }
 
+    /// Shows some items encoded again by the rules that are asked for, and tells what follows them.
+    fn show_encoded(&mut self) -> End {
+        let Some(set) = self.job.encode else {
+            return End::Done;
+        };
+        let encoding = Encoding {
+            rt: self.rt,
+            job: self.job,
+            place: self.place,
+            set,
+        };
+        let (end, status) = encoding.show(&mut self.stream, self.came, &mut self.out);
+        self.ended(status);
+        end
+    }
+
     /// Says where the first simple value below 32 in two bytes is, if it is in the bytes that were
     /// passed last.
     fn note_simple(&mut self, passed: usize) {
-        if self.noted || self.job.check || passed == 0 {
+        if self.noted || self.job.check || self.job.encode.is_some() || passed == 0 {
             return;
         }
         if let Some(at) = two_byte_simple(self.stream.passed(passed)) {
@@ -206,7 +316,7 @@ impl<'a> Conversion<'a> {
         let bytes = self.stream.passed(passed);
         let items = Items { bytes, begins };
         if let Some((at, what)) = first_breach(self.rt.alloc(), set, items)? {
-            report_byte(self.rt, self.place, Left { begins, bytes }, at, &what);
+            report_byte(self.rt, self.place, Left { begins, bytes }, at, &what)?;
             self.broken = true;
             self.ended(Status::Bad);
         }
@@ -215,6 +325,14 @@ impl<'a> Conversion<'a> {
 
     /// Says why no further item is converted.
     fn stop(&mut self, end: End) -> Next {
+        let end = match self.write_left(end) {
+            Ok(Written::Failed) => {
+                self.ended(Status::Trouble);
+                end
+            }
+            Ok(_) => end,
+            Err(_) => End::Memory,
+        };
         let left = Left {
             begins: self.begins(),
             bytes: self.stream.rest(),
@@ -228,6 +346,12 @@ impl<'a> Conversion<'a> {
     fn done(&mut self) -> Next {
         if self.job.show.one && !self.any {
             return self.stop(End::Cut);
+        }
+        if let View::At(byte) = self.job.view {
+            let count = self.came;
+            let what = format_args!("no item has this byte; {count} bytes came");
+            self.place.say_at_byte(self.rt, byte, what);
+            self.ended(Status::Bad);
         }
         Next::NextInput
     }

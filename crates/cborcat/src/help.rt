@@ -14,17 +14,22 @@ Input:
       --limit=BYTES  refuse a longer item (default: 268435456)
 
 Output:
-  -t, --to=FORM      pretty, diag, hex, digits or bytes (default: pretty)
+  -t, --to=FORM      pretty, diag, hex, digits, bytes or paths
+                     (default: pretty)
   -p, --path=PATH    only the part that PATH leads to
   -e, --embedded     show byte strings that hold an array, a map or a
                      tagged item as <<..>>
       --no-notes     no comments in notation
       --widths       the width of each float and number above 23
   -o, --output=FILE  write FILE, once all input is converted
+      --partial      show also what is there of an item that is not whole
+      --at=N         the path, the head and the place of the item that byte N
+                     of the data belongs to
   -c, --check[=RULES]
                      write nothing; report the first fault of each input
                      (by default of RFC 8949's grammar), or the first place
                      that breaks RULES
+      --encode=RULES encode each item again, so that it keeps RULES
 
   -h, --help         show this text
   -V, --version      show the version
@@ -38,6 +43,7 @@ Forms:
   diag    diagnostic notation (EDN), of which JSON is a part; pretty is
           diag over several lines, with comments
   base64  either alphabet (input)
+  paths   a line for each item that holds no other: place, path, EDN (output)
 
 Without -f, an input is bytes as soon as a byte comes that no text has, and is
 shown as it arrives. Text is read to its end. It is the first of hex, diag and
@@ -45,7 +51,8 @@ base64 that reads all of it, and never bytes, but in a file .cbor, .cose or
 .cwt that none of these reads.
 
 RULES are those of RFC 8949 for preferred, core (deterministic) or length-first
-encoding, or ctap2. They include rfc8949, the grammar, which -c alone checks.
+encoding; ctap2; dcbor; or valid: no key twice in a map. They include rfc8949,
+the grammar, which -c alone checks. --encode takes them but for valid.
 
 A PATH has steps joined by /: an index of an array, a key of a map in
 notation or as a plain word, or @ for the item inside a byte string.

@@ -4,15 +4,27 @@
 //! written of an item are in the crate `cbor_inspect`; here are arguments, files and messages.
 #![tactic(auto)]
 
+mod around;
+#[cfg(test)]
+mod around_tests;
+mod at;
 mod conversion;
 #[cfg(test)]
 mod doc_examples;
+mod encode;
+#[cfg(test)]
+mod encode_tests;
 mod excerpt;
 mod help;
 mod input;
 mod lost;
 mod messages;
 mod output;
+mod partial;
+#[cfg(test)]
+mod partial_tests;
+mod path;
+mod paths;
 #[cfg(test)]
 mod recognition_tests;
 mod recognized;

@@ -1,5 +1,6 @@
 //! Messages on standard error.
 
+use crate::around::{Around, item_with};
 use crate::excerpt;
 use crate::excerpt::{place_of, show_bytes, show_line};
 use crate::status::Status;
@@ -8,7 +9,8 @@ use cbor_inspect::{
     End, HexFault, Input, Pasted, Refusal, Shown, is_shown, looks_like, place_of_digit,
     place_of_fault,
 };
-use std::fmt::Display;
+use std::alloc::AllocError;
+use std::fmt::{Display, Write};
 use std::io;
 
 /// Where the data of an input comes from.
@@ -101,6 +103,17 @@ impl Place<'_> {
         }
     }
 
+    /// Appends where a byte of the data is.
+    pub fn push_byte(&self, out: &mut String, byte: usize) -> Result<(), AllocError> {
+        match self.digits(byte) {
+            Some(at) => {
+                let excerpt::Place { line, column, .. } = place_of(self.text, at);
+                write!(out, "{line}:{column}")
+            }
+            None => write!(out, "byte {byte}"),
+        }
+    }
+
     /// What its bytes are counted in, if that is not the input.
     fn within(&self) -> &'static str {
         match self.form {
@@ -113,39 +126,69 @@ impl Place<'_> {
 
 /// Says why no further item is converted.
 pub fn report_end(rt: &HostRuntime, place: &Place, left: Left, end: End) -> Status {
-    match end {
+    let said = match end {
         End::Fault { error, end } => report_fault(rt, place, left, (error, end)),
         End::Cut => report_cut(rt, place, left),
         End::Remaining => {
             place.say_at_byte(rt, left.begins, "bytes remain after the item");
             let _ = eprintln!(rt; "  without -1 they are read as further items");
+            Ok(())
         }
-        End::Memory => return say_out_of_memory(rt, place.name),
+        End::Memory => Err(Error::Memory),
         End::TwoByteSimple { at } => {
-            report_byte(rt, place, left, at.saturating_add(1), TWO_BYTES);
+            report_byte(rt, place, left, at.saturating_add(1), TWO_BYTES)
         }
-        End::Full | End::Done | End::Lost { .. } => {}
+        End::Full | End::Done | End::Lost { .. } => Ok(()),
+    };
+    match said {
+        Ok(()) => Status::Bad,
+        Err(_) => say_out_of_memory(rt, place.name),
     }
-    Status::Bad
 }
 
 /// Says which byte no item can have. The fault is that error, in that many of the bytes that are
 /// left.
-fn report_fault(rt: &HostRuntime, place: &Place, left: Left, fault: (Error, usize)) {
+fn report_fault(
+    rt: &HostRuntime,
+    place: &Place,
+    left: Left,
+    fault: (Error, usize),
+) -> Result<(), Error> {
     let (error, end) = fault;
     let at = place_of_fault(left.bytes, error, end);
-    report_byte(rt, place, left, at, error.text());
+    let around = Around::new(rt.alloc(), left, left.bytes.len())?;
+    let line = around.line(place, false)?;
+    say_byte(rt, place, left, at, (error.text(), &line));
+    Ok(())
 }
 
 /// What is said of a simple value below 32 in two bytes.
 pub const TWO_BYTES: &str = "a simple value below 32 in two bytes, which RFC 8949 forbids";
 
-/// Says what is wrong at one of the bytes that are left.
-pub fn report_byte(rt: &HostRuntime, place: &Place, left: Left, at_fault: usize, what: &str) {
+/// Says what is wrong at a byte of a whole item, before which there may be others.
+pub fn report_byte(
+    rt: &HostRuntime,
+    place: &Place,
+    left: Left,
+    at_fault: usize,
+    what: &str,
+) -> Result<(), Error> {
+    let byte = left.begins.saturating_add(at_fault);
+    let item = item_with(left, byte);
+    let around = Around::new(rt.alloc(), item, byte.saturating_sub(item.begins))?;
+    let line = around.line(place, true)?;
+    say_byte(rt, place, left, at_fault, (what, &line));
+    Ok(())
+}
+
+/// Says what is wrong at one of the bytes that are left, and where in the item that is, in a line.
+fn say_byte(rt: &HostRuntime, place: &Place, left: Left, at_fault: usize, words: (&str, &str)) {
+    let (what, line) = words;
     let byte = left.begins.saturating_add(at_fault);
     match place.digits(byte) {
         Some(at) => {
             say_at(rt, (place.name, place.text), at, what);
+            let _ = eprint!(rt; "{line}");
             show_line(rt, place.text, at, "^^");
         }
         None => {
@@ -154,26 +197,37 @@ pub fn report_byte(rt: &HostRuntime, place: &Place, left: Left, at_fault: usize,
                 label(place.name),
                 place.within()
             );
+            let _ = eprint!(rt; "{line}");
             show_bytes(rt, left.bytes, at_fault);
         }
     }
 }
 
-/// Says that an item is not whole.
-fn report_cut(rt: &HostRuntime, place: &Place, left: Left) {
+/// Says which item is not whole, and how much of it is there.
+fn report_cut(rt: &HostRuntime, place: &Place, left: Left) -> Result<(), Error> {
+    let around = Around::new(rt.alloc(), left, left.bytes.len())?;
+    let words = around.cut_words(place)?;
     let end = left.begins.saturating_add(left.bytes.len());
-    match place.digits(left.begins) {
-        Some(at) => {
-            let excerpt::Place { line, column, .. } = place_of(place.text, at);
-            let what = format_args!("cut short; the item begins at {line}:{column}");
-            place.say_at_byte(rt, end, what);
-        }
+    match place.digits(end) {
+        Some(at) => say_at(
+            rt,
+            (place.name, place.text),
+            at,
+            format_args!("cut short: {words}"),
+        ),
         None => {
-            let begins = left.begins;
-            let what = format_args!("cut short; the item begins at byte {begins}");
-            place.say_at_byte(rt, end, what);
+            let within = match place.form {
+                Input::Base64 => " in the base 64",
+                Input::Diag => " in the bytes of the notation",
+                _ => "",
+            };
+            let _ = eprintln!(rt;
+                "cborcat: {}: cut short{within}: {words}",
+                label(place.name)
+            );
         }
     }
+    Ok(())
 }
 
 /// Says that an item that is not whole is longer than is allowed.
@@ -196,7 +250,10 @@ pub fn report_refusal(rt: &HostRuntime, name: &str, text: &[u8], refusal: Refusa
             Status::Bad
         }
         Refusal::Utf8 { at } => report_character(rt, (name, text), at, Error::Utf8.text()),
-        Refusal::Diag { expected, at } => report_character(rt, (name, text), at, expected),
+        Refusal::Diag { expected, at } => {
+            let rest = text.get(at..).unwrap_or(b"");
+            report_character(rt, (name, text), at, expected.in_text(rest))
+        }
         Refusal::Base64 => {
             let _ = eprintln!(rt; "cborcat: {}: not base 64", label(name));
             Status::Bad

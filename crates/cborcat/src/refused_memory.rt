@@ -1,6 +1,11 @@
-//! Calls of `cbor_inspect` in which `checks/allocations/failing_calls` makes allocations fail, one
-//! after the other.
+//! Calls of `cbor_inspect` and of what is said of places, in which
+//! `checks/allocations/failing_calls` makes allocations fail, one after the other.
 
+use crate::around::Around;
+use crate::at::lines_at;
+use crate::messages::{Left, Place};
+use crate::paths::Paths;
+use crate::rules::Items;
 use cbor_diag::{DataItem, Error, parse_bytes};
 use cbor_inspect::{
     End, Form, Input, Refusal, Show, Stream, Style, lost_at, recognize, show_items, steps_of,
@@ -107,7 +112,7 @@ fn streamed(rt: &impl Abort, alloc: Global, case: &Case) -> Result<bool, Error> 
     let (first, second) = case.input.split_at(case.input.len().saturating_sub(1));
     let mut out = Vec::new(alloc);
     let mut stream = Stream::new(Vec::from_slice(alloc, first)?);
-    let _ = stream.show(&show, &mut out);
+    let cut = stream.show(&show, &mut out);
     stream.push(alloc, second)?;
     let end = stream.show(&show, &mut out);
     if end == End::Memory {
@@ -116,7 +121,7 @@ fn streamed(rt: &impl Abort, alloc: Global, case: &Case) -> Result<bool, Error> 
     }
     assert_eq!(rt; end, End::Done);
     assert_eq!(rt; out.as_slice(), case.output);
-    Ok(false)
+    Ok(cut == End::Memory)
 }
 
 /// A text is recognized rightly, or memory runs out. Returns whether it did.
@@ -148,6 +153,42 @@ fn lost(rt: &impl Abort, alloc: Global) -> Result<bool, Error> {
     Ok(false)
 }
 
+const NESTED: &[u8] = b"\xa1\x62a/\x82\x01\x1f";
+
+/// What is said of a place in an item, or out of memory.
+fn placed(rt: &impl Abort, alloc: Global) -> Result<bool, Error> {
+    let place = Place {
+        name: "-",
+        form: Input::Bytes,
+        text: b"",
+    };
+    let left = Left {
+        begins: 0,
+        bytes: NESTED,
+    };
+    let around = Around::new(alloc, left, NESTED.len())?;
+    let line = around.line(&place, false)?;
+    let wanted = "    at \"a/\"/1, in the array of 2 at byte 4, of which 1 is there\n";
+    assert_eq!(rt; line.as_str(), wanted);
+    let lines = lines_at(alloc, left, 5)?;
+    let wanted = "path: \"a/\"/0\nhead: 01 # 1\nitem: byte 5 (0x5)\n";
+    assert_eq!(rt; lines.as_str(), wanted);
+    Ok(false)
+}
+
+/// The lines of paths, or out of memory.
+fn lined(rt: &impl Abort, alloc: Global) -> Result<bool, Error> {
+    let items = Items {
+        bytes: MAP,
+        begins: 0,
+    };
+    let mut paths = Paths::new(alloc, items, Show::new(alloc, Form::Diag).style);
+    let mut out = String::new(alloc);
+    paths.push_block(&mut out)?;
+    assert_eq!(rt; out.as_str(), "0x2  1  1(1700000000)\n0x9  2  1.5\n");
+    Ok(false)
+}
+
 fn answer<E: Drop>(refused: Result<bool, E>) -> &'static str {
     match refused {
         Ok(false) => "ok",
@@ -167,16 +208,18 @@ fn a_call_answers_or_memory_is_refused(rt: HostRuntime) -> Result<(), Fail> {
         }
     }
     for _ in 0..2 {
-        for (form, text) in [
-            (Input::Hex, b"82 01 02".as_slice()),
-            (Input::Diag, b"[1, 2]".as_slice()),
-            (Input::Base64, b"ggEC".as_slice()),
-            (Input::Bytes, b"\x82\x01\x02".as_slice()),
+        for (form, name, text) in [
+            (Input::Hex, "hex", b"82 01 02".as_slice()),
+            (Input::Diag, "diag", b"[1, 2]".as_slice()),
+            (Input::Base64, "base64", b"ggEC".as_slice()),
+            (Input::Bytes, "bytes", b"\x82\x01\x02".as_slice()),
         ] {
             let refused: Result<bool, Error> = Ok(recognized(&rt, alloc, form, text));
-            println!(rt; "recognized: {}", answer(refused))?;
+            println!(rt; "recognized as {name}: {}", answer(refused))?;
         }
         println!(rt; "lost: {}", answer(lost(&rt, alloc)))?;
+        println!(rt; "placed: {}", answer(placed(&rt, alloc)))?;
+        println!(rt; "lined: {}", answer(lined(&rt, alloc)))?;
     }
     Ok(())
 }

@@ -1,20 +1,34 @@
-//! The rules of an encoding that `--check` names, and what is said of the first that is broken.
+//! The rules of an encoding that `--check` and `--encode` name, and what is said of the first that is
+//! broken.
 
 use crate::messages::TWO_BYTES;
 use cbor_diag::{Error, Extent, IntegerWidth, extent};
 use cbor_edn::bytes_to_edn;
 use cbor_floats::{EncodedFloat, push_number};
-use cbor_rules::{Breach, BreachKind, Rules, breach};
+use cbor_reencode::ReencodeError;
+use cbor_rules::{Breach, BreachKind, Rules, breach_in};
 use std::alloc::{AllocError, Global};
 use std::fmt::Write;
 
 /// The names of the sets of rules.
-pub static RULES: [&str; 5] = ["rfc8949", "preferred", "core", "length-first", "ctap2"];
+pub static RULES: [&str; 7] = [
+    "rfc8949",
+    "valid",
+    "preferred",
+    "core",
+    "length-first",
+    "ctap2",
+    "dcbor",
+];
+
+/// The names of those that items can be encoded by.
+pub static ENCODINGS: [&str; 5] = ["preferred", "core", "length-first", "ctap2", "dcbor"];
 
 /// A set of rules.
 #[derive(Clone, Copy)]
 pub struct RuleSet {
-    rules: Rules,
+    /// The rules.
+    pub rules: Rules,
     /// What an encoding is not that breaks one of them.
     not: &'static str,
 }
@@ -22,10 +36,12 @@ pub struct RuleSet {
 /// The set of rules that a word names; none for `rfc8949`, which each check has.
 pub fn rules_of(word: &str) -> Option<RuleSet> {
     let (rules, not) = match word {
+        "valid" => (Rules::VALID, "not valid: "),
         "preferred" => (Rules::PREFERRED, "not preferred: "),
         "core" => (Rules::CORE, "not core deterministic: "),
         "length-first" => (Rules::LENGTH_FIRST, "not length-first deterministic: "),
         "ctap2" => (Rules::CTAP2, "not CTAP2 canonical: "),
+        "dcbor" => (Rules::DCBOR, "not dCBOR: "),
         _ => return None,
     };
     Some(RuleSet { rules, not })
@@ -46,18 +62,34 @@ impl<'a> Items<'a> {
         self.bytes.get(place..).unwrap_or(b"")
     }
 
-    /// Writes the key at a place, if it is short, and else its place.
-    fn push_key(self, out: &mut String, place: usize) -> Result<(), Error> {
+    /// Writes the item at a place, if it is short, and returns whether it did.
+    fn push_short(self, out: &mut String, place: usize) -> Result<bool, Error> {
         let rest = self.from(place);
         if let Extent::Item(len) = extent(rest) {
             let text = bytes_to_edn(*out.allocator(), rest.get(..len).unwrap_or(b""))?;
             if text.len() <= LONGEST {
-                return Ok(out.push_str(&text)?);
+                out.push_str(&text)?;
+                return Ok(true);
             }
         }
-        let byte = self.begins.saturating_add(place);
-        write!(out, "at byte {byte}")?;
+        Ok(false)
+    }
+
+    /// Writes the key at a place, if it is short, and else its place.
+    fn push_key(self, out: &mut String, place: usize) -> Result<(), Error> {
+        if !self.push_short(out, place)? {
+            let byte = self.begins.saturating_add(place);
+            write!(out, "at byte {byte}")?;
+        }
         Ok(())
+    }
+
+    /// Writes that the text at a place is not in NFC.
+    fn push_not_nfc(self, out: &mut String, place: usize) -> Result<(), Error> {
+        if !self.push_short(out, place)? {
+            out.push_str("a text")?;
+        }
+        Ok(out.push_str(" is not in NFC")?)
     }
 
     /// Writes what is wrong with a key.
@@ -92,6 +124,19 @@ impl<'a> Items<'a> {
             BreachKind::LongSimple => out.push_str(TWO_BYTES)?,
             BreachKind::LongHead { number, width } => push_long_head(out, rest, number, width)?,
             BreachKind::LongFloat { float, shortest } => push_long_float(out, float, shortest)?,
+            BreachKind::IntegerFloat {
+                float,
+                negative,
+                size,
+            } => push_integer_float(out, float, negative, size)?,
+            BreachKind::OtherNan { .. } => out.push_str("the only NaN of dCBOR is f97e00")?,
+            BreachKind::OtherSimple(value) => {
+                write!(
+                    out,
+                    "dCBOR has no simple({value}), only false, true and null"
+                )?;
+            }
+            BreachKind::NotNfc => self.push_not_nfc(out, place)?,
             BreachKind::Indefinite => write!(out, "{} of indefinite length", noun_of(rest))?,
             BreachKind::Tag => out.push_str("CTAP2 has no tags")?,
             BreachKind::LeadingZero => out.push_str("a big number that begins with a zero byte")?,
@@ -187,17 +232,59 @@ fn push_long_float(
     push_lens(out, float_len(float), float_len(shortest))
 }
 
+/// Writes that a float is an integer.
+fn push_integer_float(
+    out: &mut String,
+    float: EncodedFloat,
+    negative: bool,
+    size: u64,
+) -> Result<(), AllocError> {
+    push_number(out, float.value())?;
+    let sign = if negative && size > 0 { "-" } else { "" };
+    write!(out, " is the integer {sign}{size} in dCBOR")
+}
+
 /// The first breach of the set in whole items, with what is said of it.
 pub fn first_breach(
     alloc: Global,
     set: RuleSet,
     items: Items,
 ) -> Result<Option<(usize, String)>, Error> {
-    let Some(breach) = breach(items.bytes, set.rules) else {
+    let Some(breach) = breach_in(alloc, items.bytes, set.rules)? else {
         return Ok(None);
     };
+    Ok(Some((breach.place, words_of(alloc, set, items, breach)?)))
+}
+
+/// What is said of a breach of the set.
+fn words_of(alloc: Global, set: RuleSet, items: Items, breach: Breach) -> Result<String, Error> {
     let mut out = String::new(alloc);
     out.push_str(set.not)?;
     items.push_breach(&mut out, breach)?;
-    Ok(Some((breach.place, out)))
+    Ok(out)
+}
+
+/// Why whole items are not encoded again by the set: the place in them, and what is said of it.
+pub fn words_of_refusal(
+    alloc: Global,
+    set: RuleSet,
+    items: Items,
+    error: ReencodeError,
+) -> Result<(usize, String), Error> {
+    let breach = match error {
+        ReencodeError::Memory => return Err(Error::Memory),
+        ReencodeError::Breach(breach) => breach,
+        ReencodeError::KeyTwice { first, second } => Breach {
+            place: second,
+            kind: BreachKind::KeyTwice { first },
+        },
+        ReencodeError::Written(_) => {
+            let not = set.not;
+            let what = format!(in alloc;
+                "{not}a text in chunks is not in NFC once they are joined"
+            )?;
+            return Ok((0, what));
+        }
+    };
+    Ok((breach.place, words_of(alloc, set, items, breach)?))
 }

@@ -86,6 +86,66 @@ const OTHERS: [Row<'static>; 4] = [
     ),
 ];
 
+const VALID: [Row<'static>; 2] = [
+    (
+        "valid",
+        b"\xa2\x01\x02\x01\x03",
+        3,
+        "not valid: the key 1 was at byte 11",
+    ),
+    (
+        "valid",
+        b"\xbf\x61b\0\x61a\0\x61b\0\xff",
+        7,
+        "not valid: the key \"b\" was at byte 11",
+    ),
+];
+
+const DCBOR: [Row<'static>; 7] = [
+    (
+        "dcbor",
+        b"\x81\xf9\x40\0",
+        1,
+        "not dCBOR: 2.0 is the integer 2 in dCBOR",
+    ),
+    (
+        "dcbor",
+        b"\xfb\xc0\x10\0\0\0\0\0\0",
+        0,
+        "not dCBOR: -4.0 is the integer -4 in dCBOR",
+    ),
+    (
+        "dcbor",
+        b"\xf9\x80\0",
+        0,
+        "not dCBOR: -0.0 is the integer 0 in dCBOR",
+    ),
+    (
+        "dcbor",
+        b"\xf9\x7e\x01",
+        0,
+        "not dCBOR: the only NaN of dCBOR is f97e00",
+    ),
+    (
+        "dcbor",
+        b"\xf7",
+        0,
+        "not dCBOR: dCBOR has no simple(23), only false, true and null",
+    ),
+    (
+        "dcbor",
+        b"\x81\x63\xe2\x84\xab",
+        1,
+        "not dCBOR: \"\u{212b}\" is not in NFC",
+    ),
+    (
+        "dcbor",
+        b"\xa2\x61b\x02\x61a\x01",
+        4,
+        "not dCBOR: the key \"a\" comes after \"b\"",
+    ),
+];
+
 fn check(rt: &impl Abort, alloc: Global, row: &Row) -> Result<(), Fail> {
     let (word, bytes, place, text) = *row;
     let set = rules_of(word).expect(rt, word);
@@ -105,16 +165,24 @@ fn texts(rt: HostRuntime) -> Result<(), Fail> {
     for row in &OTHERS {
         check(&rt, rt.alloc(), row)?;
     }
+    for row in &VALID {
+        check(&rt, rt.alloc(), row)?;
+    }
+    for row in &DCBOR {
+        check(&rt, rt.alloc(), row)?;
+    }
     Ok(())
 }
 
 #[test]
 fn kept(rt: HostRuntime) -> Result<(), Fail> {
-    let rows: [(&str, &[u8]); 4] = [
+    let rows: [(&str, &[u8]); 6] = [
         ("core", b"\xa2\x61a\x01\x61b\x02"),
         ("preferred", b"\xbf\x02\0\x01\0\xff"),
         ("length-first", b"\xa2\x20\0\x62aa\0"),
         ("ctap2", b"\xa1\x20\xfa\x3f\xc0\0\0"),
+        ("valid", b"\xbf\x18\x02\0\x01\xf9\x40\0\xff"),
+        ("dcbor", b"\xa2\x01\xf9\x3e\0\x62\xc3\xa9\xf6"),
     ];
     for (word, bytes) in rows {
         let set = rules_of(word).expect(&rt, word);

@@ -1,7 +1,7 @@
 //! The words of the command line.
 
 use crate::help::HELP;
-use crate::rules::{RULES, RuleSet, rules_of};
+use crate::rules::{ENCODINGS, RULES, RuleSet, rules_of};
 use cbor_inspect::{Form, Input, Show, Style, steps_of};
 use clap::error::ErrorKind;
 use clap::{Arg, ArgAction, ArgMatches, Command};
@@ -11,7 +11,18 @@ use std::alloc::{AllocError, Global};
 static FROM: [&str; 4] = ["bytes", "hex", "diag", "base64"];
 
 /// The forms of the output.
-static TO: [&str; 5] = ["pretty", "diag", "hex", "digits", "bytes"];
+static TO: [&str; 6] = ["pretty", "diag", "hex", "digits", "bytes", "paths"];
+
+/// What is looked for in an input.
+#[derive(Clone, Copy, PartialEq, Eq)]
+pub enum View {
+    /// Its items, or a part of each.
+    Items,
+    /// The items that hold no other, and the paths to them.
+    Paths,
+    /// The item to which this byte of the data belongs.
+    At(usize),
+}
 
 /// What the arguments ask for.
 #[derive(Drop)]
@@ -24,16 +35,22 @@ pub struct Job<'a> {
     pub offset: usize,
     /// How long an item may be.
     pub limit: usize,
+    /// What is looked for.
+    pub view: View,
     /// What is written of each item.
     pub show: Show,
     /// The path as it was given.
     pub path: &'a str,
+    /// Whether what is there of an item that is not whole is written.
+    pub partial: bool,
     /// The file that is written.
     pub output: Option<&'a str>,
     /// Whether inputs are checked alone.
     pub check: bool,
     /// The rules that a check asks for beyond those of RFC 8949's grammar.
     pub rules: Option<RuleSet>,
+    /// The rules by which items are encoded again.
+    pub encode: Option<RuleSet>,
     /// The files that are read; `-` for standard input.
     pub files: Vec<&'a str>,
 }
@@ -77,7 +94,7 @@ fn command<'a>(alloc: Global) -> Result<Command<'a>, AllocError> {
         .version("0.1.0")
         .override_help(HELP)
         .override_usage("cborcat [OPTION]... [FILE]...");
-    with_output(alloc, with_input(alloc, command)?)
+    with_places(alloc, with_output(alloc, with_input(alloc, command)?)?)
 }
 
 /// An option that takes a value.
@@ -120,6 +137,7 @@ fn with_output<'a>(alloc: Global, command: Command<'a>) -> Result<Command<'a>, A
         .require_equals(true)
         .default_missing_value("rfc8949")
         .value_parser(RULES.as_slice());
+    let encode = option(alloc, "encode").value_parser(ENCODINGS.as_slice());
     command
         .arg(to)?
         .arg(path)?
@@ -127,7 +145,31 @@ fn with_output<'a>(alloc: Global, command: Command<'a>) -> Result<Command<'a>, A
         .arg(flag(alloc, "no-notes"))?
         .arg(flag(alloc, "widths"))?
         .arg(option(alloc, "output").short('o'))?
-        .arg(check)
+        .arg(check)?
+        .arg(encode.conflicts_with("check")?)
+}
+
+/// The option `--at`.
+fn at_option<'a>(alloc: Global) -> Result<Arg<'a>, AllocError> {
+    option(alloc, "at")
+        .value_parser(clap::value_parser!(usize))
+        .conflicts_with("to")?
+        .conflicts_with("path")?
+        .conflicts_with("encode")?
+        .conflicts_with("check")
+}
+
+/// The option `--partial`.
+fn partial_option<'a>(alloc: Global) -> Result<Arg<'a>, AllocError> {
+    flag(alloc, "partial")
+        .conflicts_with("path")?
+        .conflicts_with("encode")?
+        .conflicts_with("check")
+}
+
+/// The command with the arguments on places in an item.
+fn with_places<'a>(alloc: Global, command: Command<'a>) -> Result<Command<'a>, AllocError> {
+    command.arg(at_option(alloc)?)?.arg(partial_option(alloc)?)
 }
 
 /// The form of an input that a word names.
@@ -144,7 +186,7 @@ fn input_of(word: &str) -> Option<Input> {
 /// The form of the output that a word names.
 fn form_of(word: Option<&str>) -> Form {
     match word {
-        Some("diag") => Form::Diag,
+        Some("diag" | "paths") => Form::Diag,
         Some("hex") => Form::Hex,
         Some("digits") => Form::Digits,
         Some("bytes") => Form::Bytes,
@@ -159,6 +201,17 @@ fn style_of(matches: &ArgMatches) -> Style {
         embedded: matches.get_flag("embedded"),
         notes: !matches.get_flag("no-notes"),
         widths: matches.get_flag("widths"),
+    }
+}
+
+/// What the arguments ask to look for.
+fn view_of(matches: &ArgMatches) -> View {
+    match matches.get_one::<usize>("at") {
+        Some(byte) => View::At(byte),
+        None if matches.get_str("to") == Some("paths") && matches.get_str("check").is_none() => {
+            View::Paths
+        }
+        None => View::Items,
     }
 }
 
@@ -182,6 +235,14 @@ fn job_of<'a>(rt: &HostRuntime, matches: &ArgMatches<'a>) -> Asked<'a> {
         return out_of_memory(rt);
     };
     let check = matches.get_str("check");
+    let view = view_of(matches);
+    let encode = matches.get_str("encode").and_then(rules_of);
+    if view == View::Paths && (!path.is_empty() || encode.is_some()) {
+        let _ = eprintln!(rt;
+            "cborcat: -t paths shows all paths as they are, and has no -p or --encode"
+        );
+        return Asked::Ended(2);
+    }
     let show = Show {
         style: style_of(matches),
         steps,
@@ -192,11 +253,14 @@ fn job_of<'a>(rt: &HostRuntime, matches: &ArgMatches<'a>) -> Asked<'a> {
         text: matches.get_str("text"),
         offset: matches.get_one::<usize>("offset").unwrap_or(0),
         limit: matches.get_one::<usize>("limit").unwrap_or(LIMIT),
+        view,
         show,
         path,
+        partial: matches.get_flag("partial"),
         output: matches.get_str("output"),
         check: check.is_some(),
         rules: check.and_then(rules_of),
+        encode,
         files,
     })
 }

@@ -1,0 +1,9 @@
+pub mod Removals
+pub mod Checked
+pub mod Orders
+pub mod Choices
+pub mod Chunks
+pub mod Atoms
+pub mod Sorted
+pub mod Containers
+pub mod Kept

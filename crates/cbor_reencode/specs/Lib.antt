@@ -1,0 +1,2 @@
+pub mod Reencoded
+pub mod mirror

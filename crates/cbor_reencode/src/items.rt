@@ -1,0 +1,299 @@
+//! Items, encoded again from the left to the right. A container is a call of
+//! [`Encoder::push_item`], at most 128 deep.
+ghost use Rattle.std.specs.Prelude.{◌≡◌, ℕ, List, ◌++◌, ◌+◌, ◌<◌, ◌≤◌, length, [], Ok, Err, IfOk};
+ghost use Rattle.std.specs.Prelude.{MatchResult, Some, None, IfErr, ◌⊎◌};
+ghost use Rattle.std.specs.List.{AllAdjacentBelow};
+ghost use Rattle.std.specs.List.Sorted.{IsPermutation};
+ghost use Rattle.cbor_grammar.specs.WellFormed.{deepest};
+ghost use Rattle.cbor_grammar.specs.Reading.{read_head};
+ghost use Rattle.cbor_grammar.specs.declared.head.ItemHead.TheVariants as item_head;
+ghost use Rattle.cbor_grammar.specs.Written.{encoded_open, encoded_close};
+ghost use Rattle.cbor_rules.specs.declared.kind.Breach.{Breach};
+ghost use Rattle.cbor_rules.specs.FirstBreach.{first_breach};
+ghost use Rattle.cbor_rules.specs.Keeps.{KeepsRules, without_memory};
+ghost use Rattle.cbor_reencode.specs.Reencoded.{IsReencoded, lasting, IsFound};
+ghost use Rattle.cbor_reencode.specs.mirror.Checked.{Checked, checked_rules};
+ghost use Rattle.cbor_reencode.specs.mirror.Chosen.{chosen_count, FitsHeld};
+ghost use Rattle.cbor_reencode.specs.mirror.Rewritten.{Rewritten, RewrittenItems};
+ghost use Rattle.cbor_reencode.specs.mirror.Rewritten.{Rises, pair_bytes};
+
+use crate::encoder::Encoder;
+use crate::error::ReencodeError;
+use crate::pairs::{Pair, check_rising, push_pairs, sort_pairs};
+use cbor_bytes::head::read_head;
+use cbor_bytes::write::{push_close, push_open};
+use cbor_grammar::IntegerWidth;
+use cbor_grammar::argument::Argument;
+use cbor_grammar::head::ItemHead;
+use cbor_grammar::major::Major;
+use cbor_rules::{KeyOrder, Rules, breach_in};
+use std::alloc::{AllocError, Global};
+
+impl Encoder {
+    /// Writes an array of these members, `number` of them. It had that count.
+    fn push_members(
+        self,
+        out: &mut Vec<u8>,
+        count: Argument,
+        number: usize,
+        members: &[u8],
+    ) -> Result<(), AllocError>
+        requires { FitsHeld count number }
+        ensures { IfOk result (λ x. let width = chosen_count self.rules count number in
+            out.new.items ≡ out.old.items
+            ++ (encoded_open 4 number width ++ (members.now ++ encoded_close width))) }
+    {
+        let width = self.count_width(count, number);
+        push_open(out, Major::Array, number, width)?;
+        out.extend_from_slice(members)?;
+        push_close(out, width)
+    }
+
+    /// Writes a map of these pairs, in the order of the rules. It had that count.
+    fn push_sorted(
+        self,
+        out: &mut Vec<u8>,
+        count: Argument,
+        pairs: &mut Vec<Pair>,
+    ) -> Result<(), ReencodeError>
+        requires { FitsHeld count (length pairs.old.items) }
+        ensures sorts { IsPermutation pairs.old.items pairs.new.items }
+        ensures rises { IfOk result (λ x. AllAdjacentBelow (Rises self.rules.key_order)
+            pairs.new.items (length pairs.new.items)) }
+        ensures writes { IfOk result (λ x. let number = length pairs.new.items in
+            let width = chosen_count self.rules count number in out.new.items ≡ out.old.items
+            ++ (encoded_open 5 number width
+            ++ (pair_bytes pairs.new.items ++ encoded_close width))) }
+        ensures found { IfErr result (IsFound self.rules) }
+    {
+        sort_pairs(self.rules.key_order, pairs)?;
+        check_rising(self.rules.key_order, pairs)?;
+        let width = self.count_width(count, pairs.len());
+        push_open(out, Major::Map, pairs.len(), width)?;
+        push_pairs(out, pairs)?;
+        push_close(out, width)?;
+        Ok(())
+    }
+
+    /// Writes the item at the front of the bytes, which is at this level, and returns the bytes
+    /// after it.
+    #[cycle(item)]
+    fn push_item<'a>(
+        self,
+        alloc: Global,
+        level: u8,
+        bytes: &'a [u8],
+        out: &mut Vec<u8>,
+    ) -> Result<&'a [u8], ReencodeError>
+        requires level { level ≤ deepest + 1 }
+        requires checked { (rest : List ℕ)
+            × Checked self.rules self.len level bytes.now rest }
+        ensures writes { IfOk result (λ rest.
+            Rewritten self.rules level bytes.now rest.now out.old.items out.new.items) }
+        ensures checked { IfOk result (λ rest.
+            Checked self.rules self.len level bytes.now rest.now) }
+        ensures shorter { IfOk result (λ rest. length rest.now < length bytes.now) }
+        ensures found { IfErr result (IsFound self.rules) }
+    {
+        let Ok((head, rest)) = read_head(bytes) else {
+            // The item was checked.
+            unreachable!()
+        };
+        match head {
+            ItemHead::Array(count) => self.push_array(alloc, level, bytes, count, rest, out),
+            ItemHead::Map(count) => self.push_map(alloc, level, bytes, count, rest, out),
+            ItemHead::Tag(tag, width) => {
+                self.push_tagged(alloc, level, bytes, tag, width, rest, out)
+            }
+            _ => Ok(self.push_atom(alloc, bytes, head, rest, out)?),
+        }
+    }
+
+    /// Writes an array, whose head is at `bytes`, and returns the bytes after it.
+    #[cycle(item)]
+    fn push_array<'a>(
+        self,
+        alloc: Global,
+        level: u8,
+        bytes: &[u8],
+        count: Argument,
+        members: &'a [u8],
+        out: &mut Vec<u8>,
+    ) -> Result<&'a [u8], ReencodeError>
+        requires level { level ≤ deepest }
+        requires read { read_head bytes.now ≡ Ok (item_head.Array count, members.now) }
+        requires checked { (rest : List ℕ)
+            × Checked self.rules self.len level bytes.now rest }
+        ensures writes { IfOk result (λ rest.
+            Rewritten self.rules level bytes.now rest.now out.old.items out.new.items) }
+        ensures checked { IfOk result (λ rest.
+            Checked self.rules self.len level bytes.now rest.now) }
+        ensures shorter { IfOk result (λ rest. length rest.now ≤ length members.now) }
+        ensures found { IfErr result (IsFound self.rules) }
+    {
+        let mut written = Vec::new(alloc);
+        let mut number = 0;
+        let mut rest = members;
+        'members: loop {
+            if let Some(after) = count.after_end(number, rest) {
+                self.push_members(out, count, number, &written)?;
+                return Ok(after);
+            }
+            rest = self.push_item(alloc, level + 1, rest, &mut written)?;
+            number += 1;
+        }
+    }
+
+    /// Writes a map, whose head is at `bytes`, and returns the bytes after it.
+    #[cycle(item)]
+    fn push_map<'a>(
+        self,
+        alloc: Global,
+        level: u8,
+        bytes: &[u8],
+        count: Argument,
+        members: &'a [u8],
+        out: &mut Vec<u8>,
+    ) -> Result<&'a [u8], ReencodeError>
+        requires level { level ≤ deepest }
+        requires read { read_head bytes.now ≡ Ok (item_head.Map count, members.now) }
+        requires checked { (rest : List ℕ)
+            × Checked self.rules self.len level bytes.now rest }
+        ensures writes { IfOk result (λ rest.
+            Rewritten self.rules level bytes.now rest.now out.old.items out.new.items) }
+        ensures checked { IfOk result (λ rest.
+            Checked self.rules self.len level bytes.now rest.now) }
+        ensures shorter { IfOk result (λ rest. length rest.now ≤ length members.now) }
+        ensures found { IfErr result (IsFound self.rules) }
+    {
+        let mut pairs = Vec::new(alloc);
+        let mut rest = members;
+        'pairs: loop {
+            if let Some(after) = count.after_end(pairs.len(), rest) {
+                self.push_sorted(out, count, &mut pairs)?;
+                return Ok(after);
+            }
+            let place = self.place(rest);
+            let mut key = Vec::new(alloc);
+            let value_bytes = self.push_item(alloc, level + 1, rest, &mut key)?;
+            let mut value = Vec::new(alloc);
+            rest = self.push_item(alloc, level + 1, value_bytes, &mut value)?;
+            pairs.push(Pair { place, key, value })?;
+        }
+    }
+
+    /// Writes a tag, whose head is at `bytes`, and its item, and returns the bytes after it.
+    #[cycle(item)]
+    fn push_tagged<'a>(
+        self,
+        alloc: Global,
+        level: u8,
+        bytes: &[u8],
+        tag: u64,
+        width: IntegerWidth,
+        content: &'a [u8],
+        out: &mut Vec<u8>,
+    ) -> Result<&'a [u8], ReencodeError>
+        requires level { level ≤ deepest }
+        requires read { read_head bytes.now ≡ Ok (item_head.Tag tag width, content.now) }
+        requires checked { (rest : List ℕ)
+            × Checked self.rules self.len level bytes.now rest }
+        ensures writes { IfOk result (λ rest.
+            Rewritten self.rules level bytes.now rest.now out.old.items out.new.items) }
+        ensures checked { IfOk result (λ rest.
+            Checked self.rules self.len level bytes.now rest.now) }
+        ensures shorter { IfOk result (λ rest. length rest.now ≤ length content.now) }
+        ensures found { IfErr result (IsFound self.rules) }
+    {
+        self.push_tag(out, tag, width)?;
+        let mut item = Vec::new(alloc);
+        let rest = self.push_item(alloc, level + 1, content, &mut item)?;
+        if let Some(kind) = self.tag_breach(tag, &item) {
+            return Err(self.breach(bytes, kind));
+        }
+        out.extend_from_slice(&item)?;
+        Ok(rest)
+    }
+}
+
+/// The rules among these that no choice of widths, lengths and order keeps.
+fn lasting(rules: Rules) -> Rules
+    ensures { result ≡ lasting rules }
+{
+    Rules {
+        shortest_heads: false,
+        shortest_floats: false,
+        definite_lengths: false,
+        key_order: KeyOrder::Any,
+        ..rules
+    }
+}
+
+/// Writes the items one after the other.
+fn push_items(
+    alloc: Global,
+    bytes: &[u8],
+    rules: Rules,
+    out: &mut Vec<u8>,
+) -> Result<(), ReencodeError>
+    requires empty { out.old.items ≡ [] }
+    requires checked { first_breach (checked_rules rules) bytes.now ≡ None }
+    ensures is { IfOk result (λ x. IsReencoded rules bytes.now out.new.items) }
+    ensures found { IfErr result (IsFound rules) }
+{
+    let encoder = Encoder {
+        rules,
+        len: bytes.len(),
+    };
+    let mut rest = bytes;
+    'items: while !rest.is_empty() {
+        rest = encoder.push_item(alloc, 1, rest, out)?;
+    }
+    Ok(())
+}
+
+/// Whether what was written keeps the rules whose check takes memory, too.
+fn check_written(alloc: Global, written: &[u8], rules: Rules) -> Result<(), ReencodeError>
+    requires { KeepsRules (without_memory rules) written.now }
+    ensures keeps { IfOk result (λ x. KeepsRules rules written.now) }
+    ensures found { IfErr result (IsFound rules) }
+{
+    if !rules.nfc && !rules.distinct_keys {
+        return Ok(());
+    }
+    match breach_in(alloc, written, rules)? {
+        None => Ok(()),
+        Some(breach) => Err(ReencodeError::Written(breach)),
+    }
+}
+
+/// Encodes items again, one after the other, so that they keep the rules. The result is of the same
+/// items but for widths, kinds of length and the order of pairs. Bytes that keep the rules are
+/// returned as they are.
+///
+/// Floats that are integers stay floats: where the rules do not allow these, as those of dCBOR,
+/// they are a breach.
+pub fn reencoded(alloc: Global, bytes: &[u8], rules: Rules) -> Result<Vec<u8>, ReencodeError>
+    ensures is { IfOk result (λ out. IsReencoded rules bytes.now out.items) }
+    ensures keeps { IfOk result (λ out. KeepsRules rules out.items) }
+    ensures kept { KeepsRules rules bytes.now → MatchResult result
+        (λ out. out.items ≡ bytes.now) (λ e. e ≡ ReencodeError.Memory) }
+    ensures lasts { (b : Breach) → first_breach (lasting rules) bytes.now ≡ Some b
+        → MatchResult result (λ out. ⊥)
+        (λ e. (e ≡ ReencodeError.Breach b) ⊎ (e ≡ ReencodeError.Memory)) }
+    ensures found { first_breach (lasting rules) bytes.now ≡ None
+        → IfErr result (IsFound rules) }
+{
+    if let Some(found) = breach_in(alloc, bytes, lasting(rules))? {
+        return Err(ReencodeError::Breach(found));
+    }
+    match breach_in(alloc, bytes, rules)? {
+        None => Ok(Vec::from_slice(alloc, bytes)?),
+        Some(_) => {
+            let mut out = Vec::new(alloc);
+            push_items(alloc, bytes, rules, &mut out)?;
+            check_written(alloc, &out, rules)?;
+            Ok(out)
+        }
+    }
+}

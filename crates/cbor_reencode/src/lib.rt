@@ -1,0 +1,24 @@
+//! Encodes CBOR again so that it keeps rules, such as those of deterministic encoding (RFC 8949
+//! section 4.2).
+//!
+//! [`reencoded`] returns bytes of the same items that keep the rules of a [`Rules`].
+//!
+//! ```rust
+//! use cbor_reencode::reencoded;
+//! use cbor_rules::Rules;
+//!
+//! let core = reencoded(alloc, b"\xbf\x18\x02\x80\x01\x9f\xff\xff", Rules::CORE)?;
+//! assert_eq!(rt; core.as_slice(), b"\xa2\x01\x80\x02\x80".as_slice());
+//! ```
+//!
+//! [`Rules`]: cbor_rules::Rules
+#![tactic(auto)]
+
+mod encoder;
+mod error;
+mod items;
+mod pairs;
+mod scalars;
+
+pub use error::ReencodeError;
+pub use items::reencoded;

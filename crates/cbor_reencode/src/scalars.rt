@@ -1,0 +1,264 @@
+//! Items that hold no item.
+ghost use Rattle.std.specs.Prelude.{◌≡◌, ℕ, List, ◌+◌, ◌<◌, ◌≤◌, ◌++◌, ◌∷◌, length, Ok, None};
+ghost use Rattle.std.specs.Prelude.{IfOk, MatchOption};
+ghost use Rattle.cbor_grammar.specs.Head.{FitsStated, break_byte};
+ghost use Rattle.cbor_grammar.specs.StringKind.{major_of};
+ghost use Rattle.cbor_grammar.specs.WellFormed.{FitsFloat};
+ghost use Rattle.cbor_grammar.specs.Written.{encoded_head, encoded_float, encoded_simple};
+ghost use Rattle.cbor_grammar.specs.mirror.MajorNumber.{major_number};
+ghost use Rattle.cbor_grammar.specs.Reading.{read_head};
+ghost use Rattle.cbor_grammar.specs.declared.head.ItemHead.TheVariants as item_head;
+ghost use Rattle.cbor_floats.specs.Preferred.{FitsWidth};
+ghost use Rattle.cbor_floats.specs.Value.{bits_of};
+ghost use Rattle.cbor_rules.specs.Keeps.{float_of};
+ghost use Rattle.cbor_rules.specs.FirstBreach.{opened};
+ghost use Rattle.cbor_reencode.specs.mirror.Chosen.{chosen_width, float_width_of};
+ghost use Rattle.cbor_reencode.specs.mirror.Checked.{CheckedHead, CheckedAtom, CheckedString};
+ghost use Rattle.cbor_reencode.specs.mirror.Checked.{CheckedChunks};
+ghost use Rattle.cbor_reencode.specs.mirror.Rewritten.{ChunkAt, Joined, RewrittenChunks};
+ghost use Rattle.cbor_reencode.specs.mirror.Rewritten.{RewrittenAtom};
+
+use crate::encoder::Encoder;
+use cbor_bytes::strings::read_chunk_length;
+use cbor_bytes::write::{push_close, push_float, push_head, push_open, push_simple};
+use cbor_floats::EncodedFloat;
+use cbor_grammar::argument::Argument;
+use cbor_grammar::head::ItemHead;
+use cbor_grammar::major::Major;
+use cbor_grammar::strings::StringKind;
+use cbor_grammar::{FloatWidth, IntegerWidth};
+use std::alloc::{AllocError, Global};
+
+/// The float of these bits.
+fn float_of(bits: u64, width: FloatWidth) -> EncodedFloat
+    requires { FitsFloat width bits }
+    ensures is { result ≡ float_of bits width }
+    ensures fits { FitsWidth result }
+{
+    match width {
+        FloatWidth::Sixteen => EncodedFloat::Half(bits as u16),
+        FloatWidth::ThirtyTwo => EncodedFloat::Single(bits as u32),
+        FloatWidth::SixtyFour | FloatWidth::Unknown => EncodedFloat::Double(bits),
+    }
+}
+
+/// Writes a float in its width.
+fn push_encoded(out: &mut Vec<u8>, float: EncodedFloat) -> Result<(), AllocError>
+    requires { FitsWidth float }
+    ensures { IfOk result (λ x. out.new.items
+        ≡ out.old.items ++ encoded_float (bits_of float) (float_width_of float)) }
+{
+    match float {
+        EncodedFloat::Half(bits) => push_float(out, u64::from(bits), FloatWidth::Sixteen),
+        EncodedFloat::Single(bits) => push_float(out, u64::from(bits), FloatWidth::ThirtyTwo),
+        EncodedFloat::Double(bits) => push_float(out, bits, FloatWidth::SixtyFour),
+    }
+}
+
+/// Writes a string of definite length.
+fn push_content(
+    out: &mut Vec<u8>,
+    kind: StringKind,
+    content: &[u8],
+    width: IntegerWidth,
+) -> Result<(), AllocError>
+    requires { FitsStated width (length content.now) }
+    ensures { IfOk result (λ x. out.new.items ≡ out.old.items
+        ++ (encoded_head (major_of kind) (length content.now) width ++ content.now)) }
+{
+    push_head(out, kind.major(), content.len() as u64, width)?;
+    out.extend_from_slice(content)?;
+    Ok(())
+}
+
+impl Encoder {
+    /// The next chunk of an indefinite string, with the width of its length, or `None` at its
+    /// break; and the bytes after it.
+    fn chunk<'a>(
+        self,
+        kind: StringKind,
+        bytes: &'a [u8],
+    ) -> (Option<(&'a [u8], IntegerWidth)>, &'a [u8])
+        requires { (after : List ℕ) × CheckedChunks self.rules self.len kind bytes.now after }
+        ensures is { MatchOption result.0 (bytes.now ≡ break_byte ∷ result.1.now)
+            (λ c. ChunkAt kind bytes.now c.0.now c.1 result.1.now) }
+        ensures next { (after : List ℕ) → CheckedChunks self.rules self.len kind bytes.now after
+            → MatchOption result.0 (after ≡ result.1.now)
+            (λ c. CheckedChunks self.rules self.len kind result.1.now after) }
+        ensures shorter { length result.1.now < length bytes.now }
+    {
+        let Ok((length, rest)) = read_chunk_length(kind.major(), bytes) else {
+            // The chunks were checked.
+            unreachable!()
+        };
+        let Some((count, width)) = length else {
+            return (None, rest);
+        };
+        let (content, after) = rest.split_at(count as usize);
+        (Some((content, width)), after)
+    }
+
+    /// Appends the contents of the chunks of an indefinite string, and returns the bytes after its
+    /// break.
+    fn push_joined<'a>(
+        self,
+        kind: StringKind,
+        bytes: &'a [u8],
+        content: &mut Vec<u8>,
+    ) -> Result<&'a [u8], AllocError>
+        requires { (after : List ℕ) × CheckedChunks self.rules self.len kind bytes.now after }
+        ensures joins { IfOk result (λ rest.
+            Joined kind bytes.now rest.now content.old.items content.new.items) }
+        ensures checked { (after : List ℕ)
+            → CheckedChunks self.rules self.len kind bytes.now after
+            → IfOk result (λ rest. rest.now ≡ after) }
+        ensures shorter { IfOk result (λ rest. length rest.now ≤ length bytes.now) }
+    {
+        let mut rest = bytes;
+        'chunks: loop {
+            let (chunk, after) = self.chunk(kind, rest);
+            let Some((piece, _)) = chunk else {
+                return Ok(after);
+            };
+            content.extend_from_slice(piece)?;
+            rest = after;
+        }
+    }
+
+    /// Writes the chunks of an indefinite string, and returns the bytes after its break.
+    fn push_chunks<'a>(
+        self,
+        kind: StringKind,
+        bytes: &'a [u8],
+        out: &mut Vec<u8>,
+    ) -> Result<&'a [u8], AllocError>
+        requires { (after : List ℕ) × CheckedChunks self.rules self.len kind bytes.now after }
+        ensures writes { IfOk result (λ rest.
+            RewrittenChunks self.rules kind bytes.now rest.now out.old.items out.new.items) }
+        ensures checked { (after : List ℕ)
+            → CheckedChunks self.rules self.len kind bytes.now after
+            → IfOk result (λ rest. rest.now ≡ after) }
+        ensures shorter { IfOk result (λ rest. length rest.now ≤ length bytes.now) }
+    {
+        let mut rest = bytes;
+        'chunks: loop {
+            let (chunk, after) = self.chunk(kind, rest);
+            let Some((piece, width)) = chunk else {
+                return Ok(after);
+            };
+            push_content(out, kind, piece, self.width(piece.len() as u64, width))?;
+            rest = after;
+        }
+    }
+
+    /// Writes a string that has this size in its head, and returns the bytes after it.
+    fn push_string<'a>(
+        self,
+        alloc: Global,
+        bytes: &[u8],
+        kind: StringKind,
+        size: Argument,
+        rest: &'a [u8],
+        out: &mut Vec<u8>,
+    ) -> Result<&'a [u8], AllocError>
+        requires read { read_head bytes.now ≡ Ok (item_head.String kind size, rest.now) }
+        requires checked { (after : List ℕ)
+            × CheckedString self.rules self.len bytes.now kind size rest.now after }
+        ensures writes { IfOk result (λ after.
+            RewrittenAtom self.rules bytes.now after.now out.old.items out.new.items) }
+        ensures checked { (after : List ℕ)
+            → CheckedString self.rules self.len bytes.now kind size rest.now after
+            → IfOk result (λ x. x.now ≡ after) }
+        ensures shorter { IfOk result (λ after. length after.now ≤ length rest.now) }
+    {
+        match size {
+            Argument::Number(count, width) => {
+                let (content, after) = rest.split_at(count as usize);
+                push_content(out, kind, content, self.width(count, width))?;
+                Ok(after)
+            }
+            Argument::Indefinite if self.rules.definite_lengths => {
+                let mut content = Vec::new(alloc);
+                let after = self.push_joined(kind, rest, &mut content)?;
+                let width = IntegerWidth::shortest(content.len() as u64);
+                push_content(out, kind, &content, width)?;
+                Ok(after)
+            }
+            Argument::Indefinite => {
+                push_open(out, kind.major(), 0, None)?;
+                let after = self.push_chunks(kind, rest, out)?;
+                push_close(out, None)?;
+                Ok(after)
+            }
+        }
+    }
+
+    /// Writes an integer of that major type.
+    fn push_number(
+        self,
+        out: &mut Vec<u8>,
+        major: Major,
+        number: u64,
+        width: IntegerWidth,
+    ) -> Result<(), AllocError>
+        requires { FitsStated width number }
+        ensures { IfOk result (λ x. out.new.items ≡ out.old.items
+            ++ encoded_head (major_number major) number (chosen_width self.rules number width)) }
+    {
+        push_head(out, major, number, self.width(number, width))
+    }
+
+    /// Writes the head of a tag.
+    pub fn push_tag(
+        self,
+        out: &mut Vec<u8>,
+        tag: u64,
+        width: IntegerWidth,
+    ) -> Result<(), AllocError>
+        requires { FitsStated width tag }
+        ensures { IfOk result (λ x. out.new.items ≡ out.old.items
+            ++ encoded_head 6 tag (chosen_width self.rules tag width)) }
+    {
+        self.push_number(out, Major::Tag, tag, width)
+    }
+
+    /// Writes an item that holds no item, and returns the bytes after it. Its head is at `bytes`,
+    /// and `rest` comes after the head.
+    pub fn push_atom<'a>(
+        self,
+        alloc: Global,
+        bytes: &[u8],
+        head: ItemHead,
+        rest: &'a [u8],
+        out: &mut Vec<u8>,
+    ) -> Result<&'a [u8], AllocError>
+        requires read { read_head bytes.now ≡ Ok (head, rest.now) }
+        requires atom { opened head ≡ None }
+        requires head { CheckedHead self.rules bytes.now head rest.now }
+        requires checked { (after : List ℕ)
+            × CheckedAtom self.rules self.len bytes.now head rest.now after }
+        ensures writes { IfOk result (λ after.
+            RewrittenAtom self.rules bytes.now after.now out.old.items out.new.items) }
+        ensures checked { (after : List ℕ)
+            → CheckedAtom self.rules self.len bytes.now head rest.now after
+            → IfOk result (λ x. x.now ≡ after) }
+        ensures shorter { IfOk result (λ after. length after.now ≤ length rest.now) }
+    {
+        match head {
+            ItemHead::Integer(number, width) => {
+                self.push_number(out, Major::Unsigned, number, width)?
+            }
+            ItemHead::Negative(number, width) => {
+                self.push_number(out, Major::Negative, number, width)?
+            }
+            ItemHead::Float(bits, width) => push_encoded(out, self.float(float_of(bits, width)))?,
+            ItemHead::Simple(value) => push_simple(out, value)?,
+            ItemHead::String(kind, size) => {
+                return self.push_string(alloc, bytes, kind, size, rest, out);
+            }
+            // These hold items.
+            ItemHead::Array(_) | ItemHead::Map(_) | ItemHead::Tag(..) => unreachable!(),
+        }
+        Ok(rest)
+    }
+}
