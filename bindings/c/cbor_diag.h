@@ -64,7 +64,39 @@ enum cbor_diag_error {
     CBOR_DIAG_ERROR_BAD_HEX = 8,     /* an even number of them, and one is no hex digit */
     CBOR_DIAG_ERROR_NOTATION = 9,    /* not diagnostic notation; or not one item in EDN, whatever is wrong */
     CBOR_DIAG_ERROR_PAST_WIDTH = 10, /* a number does not fit its width */
-    CBOR_DIAG_ERROR_NO_FORM = 11     /* no such form: `from` or `to` is not an enum cbor_diag_form */
+    CBOR_DIAG_ERROR_NO_FORM = 11,    /* no such form: `from` or `to` is not an enum cbor_diag_form */
+    CBOR_DIAG_ERROR_NO_RULES = 12,   /* no such rules: `rules` is not an enum cbor_diag_rules */
+    CBOR_DIAG_ERROR_NOT_ENCODABLE = 13 /* no encoding of the items keeps the rules, or the bytes are no items */
+};
+
+/* Sets of rules for an encoding. Each has the rules of the first one. */
+enum cbor_diag_rules {
+    CBOR_DIAG_RULES_RFC8949 = 0,      /* well formed: no f8 before a byte below 32 */
+    CBOR_DIAG_RULES_VALID = 1,        /* no key twice in a map (RFC 8949, section 5.3.1); takes memory */
+    CBOR_DIAG_RULES_PREFERRED = 2,    /* preferred serialization (RFC 8949, section 4.1) */
+    CBOR_DIAG_RULES_CORE = 3,         /* core deterministic encoding (RFC 8949, section 4.2.1) */
+    CBOR_DIAG_RULES_LENGTH_FIRST = 4, /* length-first deterministic encoding (RFC 8949, section 4.2.3) */
+    CBOR_DIAG_RULES_CTAP2 = 5,        /* canonical CBOR (CTAP 2.1, section 8) */
+    CBOR_DIAG_RULES_DCBOR = 6         /* dCBOR; takes memory */
+};
+
+/* What is wrong with a head, or with a key, that breaks a rule. */
+enum cbor_diag_breach_kind {
+    CBOR_DIAG_BREACH_NO_ITEM = 1,          /* no item begins there, or it is cut, or its content is not UTF-8 */
+    CBOR_DIAG_BREACH_LONG_SIMPLE = 2,      /* f8 before a byte below 32 */
+    CBOR_DIAG_BREACH_LONG_HEAD = 3,        /* a shorter width has the number: a value, a length, a count or a tag */
+    CBOR_DIAG_BREACH_NOT_NFC = 4,          /* a text, or a chunk of one, that is not in NFC */
+    CBOR_DIAG_BREACH_LONG_FLOAT = 5,       /* a shorter width has the float */
+    CBOR_DIAG_BREACH_INTEGER_FLOAT = 6,    /* a float that is an integer */
+    CBOR_DIAG_BREACH_OTHER_NAN = 7,        /* a NaN other than f97e00 */
+    CBOR_DIAG_BREACH_OTHER_SIMPLE = 8,     /* a simple value other than false, true and null */
+    CBOR_DIAG_BREACH_INDEFINITE = 9,       /* an indefinite length */
+    CBOR_DIAG_BREACH_TAG = 10,             /* a tag */
+    CBOR_DIAG_BREACH_LEADING_ZERO = 11,    /* a big number with a zero byte in front */
+    CBOR_DIAG_BREACH_SMALL_BIG_NUMBER = 12, /* a big number that fits an integer */
+    CBOR_DIAG_BREACH_TOO_DEEP = 13,        /* an array or a map at a level that is too deep */
+    CBOR_DIAG_BREACH_KEY_ORDER = 14,       /* a key that comes before the one before it, in the order of keys */
+    CBOR_DIAG_BREACH_KEY_TWICE = 15        /* a key that stands twice */
 };
 
 /* Enough for the text of each error, and the zero byte that ends it. */
@@ -100,6 +132,9 @@ int64_t cbor_diag_fault(uint32_t from, const uint8_t *input, size_t input_len, s
 int64_t cbor_diag_fault_text(uint32_t from, const uint8_t *input, size_t input_len, uint8_t *text, size_t text_len);
 void cbor_diag_scanner_init(struct cbor_diag_scanner *scanner);
 int64_t cbor_diag_scanner_feed(struct cbor_diag_scanner *scanner, const uint8_t *input, size_t input_len, size_t *end);
+int64_t cbor_diag_breach(uint32_t rules, const uint8_t *input, size_t input_len, size_t *place, size_t *detail);
+int64_t cbor_diag_breach_text(uint32_t kind, uint8_t *output, size_t output_len);
+int64_t cbor_diag_reencode(uint32_t rules, const uint8_t *input, size_t input_len, uint8_t *output, size_t output_len);
 int64_t cbor_diag_error_text(uint32_t error, uint8_t *output, size_t output_len);
 uint32_t cbor_diag_version(void);
 
@@ -176,7 +211,7 @@ static inline int64_t cbor_diag_extent_checked(const void *input, size_t input_l
  *   end of a text whose bytes are cut.
  * - In notation it is the last of the first bytes after which no notation can follow; or the end of a text that may
  *   only be cut short. It may be inside a character. It is proved that no notation begins with the bytes up to it, or
- *   that it is the end of a text that is cut short; the rest is tested.
+ *   that it is the end of a text that is none; the rest is tested.
  * - In EDN it is where the reader stops: no EDN goes on so. It is proved to be in the text or at its end; the rest is
  *   tested.
  * - In hex, notation or EDN that is not UTF-8 it is the first byte that is not.
@@ -252,6 +287,72 @@ static inline int64_t cbor_diag_scanner_feed_checked(struct cbor_diag_scanner *s
 #define cbor_diag_scanner_feed cbor_diag_scanner_feed_checked
 
 /*
+ * Reports where bytes first break a set of rules, as who signs CBOR or compares it byte by byte wants to know.
+ *
+ * Returns 0 if the bytes are items, none or more, one after the other, that keep the rules; and otherwise the number of
+ * what is wrong first, an enum cbor_diag_breach_kind. `*place` is set to how many bytes come before the head, or before
+ * the key, that breaks the rule. `*detail` is set to
+ *
+ * - the place of the key before, for CBOR_DIAG_BREACH_KEY_ORDER, and of the first of the two, for _KEY_TWICE;
+ * - the number of the error, an enum cbor_diag_error, for CBOR_DIAG_BREACH_NO_ITEM;
+ * - CBOR_DIAG_NO_PLACE for each other kind.
+ *
+ * On an error, returns minus a number of enum cbor_diag_error: CBOR_DIAG_ERROR_NO_RULES, or CBOR_DIAG_ERROR_MEMORY,
+ * which only CBOR_DIAG_RULES_VALID and CBOR_DIAG_RULES_DCBOR can have. Then, and if the rules are kept, `*place` and
+ * `*detail` are set to CBOR_DIAG_NO_PLACE.
+ *
+ *     size_t place;
+ *     cbor_diag_breach(CBOR_DIAG_RULES_CORE, "\x82\x01\x18\x02", 4, &place, NULL);  // _LONG_HEAD at 2
+ *
+ * `input` may be null if its length is 0, and `place` and `detail` may be null.
+ */
+static inline int64_t cbor_diag_breach_checked(uint32_t rules, const void *input, size_t input_len, size_t *place,
+                                               size_t *detail)
+{
+    const uint8_t *in = input ? (const uint8_t *)input : cbor_diag_no_bytes();
+    size_t unused_place, unused_detail;
+    size_t *at = place ? place : &unused_place;
+    size_t *other = detail ? detail : &unused_detail;
+    if (input_len > (size_t)PTRDIFF_MAX) {
+        *at = CBOR_DIAG_NO_PLACE;
+        *other = CBOR_DIAG_NO_PLACE;
+        return -CBOR_DIAG_ERROR_MEMORY; /* no object is that large */
+    }
+    return cbor_diag_breach(rules, in, input_len, at, other);
+}
+#define cbor_diag_breach cbor_diag_breach_checked
+
+/*
+ * Encodes items, none or more, one after the other, again, so that they keep a set of rules. The output is of the same
+ * items but for widths, kinds of length and the order of pairs. An input that keeps the rules is the output as it is.
+ *
+ * Returns the length of the whole output, of which as much is written as fits `output`, as cbor_diag_convert does.
+ *
+ * On an error, returns minus a number of enum cbor_diag_error, and `output` is unchanged:
+ *
+ * - CBOR_DIAG_ERROR_NOT_ENCODABLE, if the input is no items or breaks a rule that no choice of widths, lengths and
+ *   order keeps, such as a tag for CBOR_DIAG_RULES_CTAP2; if two keys of a map are one once they are encoded again; or
+ *   if the joined chunks of a text or of a big number break a rule;
+ * - CBOR_DIAG_ERROR_NO_RULES and CBOR_DIAG_ERROR_MEMORY.
+ *
+ * A pointer may be null if its length is 0. The output must not overlap the input.
+ */
+static inline int64_t cbor_diag_reencode_checked(uint32_t rules, const void *input, size_t input_len, void *output,
+                                                 size_t output_len)
+{
+    const uint8_t *in = input ? (const uint8_t *)input : cbor_diag_no_bytes();
+    uint8_t *out = output ? (uint8_t *)output : cbor_diag_no_bytes();
+    if (input_len > (size_t)PTRDIFF_MAX) {
+        return -CBOR_DIAG_ERROR_MEMORY; /* no object is that large */
+    }
+    if (output_len > (size_t)PTRDIFF_MAX) {
+        output_len = (size_t)PTRDIFF_MAX;
+    }
+    return cbor_diag_reencode(rules, in, input_len, out, output_len);
+}
+#define cbor_diag_reencode cbor_diag_reencode_checked
+
+/*
  * Writes the text of an error into `text`, with a zero byte at its end, and returns `text`. `answer` is the negative
  * result of a call. A text that is longer than `size` is cut; CBOR_DIAG_ERROR_TEXT_SIZE is enough for each. `size`
  * is at least 1.
@@ -261,6 +362,23 @@ static inline const char *cbor_diag_strerror(int64_t answer, char *text, size_t 
     uint32_t number = answer < 0 && answer >= -INT32_MAX ? (uint32_t)-answer : 0;
     size_t room = size - 1 < CBOR_DIAG_ERROR_TEXT_SIZE ? size - 1 : CBOR_DIAG_ERROR_TEXT_SIZE - 1;
     int64_t length = cbor_diag_error_text(number, (uint8_t *)text, room);
+    text[length < (int64_t)room ? (size_t)length : room] = '\0';
+    return text;
+}
+
+/* Enough for each text of cbor_diag_strbreach, and the zero byte that ends it. */
+#define CBOR_DIAG_BREACH_TEXT_SIZE 64
+
+/*
+ * Writes in words what is wrong into `text`, with a zero byte at its end, and returns `text`. `kind` is the positive
+ * result of cbor_diag_breach. A text that is longer than `size` is cut; CBOR_DIAG_BREACH_TEXT_SIZE is enough for each.
+ * `size` is at least 1.
+ */
+static inline const char *cbor_diag_strbreach(int64_t kind, char *text, size_t size)
+{
+    uint32_t number = kind > 0 && kind <= INT32_MAX ? (uint32_t)kind : 0;
+    size_t room = size - 1 < CBOR_DIAG_BREACH_TEXT_SIZE ? size - 1 : CBOR_DIAG_BREACH_TEXT_SIZE - 1;
+    int64_t length = cbor_diag_breach_text(number, (uint8_t *)text, room);
     text[length < (int64_t)room ? (size_t)length : room] = '\0';
     return text;
 }

@@ -13,7 +13,7 @@ import threading
 import unittest
 
 import cbor_diag
-from cbor_diag import CborDiagError, Error, Form
+from cbor_diag import Breach, BreachKind, CborDiagError, Error, Form, Rules
 
 URI = {
     Form.BYTES: b"\xd8\x20\x73https://example.com",
@@ -67,6 +67,8 @@ TEXTS = {
     Error.NOTATION: "not diagnostic notation",
     Error.PAST_WIDTH: "a number does not fit its width",
     Error.NO_FORM: "no such form",
+    Error.NO_RULES: "no such rules",
+    Error.NOT_ENCODABLE: "no encoding of the items keeps the rules",
 }
 
 
@@ -409,6 +411,97 @@ class Dripping64:
     def read(self, _):
         self.at += 64
         return self.data[self.at - 64 : self.at]
+
+
+# rules, bytes, and the first breach: its kind, its place, the place of the other key
+BREACHES = (
+    (Rules.RFC8949, "", None),
+    (Rules.RFC8949, "1801bfff", None),
+    (Rules.RFC8949, "a201800180", None),
+    (Rules.CORE, "a20a01186402", None),
+    (Rules.DCBOR, "f93e00f6", None),
+    (Rules.RFC8949, "018201", Breach(BreachKind.NO_ITEM, 3, error=Error.CUT_SHORT)),
+    (Rules.CORE, "82011c", Breach(BreachKind.NO_ITEM, 2, error=Error.HEAD)),
+    (Rules.VALID, "8161ff", Breach(BreachKind.NO_ITEM, 1, error=Error.UTF8)),
+    (Rules.RFC8949, "81f818", Breach(BreachKind.LONG_SIMPLE, 1)),
+    (Rules.PREFERRED, "011817", Breach(BreachKind.LONG_HEAD, 1)),
+    (Rules.DCBOR, "0163e284ab", Breach(BreachKind.NOT_NFC, 1)),
+    (Rules.CORE, "fa3fc00000", Breach(BreachKind.LONG_FLOAT, 0)),
+    (Rules.DCBOR, "81f94000", Breach(BreachKind.INTEGER_FLOAT, 1)),
+    (Rules.DCBOR, "f97e01", Breach(BreachKind.OTHER_NAN, 0)),
+    (Rules.DCBOR, "f4f7", Breach(BreachKind.OTHER_SIMPLE, 1)),
+    (Rules.LENGTH_FIRST, "019fff", Breach(BreachKind.INDEFINITE, 1)),
+    (Rules.CTAP2, "81c100", Breach(BreachKind.TAG, 1)),
+    (Rules.PREFERRED, "00c249000100000000000000", Breach(BreachKind.LEADING_ZERO, 1)),
+    (Rules.PREFERRED, "c34101", Breach(BreachKind.SMALL_BIG_NUMBER, 0)),
+    (Rules.CTAP2, "8181818180", Breach(BreachKind.TOO_DEEP, 4)),
+    (Rules.CORE, "a21864010a02", Breach(BreachKind.KEY_ORDER, 4, 1)),
+    (Rules.LENGTH_FIRST, "a21864012002", Breach(BreachKind.KEY_ORDER, 4, 1)),
+    (Rules.CORE, "a201800180", Breach(BreachKind.KEY_TWICE, 3, 1)),
+    (Rules.VALID, "a3018000800180", Breach(BreachKind.KEY_TWICE, 5, 1)),
+)
+
+
+class Breaches(unittest.TestCase):
+    def test_each_kind(self):
+        for rules, given, found in BREACHES:
+            with self.subTest(rules=rules, given=given):
+                self.assertEqual(cbor_diag.breach(bytes.fromhex(given), rules), found)
+                self.assertEqual(cbor_diag.breach(bytearray.fromhex(given), int(rules)), found)
+        self.assertEqual({found.kind for _, _, found in BREACHES if found}, set(BreachKind))
+
+    def test_no_rules(self):
+        for rules in (7, -1, 2**32 + 3):
+            with self.subTest(rules=rules):
+                with self.assertRaises(CborDiagError) as raised:
+                    cbor_diag.breach(b"\x01", rules)
+                self.assertIs(raised.exception.error, Error.NO_RULES)
+        self.assertRaises(TypeError, cbor_diag.breach, b"\x01", "core")
+        self.assertRaises(TypeError, cbor_diag.breach, 1, Rules.CORE)
+
+    def test_texts(self):
+        self.assertEqual(str(Breach(BreachKind.KEY_TWICE, 3, 1)), "a key that stands twice")
+        self.assertEqual(str(Breach(BreachKind.NO_ITEM, 3, error=Error.CUT_SHORT)), "the item is cut short")
+        self.assertEqual(len({str(Breach(kind, 0)) for kind in BreachKind}), len(BreachKind))
+
+
+# rules, bytes, and the bytes that they are encoded to, or the error
+REENCODED = (
+    (Rules.CORE, "", ""),
+    (Rules.CORE, "bf180280019fffff", "a201800280"),
+    (Rules.CORE, "a22001186402", "a21864022001"),
+    (Rules.LENGTH_FIRST, "a21864022001", "a22001186402"),
+    (Rules.PREFERRED, "1801fa3fc00000", "01f93e00"),
+    (Rules.CORE, "7f61616162ff", "626162"),
+    (Rules.CORE, "9f" + "01" * 30 + "ff", "981e" + "01" * 30),
+    (Rules.CORE, "8201", Error.NOT_ENCODABLE),
+    (Rules.CTAP2, "1801c100", Error.NOT_ENCODABLE),
+    (Rules.CORE, "a20180180180", Error.NOT_ENCODABLE),
+    (Rules.VALID, "a201800180", Error.NOT_ENCODABLE),
+    (7, "00", Error.NO_RULES),
+    (2**32, "00", Error.NO_RULES),
+)
+
+
+class Reencoding(unittest.TestCase):
+    def test_each_row(self):
+        for rules, given, wanted in REENCODED:
+            for data in (bytes.fromhex(given), bytearray.fromhex(given)):
+                with self.subTest(rules=rules, data=data):
+                    if isinstance(wanted, Error):
+                        with self.assertRaises(CborDiagError) as raised:
+                            cbor_diag.reencode(data, rules)
+                        self.assertIs(raised.exception.error, wanted)
+                    else:
+                        self.assertEqual(cbor_diag.reencode(data, rules).hex(), wanted)
+
+    def test_no_data(self):
+        self.assertRaises(TypeError, cbor_diag.reencode, 1, Rules.CORE)
+        self.assertRaises(TypeError, cbor_diag.reencode, b"\x01", "core")
+
+    def test_longer_than_its_input(self):
+        given = b"\x9f" + b"\x01" * 300 + b"\xff"
+        self.assertEqual(cbor_diag.reencode(given, Rules.CORE), b"\x99\x01\x2c" + b"\x01" * 300)
 
 
 class Errors(unittest.TestCase):

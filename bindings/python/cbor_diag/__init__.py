@@ -20,13 +20,17 @@ import ctypes.util
 import enum
 import operator
 import os
-from typing import Any, BinaryIO, Callable, Iterator, Optional, TypeVar, Union
+from typing import Any, BinaryIO, Callable, Iterator, NamedTuple, Optional, TypeVar, Union
 
 __all__ = [
+    "Breach",
+    "BreachKind",
     "CborDiagError",
     "Error",
     "Form",
+    "Rules",
     "Scanner",
+    "breach",
     "bytes_to_diag",
     "bytes_to_diag_pretty",
     "bytes_to_edn",
@@ -45,6 +49,7 @@ __all__ = [
     "hex_to_edn_pretty",
     "items",
     "library_version",
+    "reencode",
 ]
 
 Data = Union[bytes, bytearray, memoryview, str]
@@ -94,6 +99,80 @@ class Error(enum.IntEnum):
     """A number does not fit its width."""
     NO_FORM = 11
     """No such form."""
+    NO_RULES = 12
+    """No such rules."""
+    NOT_ENCODABLE = 13
+    """No encoding of the items keeps the rules, or the bytes are no items."""
+
+
+class Rules(enum.IntEnum):
+    """Sets of rules for an encoding. Each has the rules of the first one."""
+
+    RFC8949 = 0
+    """Well formed: no f8 before a byte below 32."""
+    VALID = 1
+    """No key twice in a map (RFC 8949, section 5.3.1)."""
+    PREFERRED = 2
+    """Preferred serialization (RFC 8949, section 4.1)."""
+    CORE = 3
+    """Core deterministic encoding (RFC 8949, section 4.2.1)."""
+    LENGTH_FIRST = 4
+    """Length-first deterministic encoding (RFC 8949, section 4.2.3)."""
+    CTAP2 = 5
+    """Canonical CBOR (CTAP 2.1, section 8)."""
+    DCBOR = 6
+    """dCBOR."""
+
+
+class BreachKind(enum.IntEnum):
+    """What is wrong with a head, or with a key, that breaks a rule."""
+
+    NO_ITEM = 1
+    """No item begins there, or it is cut, or its content is not UTF-8."""
+    LONG_SIMPLE = 2
+    """f8 before a byte below 32."""
+    LONG_HEAD = 3
+    """A shorter width has the number: a value, a length, a count or a tag."""
+    NOT_NFC = 4
+    """A text, or a chunk of one, that is not in NFC."""
+    LONG_FLOAT = 5
+    """A shorter width has the float."""
+    INTEGER_FLOAT = 6
+    """A float that is an integer."""
+    OTHER_NAN = 7
+    """A NaN other than f97e00."""
+    OTHER_SIMPLE = 8
+    """A simple value other than false, true and null."""
+    INDEFINITE = 9
+    """An indefinite length."""
+    TAG = 10
+    """A tag."""
+    LEADING_ZERO = 11
+    """A big number with a zero byte in front."""
+    SMALL_BIG_NUMBER = 12
+    """A big number that fits an integer."""
+    TOO_DEEP = 13
+    """An array or a map at a level that is too deep."""
+    KEY_ORDER = 14
+    """A key that comes before the one before it, in the order of keys."""
+    KEY_TWICE = 15
+    """A key that stands twice."""
+
+
+class Breach(NamedTuple):
+    """The first place where bytes break a rule. Its `str` says in words what is wrong."""
+
+    kind: BreachKind
+    """What is wrong."""
+    place: int
+    """How many bytes come before the head, or before the key, that breaks the rule."""
+    other: Optional[int] = None
+    """The place of the key before, for `KEY_ORDER`, and of the first of the two, for `KEY_TWICE`."""
+    error: Optional[Error] = None
+    """The error, for `NO_ITEM`."""
+
+    def __str__(self) -> str:
+        return _breach_text(self.kind) if self.error is None else _error_text(self.error)
 
 
 class CborDiagError(ValueError):
@@ -167,6 +246,15 @@ class _Library:
         self.scanner_feed = library.cbor_diag_scanner_feed
         self.scanner_feed.restype = ctypes.c_int64
         self.scanner_feed.argtypes = [pointer, pointer, size, ctypes.POINTER(size)]
+        self.breach = library.cbor_diag_breach
+        self.breach.restype = ctypes.c_int64
+        self.breach.argtypes = [ctypes.c_uint32, pointer, size, ctypes.POINTER(size), ctypes.POINTER(size)]
+        self.breach_text = library.cbor_diag_breach_text
+        self.breach_text.restype = ctypes.c_int64
+        self.breach_text.argtypes = [ctypes.c_uint32, ctypes.c_char_p, size]
+        self.reencode = library.cbor_diag_reencode
+        self.reencode.restype = ctypes.c_int64
+        self.reencode.argtypes = [ctypes.c_uint32, pointer, size, pointer, size]
         self.error_text = library.cbor_diag_error_text
         self.error_text.restype = ctypes.c_int64
         self.error_text.argtypes = [ctypes.c_uint32, ctypes.c_char_p, size]
@@ -182,6 +270,12 @@ _holding = _Library(ctypes.PyDLL)
 def _error_text(error: Error) -> str:
     text = ctypes.create_string_buffer(64)
     length = _releasing.error_text(error, text, len(text))
+    return text.raw[:length].decode("ascii")
+
+
+def _breach_text(kind: BreachKind) -> str:
+    text = ctypes.create_string_buffer(64)
+    length = _releasing.breach_text(kind, text, len(text))
     return text.raw[:length].decode("ascii")
 
 
@@ -363,6 +457,67 @@ def extent(data: Data) -> int:
     end = ctypes.c_size_t()
     found = _on_bytes(data, _found, end)
     return _beginning(found, end.value)
+
+
+def _rules_number(rules: Rules) -> int:
+    """The number of a set of rules. Raises `CborDiagError` for a number that the library cannot be given."""
+    number = operator.index(rules)
+    if not 0 <= number < 2**32:
+        raise CborDiagError(Error.NO_RULES)
+    return number
+
+
+def _breach(
+    library: _Library, given: Any, length: int, rules: int, place: ctypes.c_size_t, detail: ctypes.c_size_t
+) -> int:
+    return library.breach(rules, given, length, ctypes.byref(place), ctypes.byref(detail))
+
+
+def breach(data: Data, rules: Rules) -> Optional[Breach]:
+    """Returns where `data` first breaks the rules; `None` if it is items, none or more, one after the other, that keep
+    them all.
+
+    >>> breach(bytes.fromhex("82011802"), Rules.CORE).place
+    2
+
+    Raises `CborDiagError` for no such rules, and if memory runs out, which only `VALID` and `DCBOR` take.
+    """
+    number = _rules_number(rules)
+    place, detail = ctypes.c_size_t(), ctypes.c_size_t()
+    found = _on_bytes(data, _breach, number, place, detail)
+    if found == 0:
+        return None
+    if found < 0:
+        raise CborDiagError(Error(-found))
+    kind = BreachKind(found)
+    if kind is BreachKind.NO_ITEM:
+        return Breach(kind, place.value, error=Error(detail.value))
+    return Breach(kind, place.value, None if detail.value == _NO_PLACE else detail.value)
+
+
+def _reencoded(library: _Library, given: Any, length: int, rules: int) -> bytes:
+    wanted = length
+    while True:
+        output = ctypes.create_string_buffer(max(wanted, 1))
+        room, wanted = wanted, library.reencode(rules, given, length, output, wanted)
+        if wanted < 0:
+            raise CborDiagError(Error(-wanted))
+        if wanted <= room:
+            return output.raw[:wanted]
+
+
+def reencode(data: Data, rules: Rules) -> bytes:
+    """Encodes items, none or more, one after the other, again, so that they keep the rules. The result is of the same
+    items but for widths, kinds of length and the order of pairs; data that keeps the rules is returned as it is.
+
+    >>> reencode(bytes.fromhex("a21802800180"), Rules.CORE).hex()
+    'a201800280'
+
+    Raises `CborDiagError` with the error `NOT_ENCODABLE` if the data is no items; if it breaks a rule that no choice of
+    widths, lengths and order keeps; if two keys of a map are one once they are encoded again; or if the joined chunks
+    of a text or of a big number break a rule. Raises it also for no such rules, and if memory runs out.
+    """
+    return _on_bytes(data, _reencoded, _rules_number(rules))
 
 
 class Scanner:

@@ -27,12 +27,14 @@ pub enum Error {
     Notation,
     /// A number is too large for the width written after it.
     PastWidth,
+    /// No encoding of the items keeps the rules, or the bytes are no items.
+    NotEncodable,
 }
 
 /// The result of a conversion.
 pub type Result<T> = std::result::Result<T, Error>;
 
-/// All errors, in the order of their numbers, from 1 on.
+/// The errors of a conversion, in the order of their numbers, from 1 on.
 const ERRORS: [Error; 10] = [
     Error::Memory,
     Error::CutShort,
@@ -46,9 +48,15 @@ const ERRORS: [Error; 10] = [
     Error::PastWidth,
 ];
 
+/// The number of `NotEncodable`. Those between are of arguments that no call of this crate makes.
+const NOT_ENCODABLE: i64 = 13;
+
 impl Error {
     /// The error for a negative result of the library.
     pub(crate) fn of(answer: i64) -> Error {
+        if answer == -NOT_ENCODABLE {
+            return Error::NotEncodable;
+        }
         usize::try_from(-1 - answer)
             .ok()
             .and_then(|index| ERRORS.get(index).copied())
@@ -114,9 +122,13 @@ impl Error {
         String::from_utf8_lossy(&text[..written]).into_owned()
     }
 
-    /// Returns the number of the error, from 1 for `Memory` to 10 for `PastWidth`, in the order of the variants.
+    /// Returns the number of the error: from 1 for `Memory` to 10 for `PastWidth`, in the order of the variants, and 13
+    /// for `NotEncodable`.
     pub fn number(self) -> u32 {
-        self as u32 + 1
+        match self {
+            Error::NotEncodable => NOT_ENCODABLE as u32,
+            other => other as u32 + 1,
+        }
     }
 }
 
@@ -143,5 +155,7 @@ mod tests {
             assert_eq!(error.number() as usize, index + 1, "{error:?}");
             assert_eq!(Error::of(-1 - index as i64), error);
         }
+        assert_eq!(Error::of(-13), Error::NotEncodable);
+        assert_eq!(Error::NotEncodable.number(), 13);
     }
 }

@@ -2,9 +2,11 @@
 #![warn(missing_docs)]
 
 mod error;
+mod rules;
 mod scanner;
 
 pub use error::{Error, Result};
+pub use rules::{breach, reencode, Breach, BreachKind, Rules};
 pub use scanner::Scanner;
 
 /// The form of an input or of an output.
@@ -82,6 +84,25 @@ mod library {
             input_len: usize,
             end: *mut usize,
         ) -> i64;
+        /// Returns the number of the kind of the first breach, or 0, or minus the number of an error, and writes to
+        /// `place` and `detail` where it is, and what else is told of it.
+        pub fn cbor_diag_breach(
+            rules: u32,
+            input: *const u8,
+            input_len: usize,
+            place: *mut usize,
+            detail: *mut usize,
+        ) -> i64;
+        /// Returns the length of the items encoded again, of which as much is written as fits, or minus the number of an
+        /// error. It reads no byte of the output.
+        pub fn cbor_diag_reencode(
+            rules: u32,
+            input: *const u8,
+            input_len: usize,
+            output: *mut u8,
+            output_len: usize,
+        ) -> i64;
+        pub fn cbor_diag_breach_text(kind: u32, output: *mut u8, output_len: usize) -> i64;
         pub fn cbor_diag_error_text(error: u32, output: *mut u8, output_len: usize) -> i64;
         pub fn cbor_diag_version() -> u32;
     }

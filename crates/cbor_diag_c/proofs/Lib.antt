@@ -1,3 +1,4 @@
 pub mod Refusals
 pub mod EdnLines
 pub mod FormNumbers
+pub mod Told

@@ -14,6 +14,11 @@ abbrev pub IfError : ℤ → (ℕ → Type 0) → Type 0
 IfError (pos n) Fact = ⊤
 IfError (negsuc n) Fact = Fact (n + 1)
 
+-- a fact of the length that was returned, or one of the error's number
+abbrev pub IfReturned : ℤ → (ℕ → Type 0) → (ℕ → Type 0) → Type 0
+IfReturned (pos n) Length Number = Length n
+IfReturned (negsuc n) Length Number = Number (n + 1)
+
 -- The buffer after a text was written to it: as much of the text as fits it, and then what it held before.
 abbrev pub written : List ℕ → List ℕ → List ℕ
 written text buffer = take (length buffer) text ++ drop (length text) buffer
@@ -21,6 +26,14 @@ written text buffer = take (length buffer) text ++ drop (length text) buffer
 -- what is returned for the number of no form
 abbrev pub no_form : ℕ
 no_form = 11
+
+-- what is returned for the number of no set of rules
+abbrev pub no_rules : ℕ
+no_rules = 12
+
+-- what is returned for items that have no encoding by the rules
+abbrev pub not_encodable : ℕ
+not_encodable = 13
 
 -- A conversion with an output of this length, and the buffer after it.
 abbrev pub IsWhole : ℕ → ℕ → List ℕ → List ℕ → List ℕ → ℕ → Type 0
@@ -35,13 +48,15 @@ IsWhy from to input n =
 
 -- no error has this number
 abbrev pub IsNoError : ℕ → Type 0
-IsNoError n = (n ≡ 0) ⊎ (no_form < n)
+IsNoError n = (n ≡ 0) ⊎ (not_encodable < n)
 
 -- what the error of this number says
 abbrev pub IsTextOf : ℕ → List ℕ → Type 0
 IsTextOf n text =
     ((e : Error) × (n ≡ number_of e) × (text ≡ text_of e))
     ⊎ ((n ≡ no_form) × (text ≡ codes "no such form"))
+    ⊎ ((n ≡ no_rules) × (text ≡ codes "no such rules"))
+    ⊎ ((n ≡ not_encodable) × (text ≡ codes "no encoding of the items keeps the rules"))
     ⊎ (IsNoError n × (text ≡ codes "no such error"))
 
 -- this number was returned

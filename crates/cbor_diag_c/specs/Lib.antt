@@ -4,3 +4,5 @@ pub mod Beginnings
 pub mod Pieces
 pub mod Places
 pub mod Words
+pub mod Breaches
+pub mod Reencodings

@@ -1,7 +1,7 @@
 //! The texts of errors.
 ghost use Rattle.std.specs.Prelude.{◌≡◌, ◌⊎◌, ◌<◌, ℕ, List, length, None, IfSome};
 ghost use Rattle.cbor_diag.specs.Refusals.{number_of};
-ghost use Rattle.cbor_diag_c.specs.Answers.{IfLength, IfError, no_form, IsTextOf, written};
+ghost use Rattle.cbor_diag_c.specs.Answers.{IfLength, IfError, no_form, no_rules, IsTextOf, written};
 
 use crate::answer::write;
 use cbor_diag::Error;
@@ -33,6 +33,8 @@ fn text(number: u32) -> &'static str
     match error(number) {
         Some(error) => error.text(),
         None if number == 11 => "no such form",
+        None if number == 12 => "no such rules",
+        None if number == 13 => "no encoding of the items keeps the rules",
         None => "no such error",
     }
 }

@@ -26,7 +26,7 @@ use std::alloc::Global;
 type Fault = Option<(Error, usize)>;
 
 /// The place where there is none.
-const NO_PLACE: usize = usize::MAX;
+pub(crate) const NO_PLACE: usize = usize::MAX;
 
 /// The fault of bytes.
 #[tactic(auto, using(crate::proofs::Refusals::refused, crate::proofs::Refusals::fault_place))]

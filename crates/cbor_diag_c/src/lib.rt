@@ -2,7 +2,8 @@
 //! keep to.
 //!
 //! Each returns a length, or minus the number of an error: 1 to 10 as `Error::number` has them, or
-//! 11 for an unknown form. In C, with the header:
+//! 11 for an unknown form, 12 for an unknown set of rules, and 13 for items that have no encoding by
+//! the rules. In C, with the header:
 //!
 //! ```c
 //! char text[256];
@@ -12,12 +13,14 @@
 #![tactic(auto)]
 
 mod answer;
+mod breaches;
 mod conversion;
 mod edn;
 mod error;
 mod extents;
 mod faults;
 mod form;
+mod reencoding;
 mod scanner;
 mod version;
 mod words;

@@ -1,0 +1,211 @@
+//! Rules that an encoding keeps: where bytes break them, and items encoded again so that they keep them.
+
+use crate::{library, Error, Result};
+use std::fmt;
+
+/// A set of rules for an encoding. Each has the rules of the first one.
+#[derive(Clone, Copy, PartialEq, Eq, Hash, Debug)]
+#[non_exhaustive]
+pub enum Rules {
+    /// Well formed by RFC 8949: no `f8` before a byte below 32.
+    Rfc8949,
+    /// No key twice in a map (RFC 8949, section 5.3.1). Checking this takes memory.
+    Valid,
+    /// Preferred serialization (RFC 8949, section 4.1).
+    Preferred,
+    /// Core deterministic encoding (RFC 8949, section 4.2.1).
+    Core,
+    /// Length-first deterministic encoding (RFC 8949, section 4.2.3).
+    LengthFirst,
+    /// Canonical CBOR (CTAP 2.1, section 8).
+    Ctap2,
+    /// dCBOR. Checking this takes memory.
+    Dcbor,
+}
+
+/// The first place where bytes break a rule. Its `Display` says in words what is wrong.
+#[derive(Clone, Copy, PartialEq, Eq, Hash, Debug)]
+pub struct Breach {
+    /// How many bytes come before the head, or before the key, that breaks the rule.
+    pub place: usize,
+    /// What is wrong there.
+    pub kind: BreachKind,
+}
+
+/// What is wrong with a head or with a key.
+#[derive(Clone, Copy, PartialEq, Eq, Hash, Debug)]
+#[non_exhaustive]
+pub enum BreachKind {
+    /// No item begins there, or it is cut, or its content is not UTF-8.
+    NoItem(Error),
+    /// `f8` before a byte below 32.
+    LongSimple,
+    /// A shorter width has the number: a value, a length, a count or a tag.
+    LongHead,
+    /// A text, or a chunk of one, that is not in NFC.
+    NotNfc,
+    /// A shorter width has the float.
+    LongFloat,
+    /// A float that is an integer.
+    IntegerFloat,
+    /// A NaN other than `f97e00`.
+    OtherNan,
+    /// A simple value other than false, true and null.
+    OtherSimple,
+    /// An indefinite length.
+    Indefinite,
+    /// A tag.
+    Tag,
+    /// A big number with a zero byte in front.
+    LeadingZero,
+    /// A big number that fits an integer.
+    SmallBigNumber,
+    /// An array or a map at a level that is too deep.
+    TooDeep,
+    /// The key comes before the key at this place in the order of keys.
+    KeyOrder {
+        /// The place of the key before.
+        previous: usize,
+    },
+    /// The key is the one at this place again.
+    KeyTwice {
+        /// The place of the first of the two.
+        first: usize,
+    },
+}
+
+impl BreachKind {
+    /// The kind with this number, and what else the library told of it.
+    fn of(number: u32, detail: usize) -> BreachKind {
+        match number {
+            1 => BreachKind::NoItem(Error::of(-(detail as i64))),
+            2 => BreachKind::LongSimple,
+            3 => BreachKind::LongHead,
+            4 => BreachKind::NotNfc,
+            5 => BreachKind::LongFloat,
+            6 => BreachKind::IntegerFloat,
+            7 => BreachKind::OtherNan,
+            8 => BreachKind::OtherSimple,
+            9 => BreachKind::Indefinite,
+            10 => BreachKind::Tag,
+            11 => BreachKind::LeadingZero,
+            12 => BreachKind::SmallBigNumber,
+            13 => BreachKind::TooDeep,
+            14 => BreachKind::KeyOrder { previous: detail },
+            15 => BreachKind::KeyTwice { first: detail },
+            _ => unreachable!("the library answered {number}"),
+        }
+    }
+
+    fn number(self) -> u32 {
+        match self {
+            BreachKind::NoItem(_) => 1,
+            BreachKind::LongSimple => 2,
+            BreachKind::LongHead => 3,
+            BreachKind::NotNfc => 4,
+            BreachKind::LongFloat => 5,
+            BreachKind::IntegerFloat => 6,
+            BreachKind::OtherNan => 7,
+            BreachKind::OtherSimple => 8,
+            BreachKind::Indefinite => 9,
+            BreachKind::Tag => 10,
+            BreachKind::LeadingZero => 11,
+            BreachKind::SmallBigNumber => 12,
+            BreachKind::TooDeep => 13,
+            BreachKind::KeyOrder { .. } => 14,
+            BreachKind::KeyTwice { .. } => 15,
+        }
+    }
+}
+
+impl fmt::Display for BreachKind {
+    fn fmt(&self, f: &mut fmt::Formatter<'_>) -> fmt::Result {
+        if let BreachKind::NoItem(error) = self {
+            return error.fmt(f);
+        }
+        let mut text = [0; 64];
+        // SAFETY: so many bytes stand at the pointer.
+        let length =
+            unsafe { library::cbor_diag_breach_text(self.number(), text.as_mut_ptr(), text.len()) };
+        let written = &text[..length as usize];
+        f.pad(std::str::from_utf8(written).expect("the text is ASCII"))
+    }
+}
+
+impl fmt::Display for Breach {
+    fn fmt(&self, f: &mut fmt::Formatter<'_>) -> fmt::Result {
+        self.kind.fmt(f)
+    }
+}
+
+/// Returns where bytes first break the rules; `None` if they are items, none or more, one after the other, that keep
+/// them all. The only error is [`Error::Memory`], which only [`Rules::Valid`] and [`Rules::Dcbor`] can have.
+///
+/// ```rust
+/// use semphluk::{breach, Breach, BreachKind, Rules};
+///
+/// let found = breach(b"\x82\x01\x18\x02", Rules::Core).unwrap();
+/// let kind = BreachKind::LongHead;
+/// assert_eq!(found, Some(Breach { place: 2, kind }));
+/// ```
+pub fn breach(bytes: &[u8], rules: Rules) -> Result<Option<Breach>> {
+    let (mut place, mut detail) = (0, 0);
+    // SAFETY: the pointers are those of the slice, with its length, and of the variables.
+    let answer = unsafe {
+        library::cbor_diag_breach(
+            rules as u32,
+            bytes.as_ptr(),
+            bytes.len(),
+            &mut place,
+            &mut detail,
+        )
+    };
+    match u32::try_from(answer) {
+        Ok(0) => Ok(None),
+        Ok(number) => {
+            let kind = BreachKind::of(number, detail);
+            Ok(Some(Breach { place, kind }))
+        }
+        Err(_) => Err(Error::of(answer)),
+    }
+}
+
+/// Encodes items, none or more, one after the other, again, so that they keep the rules. The result is of the same items
+/// but for widths, kinds of length and the order of pairs. Bytes that keep the rules are returned as they are.
+///
+/// The error is [`Error::NotEncodable`] if the bytes are no items; if they break a rule that no choice of widths, lengths
+/// and order keeps; if two keys of a map are one once they are encoded again; or if the joined chunks of a text or of a
+/// big number break a rule. Otherwise it is [`Error::Memory`].
+///
+/// ```rust
+/// use semphluk::{reencode, Rules};
+///
+/// let core = reencode(b"\xa2\x18\x02\x80\x01\x80", Rules::Core).unwrap();
+/// assert_eq!(core, b"\xa2\x01\x80\x02\x80");
+/// ```
+pub fn reencode(bytes: &[u8], rules: Rules) -> Result<Vec<u8>> {
+    let mut output = Vec::new();
+    let mut room = bytes.len();
+    loop {
+        output.try_reserve_exact(room).map_err(|_| Error::Memory)?;
+        let room_there = output.capacity();
+        // SAFETY: the pointers are those of the slice and of the vector, are not null and do not overlap, and so many
+        // bytes stand at each. The call only writes to the output.
+        let answer = unsafe {
+            library::cbor_diag_reencode(
+                rules as u32,
+                bytes.as_ptr(),
+                bytes.len(),
+                output.as_mut_ptr(),
+                room_there,
+            )
+        };
+        let length = usize::try_from(answer).map_err(|_| Error::of(answer))?;
+        if length <= room_there {
+            // SAFETY: the call wrote all bytes of the output.
+            unsafe { output.set_len(length) };
+            return Ok(output);
+        }
+        room = length;
+    }
+}

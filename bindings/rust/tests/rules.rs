@@ -1,0 +1,120 @@
+//! Each kind of breach with its place, and items encoded again. Expected values are worked out by hand from docs/RULES.md.
+
+use semphluk::{breach, reencode, Breach, BreachKind, Error, Rules};
+
+fn assert_kept(bytes: &[u8], rules: Rules) {
+    assert_eq!(breach(bytes, rules), Ok(None), "{bytes:x?} by {rules:?}");
+}
+
+fn assert_breach(bytes: &[u8], rules: Rules, place: usize, kind: BreachKind) {
+    let found = Breach { place, kind };
+    let expected = Ok(Some(found));
+    assert_eq!(breach(bytes, rules), expected, "{bytes:x?} by {rules:?}");
+}
+
+#[test]
+fn kept() {
+    assert_kept(b"", Rules::Rfc8949);
+    assert_kept(b"\x18\x01\xbf\xff", Rules::Rfc8949);
+    assert_kept(b"\xa2\x01\x80\x01\x80", Rules::Rfc8949);
+    assert_kept(b"\xa2\x0a\x01\x18\x64\x02", Rules::Core);
+    assert_kept(b"\xf9\x3e\x00\xf6", Rules::Dcbor);
+}
+
+#[test]
+fn no_item() {
+    let kind = BreachKind::NoItem;
+    assert_breach(b"\x01\x82\x01", Rules::Rfc8949, 3, kind(Error::CutShort));
+    assert_breach(b"\x82\x01\x1c", Rules::Core, 2, kind(Error::Head));
+    assert_breach(b"\x81\x61\xff", Rules::Valid, 1, kind(Error::Utf8));
+}
+
+#[test]
+fn heads() {
+    assert_breach(b"\x81\xf8\x18", Rules::Rfc8949, 1, BreachKind::LongSimple);
+    assert_breach(b"\x01\x18\x17", Rules::Preferred, 1, BreachKind::LongHead);
+    assert_breach(b"\x01\x63\xe2\x84\xab", Rules::Dcbor, 1, BreachKind::NotNfc);
+    assert_breach(b"\xf4\xf7", Rules::Dcbor, 1, BreachKind::OtherSimple);
+    assert_breach(
+        b"\x01\x9f\xff",
+        Rules::LengthFirst,
+        1,
+        BreachKind::Indefinite,
+    );
+    assert_breach(b"\x81\xc1\x00", Rules::Ctap2, 1, BreachKind::Tag);
+    assert_breach(
+        b"\x81\x81\x81\x81\x80",
+        Rules::Ctap2,
+        4,
+        BreachKind::TooDeep,
+    );
+}
+
+#[test]
+fn numbers() {
+    assert_breach(
+        b"\xfa\x3f\xc0\x00\x00",
+        Rules::Core,
+        0,
+        BreachKind::LongFloat,
+    );
+    assert_breach(
+        b"\x81\xf9\x40\x00",
+        Rules::Dcbor,
+        1,
+        BreachKind::IntegerFloat,
+    );
+    assert_breach(b"\xf9\x7e\x01", Rules::Dcbor, 0, BreachKind::OtherNan);
+    let big = b"\x00\xc2\x49\x00\x01\x00\x00\x00\x00\x00\x00\x00";
+    assert_breach(big, Rules::Preferred, 1, BreachKind::LeadingZero);
+    assert_breach(
+        b"\xc3\x41\x01",
+        Rules::Preferred,
+        0,
+        BreachKind::SmallBigNumber,
+    );
+}
+
+#[test]
+fn keys() {
+    let order = BreachKind::KeyOrder { previous: 1 };
+    assert_breach(b"\xa2\x18\x64\x01\x0a\x02", Rules::Core, 4, order);
+    assert_breach(b"\xa2\x18\x64\x01\x20\x02", Rules::LengthFirst, 4, order);
+    let twice = BreachKind::KeyTwice { first: 1 };
+    assert_breach(b"\xa2\x01\x80\x01\x80", Rules::Core, 3, twice);
+    assert_breach(b"\xa3\x01\x80\x00\x80\x01\x80", Rules::Valid, 5, twice);
+}
+
+#[test]
+fn texts() {
+    let found = breach(b"\xa2\x01\x80\x01\x80", Rules::Core).unwrap();
+    assert_eq!(found.unwrap().to_string(), "a key that stands twice");
+    let found = breach(b"\x82\x01", Rules::Core).unwrap();
+    assert_eq!(found.unwrap().to_string(), "the item is cut short");
+}
+
+#[test]
+fn encoded_again() {
+    let again = |bytes: &[u8], rules| reencode(bytes, rules).unwrap();
+    assert_eq!(again(b"", Rules::Core), b"");
+    let map = b"\xbf\x18\x02\x80\x01\x9f\xff\xff";
+    assert_eq!(again(map, Rules::Core), b"\xa2\x01\x80\x02\x80");
+    let keys = b"\xa2\x18\x64\x02\x20\x01";
+    assert_eq!(again(keys, Rules::Core), keys);
+    let shorter_first = b"\xa2\x20\x01\x18\x64\x02";
+    assert_eq!(again(keys, Rules::LengthFirst), shorter_first);
+    let many = [b"\x9f".as_slice(), &[1; 300], b"\xff"].concat();
+    let counted = [b"\x99\x01\x2c".as_slice(), &[1; 300]].concat();
+    assert_eq!(again(&many, Rules::Core), counted);
+}
+
+#[test]
+fn not_encodable() {
+    let refused = Err(Error::NotEncodable);
+    assert_eq!(reencode(b"\x82\x01", Rules::Core), refused);
+    assert_eq!(reencode(b"\x18\x01\xc1\x00", Rules::Ctap2), refused);
+    let twice = b"\xa2\x01\x80\x18\x01\x80";
+    assert_eq!(reencode(twice, Rules::Core), refused);
+    let text = Error::NotEncodable.to_string();
+    assert_eq!(text, "no encoding of the items keeps the rules");
+}

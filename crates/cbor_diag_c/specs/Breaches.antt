@@ -1,0 +1,90 @@
+-- What is returned for where bytes first break a set of rules.
+use Rattle.std.specs.Prelude.{◌≡◌, ◌⊎◌, ℕ, List, Option, Some, None, IsTrue, codes}
+use Rattle.std.specs.Prelude.{◌==◌, if◌then◌else◌}
+use Rattle.cbor_diag.specs.Refusals.{number_of}
+use Rattle.cbor_rules.specs.declared.rules.Rules.{Rules}
+use Rattle.cbor_rules.specs.declared.rules.TheConstants.Rules.{RFC_8949, VALID, PREFERRED, CORE, LENGTH_FIRST, CTAP2}
+use Rattle.cbor_rules.specs.declared.rules.TheConstants.Rules.{DCBOR}
+use Rattle.cbor_rules.specs.declared.kind.Breach.{Breach}
+use Rattle.cbor_rules.specs.declared.kind.BreachKind.{BreachKind}
+use Rattle.cbor_rules.specs.declared.kind.BreachKind.TheVariants as kind
+use Rattle.cbor_rules.specs.FirstBreach.{first_breach}
+use Rattle.cbor_rules.specs.Keeps.{KeepsRules}
+use Rattle.cbor_diag_c.specs.Places.{no_place}
+
+-- the set of rules with this number
+abbrev pub rules_of : ℕ → Option Rules
+rules_of number =
+    if number == 0 then Some RFC_8949
+    else if number == 1 then Some VALID
+    else if number == 2 then Some PREFERRED
+    else if number == 3 then Some CORE
+    else if number == 4 then Some LENGTH_FIRST
+    else if number == 5 then Some CTAP2
+    else if number == 6 then Some DCBOR
+    else None
+
+abbrev pub kind_number : BreachKind → ℕ
+kind_number (kind.NoItem e) = 1
+kind_number kind.LongSimple = 2
+kind_number (kind.LongHead n w) = 3
+kind_number kind.NotNfc = 4
+kind_number (kind.LongFloat float shortest) = 5
+kind_number (kind.IntegerFloat float negative size) = 6
+kind_number (kind.OtherNan float) = 7
+kind_number (kind.OtherSimple n) = 8
+kind_number kind.Indefinite = 9
+kind_number kind.Tag = 10
+kind_number kind.LeadingZero = 11
+kind_number kind.SmallBigNumber = 12
+kind_number kind.TooDeep = 13
+kind_number (kind.KeyOrder previous) = 14
+kind_number (kind.KeyTwice first) = 15
+
+-- what else is told: the number of the error for which there is no item, or the place of the other key
+abbrev pub detail_of : BreachKind → ℕ
+detail_of (kind.NoItem e) = number_of e
+detail_of (kind.KeyOrder previous) = previous
+detail_of (kind.KeyTwice first) = first
+detail_of _ = no_place
+
+-- what is told of the first breach, if there is one
+abbrev pub IsTold : Option Breach → ℕ → ℕ → ℕ → Type 0
+IsTold None n place detail = (n ≡ 0) × (place ≡ no_place) × (detail ≡ no_place)
+IsTold (Some b) n place detail = (n ≡ kind_number b.kind) × (place ≡ b.place) × (detail ≡ detail_of b.kind)
+
+-- what is told of the first breach of the rules of this number
+abbrev pub IsFoundBy : ℕ → List ℕ → ℕ → ℕ → ℕ → Type 0
+IsFoundBy number input n place detail =
+    (rules : Rules) × (rules_of number ≡ Some rules) × IsTold (first_breach rules input) n place detail
+
+-- the input is items one after the other that keep the rules of this number
+abbrev pub KeepsBy : ℕ → List ℕ → Type 0
+KeepsBy number input = (rules : Rules) × (rules_of number ≡ Some rules) × KeepsRules rules input
+
+-- to check the rules takes memory
+abbrev pub TakesMemory : Rules → Type 0
+TakesMemory rules = IsTrue rules.nfc ⊎ IsTrue rules.distinct_keys
+
+abbrev pub TakesMemoryBy : ℕ → Type 0
+TakesMemoryBy number = (rules : Rules) × (rules_of number ≡ Some rules) × TakesMemory rules
+
+-- what is said of a kind, by its number
+abbrev pub breach_text : ℕ → List ℕ
+breach_text number =
+    if number == 1 then codes "no item"
+    else if number == 2 then codes "a simple value below 32 in two bytes"
+    else if number == 3 then codes "a head that is not the shortest"
+    else if number == 4 then codes "a text that is not in NFC"
+    else if number == 5 then codes "a float that is not the shortest"
+    else if number == 6 then codes "a float that is an integer"
+    else if number == 7 then codes "a NaN other than f97e00"
+    else if number == 8 then codes "a simple value other than false, true and null"
+    else if number == 9 then codes "an indefinite length"
+    else if number == 10 then codes "a tag"
+    else if number == 11 then codes "a big number that begins with a zero byte"
+    else if number == 12 then codes "a big number that fits an integer"
+    else if number == 13 then codes "nested deeper than the rules allow"
+    else if number == 14 then codes "a key that is out of order"
+    else if number == 15 then codes "a key that stands twice"
+    else codes "no such breach"

@@ -1,0 +1,43 @@
+-- What is returned for items that are encoded again so that they keep a set of rules.
+use Rattle.std.specs.Prelude.{◌≡◌, ◌≢◌, ◌⊎◌, ℕ, List, Some, None, length}
+use Rattle.cbor_rules.specs.declared.rules.Rules.{Rules}
+use Rattle.cbor_rules.specs.declared.kind.Breach.{Breach}
+use Rattle.cbor_rules.specs.FirstBreach.{first_breach}
+use Rattle.cbor_rules.specs.Keeps.{KeepsRules}
+use Rattle.cbor_reencode.specs.declared.error.ReencodeError.{ReencodeError}
+use Rattle.cbor_reencode.specs.declared.error.ReencodeError.TheVariants as reencode_error
+use Rattle.cbor_reencode.specs.Reencoded.{IsReencoded, IsFound, lasting}
+use Rattle.cbor_diag_c.specs.Answers.{written}
+use Rattle.cbor_diag_c.specs.Breaches.{rules_of}
+
+-- A text of this length, and the buffer after it was written.
+abbrev pub IsWrittenText : List ℕ → List ℕ → List ℕ → ℕ → Type 0
+IsWrittenText text old new n = (n ≡ length text) × (new ≡ written text old)
+
+-- The items of the input, encoded again so that they keep the rules: their length, and the buffer after it.
+abbrev pub IsAgain : Rules → List ℕ → List ℕ → List ℕ → ℕ → Type 0
+IsAgain rules input old new n =
+    (again : List ℕ) × IsReencoded rules input again × KeepsRules rules again × IsWrittenText again old new n
+
+abbrev pub IsAgainBy : ℕ → List ℕ → List ℕ → List ℕ → ℕ → Type 0
+IsAgainBy number input old new n =
+    (rules : Rules) × (rules_of number ≡ Some rules) × IsAgain rules input old new n
+
+-- the input breaks a rule that no choice of widths, lengths and order keeps, or is no items
+abbrev pub Breaks : Rules → List ℕ → Type 0
+Breaks rules input = (breach : Breach) × (first_breach (lasting rules) input ≡ Some breach)
+
+abbrev pub BreaksBy : ℕ → List ℕ → Type 0
+BreaksBy number input = (rules : Rules) × (rules_of number ≡ Some rules) × Breaks rules input
+
+-- why the input is not encoded again: it breaks such a rule; or else a key stands twice once it is encoded, or what
+-- chunks are joined to breaks a rule
+abbrev pub IsNotEncodable : Rules → List ℕ → Type 0
+IsNotEncodable rules input =
+    Breaks rules input
+    ⊎ ((first_breach (lasting rules) input ≡ None)
+    × (e : ReencodeError) × (e ≢ reencode_error.Memory) × IsFound rules e)
+
+abbrev pub IsNotEncodableBy : ℕ → List ℕ → Type 0
+IsNotEncodableBy number input =
+    (rules : Rules) × (rules_of number ≡ Some rules) × IsNotEncodable rules input
