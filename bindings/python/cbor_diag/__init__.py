@@ -185,7 +185,7 @@ class CborDiagError(ValueError):
     short; or the first byte after the item. In hex it is the first digit of that byte, or the digit that is wrong,
     which is the last of an odd number. In notation it is where no notation can go on so, or the end of a text that may
     only be cut short; it is proved that no notation begins with the bytes up to it, or that it is the end of a text
-    that is cut short. In EDN it is where the reader stops. In hex, notation or EDN that is not UTF-8 it is the first
+    that is none. In EDN it is where the reader stops. In hex, notation or EDN that is not UTF-8 it is the first
     byte that is not.
 
     If `extent`, `Scanner.feed` or `items` raised it, `end` is the number of first bytes that have the error.

@@ -70,7 +70,7 @@ impl Error {
     /// end of bytes that are cut short; or the first byte after an item that is not the last. In hex it is the first
     /// digit of that byte; or the digit that is wrong, which is the last of an odd number. In notation it is where no
     /// notation can go on so, or the end of a text that may only be cut short; it is proved that no notation begins
-    /// with the bytes up to it, or that it is the end of a text that is cut short. In EDN it is where the reader stops.
+    /// with the bytes up to it, or that it is the end of a text that is none. In EDN it is where the reader stops.
     /// In hex, notation or EDN that is not UTF-8 it is the first byte that is not.
     ///
     /// Returns `None` if the input does not have this error, and if memory runs out.
@@ -135,7 +135,7 @@ impl Error {
 impl fmt::Display for Error {
     fn fmt(&self, f: &mut fmt::Formatter<'_>) -> fmt::Result {
         let mut text = [0; 64];
-        // SAFETY: so many bytes stand at the pointer.
+        // SAFETY: the pointer and the length are those of the array.
         let length =
             unsafe { library::cbor_diag_error_text(self.number(), text.as_mut_ptr(), text.len()) };
         let written = &text[..length as usize];

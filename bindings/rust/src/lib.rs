@@ -121,8 +121,8 @@ pub fn convert(from: Form, to: Form, input: &[u8]) -> Result<Vec<u8>> {
     loop {
         output.try_reserve_exact(room).map_err(|_| Error::Memory)?;
         let room_there = output.capacity();
-        // SAFETY: the pointers are those of the slice and of the vector, are not null and do not overlap, and so many
-        // bytes stand at each. The call only writes to the output.
+        // SAFETY: the pointers are those of the slice and of the vector, are not null and do not overlap; the lengths
+        // are those of the slice and of the vector's room. The call only writes to the output.
         let answer = unsafe {
             library::cbor_diag_convert(
                 from.number(),

@@ -124,7 +124,7 @@ impl fmt::Display for BreachKind {
             return error.fmt(f);
         }
         let mut text = [0; 64];
-        // SAFETY: so many bytes stand at the pointer.
+        // SAFETY: the pointer and the length are those of the array.
         let length =
             unsafe { library::cbor_diag_breach_text(self.number(), text.as_mut_ptr(), text.len()) };
         let written = &text[..length as usize];
@@ -189,8 +189,8 @@ pub fn reencode(bytes: &[u8], rules: Rules) -> Result<Vec<u8>> {
     loop {
         output.try_reserve_exact(room).map_err(|_| Error::Memory)?;
         let room_there = output.capacity();
-        // SAFETY: the pointers are those of the slice and of the vector, are not null and do not overlap, and so many
-        // bytes stand at each. The call only writes to the output.
+        // SAFETY: the pointers are those of the slice and of the vector, are not null and do not overlap; the lengths
+        // are those of the slice and of the vector's room. The call only writes to the output.
         let answer = unsafe {
             library::cbor_diag_reencode(
                 rules as u32,
