@@ -22,6 +22,5 @@ pub mod Pretty
 pub mod Normal
 pub mod Facts
 pub mod NotationRefused
-pub mod DeadEnd
 pub mod mirror
 pub mod Strings

@@ -1,6 +1,6 @@
 -- Reading from left to right, as `parse/binary.rt` of `cbor_diag` does: a function from bytes to a value and the rest,
--- or the first error, `CutShort` where the bytes end. Reading an item also counts its turns. Public clauses name it only
--- for what is embedded in other bytes; `laws.rt` says that it agrees with `Spells`, `Cut` and `Fault` there.
+-- or the first error, `CutShort` where the bytes end. Reading an item also counts its turns. Public clauses name it
+-- only for what is embedded in other bytes; `laws.rt` says that it agrees with `Spells`, `Cut` and `Fault` there.
 use Rattle.std.specs.Prelude.{◌≡◌, ℕ, zero, suc, ◌+◌, ◌/◌, ◌%◌, List, [], ◌∷◌, length, take, drop, Option, Some, None}
 use Rattle.std.specs.Prelude.{Result, Ok, Err, nat_lt, ◌==◌, if◌then◌else◌}
 use Rattle.std.specs.Str.{is_utf8}

@@ -35,6 +35,8 @@ Texts = List ℕ → Type 0
 -- A place is what decides how an item there is written, beside the item itself. A text that is written for a leaf, an
 -- opening or a closing is one of several, as a dialect may add notes; what is between members is one text.
 pub record Leaves (Place : Type 0) : Type 1 where
+  -- what the place of an item may become, once it is known how many bytes remain from the item on
+  pub At : Place → Place → Type 0
   -- the level there, the outermost being 1; how containers are laid out; what a byte string of these
   -- bytes is shown as
   pub level : Place → ℕ
@@ -199,11 +201,11 @@ TextWith d left write p (spec.map ps w) t =
     PairsText d write p (Map (count_of w (pair_count ps))) (style_at d p (spec.map ps w)) ps t
 TextWith d left write p (tagged n w i) t = TagText d write p n w i t
 
--- The texts of an item with this many levels left for it and what is nested in it, embedded items included. Where none
--- is left there is no item.
+-- The texts of an item with this many levels left for it and what is nested in it, embedded items included, at one of
+-- the places that its place may become. Where no level is left there is no item.
 unfoldable pub TextsOf : {Place : Type 0} → Leaves Place → ℕ → Writer Place
 TextsOf d zero p i t = ⊥
-TextsOf d (suc left) p i t = TextWith d left (TextsOf d left) p i t
+TextsOf {Place} d (suc left) p i t = (q : Place) × d.At p q × TextWith d left (TextsOf d left) q i t
 
 -- the texts of an item there
 abbrev pub TextsAt : {Place : Type 0} → Leaves Place → Writer Place

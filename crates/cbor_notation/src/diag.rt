@@ -30,6 +30,11 @@ impl Dialect for Diag {
     ghost leaves = { diag_leaves };
 
     #[inline(always)]
+    fn at(_place: &NotationContext, _remaining: usize) -> Option<NotationContext> {
+        None
+    }
+
+    #[inline(always)]
     fn level(place: &NotationContext) -> u8 {
         place.level
     }

@@ -2,7 +2,7 @@
 //! it reads, goes from item to item, and lays containers out. A dialect writes the leaves, and what
 //! is around members.
 
-ghost use Rattle.std.specs.Prelude.{◌≡◌, ◌+◌, ◌<◌, ◌≤◌, ◌^◌, ℕ, Ok, IfSome, is_some};
+ghost use Rattle.std.specs.Prelude.{◌≡◌, ◌+◌, ◌<◌, ◌≤◌, ◌^◌, ℕ, Ok, IfSome, is_some, unwrap_or};
 ghost use Rattle.std.specs.Io.{StartsWith};
 ghost use Rattle.std.specs.String.{string_bytes};
 ghost use Rattle.cbor_grammar.specs.Item.{Item};
@@ -27,6 +27,14 @@ pub trait Dialect {
     type Place: Copy;
 
     ghost leaves: { Leaves Self.Place };
+
+    /// The place of an item there, once it is known how many bytes remain from its first byte on:
+    /// in the bytes that are read, or in the content of the byte string that the item stands in.
+    /// `None` where it is the same place.
+    fn at(place: &Self::Place, remaining: usize) -> Option<Self::Place>
+        ensures place { leaves.At place.now (unwrap_or result place.now) }
+        ensures level { leaves.level (unwrap_or result place.now) ≡ leaves.level place.now }
+        ensures layout { leaves.layout (unwrap_or result place.now) ≡ leaves.layout place.now };
 
     /// The level of an item there; the outermost is at level 1.
     fn level(place: &Self::Place) -> u8

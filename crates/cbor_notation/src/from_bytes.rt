@@ -8,6 +8,7 @@
 #![tactic(auto, using(cbor_grammar::proofs::shared::Appending::appending_steps))]
 
 ghost use Rattle.std.specs.Prelude.{◌≡◌, ◌+◌, ◌*◌, ◌<◌, ◌≤◌, ◌^◌, IfOk, IfErr, OnErr, true, false};
+ghost use Rattle.std.specs.Prelude.{unwrap_or};
 ghost use Rattle.std.specs.Io.{StartsWith};
 ghost use Rattle.std.specs.String.{string_bytes};
 ghost use Rattle.cbor_grammar.specs.declared.layout.Content.TheVariants as shown;
@@ -16,7 +17,7 @@ ghost use Rattle.cbor_grammar.specs.Reading.{Fails};
 ghost use Rattle.cbor_grammar.specs.WellFormed.{deepest};
 ghost use Rattle.cbor_notation.specs.Dialect.{Writes, TextsAt};
 ghost use Rattle.cbor_grammar.specs.mirror.AtLevel.{read_at, read_behind};
-ghost use Rattle.cbor_notation.specs.mirror.Straight.{Written, IsLaidOut};
+ghost use Rattle.cbor_notation.specs.mirror.Straight.{Written, TextsHere, IsLaidOut};
 ghost use Rattle.cbor_notation.specs.mirror.Straight.{chunk, ContentThere, StringThere};
 ghost use Rattle.cbor_notation.specs.mirror.Straight.{BeforeChunk, AfterChunks};
 
@@ -39,6 +40,17 @@ fn takes_two(bytes: &[u8]) -> bool {
     matches!(bytes.first(), Some(0xf8))
 }
 
+/// The place of an item that moved there, or stayed at its place.
+#[inline(always)]
+fn place_of<'a, D: Dialect>(moved: &'a Option<D::Place>, place: &'a D::Place) -> &'a D::Place
+    ensures { result.now ≡ unwrap_or moved.now place.now }
+{
+    match moved {
+        Some(here) => here,
+        None => place,
+    }
+}
+
 /// Writes the item at the front.
 #[cycle(straight)]
 pub fn push_front<'a, D: Dialect>(
@@ -59,25 +71,27 @@ pub fn push_front<'a, D: Dialect>(
         return Err(no_level_left(bytes));
     }
     let (head, rest) = read_head(bytes)?;
+    let moved = D::at(place, bytes.len());
+    let here = place_of::<D>(&moved, place);
     match head {
         ItemHead::Integer(value, width) => {
-            D::leaf(out, Leaf::Integer(value, width), place)?;
+            D::leaf(out, Leaf::Integer(value, width), here)?;
             Ok(rest)
         }
         ItemHead::Negative(value, width) => {
-            D::leaf(out, Leaf::Negative(value, width), place)?;
+            D::leaf(out, Leaf::Negative(value, width), here)?;
             Ok(rest)
         }
-        ItemHead::String(kind, len) => push_string_front::<D>(out, (kind, len), rest, place),
-        ItemHead::Array(count) => push_array_front::<D>(out, count, rest, place),
-        ItemHead::Map(count) => push_map_front::<D>(out, count, rest, place),
-        ItemHead::Tag(tag, width) => push_tag_front::<D>(out, (tag, width), rest, place),
+        ItemHead::String(kind, len) => push_string_front::<D>(out, (kind, len), rest, here),
+        ItemHead::Array(count) => push_array_front::<D>(out, count, rest, here),
+        ItemHead::Map(count) => push_map_front::<D>(out, count, rest, here),
+        ItemHead::Tag(tag, width) => push_tag_front::<D>(out, (tag, width), rest, here),
         ItemHead::Float(bits, width) => {
-            D::leaf(out, Leaf::Float(bits, width), place)?;
+            D::leaf(out, Leaf::Float(bits, width), here)?;
             Ok(rest)
         }
         ItemHead::Simple(value) => {
-            D::leaf(out, Leaf::Simple(value, takes_two(bytes)), place)?;
+            D::leaf(out, Leaf::Simple(value, takes_two(bytes)), here)?;
             Ok(rest)
         }
     }
@@ -94,7 +108,7 @@ fn push_array_front<'a, D: Dialect>(
 ) -> cbor_grammar::Result<&'a [u8]>
     requires level { D.leaves.level place.now ≤ deepest }
     requires indent { IsLaidOut D.leaves place.now }
-    ensures printed { IfOk result (λ rest. Written (TextsAt D.leaves place.now)
+    ensures printed { IfOk result (λ rest. Written (TextsHere D.leaves place.now)
         (read_behind (D.leaves.level place.now) (ItemHead.Array count) bytes.now)
         rest.now (string_bytes out.old) (string_bytes out.new)) }
     ensures refused { IfErr result (λ e. Fails e (read_behind (D.leaves.level place.now)
@@ -131,7 +145,7 @@ fn push_map_front<'a, D: Dialect>(
 ) -> cbor_grammar::Result<&'a [u8]>
     requires level { D.leaves.level place.now ≤ deepest }
     requires indent { IsLaidOut D.leaves place.now }
-    ensures printed { IfOk result (λ rest. Written (TextsAt D.leaves place.now)
+    ensures printed { IfOk result (λ rest. Written (TextsHere D.leaves place.now)
         (read_behind (D.leaves.level place.now) (ItemHead.Map count) bytes.now)
         rest.now (string_bytes out.old) (string_bytes out.new)) }
     ensures refused { IfErr result (λ e. Fails e (read_behind (D.leaves.level place.now)
@@ -171,7 +185,7 @@ fn push_tag_front<'a, D: Dialect>(
 ) -> cbor_grammar::Result<&'a [u8]>
     requires level { D.leaves.level place.now ≤ deepest }
     requires indent { IsLaidOut D.leaves place.now }
-    ensures printed { IfOk result (λ rest. Written (TextsAt D.leaves place.now)
+    ensures printed { IfOk result (λ rest. Written (TextsHere D.leaves place.now)
         (read_behind (D.leaves.level place.now) (ItemHead.Tag head.0 head.1) bytes.now)
         rest.now (string_bytes out.old) (string_bytes out.new)) }
     ensures refused { IfErr result (λ e. Fails e (read_behind (D.leaves.level place.now)
@@ -195,7 +209,7 @@ fn push_string_front<'a, D: Dialect>(
 ) -> cbor_grammar::Result<&'a [u8]>
     requires level { D.leaves.level place.now ≤ deepest }
     requires indent { IsLaidOut D.leaves place.now }
-    ensures printed { IfOk result (λ rest. Written (TextsAt D.leaves place.now)
+    ensures printed { IfOk result (λ rest. Written (TextsHere D.leaves place.now)
         (read_behind (D.leaves.level place.now) (ItemHead.String head.0 head.1) bytes.now)
         rest.now (string_bytes out.old) (string_bytes out.new)) }
     ensures refused { IfErr result (λ e. Fails e (read_behind (D.leaves.level place.now)
@@ -344,7 +358,7 @@ fn push_chunks_front<'a, D: Dialect>(
 ) -> cbor_grammar::Result<&'a [u8]>
     requires level { D.leaves.level place.now ≤ deepest }
     requires indent { IsLaidOut D.leaves place.now }
-    ensures printed { IfOk result (λ rest. Written (TextsAt D.leaves place.now)
+    ensures printed { IfOk result (λ rest. Written (TextsHere D.leaves place.now)
         (read_behind (D.leaves.level place.now)
         (ItemHead.String kind Argument.Indefinite) bytes.now)
         rest.now (string_bytes out.old) (string_bytes out.new)) }
@@ -368,7 +382,7 @@ fn push_joined_front<'a, D: Dialect>(
 ) -> cbor_grammar::Result<&'a [u8]>
     requires joins { D.leaves.joins place.now StringKind.Bytes ≡ true }
     requires level { D.leaves.level place.now ≤ deepest }
-    ensures printed { IfOk result (λ rest. Written (TextsAt D.leaves place.now)
+    ensures printed { IfOk result (λ rest. Written (TextsHere D.leaves place.now)
         (read_behind (D.leaves.level place.now)
         (ItemHead.String StringKind.Bytes Argument.Indefinite) bytes.now)
         rest.now (string_bytes out.old) (string_bytes out.new)) }
@@ -401,7 +415,7 @@ fn push_parts_front<'a, D: Dialect>(
     requires parts { D.leaves.joins place.now kind ≡ false }
     requires level { D.leaves.level place.now ≤ deepest }
     requires indent { IsLaidOut D.leaves place.now }
-    ensures printed { IfOk result (λ rest. Written (TextsAt D.leaves place.now)
+    ensures printed { IfOk result (λ rest. Written (TextsHere D.leaves place.now)
         (read_behind (D.leaves.level place.now)
         (ItemHead.String kind Argument.Indefinite) bytes.now)
         rest.now (string_bytes out.old) (string_bytes out.new)) }

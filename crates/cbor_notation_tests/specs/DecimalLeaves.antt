@@ -30,6 +30,7 @@ decimal_opening c l = opening c l
 
 abbrev pub decimal_leaves : Leaves NotationContext
 decimal_leaves = record {
+  At = diag_leaves.At;
   level = diag_leaves.level;
   layout = diag_leaves.layout;
   content = diag_leaves.content;

@@ -41,6 +41,10 @@ impl Dialect for Decimal {
 
     ghost leaves = { decimal_leaves };
 
+    fn at(place: &NotationContext, remaining: usize) -> Option<NotationContext> {
+        Diag::at(place, remaining)
+    }
+
     fn level(place: &NotationContext) -> u8 {
         Diag::level(place)
     }

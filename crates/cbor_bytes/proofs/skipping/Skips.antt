@@ -378,7 +378,8 @@ length_stops kind b e fits is =
     shows : (b : List ℕ) → IsBytes b → read_chunk_length (major_of kind) b ≡ Err e → e ≢ refusal.CutShort
         → FailsAt (skip_chunks kind) b e (length b - 1)
     shows [] fits h other =
-        absurd (other (err_is (read_chunk_length (major_of kind) []) e refusal.CutShort h (none_length (major_of kind))))
+        absurd (other (err_is (read_chunk_length (major_of kind) []) e refusal.CutShort h
+        (none_length (major_of kind))))
     shows (first ∷ b) fits h other =
         let bad = bad_length (major_of kind) first b e (IsBytes-rest first b fits) h other in
         shows_first (skip_chunks kind) first b e (refuses [] refusal.CutShort (none_length (major_of kind)))

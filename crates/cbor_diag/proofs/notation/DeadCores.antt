@@ -1,17 +1,15 @@
 -- What is not read whatever follows the text, by what the text begins with.
-use Rattle.std.proofs.Common.{◌≡◌, ℕ, ◌<◌, false, List, [], ◌∷◌, ◌++◌, length, None, ◌⊎◌, sym, ap, ◌∙◌, subst}
-use Rattle.std.proofs.Common.{refl, arith}
-use Rattle.cbor_tokens.specs.TokenReading.{unquoted}
+use Rattle.std.proofs.Common.{◌≡◌, ℕ, ◌<◌, List, [], ◌∷◌, ◌++◌, length, ◌⊎◌, sym, ap, ◌∙◌}
 use Rattle.cbor_notation.specs.declared.start.Start.{Start}
 use Rattle.cbor_notation.specs.declared.start.Start.TheVariants as start
 use Rattle.cbor_grammar.specs.declared.strings.StringKind.TheVariants.{Bytes}
 use Rattle.cbor_notation.specs.mirror.NotationReading.{first_start, rest_of, read_item, piece_of, read_piece}
-use Rattle.cbor_notation.specs.mirror.NotationReading.{read_embedded, b_notation, h_notation, read_core, read_length}
-use Rattle.cbor_notation.specs.mirror.NotationReading.{read_members, read_pair, read_string_item}
-use Rattle.cbor_diag.specs.mirror.DeadEnds.{NotRead, NeverReads}
+use Rattle.cbor_notation.specs.mirror.NotationReading.{read_core}
+use Rattle.cbor_notation.specs.mirror.NotationReading.{read_string_item}
+use Rattle.cbor_diag.specs.mirror.DeadEnds.{NeverReads}
 use Rattle.cbor_diag.proofs.notation.Cores.{bytes_core}
 use Rattle.cbor_diag.proofs.notation.DeadTokens.{not_by}
-use Rattle.cbor_diag.proofs.notation.DeadItems.{core_dead, array_dead, map_dead}
+use Rattle.cbor_diag.proofs.notation.DeadItems.{core_dead}
 
 module _ (left : ℕ) where
   -- ---- cores

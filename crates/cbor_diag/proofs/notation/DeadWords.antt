@@ -7,8 +7,8 @@ use Rattle.std.specs.List.{list_all, position}
 use Rattle.std.specs.Char.{digit_value}
 use Rattle.std.specs.Str.Parse.{digits_value, AllDigits}
 use Rattle.std.proofs.lemmas.List.{length-append, length-take}
-use Rattle.std.proofs.lemmas.Bool.{false≢true, and_parts, and_cases, and_from, or_parts, or_cases, lt-ltb, ltb-true}
-use Rattle.std.proofs.lemmas.Bool.{eq-eqb, eqb-true, cases_lt, le-ltb}
+use Rattle.std.proofs.lemmas.Bool.{false≢true, and_parts, and_cases, and_from, or_parts, lt-ltb, ltb-true}
+use Rattle.std.proofs.lemmas.Bool.{eq-eqb, cases_lt, le-ltb}
 use Rattle.cbor_tokens.specs.Token.{IsNumber, capped}
 use Rattle.cbor_tokens.specs.TokenReading.{number_of}
 use Rattle.cbor_tokens.proofs.tokens.NumberFronts.{decimal_number}

@@ -13,7 +13,8 @@ use Rattle.cbor_notation.specs.declared.start.Start.{Start}
 use Rattle.cbor_notation.specs.declared.start.Start.TheVariants as start
 use Rattle.cbor_notation.specs.mirror.NotationReading.{or_refused, skip_blank, after_byte, after_space, after_end}
 use Rattle.cbor_notation.specs.mirror.NotationReading.{read_members, read_item, read_core, core_of, read_integer}
-use Rattle.cbor_notation.specs.mirror.NotationReading.{read_unsigned_number, read_tagged, first_start, rest_of, start_of}
+use Rattle.cbor_notation.specs.mirror.NotationReading.{read_unsigned_number, read_tagged, first_start, rest_of}
+use Rattle.cbor_notation.specs.mirror.NotationReading.{start_of}
 use Rattle.cbor_notation.specs.mirror.NotationReading.{read_string_item, begins_piece, begins_string, checked}
 use Rattle.cbor_notation.specs.mirror.NotationReading.{read_content, content_of, read_chunk, read_string, read_pair}
 use Rattle.cbor_diag.specs.mirror.DeadEnds.{NotRead, NeverReads, NeverBegins, NeverListed, Stuck, Open}
@@ -39,7 +40,8 @@ pub some_blank : (text : List ℕ) → ends_blank text ≡ true → 0 < length t
 some_blank [] ends = absurd (false≢true ends)
 some_blank (b ∷ text) ends = omega arith
 
-pub blank_of : (text rest : List ℕ) → rest ≡ skip_blank text → ends_blank (skip_blank rest) ≡ true → ends_blank rest ≡ true
+pub blank_of : (text rest : List ℕ) → rest ≡ skip_blank text → ends_blank (skip_blank rest) ≡ true → ends_blank rest
+    ≡ true
 blank_of text rest is ends =
     subst (λ (t : List ℕ). ends_blank t ≡ true) (sym is)
     (subst (λ (t : List ℕ). ends_blank t ≡ true) (passed_twice text)

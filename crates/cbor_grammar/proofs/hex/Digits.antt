@@ -1,12 +1,8 @@
 -- Why digits are not decoded, and what that says of the text that they are from.
-use Rattle.std.proofs.Common.{◌≡◌, ℕ, ◌%◌, List, length, Result, Ok, Err, ◌⊎◌, inl, inr, arith, sym, subst, ◌∙◌}
+use Rattle.std.proofs.Common.{◌≡◌, ℕ, ◌%◌, List, length, Result, Ok, ◌⊎◌, inl, inr, arith, subst}
 use Rattle.std.specs.List.{AllPass}
-use Rattle.std.proofs.lemmas.Bool.{cases_eq}
 use Rattle.hex.specs.Hex.{decode_of, is_hex_digit}
-use Rattle.hex.specs.declared.error.FromHexError.{FromHexError}
-use Rattle.hex.specs.declared.error.FromHexError.TheVariants.{InvalidHexCharacter, InvalidStringLength, OddLength}
-use Rattle.hex.specs.declared.error.FromHexError.TheVariants.{OutOfMemory}
-use Rattle.hex.proofs.HexLemmas.{decode_of-err, decode_of-odd, decode_of-ok, decode_of-same}
+use Rattle.hex.proofs.HexLemmas.{decode_of-ok, decode_of-same}
 use Rattle.cbor_grammar.specs.declared.error.Error.{Error}
 use Rattle.cbor_grammar.specs.declared.error.Error.TheVariants as refusal
 use Rattle.cbor_grammar.specs.Answer.{GaveRefusal, IsRefused}

@@ -1,5 +1,5 @@
 -- An indefinite string that is written chunk by chunk.
-use Rattle.std.proofs.Common.{◌≡◌, ℕ, zero, suc, ◌+◌, ◌≤◌, true, false, List, [], ◌∷◌, ◌++◌, length, refl, sym, ap}
+use Rattle.std.proofs.Common.{◌≡◌, ℕ, zero, suc, ◌+◌, true, false, List, [], ◌∷◌, ◌++◌, length, refl, sym, ap}
 use Rattle.std.proofs.Common.{subst, ◌∙◌, append_assoc, arith}
 use Rattle.std.proofs.lemmas.List.{append-nil, length-append}
 use Rattle.cbor_grammar.specs.declared.layout.ContainerStyle.{ContainerStyle}
@@ -10,9 +10,9 @@ use Rattle.cbor_grammar.specs.NotationText.{container_style}
 use Rattle.cbor_notation.specs.declared.parts.Container.TheVariants.{Chunks}
 use Rattle.cbor_grammar.specs.declared.strings.StringKind.TheVariants.{Bytes}
 use Rattle.cbor_grammar.specs.declared.width.IntegerWidth.TheVariants.{Unknown}
-use Rattle.cbor_notation.specs.Dialect.{Leaves, listed, ChunkTexts, ChunksText, ChunkedText, TextsAt, joined}
-use Rattle.cbor_notation.specs.mirror.Straight.{BeforeChunk, AfterChunks}
-use Rattle.cbor_notation.proofs.straight.Texts.{texts_open, listed_more}
+use Rattle.cbor_notation.specs.Dialect.{Leaves, listed, ChunkTexts, ChunksText, ChunkedText, joined}
+use Rattle.cbor_notation.specs.mirror.Straight.{TextsHere, BeforeChunk, AfterChunks}
+use Rattle.cbor_notation.proofs.straight.Texts.{listed_more}
 
 -- the chunks so far after the opening, or nothing
 abbrev pub Begun : {P : Type 0} → Leaves P → P → StringKind → ContainerStyle → List ℕ → List ℕ → List (List ℕ) → Type 0
@@ -109,31 +109,33 @@ ended d p kind l old out new (c ∷ cs) held (n ∷ ms) each count begun e =
     )
 
 pub chunks_written : {P : Type 0} (d : Leaves P) (p : P) (kind : StringKind) (l : ContainerStyle) (old out new : List ℕ)
-    (cs : List Chunk) (held : ℕ) → d.level p ≤ 128 → d.joins p kind ≡ false
+    (cs : List Chunk) (held : ℕ) → d.joins p kind ≡ false
     → l ≡ container_style (d.layout p) (4 + estimated_chunks kind cs)
     → ChunksWritten d p kind l old out cs held → (e : List ℕ) × AfterChunks d p kind l held e × (new ≡ out ++ e)
-    → (t : List ℕ) × TextsAt d p (atom (chunked_string kind cs)) t × (new ≡ old ++ t)
-chunks_written d p kind l old out new cs held level parts same w e =
+    → (t : List ℕ) × TextsHere d p (atom (chunked_string kind cs)) t × (new ≡ old ++ t)
+chunks_written d p kind l old out new cs held parts same w e =
     let whole = ended d p kind l old out new cs held w.texts w.each w.count w.text e in
     let at = container_style (d.layout p) (4 + estimated_chunks kind cs) in
     let styled = subst (λ x. ChunkedText d p kind at x cs whole.0) (sym parts)
     (subst (λ x. ChunksText d p kind x cs whole.0) same whole.1) in
-    (whole.0, texts_open d p (atom (chunked_string kind cs)) whole.0 level styled, whole.2)
+    (whole.0, styled, whole.2)
 
 -- ---- chunks that are joined
 
 -- the bytes of one more
 pub joined_more : (cs : List Chunk) (c : Chunk) → (joined (cs ++ c ∷ [])).bytes ≡ (joined cs).bytes ++ c.bytes
 joined_more [] c = append-nil c.bytes
-joined_more (d ∷ cs) c = ap (λ x. d.bytes ++ x) (joined_more cs c) ∙ sym (append_assoc d.bytes (joined cs).bytes c.bytes)
+joined_more (d ∷ cs) c = ap (λ x. d.bytes ++ x) (joined_more cs c) ∙ sym
+    (append_assoc d.bytes (joined cs).bytes c.bytes)
 
 pub joined_written : {P : Type 0} (d : Leaves P) (p : P) (old new : List ℕ) (cs : List Chunk) (all : List ℕ)
-    → d.level p ≤ 128 → d.joins p Bytes ≡ true → all ≡ (joined cs).bytes
+    → d.joins p Bytes ≡ true → all ≡ (joined cs).bytes
     → (t : List ℕ) × d.string p Bytes (record { bytes = all; width = Unknown }) t × (new ≡ old ++ t)
-    → (t : List ℕ) × TextsAt d p (atom (chunked_string Bytes cs)) t × (new ≡ old ++ t)
-joined_written d p old new cs all level joins is (t, text, written) =
+    → (t : List ℕ) × TextsHere d p (atom (chunked_string Bytes cs)) t × (new ≡ old ++ t)
+joined_written d p old new cs all joins is (t, text, written) =
     let whole : Chunk = record { bytes = all; width = Unknown } in
     let l = container_style (d.layout p) (4 + estimated_chunks Bytes cs) in
     let same : whole ≡ joined cs = ap (λ b. record { bytes = b; width = Unknown }) is in
-    let as_one = subst (λ x. ChunkedText d p Bytes l x cs t) (sym joins) (subst (λ x. d.string p Bytes x t) same text) in
-    (t, texts_open d p (atom (chunked_string Bytes cs)) t level as_one, written)
+    let as_one = subst (λ x. ChunkedText d p Bytes l x cs t) (sym joins)
+    (subst (λ x. d.string p Bytes x t) same text) in
+    (t, as_one, written)

@@ -1,6 +1,6 @@
 -- The texts of the dialect that `cbor_view` writes are the one text that the definitions give.
 use Rattle.std.proofs.Common.{◌≡◌, ℕ, zero, suc, ◌+◌, List, [], ◌∷◌, ◌++◌, map, codes}
-use Rattle.std.proofs.Common.{Option, Some, None, Result, Ok, Err, IfOk, refl, ap, ◌∙◌, append_assoc}
+use Rattle.std.proofs.Common.{Option, Some, None, Result, Ok, Err, IfOk, refl, ap, subst, ◌∙◌, append_assoc}
 use Rattle.std.specs.List.{flat_map}
 use Rattle.std.proofs.lemmas.List.{append-nil}
 use Rattle.cbor_grammar.specs.declared.width.IntegerWidth.{IntegerWidth}
@@ -202,7 +202,9 @@ with_so left write so same c (tagged n w i) t h = tag_so write so same c n w i t
 pub text_so : (left : ℕ) → Same (TextsOf diag_leaves left) (text.text_at left)
 unfolding TextsOf text.text_at
 text_so zero c i t h = absurd h
-text_so (suc left) c i t h = with_so left (TextsOf diag_leaves left) (text.text_at left) (text_so left) c i t h
+text_so (suc left) c i t h =
+    let here = subst (λ x. TextWith diag_leaves left (TextsOf diag_leaves left) x i t) h.1 h.2 in
+    with_so left (TextsOf diag_leaves left) (text.text_at left) (text_so left) c i t here
 
 -- ---- what is written
 

@@ -1,6 +1,6 @@
 -- Texts that are written as their parts are read.
 use Rattle.std.proofs.Common.{◌≡◌, ℕ, zero, suc, ◌+◌, ◌-◌, ◌≤◌, Bool, true, false, eqb, List, [], ◌∷◌, ◌++◌}
-use Rattle.std.proofs.Common.{Some, None, Result, Ok, IfOk, IfErr, refl, sym, ap, subst, ◌∙◌, append_assoc, arith}
+use Rattle.std.proofs.Common.{Some, None, Result, Ok, Err, IfOk, IfErr, refl, sym, ap, subst, ◌∙◌, append_assoc, arith}
 use Rattle.std.specs.List.{flat_map}
 use Rattle.std.proofs.lemmas.List.{append-nil}
 use Rattle.std.proofs.Math.Dec.{eqb-suc-zero}
@@ -26,19 +26,22 @@ use Rattle.cbor_notation.specs.declared.parts.Container.{Container}
 use Rattle.cbor_notation.specs.declared.parts.Container.TheVariants.{Array, Map}
 use Rattle.cbor_notation.specs.Dialect.{Leaves, Writer, listed, ItemTexts, PairText, PairTexts}
 use Rattle.cbor_notation.specs.Dialect.{count_of, TextWith, TextsOf, TextsAt, ItemsText, PairsText}
-use Rattle.cbor_notation.specs.mirror.Straight.{Written, TextsBelow, StringThere}
+use Rattle.cbor_notation.specs.mirror.Straight.{Written, TextsBelow, TextsHere, StringThere}
 use Rattle.cbor_grammar.specs.mirror.AtLevel.{read_at, read_behind}
 use Rattle.cbor_bytes.proofs.reading.Levels.{head_reads}
 
 -- ---- items
 
--- an item by its parts
-pub texts_open : {P : Type 0} (d : Leaves P) (p : P) (i : Item) (t : List ℕ) → d.level p ≤ 128
-    → TextWith d (levels_left (d.level p + 1)) (TextsBelow d p) p i t → TextsAt d p i t
+-- an item whose place is known, by its parts
+pub texts_open : {P : Type 0} (d : Leaves P) (p q r : P) (i : Item) (t : List ℕ) → d.level p ≤ 128 → q ≡ r → d.At p r
+    → d.level r ≡ d.level p → TextsHere d q i t → TextsAt d p i t
 unfolding TextsOf
-texts_open d p i t le h =
+texts_open d p q r i t le is known same h =
     let levels : suc (levels_left (d.level p + 1)) ≡ levels_left (d.level p) = omega arith in
-    subst (λ n. TextsOf d n p i t) levels h
+    let here : TextWith d (levels_left (d.level p + 1)) (TextsBelow d p) r i t =
+    subst (λ n. TextWith d (levels_left (n + 1)) (TextsOf d (levels_left (n + 1))) r i t) same
+    (subst (λ x. TextsHere d x i t) is h) in
+    subst (λ n. TextsOf d n p i t) levels (r, known, here)
 
 -- what is written at that level
 pub texts_below : {P : Type 0} (d : Leaves P) (inner : P) (level : ℕ) (i : Item) (t : List ℕ) → d.level inner ≡ level
@@ -46,23 +49,32 @@ pub texts_below : {P : Type 0} (d : Leaves P) (inner : P) (level : ℕ) (i : Ite
 texts_below d inner level i t same h = subst (λ n. TextsOf d (levels_left n) inner i t) same h
 
 -- an item that is its head
-pub leaf_written : {P : Type 0} (d : Leaves P) (p : P) (b : List ℕ) (h : ItemHead) (rest : List ℕ) (i : Item)
-    (old new : List ℕ) → d.level p ≤ 128 → read_head b ≡ Ok (h, rest) → read_behind (d.level p) h rest ≡ Ok (i, rest)
-    → (t : List ℕ) × TextWith d (levels_left (d.level p + 1)) (TextsBelow d p) p i t × (new ≡ old ++ t)
+pub leaf_written : {P : Type 0} (d : Leaves P) (p q r : P) (b : List ℕ) (h : ItemHead) (rest : List ℕ) (i : Item)
+    (old new : List ℕ) → d.level p ≤ 128 → q ≡ r → d.At p r → d.level r ≡ d.level p → read_head b ≡ Ok (h, rest)
+    → read_behind (d.level p) h rest ≡ Ok (i, rest) → (t : List ℕ) × TextsHere d q i t × (new ≡ old ++ t)
     → Written (TextsAt d p) (read_at (d.level p) b) rest old new
-leaf_written d p b h rest i old new le e is w =
-    (i, head_reads (d.level p) b h rest le e ∙ is, w.0, texts_open d p i w.0 le w.1, w.2)
+leaf_written d p q r b h rest i old new le is known same e read w =
+    (i, head_reads (d.level p) b h rest le e ∙ read, w.0, texts_open d p q r i w.0 le is known same w.1, w.2)
+
+front_read : {P : Type 0} (d : Leaves P) (p q r : P) (b : List ℕ) (h : ItemHead) (rest : List ℕ) → d.level p ≤ 128
+    → q ≡ r → d.level r ≡ d.level p → read_head b ≡ Ok (h, rest)
+    → read_at (d.level p) b ≡ read_behind (d.level q) h rest
+front_read d p q r b h rest le is same e =
+    head_reads (d.level p) b h rest le e ∙ ap (λ n. read_behind n h rest) (sym (ap d.level is ∙ same))
 
 -- what holds of what is read after a head holds of what is read there
-pub front_so : {P A : Type 0} (d : Leaves P) (p : P) (r : Result A Error) (f : A → List ℕ) (b : List ℕ) (h : ItemHead)
-    (rest old new : List ℕ) → d.level p ≤ 128 → read_head b ≡ Ok (h, rest)
-    → IfOk r (λ x. Written (TextsAt d p) (read_behind (d.level p) h rest) (f x) old new)
-    × IfErr r (λ e. Fails e (read_behind (d.level p) h rest))
-    → IfOk r (λ x. Written (TextsAt d p) (read_at (d.level p) b) (f x) old new)
-    × IfErr r (λ e. Fails e (read_at (d.level p) b))
-front_so d p r f b h rest old new le e both =
-    subst (λ read. IfOk r (λ x. Written (TextsAt d p) read (f x) old new) × IfErr r (λ e. Fails e read))
-    (sym (head_reads (d.level p) b h rest le e)) both
+pub front_so : {P A : Type 0} (d : Leaves P) (p q r : P) (gave : Result A Error) (f : A → List ℕ) (b : List ℕ)
+    (h : ItemHead) (rest old new : List ℕ) → d.level p ≤ 128 → q ≡ r → d.At p r → d.level r ≡ d.level p
+    → read_head b ≡ Ok (h, rest)
+    → IfOk gave (λ x. Written (TextsHere d q) (read_behind (d.level q) h rest) (f x) old new)
+    × IfErr gave (λ e. Fails e (read_behind (d.level q) h rest))
+    → IfOk gave (λ x. Written (TextsAt d p) (read_at (d.level p) b) (f x) old new)
+    × IfErr gave (λ e. Fails e (read_at (d.level p) b))
+front_so d p q r (Ok x) f b h rest old new le is known same e (w, none) =
+    let read = front_read d p q r b h rest le is same e in
+    ((w.0, read ∙ w.1, w.2, texts_open d p q r w.0 w.2 le is known same w.3, w.4), tt)
+front_so d p q r (Err x) f b h rest old new le is known same e (none, fails) =
+    (tt, subst (Fails x) (sym (front_read d p q r b h rest le is same e)) fails)
 
 -- ---- members
 
@@ -329,95 +341,75 @@ pairs_written d write p first now c l old out new ps held w inside_it ends =
 
 -- an array of these items there, and a map of these pairs
 pub array_written : {P : Type 0} (d : Leaves P) (p : P) (l : ContainerStyle) (count : Argument) (is : Items) (held : ℕ)
-    (old new : List ℕ) → d.level p ≤ 128 → l ≡ container_style (d.layout p) (4 + estimated_items is)
+    (old new : List ℕ) → l ≡ container_style (d.layout p) (4 + estimated_items is)
     → item_count is ≡ held → count ≡ count_of (count_width count) held
     → (t : List ℕ) × ItemsText d (TextsBelow d p) p (Array count) l is t × (new ≡ old ++ t)
-    → (t : List ℕ) × TextsAt d p (array is (count_width count)) t × (new ≡ old ++ t)
-array_written d p l count is held old new level same holds counted w =
+    → (t : List ℕ) × TextsHere d p (array is (count_width count)) t × (new ≡ old ++ t)
+array_written d p l count is held old new same holds counted w =
     let w' = count_width count in
     let whole : count ≡ count_of w' (item_count is) = counted ∙ ap (count_of w') (sym holds) in
     let styled = subst (λ x. ItemsText d (TextsBelow d p) p (Array count) x is w.0) same w.1 in
     let so = subst (λ a. ItemsText d (TextsBelow d p) p (Array a)
     (container_style (d.layout p) (4 + estimated_items is)) is w.0) whole styled in
-    (w.0, texts_open d p (array is w') w.0 level so, w.2)
+    (w.0, so, w.2)
 
 pub map_written : {P : Type 0} (d : Leaves P) (p : P) (l : ContainerStyle) (count : Argument) (ps : Pairs) (held : ℕ)
-    (old new : List ℕ) → d.level p ≤ 128 → l ≡ container_style (d.layout p) (4 + estimated_pairs ps)
+    (old new : List ℕ) → l ≡ container_style (d.layout p) (4 + estimated_pairs ps)
     → pair_count ps ≡ held → count ≡ count_of (count_width count) held
     → (t : List ℕ) × PairsText d (TextsBelow d p) p (Map count) l ps t × (new ≡ old ++ t)
-    → (t : List ℕ) × TextsAt d p (spec.map ps (count_width count)) t × (new ≡ old ++ t)
-map_written d p l count ps held old new level same holds counted w =
+    → (t : List ℕ) × TextsHere d p (spec.map ps (count_width count)) t × (new ≡ old ++ t)
+map_written d p l count ps held old new same holds counted w =
     let w' = count_width count in
     let whole : count ≡ count_of w' (pair_count ps) = counted ∙ ap (count_of w') (sym holds) in
     let styled = subst (λ x. PairsText d (TextsBelow d p) p (Map count) x ps w.0) same w.1 in
     let so = subst (λ a. PairsText d (TextsBelow d p) p (Map a)
     (container_style (d.layout p) (4 + estimated_pairs ps)) ps w.0) whole styled in
-    (w.0, texts_open d p (spec.map ps w') w.0 level so, w.2)
+    (w.0, so, w.2)
 
 pub array_closed : {P : Type 0} (d : Leaves P) (p now : P) (l : ContainerStyle) (count : Argument) (is : Items)
-    (held : ℕ) (old out new rest after : List ℕ) → d.level p ≤ 128
-    → l ≡ container_style (d.layout p) (4 + estimated_items is)
+    (held : ℕ) (old out new rest after : List ℕ) → l ≡ container_style (d.layout p) (4 + estimated_items is)
     → ItemsWritten d (TextsBelow d p) p (d.inside (Array count) (members_layout l) p) (Array count) l old out is now
     held
     → Reached count held → Some after ≡ after_members (left_of count held) rest
     → (e : List ℕ) × d.closing p (Array count) l e × (new ≡ out ++ e)
-    → (t : List ℕ) × TextsAt d p (array is (count_width count)) t × (new ≡ old ++ t)
-array_closed d p now l count is held old out new rest after level same w reached some ends =
-    array_written d p l count is held old new level same w.count (reached_all count held rest after reached some)
+    → (t : List ℕ) × TextsHere d p (array is (count_width count)) t × (new ≡ old ++ t)
+array_closed d p now l count is held old out new rest after same w reached some ends =
+    array_written d p l count is held old new same w.count (reached_all count held rest after reached some)
     (items_written d (TextsBelow d p) p (d.inside (Array count) (members_layout l) p) now (Array count) l old out new is
     held w refl ends)
 
 pub map_closed : {P : Type 0} (d : Leaves P) (p now : P) (l : ContainerStyle) (count : Argument) (ps : Pairs)
-    (held : ℕ) (old out new rest after : List ℕ) → d.level p ≤ 128
-    → l ≡ container_style (d.layout p) (4 + estimated_pairs ps)
+    (held : ℕ) (old out new rest after : List ℕ) → l ≡ container_style (d.layout p) (4 + estimated_pairs ps)
     → PairsWritten d (TextsBelow d p) p (d.inside (Map count) (members_layout l) p) (Map count) l old out ps now held
     → Reached count held → Some after ≡ after_members (left_of count held) rest
     → (e : List ℕ) × d.closing p (Map count) l e × (new ≡ out ++ e)
-    → (t : List ℕ) × TextsAt d p (spec.map ps (count_width count)) t × (new ≡ old ++ t)
-map_closed d p now l count ps held old out new rest after level same w reached some ends =
-    map_written d p l count ps held old new level same w.count (reached_all count held rest after reached some)
+    → (t : List ℕ) × TextsHere d p (spec.map ps (count_width count)) t × (new ≡ old ++ t)
+map_closed d p now l count ps held old out new rest after same w reached some ends =
+    map_written d p l count ps held old new same w.count (reached_all count held rest after reached some)
     (pairs_written d (TextsBelow d p) p (d.inside (Map count) (members_layout l) p) now (Map count) l old out new ps
     held w refl ends)
 
 -- ---- strings
 
 pub string_written : {P : Type 0} (d : Leaves P) (p : P) (w : IntegerWidth) (s : StringContent) (old new : List ℕ)
-    → d.level p ≤ 128 → (t : List ℕ) × StringThere d p w s t × (new ≡ old ++ t)
-    → (t : List ℕ) × TextsAt d p (atom (string (kind_of s) (borrowed_chunk w s))) t × (new ≡ old ++ t)
-string_written d p w (content.Bytes b) old new level h = (
-  h.0,
-  texts_open d p (atom (string (kind_of (content.Bytes b)) (borrowed_chunk w (content.Bytes b)))) h.0 level
-      h.1,
-  h.2,
-)
-string_written d p w (content.Text s) old new level h = (
-  h.0,
-  texts_open d p (atom (string (kind_of (content.Text s)) (borrowed_chunk w (content.Text s)))) h.0 level
-      h.1,
-  h.2,
-)
+    → (t : List ℕ) × StringThere d p w s t × (new ≡ old ++ t)
+    → (t : List ℕ) × TextsHere d p (atom (string (kind_of s) (borrowed_chunk w s))) t × (new ≡ old ++ t)
+string_written d p w (content.Bytes b) old new h = h
+string_written d p w (content.Text s) old new h = h
 
 -- ---- tags
 
 pub tag_written : {P : Type 0} (d : Leaves P) (p inner : P) (n : ℕ) (w : IntegerWidth) (i : Item) (m : List ℕ)
-    (old a b new : List ℕ) → d.level p ≤ 128 → (o : List ℕ) × d.tag p n w o × (a ≡ old ++ o)
+    (old a b new : List ℕ) → (o : List ℕ) × d.tag p n w o × (a ≡ old ++ o)
     → inner ≡ d.below n p → d.level inner ≡ d.level p + 1 → TextsAt d inner i m → b ≡ a ++ m
     → (e : List ℕ) × d.tag_end p n e × (new ≡ b ++ e)
-    → (t : List ℕ) × TextsAt d p (tagged n w i) t × (new ≡ old ++ t)
-tag_written d p inner n w i m old a b new level o there deeper text is e =
+    → (t : List ℕ) × TextsHere d p (tagged n w i) t × (new ≡ old ++ t)
+tag_written d p inner n w i m old a b new o there deeper text is e =
     let below : TextsOf d (levels_left (d.level p + 1)) inner i m =
     texts_below d inner (d.level p + 1) i m deeper text in
     let regroup : ((old ++ o.0) ++ m) ++ e.0 ≡ old ++ (o.0 ++ (m ++ e.0)) = simp append_assoc in (
       o.0 ++ (m ++ e.0),
-      texts_open d p (tagged n w i) (o.0 ++ (m ++ e.0)) level (
-        o.0,
-        m,
-        e.0,
-        o.1,
-        subst (λ x. TextsOf d (levels_left (d.level p + 1)) x i m) there below,
-        e.1,
-        refl,
-      ),
+      (o.0, m, e.0, o.1, subst (λ x. TextsOf d (levels_left (d.level p + 1)) x i m) there below, e.1, refl),
       e.2 ∙ ap (λ x. x ++ e.0) (is ∙ ap (λ x. x ++ m) o.2) ∙ regroup,
     )
 

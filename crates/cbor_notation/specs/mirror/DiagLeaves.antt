@@ -34,6 +34,7 @@ closing (Embedded len) l = last_line l ++ codes ">>"
 
 abbrev pub diag_leaves : Leaves NotationContext
 diag_leaves = record {
+  At = λ p q. q ≡ p;
   level = λ p. p.level;
   layout = λ p. p.layout;
   content = λ p b. p.content;

@@ -11,7 +11,7 @@ use Rattle.cbor_grammar.specs.NotationText.{in_encoding, indent_of, text_at_leve
 use Rattle.cbor_grammar.specs.Reading.{Read}
 use Rattle.cbor_grammar.specs.WellFormed.{levels_left}
 use Rattle.cbor_grammar.specs.mirror.StringView.{borrowed_chunk}
-use Rattle.cbor_notation.specs.Dialect.{Leaves, Texts, ContentText, TextsOf}
+use Rattle.cbor_notation.specs.Dialect.{Leaves, Texts, ContentText, TextWith, TextsOf}
 use Rattle.cbor_grammar.specs.declared.layout.Content.{Content}
 use Rattle.cbor_grammar.specs.declared.layout.ContainerStyle.{ContainerStyle}
 use Rattle.cbor_grammar.specs.declared.strings.StringKind.{StringKind}
@@ -35,6 +35,10 @@ IsLaidOut d p = indent_of (d.layout p) ≤ 4 * d.level p
 -- the texts of an item in a container there
 abbrev pub TextsBelow : {Place : Type 0} → Leaves Place → Place → Place → Item → Texts
 TextsBelow d p = TextsOf d (levels_left (d.level p + 1))
+
+-- the texts of an item whose place is known to be this one
+abbrev pub TextsHere : {Place : Type 0} → Leaves Place → Place → Item → Texts
+TextsHere d p = TextWith d (levels_left (d.level p + 1)) (TextsBelow d p) p
 
 -- a string of definite length, by its bytes
 abbrev pub chunk : IntegerWidth → List ℕ → Chunk

@@ -55,34 +55,40 @@ push_front-returns-in_err-head-clause-refused g t c =
 
 pub push_front-returns-in-String : goal.push_front-returns-in-String
 push_front-returns-in-String g t c =
-    let so = front_so g.D.Dialect.leaves c.args.place.now c.push_string_front.result (λ rest. rest.now)
-    c.args.bytes.now _
-    c.in_ok-head.rest.now _ _ (omega (arith, c.level.ensures, c.if-level-gt-DEEPEST.false))
+    let so = front_so g.D.Dialect.leaves c.args.place.now c.place_of-here.result.now _
+    c.push_string_front.result (λ rest. rest.now) c.args.bytes.now _ c.in_ok-head.rest.now _ _
+    (omega (arith, c.level.ensures, c.if-level-gt-DEEPEST.false))
+    c.place_of-here.ensures c.at-moved.ensures.place c.at-moved.ensures.level
     (rw c.in-String.is at c.in_ok-head.ensures.gives)
     (c.push_string_front.ensures.printed, c.push_string_front.ensures.refused) in
     record { printed = so.0; refused = so.1; begun = c.push_string_front.ensures.begun }
 
 pub push_front-returns-in-Array : goal.push_front-returns-in-Array
 push_front-returns-in-Array g t c =
-    let so = front_so g.D.Dialect.leaves c.args.place.now c.push_array_front.result (λ rest. rest.now)
-    c.args.bytes.now _
-    c.in_ok-head.rest.now _ _ (omega (arith, c.level.ensures, c.if-level-gt-DEEPEST.false))
+    let so = front_so g.D.Dialect.leaves c.args.place.now c.place_of-here.result.now _
+    c.push_array_front.result (λ rest. rest.now) c.args.bytes.now _ c.in_ok-head.rest.now _ _
+    (omega (arith, c.level.ensures, c.if-level-gt-DEEPEST.false))
+    c.place_of-here.ensures c.at-moved.ensures.place c.at-moved.ensures.level
     (rw c.in-Array.is at c.in_ok-head.ensures.gives)
     (c.push_array_front.ensures.printed, c.push_array_front.ensures.refused) in
     record { printed = so.0; refused = so.1; begun = c.push_array_front.ensures.begun }
 
 pub push_front-returns-in-Map : goal.push_front-returns-in-Map
 push_front-returns-in-Map g t c =
-    let so = front_so g.D.Dialect.leaves c.args.place.now c.push_map_front.result (λ rest. rest.now) c.args.bytes.now _
-    c.in_ok-head.rest.now _ _ (omega (arith, c.level.ensures, c.if-level-gt-DEEPEST.false))
+    let so = front_so g.D.Dialect.leaves c.args.place.now c.place_of-here.result.now _
+    c.push_map_front.result (λ rest. rest.now) c.args.bytes.now _ c.in_ok-head.rest.now _ _
+    (omega (arith, c.level.ensures, c.if-level-gt-DEEPEST.false))
+    c.place_of-here.ensures c.at-moved.ensures.place c.at-moved.ensures.level
     (rw c.in-Map.is at c.in_ok-head.ensures.gives)
     (c.push_map_front.ensures.printed, c.push_map_front.ensures.refused) in
     record { printed = so.0; refused = so.1; begun = c.push_map_front.ensures.begun }
 
 pub push_front-returns-in-Tag : goal.push_front-returns-in-Tag
 push_front-returns-in-Tag g t c =
-    let so = front_so g.D.Dialect.leaves c.args.place.now c.push_tag_front.result (λ rest. rest.now) c.args.bytes.now _
-    c.in_ok-head.rest.now _ _ (omega (arith, c.level.ensures, c.if-level-gt-DEEPEST.false))
+    let so = front_so g.D.Dialect.leaves c.args.place.now c.place_of-here.result.now _
+    c.push_tag_front.result (λ rest. rest.now) c.args.bytes.now _ c.in_ok-head.rest.now _ _
+    (omega (arith, c.level.ensures, c.if-level-gt-DEEPEST.false))
+    c.place_of-here.ensures c.at-moved.ensures.place c.at-moved.ensures.level
     (rw c.in-Tag.is at c.in_ok-head.ensures.gives)
     (c.push_tag_front.ensures.printed, c.push_tag_front.ensures.refused) in
     record { printed = so.0; refused = so.1; begun = c.push_tag_front.ensures.begun }
@@ -95,35 +101,45 @@ push_front-leaf-requires-in-Float g t c =
 pub push_front-returns-in_ok-leaf-in-Integer-clause-printed
     : goal.push_front-returns-in_ok-leaf-in-Integer-clause-printed
 push_front-returns-in_ok-leaf-in-Integer-clause-printed g t c =
-    leaf_written g.D.Dialect.leaves c.args.place.now c.args.bytes.now
+    leaf_written g.D.Dialect.leaves c.args.place.now c.place_of-here.result.now _ c.args.bytes.now
     (item_head.Integer c.in-Integer.value c.in-Integer.width)
     c.in_ok-head.rest.now (atom (integer c.in-Integer.value c.in-Integer.width)) (string_bytes c.args.out.now)
     (string_bytes c.leaf.new.out) (omega (arith, c.level.ensures, c.if-level-gt-DEEPEST.false))
-    (rw c.in-Integer.is at c.in_ok-head.ensures.gives) refl c.in_ok-leaf-in-Integer.ensures
+    c.place_of-here.ensures c.at-moved.ensures.place c.at-moved.ensures.level
+    (rw c.in-Integer.is at c.in_ok-head.ensures.gives)
+    refl c.in_ok-leaf-in-Integer.ensures
 
 pub push_front-returns-in_ok-leaf-in-Negative-clause-printed
     : goal.push_front-returns-in_ok-leaf-in-Negative-clause-printed
 push_front-returns-in_ok-leaf-in-Negative-clause-printed g t c =
-    leaf_written g.D.Dialect.leaves c.args.place.now c.args.bytes.now
+    leaf_written g.D.Dialect.leaves c.args.place.now c.place_of-here.result.now _ c.args.bytes.now
     (item_head.Negative c.in-Negative.value c.in-Negative.width)
     c.in_ok-head.rest.now (atom (negative c.in-Negative.value c.in-Negative.width)) (string_bytes c.args.out.now)
     (string_bytes c.leaf-in-Negative.new.out) (omega (arith, c.level.ensures, c.if-level-gt-DEEPEST.false))
-    (rw c.in-Negative.is at c.in_ok-head.ensures.gives) refl c.in_ok-leaf-in-Negative.ensures
+    c.place_of-here.ensures c.at-moved.ensures.place c.at-moved.ensures.level
+    (rw c.in-Negative.is at c.in_ok-head.ensures.gives)
+    refl c.in_ok-leaf-in-Negative.ensures
 
 pub push_front-returns-in_ok-leaf-in-Float-clause-printed : goal.push_front-returns-in_ok-leaf-in-Float-clause-printed
 push_front-returns-in_ok-leaf-in-Float-clause-printed g t c =
-    leaf_written g.D.Dialect.leaves c.args.place.now c.args.bytes.now (item_head.Float c.in-Float.bits c.in-Float.width)
+    leaf_written g.D.Dialect.leaves c.args.place.now c.place_of-here.result.now _ c.args.bytes.now
+    (item_head.Float c.in-Float.bits c.in-Float.width)
     c.in_ok-head.rest.now (atom (float c.in-Float.bits c.in-Float.width)) (string_bytes c.args.out.now)
     (string_bytes c.leaf-in-Float.new.out) (omega (arith, c.level.ensures, c.if-level-gt-DEEPEST.false))
-    (rw c.in-Float.is at c.in_ok-head.ensures.gives) refl c.in_ok-leaf-in-Float.ensures
+    c.place_of-here.ensures c.at-moved.ensures.place c.at-moved.ensures.level
+    (rw c.in-Float.is at c.in_ok-head.ensures.gives)
+    refl c.in_ok-leaf-in-Float.ensures
 
 pub push_front-returns-in_ok-leaf-in-Simple-clause-printed
     : goal.push_front-returns-in_ok-leaf-in-Simple-clause-printed
 push_front-returns-in_ok-leaf-in-Simple-clause-printed g t c =
-    leaf_written g.D.Dialect.leaves c.args.place.now c.args.bytes.now (item_head.Simple c.in-Simple.value)
+    leaf_written g.D.Dialect.leaves c.args.place.now c.place_of-here.result.now _ c.args.bytes.now
+    (item_head.Simple c.in-Simple.value)
     c.in_ok-head.rest.now (atom (simple c.in-Simple.value)) (string_bytes c.args.out.now)
     (string_bytes c.leaf-in-Simple.new.out) (omega (arith, c.level.ensures, c.if-level-gt-DEEPEST.false))
-    (rw c.in-Simple.is at c.in_ok-head.ensures.gives) refl c.in_ok-leaf-in-Simple.ensures
+    c.place_of-here.ensures c.at-moved.ensures.place c.at-moved.ensures.level
+    (rw c.in-Simple.is at c.in_ok-head.ensures.gives)
+    refl c.in_ok-leaf-in-Simple.ensures
 
 -- ---- an array
 
@@ -161,8 +177,7 @@ push_array_front-returns-in-Some-clause-printed g t c =
     (ap (λ x. Some (array i.found x)) (width_left count held)) (sym c.in-Some.ensures) in
     let same = c.array_style_ahead-style.ensures.style left i.found (count_width count) after read
     ∙ ap (λ x. container_style x (4 + estimated_items i.found)) c.layout.ensures in
-    let text = array_closed d place c.items.inner l count i.found held _ _ _ c.items.rest.now after
-    c.requires.level same
+    let text = array_closed d place c.items.inner l count i.found held _ _ _ c.items.rest.now after same
     i.written i.reached c.in-Some.ensures c.in_ok-closing.ensures in
     (whole, read, text.0, text.1, text.2)
 
@@ -246,7 +261,7 @@ push_map_front-returns-in-Some-clause-printed g t c =
     (ap (λ x. Some (spec.map i.found x)) (width_left count held)) (sym c.in-Some.ensures) in
     let same = c.map_style_ahead-style.ensures.style left i.found (count_width count) after read
     ∙ ap (λ x. container_style x (4 + estimated_pairs i.found)) c.layout.ensures in
-    let text = map_closed d place c.pairs.inner l count i.found held _ _ _ c.pairs.rest.now after c.requires.level same
+    let text = map_closed d place c.pairs.inner l count i.found held _ _ _ c.pairs.rest.now after same
     i.written i.reached c.in-Some.ensures c.in_ok-closing.ensures in
     (whole, read, text.0, text.1, text.2)
 
@@ -350,7 +365,7 @@ push_tag_front-returns-clause-printed g t c =
     let width = c.args.head.1 in
     let after = c.in_ok-rest.rest.now in
     let text = tag_written d place c.below.result tag width p.0 p.2 old (string_bytes c.tag.new.out)
-    (string_bytes c.push_front.new.out) (string_bytes c.tag_end.new.out) c.requires.level c.in_ok-tag.ensures
+    (string_bytes c.push_front.new.out) (string_bytes c.tag_end.new.out) c.in_ok-tag.ensures
     c.below.ensures.place c.below.ensures.level p.3 p.4 c.in_ok-tag_end.ensures in (
       spec.tagged tag width p.0,
       tag_read (levels_left level) tag width c.args.bytes.now after p.0
@@ -370,7 +385,7 @@ push_string_front-returns-in_ok-push_definite-in-Number-clause-printed g t c =
     let read = content_read c.in-Number.count w content c.args.bytes.now c.in_ok-content-in-Number.rest.now _
     c.in_ok-content-in-Number.ensures.kind (c.in_ok-content-in-Number.ensures.gives w) in
     let text = string_written g.D.Dialect.leaves c.args.place.now w content (string_bytes c.args.out.now)
-    (string_bytes c.push_definite.new.out) c.requires.level c.in_ok-push_definite-in-Number.ensures in
+    (string_bytes c.push_definite.new.out) c.in_ok-push_definite-in-Number.ensures in
     rw c.in-Number.is (atom (string (kind_of content) (borrowed_chunk w content)), read, text.0, text.1, text.2)
 
 -- ---- an embedded item

@@ -1,11 +1,11 @@
 -- What is appended from bytes is the text of the bytes of all chunks, or reading the chunks fails the same.
-use Rattle.std.proofs.Common.{◌≡◌, List, ℕ, ◌++◌, Result, Ok, Err, OnErr, ap, refl, sym, subst, ◌∙◌, arith}
+use Rattle.std.proofs.Common.{◌≡◌, List, ℕ, ◌++◌, Result, Ok, Err, OnErr, ap, refl, sym, subst, ◌∙◌}
 use Rattle.std.proofs.lemmas.Result.{err_from_is_err_and}
 use Rattle.std.specs.Io.{StartsWith}
 use Rattle.std.specs.String.{string_bytes}
 use Rattle.cbor_grammar.specs.declared.strings.StringKind.TheVariants.{Bytes}
 use Rattle.cbor_grammar.specs.Item.{atom, chunked_string}
-use Rattle.cbor_grammar.specs.mirror.StringView.{bytes_of, borrowed_chunk}
+use Rattle.cbor_grammar.specs.mirror.StringView.{borrowed_chunk}
 use Rattle.cbor_grammar.proofs.shared.Appending.{begins_same}
 use Rattle.cbor_bytes.proofs.reading.Readings.{fails_then, ok_then}
 use Rattle.cbor_bytes.proofs.reading.ChunksRead.{none_read, one_read, all_read, not_read}
@@ -57,7 +57,8 @@ returns-in_default-clause-printed g c =
     (rw c.in_default.is at c.in_ok-chunk.ensures.gives) c.in_ok-chunk.ensures.shorter in
     let w = c.in_ok-string.ensures in
     let text = joined_written g.D.Dialect.leaves c.args.place.now (string_bytes c.args.out.now)
-    (string_bytes c.string.new.out) cs c.deref.result.now c.requires.level c.requires.joins (c.deref.ensures.value ∙ i.together)
+    (string_bytes c.string.new.out) cs c.deref.result.now c.requires.joins
+    (c.deref.ensures.value ∙ i.together)
     (w.0, w.1, w.2 ∙ ap (λ x. x ++ w.0) i.same) in
     (atom (chunked_string Bytes cs), ok_then _ (cs, after) _ whole, text.0, text.1, text.2)
 

@@ -44,7 +44,8 @@ returns-in_default-clause-printed g c =
     let styled = subst (λ x. c.chunks_style_ahead-style.result ≡ container_style x (4 + estimated_chunks kind cs))
     c.layout.ensures same in
     let text = chunks_written d place kind c.chunks_style_ahead-style.result (string_bytes c.args.out.now)
-    (string_bytes c.chunks.out) (string_bytes c.push_chunks_end.new.out) cs c.chunks.held c.requires.level c.requires.parts styled
+    (string_bytes c.chunks.out) (string_bytes c.push_chunks_end.new.out) cs c.chunks.held
+    c.requires.parts styled
     i.written c.in_ok-push_chunks_end.ensures in
     (atom (chunked_string kind cs), read, text.0, text.1, text.2)
 

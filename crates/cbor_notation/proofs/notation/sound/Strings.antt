@@ -1,8 +1,6 @@
 -- Strings: notations of bytes, pieces, chunks.
-use Rattle.std.proofs.Common.{◌≡◌, ℕ, Bool, true, false, List, [], ◌∷◌, ◌++◌, codes, Option, Some, None, Result}
-use Rattle.std.proofs.Common.{Ok, Err, refl, sym, ap, ◌∙◌, append_assoc, inl, inr}
-use Rattle.hex.specs.declared.error.FromHexError.{FromHexError}
-use Rattle.hex.specs.Hex.{decode_of}
+use Rattle.std.proofs.Common.{◌≡◌, ℕ, Bool, true, false, List, [], ◌∷◌, ◌++◌, codes, Option, Some, None}
+use Rattle.std.proofs.Common.{Ok, refl, sym, ap, ◌∙◌, append_assoc, inl, inr}
 use Rattle.cbor_tokens.specs.Base32 as base32
 use Rattle.cbor_tokens.specs.TokenReading.{digits_of}
 use Rattle.cbor_tokens.proofs.tokens.Spaced.{DigitsBetween-digits_of}
@@ -15,7 +13,7 @@ use Rattle.cbor_tokens.proofs.texts.HexDecoded.{decoded}
 use Rattle.cbor_notation.specs.mirror.NotationReading.{or_refused, after_word, base32_of, base64_of}
 use Rattle.cbor_tokens.specs.HexDigits.{base16_of}
 use Rattle.cbor_notation.specs.mirror.NotationReading.{read_decoded, either_word, h_notation, b_notation}
-use Rattle.cbor_notation.proofs.notation.sound.Steps.{none_some, Sound, moved, sound_option, after_word_is}
+use Rattle.cbor_notation.proofs.notation.sound.Steps.{Sound, moved, sound_option, after_word_is}
 use Rattle.cbor_notation.proofs.notation.DigitsFound.{base32_found, base64_found}
 
 -- ---- one notation of bytes

@@ -12,7 +12,8 @@ use Rattle.cbor_notation.specs.mirror.NotationReading.{read_item, read_core, rea
 use Rattle.cbor_notation.specs.mirror.NotationReading.{members_from, after_end, rest_of}
 use Rattle.cbor_diag.specs.mirror.ChunkList.{chunk_list}
 use Rattle.cbor_diag.proofs.notation.ChunkLoops.{Fails-bind, onto}
-use Rattle.cbor_diag.proofs.notation.Loops.{members_closed, members_first, members_begin, member_fails, member_last, no_comma}
+use Rattle.cbor_diag.proofs.notation.Loops.{members_closed, members_first, members_begin, member_fails, member_last}
+use Rattle.cbor_diag.proofs.notation.Loops.{no_comma}
 use Rattle.cbor_diag.proofs.notation.Loops.{member_more}
 use Rattle.cbor_diag.proofs.notation.Cores.{core_at, list_fails, list_read, core_by, bytes_core, item_none, no_content}
 use Rattle.cbor_diag.proofs.notation.Cores.{no_string, string_read, no_chunks, chunks_read, chunks_well, item_some}
@@ -20,7 +21,8 @@ use Rattle.cbor_diag.proofs.notation.Cores.{pieces_begin, pieces_end, piece_fail
 use Rattle.cbor_diag.proofs.notation.Cores.{no_value, pair_read, pair_view, pairs_push, array_well, map_well}
 use Rattle.cbor_diag.proofs.notation.Stops.{stuck_from, list_dead, no_comma_dead, next_dead, deep_stuck, item_stuck}
 use Rattle.cbor_diag.proofs.notation.Stops.{core_stuck, bytes_stuck, tag_stuck, close_stuck, chunk_stuck, piece_ends}
-use Rattle.cbor_diag.proofs.notation.Stops.{string_ends, content_ends, no_push, some_blank, blank_of, key_stuck, colon_stuck}
+use Rattle.cbor_diag.proofs.notation.Stops.{string_ends, content_ends, no_push, some_blank, blank_of, key_stuck}
+use Rattle.cbor_diag.proofs.notation.Stops.{colon_stuck}
 use Rattle.cbor_diag.proofs.notation.Stops.{value_stuck}
 use Rattle.cbor_diag.proofs.notation.DeadItems.{member_dead, pieces_next, number_dead, array_dead, map_dead}
 use Rattle.cbor_diag.proofs.notation.DeadItems.{core_dead, string_item_dead, string_dead, string_content_dead}
@@ -134,14 +136,16 @@ some_pairs-returns-in_err-key-clause-gives t c =
     rw (p.1, p.2) (member_fails _ _ _ _ _ _ i.enough i.so_far c.in_err-key.field-0.0
     (no_key item _ c.in_err-key.field-0.0 c.in_err-key.ensures.gives))
 
-pub some_pairs-returns-in_err-expect_after_item-clause-gives : goal.some_pairs-returns-in_err-expect_after_item-clause-gives
+pub some_pairs-returns-in_err-expect_after_item-clause-gives :
+    goal.some_pairs-returns-in_err-expect_after_item-clause-gives
 some_pairs-returns-in_err-expect_after_item-clause-gives t c =
     let p = err_from_is_err_and c.from_residual-in_err-expect_after_item.result
     c.from_residual-in_err-expect_after_item.ensures.1 in
     let item = read_item (129 - c.args.level) in
     let i = c.pairs.invariant in
     rw (p.1, p.2) (member_fails _ _ _ _ _ _ i.enough i.so_far c.in_err-expect_after_item.field-0.0
-    (no_colon item _ c.in_ok-key.ensures.gives c.in_err-expect_after_item.field-0.0 c.in_err-expect_after_item.ensures.gives))
+    (no_colon item _ c.in_ok-key.ensures.gives c.in_err-expect_after_item.field-0.0
+    c.in_err-expect_after_item.ensures.gives))
 
 pub some_pairs-returns-in_err-value-clause-gives : goal.some_pairs-returns-in_err-value-clause-gives
 some_pairs-returns-in_err-value-clause-gives t c =
@@ -183,7 +187,12 @@ some_pairs-pairs-preserved t c =
     let read = pair_read item _ c.in_ok-key.ensures.gives c.in_ok-expect_after_item.ensures.gives
     c.in_ok-value.ensures.gives in
     let shorter : length c.read_item-in-pairs.new.text ≤ length c.pairs.text =
-    omega (arith, c.in_ok-key.ensures.shorter, c.in_ok-expect_after_item.ensures.shorter, c.in_ok-value.ensures.shorter) in
+    omega (
+      arith,
+      c.in_ok-key.ensures.shorter,
+      c.in_ok-expect_after_item.ensures.shorter,
+      c.in_ok-value.ensures.shorter,
+    ) in
     let pushed : map pair_view c.push.new.self.items ≡ map pair_view held ++ pair_view p ∷ [] =
     rw c.in_ok-push.ensures.items (map_push pair_view held p) in
     let comma = rw c.if-not-more.false at c.in_ok-more.ensures.takes in
@@ -497,7 +506,8 @@ some_items-returns-in_err-more-clause-stuck t c =
 pub integer_or_tag-returns-in_err-value-clause-stuck : goal.integer_or_tag-returns-in_err-value-clause-stuck
 integer_or_tag-returns-in_err-value-clause-stuck t c =
     let p = err_from_is_err_and c.from_residual.result c.from_residual.ensures.1 in
-    rw (p.1, p.2) (λ real some. number_dead (129 - c.args.inner) c.args.text.now (c.in_err-value.ensures.stuck real some))
+    rw (p.1, p.2) (λ real some. number_dead (129 - c.args.inner) c.args.text.now
+    (c.in_err-value.ensures.stuck real some))
 
 pub integer_or_tag-returns-then-take_byte-clause-stuck : goal.integer_or_tag-returns-then-take_byte-clause-stuck
 integer_or_tag-returns-then-take_byte-clause-stuck t c =
@@ -513,9 +523,11 @@ read_core-returns-in_err-value-in-Minus-clause-stuck t c =
     (λ more. not_bind (read_negative_number (c.skip_byte.new.self ++ more)) _
     (c.in_err-value-in-Minus.ensures.stuck real some more)))
 
-pub read_core-returns-in_err-content-in-Bracket-clause-stuck : goal.read_core-returns-in_err-content-in-Bracket-clause-stuck
+pub read_core-returns-in_err-content-in-Bracket-clause-stuck :
+    goal.read_core-returns-in_err-content-in-Bracket-clause-stuck
 read_core-returns-in_err-content-in-Bracket-clause-stuck t c =
-    let p = err_from_is_err_and c.from_residual-in_err-content-in-Bracket.result c.from_residual-in_err-content-in-Bracket.ensures.1 in
+    let p = err_from_is_err_and c.from_residual-in_err-content-in-Bracket.result
+    c.from_residual-in_err-content-in-Bracket.ensures.1 in
     let left = 129 - c.args.inner in
     let rest = c.skip_byte-in-Bracket.new.self in
     rw (p.1, p.2) (λ real some. core_stuck left c.args.text.now rest c.in-Bracket.is c.start.ensures (λ e. absurd cc)
@@ -524,11 +536,13 @@ read_core-returns-in_err-content-in-Bracket-clause-stuck t c =
 
 pub read_core-returns-in_err-content-in-Brace-clause-stuck : goal.read_core-returns-in_err-content-in-Brace-clause-stuck
 read_core-returns-in_err-content-in-Brace-clause-stuck t c =
-    let p = err_from_is_err_and c.from_residual-in_err-content-in-Brace.result c.from_residual-in_err-content-in-Brace.ensures.1 in
+    let p = err_from_is_err_and c.from_residual-in_err-content-in-Brace.result
+    c.from_residual-in_err-content-in-Brace.ensures.1 in
     let left = 129 - c.args.inner in
     let rest = c.skip_byte-in-Brace.new.self in
     rw (p.1, p.2) (λ real some. core_stuck left c.args.text.now rest c.in-Brace.is c.start.ensures (λ e. absurd cc)
-    c.skip_byte-in-Brace.ensures.rest (map_dead left rest (subst (NeverReads (read_members (read_pair (read_item left)) 125))
+    c.skip_byte-in-Brace.ensures.rest (map_dead left rest (subst
+    (NeverReads (read_members (read_pair (read_item left)) 125))
     c.take_length-bitwidth-in-Brace.ensures.rest (c.in_err-content-in-Brace.ensures.stuck real some))))
 
 pub read_core-returns-in-Digit-clause-stuck : goal.read_core-returns-in-Digit-clause-stuck
@@ -540,7 +554,8 @@ read_core-returns-in-Digit-clause-stuck t c =
 pub read_core-returns-in-Parenthesis-clause-stuck : goal.read_core-returns-in-Parenthesis-clause-stuck
 read_core-returns-in-Parenthesis-clause-stuck t c =
     stuck_from c.read_chunks.result c.read_chunks.new.text
-    (core_stuck (129 - c.args.inner) c.args.text.now c.skip_byte-in-Parenthesis.new.self c.in-Parenthesis.is c.start.ensures
+    (core_stuck (129 - c.args.inner) c.args.text.now c.skip_byte-in-Parenthesis.new.self c.in-Parenthesis.is
+    c.start.ensures
     (λ e. absurd cc) c.skip_byte-in-Parenthesis.ensures.rest) c.read_chunks.ensures.stuck
 
 pub read_core-returns-in-Quote-clause-stuck : goal.read_core-returns-in-Quote-clause-stuck
@@ -614,9 +629,11 @@ strings::read_chunk_list-returns-in-Err-clause-stuck t c real some =
     (none.1 ∙ c.skip_blank.ensures.rest) (rw c.rest-first.ensures at (c.stop_in_list.ensures.unended some))
     (c.in-Err.ensures.stuck real (c.stop_in_list.ensures.left some)))
 
-pub read_tagged-returns-in_err-expect_after_item-clause-stuck : goal.read_tagged-returns-in_err-expect_after_item-clause-stuck
+pub read_tagged-returns-in_err-expect_after_item-clause-stuck :
+    goal.read_tagged-returns-in_err-expect_after_item-clause-stuck
 read_tagged-returns-in_err-expect_after_item-clause-stuck t c =
-    let p = err_from_is_err_and c.from_residual-in_err-expect_after_item.result c.from_residual-in_err-expect_after_item.ensures.1 in
+    let p = err_from_is_err_and c.from_residual-in_err-expect_after_item.result
+    c.from_residual-in_err-expect_after_item.ensures.1 in
     rw (p.1, p.2) (λ real some. let at = c.in_err-expect_after_item.ensures.stuck real some in
     close_stuck (129 - c.args.inner) c.args.number.0 c.args.number.1 c.args.text.now c.in_ok-item.ensures.gives at.0
     at.1)
@@ -627,9 +644,11 @@ some_pairs-returns-in_err-key-clause-stuck t c =
     rw (p.1, p.2) (λ real some. c.pairs.invariant.dead (key_stuck (129 - c.args.level) c.pairs.text
     (c.in_err-key.ensures.stuck real some)))
 
-pub some_pairs-returns-in_err-expect_after_item-clause-stuck : goal.some_pairs-returns-in_err-expect_after_item-clause-stuck
+pub some_pairs-returns-in_err-expect_after_item-clause-stuck :
+    goal.some_pairs-returns-in_err-expect_after_item-clause-stuck
 some_pairs-returns-in_err-expect_after_item-clause-stuck t c =
-    let p = err_from_is_err_and c.from_residual-in_err-expect_after_item.result c.from_residual-in_err-expect_after_item.ensures.1 in
+    let p = err_from_is_err_and c.from_residual-in_err-expect_after_item.result
+    c.from_residual-in_err-expect_after_item.ensures.1 in
     rw (p.1, p.2) (λ real some. let at = c.in_err-expect_after_item.ensures.stuck real some in
     c.pairs.invariant.dead (colon_stuck (129 - c.args.level) c.pairs.text c.in_ok-key.ensures.gives at.0 at.1))
 
@@ -651,7 +670,8 @@ some_pairs-returns-in_err-more-clause-stuck t c =
     (pair_begins item (item_grows left) (item_begins left)) c.pairs.text read c.in_err-more.ensures.takes.0 at.0
     at.1))
 
-pub strings::read_byte_item-returns-in_err-content-2-clause-stuck : goal.strings::read_byte_item-returns-in_err-content-2-clause-stuck
+pub strings::read_byte_item-returns-in_err-content-2-clause-stuck :
+    goal.strings::read_byte_item-returns-in_err-content-2-clause-stuck
 strings::read_byte_item-returns-in_err-content-2-clause-stuck t c =
     let p = err_from_is_err_and c.from_residual-in_err-content-2.result c.from_residual-in_err-content-2.ensures.1 in
     let left = 129 - c.args.inner in
@@ -660,7 +680,8 @@ strings::read_byte_item-returns-in_err-content-2-clause-stuck t c =
     subst (NeverReads (read_string_item (read_item left) Bytes)) none.1
     (string_item_dead left Bytes c.take_word.new.self at.0 (string_dead left Bytes c.take_word.new.self at.1)))
 
-pub strings::read_text_item-returns-in_err-content-clause-stuck : goal.strings::read_text_item-returns-in_err-content-clause-stuck
+pub strings::read_text_item-returns-in_err-content-clause-stuck :
+    goal.strings::read_text_item-returns-in_err-content-clause-stuck
 strings::read_text_item-returns-in_err-content-clause-stuck t c =
     let p = err_from_is_err_and c.from_residual-in_err-content.result c.from_residual-in_err-content.ensures.1 in
     let left = 129 - c.args.inner in
@@ -669,9 +690,11 @@ strings::read_text_item-returns-in_err-content-clause-stuck t c =
     subst (NeverReads (read_string_item (read_item left) Text)) none.1
     (string_item_dead left Text c.take_word.new.self at.0 (string_dead left Text c.take_word.new.self at.1)))
 
-pub strings::read_text_item-returns-in_err-checked_text-clause-stuck : goal.strings::read_text_item-returns-in_err-checked_text-clause-stuck
+pub strings::read_text_item-returns-in_err-checked_text-clause-stuck :
+    goal.strings::read_text_item-returns-in_err-checked_text-clause-stuck
 strings::read_text_item-returns-in_err-checked_text-clause-stuck t c =
-    let p = err_from_is_err_and c.from_residual-in_err-checked_text.result c.from_residual-in_err-checked_text.ensures.1 in
+    let p = err_from_is_err_and c.from_residual-in_err-checked_text.result
+    c.from_residual-in_err-checked_text.ensures.1 in
     let left = 129 - c.args.inner in
     let text = c.take_word.new.self in
     let none = rw c.if-take_word.false at c.take_word.ensures.takes in
@@ -682,11 +705,13 @@ strings::read_text_item-returns-in_err-checked_text-clause-stuck t c =
     (string_content_dead left Text text c.in_ok-content.content.items _ c.in_ok-content.ensures.gives at.0
     (failed _ c.in_err-checked_text.field-0.0 real c.in_err-checked_text.ensures.gives))))
 
-pub strings::read_chunks-returns-in_err-chunks-clause-stuck : goal.strings::read_chunks-returns-in_err-chunks-clause-stuck
+pub strings::read_chunks-returns-in_err-chunks-clause-stuck :
+    goal.strings::read_chunks-returns-in_err-chunks-clause-stuck
 strings::read_chunks-returns-in_err-chunks-clause-stuck t c =
     let p = err_from_is_err_and c.from_residual-in_err-chunks.result c.from_residual-in_err-chunks.ensures.1 in
     rw (p.1, p.2) (λ real some. let never = c.in_err-chunks.ensures.stuck real some in
-    chunks_list_dead (129 - c.args.inner) c.args.text.now c.expect_here.new.text c.skip_blank.new.self c.kind-kind.result
+    chunks_list_dead (129 - c.args.inner) c.args.text.now c.expect_here.new.text c.skip_blank.new.self
+    c.kind-kind.result
     (of_some (after_byte 95 c.args.text.now) _ c.in_ok-expect_here.ensures.gives) c.skip_blank.ensures.rest
     (blank_of c.expect_here.new.text c.skip_blank.new.self c.skip_blank.ensures.rest never.0)
     (c.kind-kind.ensures ∙ ap kind_from c.start.ensures) never.1)
@@ -701,9 +726,11 @@ strings::read_content-returns-clause-stuck t c =
       content_pieces_dead (129 - c.args.inner) c.args.kind c.args.text.now begins never,
     )) c.read_pieces.ensures.stuck
 
-pub strings::read_embedded-returns-in_err-expect_here-2-clause-stuck : goal.strings::read_embedded-returns-in_err-expect_here-2-clause-stuck
+pub strings::read_embedded-returns-in_err-expect_here-2-clause-stuck :
+    goal.strings::read_embedded-returns-in_err-expect_here-2-clause-stuck
 strings::read_embedded-returns-in_err-expect_here-2-clause-stuck t c =
-    let p = err_from_is_err_and c.from_residual-in_err-expect_here-2.result c.from_residual-in_err-expect_here-2.ensures.1 in
+    let p = err_from_is_err_and c.from_residual-in_err-expect_here-2.result
+    c.from_residual-in_err-expect_here-2.ensures.1 in
     rw (p.1, p.2) (λ real some. let at = c.in_err-expect_here-2.ensures.stuck real some in
     embedded_close_dead (129 - c.args.inner) c.args.text.now c.expect_here.new.text _ _
     (of_some (after_byte 60 c.args.text.now) _ c.in_ok-expect_here.ensures.gives) c.in_ok-items.ensures.gives at.0 at.1)
@@ -727,7 +754,8 @@ strings::read_pieces-returns-in_err-piece-clause-stuck t c =
     rw (p.1, p.2) (λ real some. c.pieces.invariant.dead begins (piece_dead (129 - c.args.inner) c.args.kind
     c.pieces.text begins (c.in_err-piece.ensures.stuck real some)))
 
-pub strings::some_chunks-returns-in_err-content-clause-stuck : goal.strings::some_chunks-returns-in_err-content-clause-stuck
+pub strings::some_chunks-returns-in_err-content-clause-stuck :
+    goal.strings::some_chunks-returns-in_err-content-clause-stuck
 strings::some_chunks-returns-in_err-content-clause-stuck t c =
     let p = err_from_is_err_and c.from_residual.result c.from_residual.ensures.1 in
     let left = 129 - c.args.inner in

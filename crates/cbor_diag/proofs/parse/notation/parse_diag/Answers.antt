@@ -11,7 +11,8 @@ returns-clause-ok c =
 pub returns-clause-every_item : goal.returns-clause-every_item
 returns-clause-every_item c i is_item =
     let is : c.new.result ≡ c.args.text.now = first_of (cc, search rules) in
-    gave_text 128 c.args.text.now c.whole_text.result i (given c.args.text.now _ _ is c.whole_text.ensures.gives) is_item
+    gave_text 128 c.args.text.now c.whole_text.result i (given c.args.text.now _ _ is c.whole_text.ensures.gives)
+    is_item
 
 pub returns-clause-larger_limit : goal.returns-clause-larger_limit
 returns-clause-larger_limit c limit i le is_item =
