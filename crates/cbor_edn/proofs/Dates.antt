@@ -5,8 +5,8 @@ use Rattle.std.proofs.lemmas.Bool.{cases_Bool}
 use Rattle.std.proofs.lemmas.Str.{IsUtf8-from_is_utf8, is_utf8-from_IsUtf8}
 use Rattle.cbor_grammar.specs.declared.width.IntegerWidth.TheVariants.{Unknown}
 use Rattle.cbor_grammar.specs.Item.{tagged}
-use Rattle.cbor_edn.specs.Reading.{◌>>=◌}
-use Rattle.cbor_edn.specs.Items.{utf8_text, date_item, tagged_date}
+use Rattle.cbor_edn_grammar.specs.Reading.{◌>>=◌}
+use Rattle.cbor_edn_grammar.specs.Items.{utf8_text, date_item, tagged_date}
 
 pub utf8_yes : (content : List ℕ) → IsUtf8 content → utf8_text content ≡ Some content
 unfolding utf8_text

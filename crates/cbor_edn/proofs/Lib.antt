@@ -1,17 +1,4 @@
-pub mod Turns
-pub mod Numbers
-pub mod Floats
-pub mod HexFloats
 pub mod Bigs
 pub mod Dates
-pub mod Addresses
-pub mod Decoded
-pub mod DigitReads
-pub mod Apostrophe
-pub mod Blanks
-pub mod PlainHex
-pub mod PlainText
 pub mod Members
 pub mod Levels
-pub mod writing
-pub mod back

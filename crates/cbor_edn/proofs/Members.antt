@@ -1,10 +1,10 @@
 -- The members of a list: one that is closed at once, and before the first member.
 use Rattle.std.proofs.Common.{◌≡◌, ℕ, ◌<◌, List, [], length, Option, Some, None, Bool, sym, ap, ◌∙◌}
-use Rattle.cbor_edn.specs.declared.close.Close.{Close}
-use Rattle.cbor_edn.specs.Reading.{turns}
-use Rattle.cbor_edn.specs.Blank.{skip_blank}
-use Rattle.cbor_edn.specs.Lists.{after_close, members_or_close, read_members}
-use Rattle.cbor_edn.proofs.Turns.{onto, turns_begin}
+use Rattle.cbor_edn_grammar.specs.declared.close.Close.{Close}
+use Rattle.cbor_edn_grammar.specs.Reading.{turns}
+use Rattle.cbor_edn_grammar.specs.Blank.{skip_blank}
+use Rattle.cbor_edn_grammar.specs.Lists.{after_close, members_or_close, read_members}
+use Rattle.cbor_edn_grammar.proofs.Turns.{onto, turns_begin}
 
 module _ {X : Type 0} (turn : List ℕ → Option (List X × Bool × List ℕ)) (close : Close) (text first : List ℕ)
     (front : List X) (none : front ≡ []) (blank : first ≡ skip_blank text) where

@@ -4,10 +4,10 @@ use Rattle.cbor_grammar.specs.Item.{Chunk}
 use Rattle.cbor_grammar.specs.declared.strings.StringKind.{StringKind}
 use Rattle.cbor_grammar.specs.declared.strings.StringKind.TheVariants.{Bytes, Text}
 use Rattle.cbor_grammar.specs.Strings.{byte_chunk, text_chunk}
-use Rattle.cbor_edn.specs.declared.error.Stop.{Stop}
+use Rattle.cbor_edn_grammar.specs.declared.error.Stop.{Stop}
 use Rattle.cbor_edn.specs.declared.strings.Chunks.{Chunks}
 use Rattle.cbor_edn.specs.declared.strings.Chunks.TheVariants as chunks
-use Rattle.cbor_edn.specs.Reading.{Refuses}
+use Rattle.cbor_edn_grammar.specs.Reading.{Refuses}
 
 abbrev pub list_kind : Chunks → StringKind
 list_kind (chunks.Bytes v) = Bytes

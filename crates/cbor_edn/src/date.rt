@@ -6,16 +6,17 @@ ghost use Rattle.cbor_diag.specs.View.{view};
 ghost use Rattle.cbor_grammar.specs.WellFormed.{deepest, levels_left, WellFormed};
 ghost use Rattle.cbor_grammar.specs.Item.{tagged};
 ghost use Rattle.cbor_grammar.specs.declared.width.IntegerWidth.TheVariants.{Unknown};
-ghost use Rattle.cbor_edn.specs.declared.error.Stop.TheVariants.{Memory};
-ghost use Rattle.cbor_edn.specs.Reading.{Gives};
-ghost use Rattle.cbor_edn.specs.Items.{is_split, seconds_item, utf8_text, date_item, tagged_date};
-ghost use Rattle.cbor_edn.specs.Items.{quoted_item};
+ghost use Rattle.cbor_edn_grammar.specs.declared.error.Stop.TheVariants.{Memory};
+ghost use Rattle.cbor_edn_grammar.specs.Reading.{Gives};
+ghost use Rattle.cbor_edn_grammar.specs.Items.{is_split, seconds_item, utf8_text, date_item};
+ghost use Rattle.cbor_edn_grammar.specs.Items.{tagged_date};
+ghost use Rattle.cbor_edn_grammar.specs.Items.{quoted_item};
 
-use crate::cursor::Cursor;
-use crate::digits::find_apostrophe;
-use crate::error::{Expected, Stop};
 use crate::scalars::number_item;
 use cbor_diag::DataItem;
+use cbor_edn_grammar::error::{Expected, Stop};
+use cbor_edn_tokens::cursor::Cursor;
+use cbor_edn_tokens::digits::find_apostrophe;
 use cbor_grammar::level::DEEPEST;
 use cbor_grammar::{IntegerWidth, Tag};
 use std::alloc::Global;
@@ -43,7 +44,7 @@ fn is_split(seconds: &[u8]) -> bool
 }
 
 /// The number that the text of some seconds writes.
-#[tactic(auto, unfolding(crate::specs::Items::seconds_item))]
+#[tactic(auto, unfolding(cbor_edn_grammar::specs::Items::seconds_item))]
 fn seconds_item(alloc: Global, seconds: &[u8], inner: u8) -> Result<DataItem, Stop>
     requires low { 2 ≤ inner }
     requires high { inner ≤ 129 }
@@ -68,7 +69,7 @@ fn utf8_text(content: &[u8]) -> Option<&str>
 }
 
 /// The seconds of a date with a time of day and an offset.
-#[tactic(auto, unfolding(crate::specs::Items::date_item))]
+#[tactic(auto, unfolding(cbor_edn_grammar::specs::Items::date_item))]
 fn date_item(alloc: Global, content: &[u8], inner: u8) -> Result<DataItem, Stop>
     requires low { 2 ≤ inner }
     requires high { inner ≤ 129 }

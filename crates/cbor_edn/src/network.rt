@@ -1,21 +1,22 @@
 //! Items of network addresses between apostrophes, and of prefixes of them.
 ghost use Rattle.std.specs.Prelude.{◌≡◌, ◌==◌, ◌+◌, ◌-◌, ◌<◌, ◌≤◌, ℕ, length, position, IfOk};
 ghost use Rattle.std.specs.Prelude.{IfErr, IfSome};
-ghost use Rattle.cbor_edn.specs.declared.error.Stop.TheVariants.{Memory};
+ghost use Rattle.cbor_edn_grammar.specs.declared.error.Stop.TheVariants.{Memory};
 ghost use Rattle.cbor_diag.specs.View.{view};
 ghost use Rattle.cbor_grammar.specs.WellFormed.{deepest, levels_left, WellFormed};
-ghost use Rattle.cbor_edn.specs.Reading.{Gives};
-ghost use Rattle.cbor_edn.specs.Address.{bytes_item, address_item, pair_of, prefix_array};
-ghost use Rattle.cbor_edn.specs.Address.{prefix_of, prefix_item, ip_item, ip_tag, tagged_ip};
-ghost use Rattle.cbor_edn.specs.Items.{quoted_item};
+ghost use Rattle.cbor_edn_grammar.specs.Reading.{Gives};
+ghost use Rattle.cbor_edn_grammar.specs.Address.{bytes_item, address_item, pair_of, prefix_array};
+ghost use Rattle.cbor_edn_grammar.specs.Address.{prefix_of, prefix_item, ip_item, ip_tag};
+ghost use Rattle.cbor_edn_grammar.specs.Address.{tagged_ip};
+ghost use Rattle.cbor_edn_grammar.specs.Items.{quoted_item};
 
-use crate::address::{address_bytes, bit_count, is_clear_after, is_ipv6, used};
-use crate::cursor::Cursor;
 use crate::date::below_tag;
-use crate::digits::find_apostrophe;
-use crate::error::{Expected, Stop};
 use crate::strings::string_item;
 use cbor_diag::DataItem;
+use cbor_edn_grammar::error::{Expected, Stop};
+use cbor_edn_tokens::address::{address_bytes, bit_count, is_clear_after, is_ipv6, used};
+use cbor_edn_tokens::cursor::Cursor;
+use cbor_edn_tokens::digits::find_apostrophe;
 use cbor_grammar::IntegerWidth;
 use cbor_grammar::level::DEEPEST;
 use cbor_grammar::strings::StringKind;
@@ -102,7 +103,7 @@ fn find_slash(content: &[u8]) -> Option<usize>
 }
 
 /// An address, or a prefix of one, if a level is left for the items in it.
-#[tactic(auto, unfolding(crate::specs::Address::ip_item))]
+#[tactic(auto, unfolding(cbor_edn_grammar::specs::Address::ip_item))]
 fn ip_item(alloc: Global, content: &[u8], inner: u8) -> Result<DataItem, Stop>
     requires low { 2 ≤ inner }
     requires high { inner ≤ 129 }

@@ -2,19 +2,22 @@
 ghost use Rattle.std.specs.Prelude.{◌≡◌, ◌-◌, ◌<◌, ◌≤◌, ℕ, length, option_map, IfOk, IfSome};
 ghost use Rattle.cbor_diag.specs.View.{view};
 ghost use Rattle.cbor_grammar.specs.WellFormed.{deepest, levels_left, WellFormed};
-ghost use Rattle.cbor_edn.specs.Reading.{Gives};
-ghost use Rattle.cbor_edn.specs.Items.{is_string, integer_item, number_item, named, read_simple};
-ghost use Rattle.cbor_edn.specs.Items.{read_float, name_item, is_prefix, read_prefixed, read_name};
+ghost use Rattle.cbor_edn_grammar.specs.Reading.{Gives};
+ghost use Rattle.cbor_edn_grammar.specs.Items.{is_string, integer_item, number_item, named};
+ghost use Rattle.cbor_edn_grammar.specs.Items.{read_simple};
+ghost use Rattle.cbor_edn_grammar.specs.Items.{read_float, name_item, is_prefix, read_prefixed};
+ghost use Rattle.cbor_edn_grammar.specs.Items.{read_name};
 
 use crate::big::big_item;
-use crate::cursor::Cursor;
 use crate::date::{read_date, read_tagged_date};
-use crate::digits::{Base, read_digits};
-use crate::error::{Expected, Stop};
-use crate::float::{float_of_bytes, float_word, is_float, special_word};
 use crate::network::{read_ip, read_tagged_ip};
-use crate::number::{negated, unsigned};
 use cbor_diag::DataItem;
+use cbor_edn_grammar::error::{Expected, Stop};
+use cbor_edn_grammar::opening::Base;
+use cbor_edn_tokens::cursor::Cursor;
+use cbor_edn_tokens::digits::read_digits;
+use cbor_edn_tokens::float::{float_of_bytes, float_word, is_float, special_word};
+use cbor_edn_tokens::number::{negated, unsigned};
 use cbor_grammar::{IntegerWidth, Simple};
 use std::alloc::Global;
 

@@ -11,4 +11,6 @@ mod written;
 #[cfg(test)]
 mod written_back;
 #[cfg(test)]
+mod written_notes;
+#[cfg(test)]
 mod written_styles;

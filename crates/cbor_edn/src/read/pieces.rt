@@ -3,20 +3,21 @@ ghost use Rattle.std.specs.Prelude.{◌≡◌, ◌-◌, ◌<◌, ◌≤◌, ◌+
 ghost use Rattle.cbor_diag.specs.View.{view, items_view};
 ghost use Rattle.cbor_grammar.specs.WellFormed.{levels_left, WellFormed, WellFormedItems};
 ghost use Rattle.cbor_grammar.specs.Written.{encoded_items};
-ghost use Rattle.cbor_edn.specs.Reading.{Gives, TurnGives, repeated};
-ghost use Rattle.cbor_edn.specs.Strings.{piece_of, piece_turn, read_content, read_string};
-ghost use Rattle.cbor_edn.specs.Items.{read_embedded};
-ghost use Rattle.cbor_edn.specs.Items.{read_item};
+ghost use Rattle.cbor_edn_grammar.specs.Reading.{Gives, TurnGives, repeated};
+ghost use Rattle.cbor_edn_grammar.specs.Strings.{piece_of, piece_turn, read_content, read_string};
+ghost use Rattle.cbor_edn_grammar.specs.Items.{read_embedded};
+ghost use Rattle.cbor_edn_grammar.specs.Items.{read_item};
 
 use super::read_items;
-use crate::close::Close;
-use crate::cursor::Cursor;
-use crate::digits::read_digits;
-use crate::error::{Expected, Stop};
-use crate::opening::{Opening, opening_at};
-use crate::quoted::read_quoted;
 use crate::strings::{string_item, take_plus, width_after};
 use cbor_diag::DataItem;
+use cbor_edn_grammar::close::Close;
+use cbor_edn_grammar::error::{Expected, Stop};
+use cbor_edn_grammar::opening::Opening;
+use cbor_edn_tokens::cursor::Cursor;
+use cbor_edn_tokens::digits::read_digits;
+use cbor_edn_tokens::opening::opening_at;
+use cbor_edn_tokens::quoted::read_quoted;
 use cbor_grammar::IntegerWidth;
 use cbor_grammar::strings::StringKind;
 use std::alloc::{AllocError, Global};
@@ -127,7 +128,7 @@ fn read_pieces(alloc: Global, text: &mut Cursor<'_>, inner: u8) -> Result<Vec<u8
 
 /// The kind of a string, its bytes, and the width of its length, if it has one.
 #[cycle(edn)]
-#[tactic(auto, unfolding(crate::specs::Strings::read_content))]
+#[tactic(auto, unfolding(cbor_edn_grammar::specs::Strings::read_content))]
 pub(super) fn read_content(
     alloc: Global,
     text: &mut Cursor<'_>,

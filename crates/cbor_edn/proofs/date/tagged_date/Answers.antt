@@ -4,8 +4,8 @@ use Rattle.cbor_grammar.specs.WellFormed.{WellFormed}
 use Rattle.std.proofs.lemmas.Result.{err_from_is_err_and}
 use Rattle.cbor_grammar.specs.declared.width.IntegerWidth.TheVariants.{Unknown}
 use Rattle.cbor_grammar.specs.Item.{Item, tagged}
-use Rattle.cbor_edn.specs.Reading.{◌>>=◌}
-use Rattle.cbor_edn.proofs.Turns.{refused_step}
+use Rattle.cbor_edn_grammar.specs.Reading.{◌>>=◌}
+use Rattle.cbor_edn_grammar.proofs.Turns.{refused_step}
 use Rattle.cbor_edn.proofs.Dates.{tagged_none, tagged_left}
 use Rattle.cbor_edn.proofs.date.tagged_date.Goals as goal
 

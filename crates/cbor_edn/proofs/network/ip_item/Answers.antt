@@ -1,6 +1,6 @@
 use Rattle.std.proofs.Common.{◌+◌, ◌-◌, arith}
 use Rattle.std.proofs.lemmas.List.{take_rest}
-use Rattle.cbor_edn.proofs.Addresses.{prefix_left}
+use Rattle.cbor_edn_tokens.proofs.Addresses.{prefix_left}
 use Rattle.cbor_edn.proofs.network.ip_item.Goals as goal
 
 pub returns-clause-gives : goal.returns-clause-gives

@@ -4,10 +4,10 @@ use Rattle.cbor_grammar.specs.WellFormed.{WellFormed}
 use Rattle.std.proofs.lemmas.Result.{err_from_is_err_and}
 use Rattle.cbor_grammar.specs.declared.width.IntegerWidth.TheVariants.{Unknown}
 use Rattle.cbor_grammar.specs.Item.{Item, tagged}
-use Rattle.cbor_edn.specs.Reading.{◌>>=◌}
-use Rattle.cbor_edn.specs.Address.{ip_tag}
-use Rattle.cbor_edn.proofs.Turns.{refused_step}
-use Rattle.cbor_edn.proofs.Addresses.{tagged_ip_none, tagged_ip_left}
+use Rattle.cbor_edn_grammar.specs.Reading.{◌>>=◌}
+use Rattle.cbor_edn_grammar.specs.Address.{ip_tag}
+use Rattle.cbor_edn_grammar.proofs.Turns.{refused_step}
+use Rattle.cbor_edn_tokens.proofs.Addresses.{tagged_ip_none, tagged_ip_left}
 use Rattle.cbor_edn.proofs.network.tagged_ip.Goals as goal
 
 pub returns-then-inner-gt-DEEPEST-clause-gives : goal.returns-then-inner-gt-DEEPEST-clause-gives

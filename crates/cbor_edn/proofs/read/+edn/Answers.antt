@@ -3,19 +3,20 @@ use Rattle.std.proofs.Common.{◌≡◌, ◌+◌, ◌-◌, Result, Ok, Err, IfOk
 use Rattle.std.proofs.Common.{sym, ap, subst, ◌∙◌, arith}
 use Rattle.std.proofs.lemmas.Result.{err_from_is_err_and}
 use Rattle.cbor_diag.specs.View.{view}
-use Rattle.cbor_edn.specs.declared.close.Close.TheVariants.{Brace, Parenthesis}
-use Rattle.cbor_edn.specs.Lists.{after_close}
+use Rattle.cbor_edn_grammar.specs.declared.close.Close.TheVariants.{Brace, Parenthesis}
+use Rattle.cbor_edn_grammar.specs.Lists.{after_close}
 use Rattle.cbor_edn.specs.Chunks.{chunk_list}
-use Rattle.cbor_edn.specs.Items.{item_turn, pair_turn, chunk_turn, read_item}
-use Rattle.cbor_edn.proofs.Turns.{turn_fails, turn_last, turn_more}
+use Rattle.cbor_edn_grammar.specs.Items.{item_turn, pair_turn, chunk_turn, read_item}
+use Rattle.cbor_edn_grammar.proofs.Turns.{turn_fails, turn_last, turn_more}
 use Rattle.cbor_edn.proofs.Members.{members_closed, members_begin}
 use Rattle.cbor_diag.specs.View.{items_view, pairs_view}
 use Rattle.cbor_grammar.specs.Item.{item_count, pair_count}
 use Rattle.cbor_grammar.specs.WellFormed.{FitsCount}
 use Rattle.cbor_diag.proofs.shared.Views.{items_push, item_count_view, pair_count_view}
 use Rattle.cbor_diag.proofs.notation.Cores.{pairs_push}
-use Rattle.cbor_edn.specs.Strings.{begins_string}
-use Rattle.cbor_edn.proofs.Levels.{array_well, map_well, none_left, core_string, core_other}
+use Rattle.cbor_edn_grammar.specs.Strings.{begins_string}
+use Rattle.cbor_edn_grammar.proofs.Levels.{none_left, core_string, core_other}
+use Rattle.cbor_edn.proofs.Levels.{array_well, map_well}
 use Rattle.cbor_edn.proofs.read.+edn.Goals as goal
 
 pub pieces::read_pieces-returns-in_err-more-clause-gives : goal.pieces::read_pieces-returns-in_err-more-clause-gives

@@ -3,13 +3,13 @@ use Rattle.std.proofs.Common.{◌≡◌, ℕ, ◌+◌, ◌-◌, ◌*◌, ◌<◌
 use Rattle.std.specs.List.{AllByRecursion}
 use Rattle.cbor_diag.specs.View.{view, items_view, pairs_view}
 use Rattle.cbor_grammar.specs.WellFormed.{WellFormedItems, WellFormedPairs, IsChunk}
-use Rattle.cbor_edn.specs.declared.close.Close.TheVariants.{Brace, Parenthesis}
-use Rattle.cbor_edn.specs.Reading.{turns, repeated}
-use Rattle.cbor_edn.specs.Strings.{piece_turn}
-use Rattle.cbor_edn.specs.Lists.{read_members}
+use Rattle.cbor_edn_grammar.specs.declared.close.Close.TheVariants.{Brace, Parenthesis}
+use Rattle.cbor_edn_grammar.specs.Reading.{turns, repeated}
+use Rattle.cbor_edn_grammar.specs.Strings.{piece_turn}
+use Rattle.cbor_edn_grammar.specs.Lists.{read_members}
 use Rattle.cbor_edn.specs.Chunks.{chunk_list, list_kind}
-use Rattle.cbor_edn.specs.Items.{item_turn, pair_turn, chunk_turn, read_embedded, read_item}
-use Rattle.cbor_edn.proofs.Turns.{onto}
+use Rattle.cbor_edn_grammar.specs.Items.{item_turn, pair_turn, chunk_turn, read_embedded, read_item}
+use Rattle.cbor_edn_grammar.proofs.Turns.{onto}
 use Rattle.cbor_edn.proofs.read.+edn.Given as goal
 
 -- Each level is deeper than the one before. At one level a call is for less than the one that it is made by.

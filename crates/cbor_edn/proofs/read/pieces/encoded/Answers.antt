@@ -3,7 +3,7 @@ use Rattle.std.proofs.Common.{subst}
 use Rattle.cbor_diag.specs.View.{items_view}
 use Rattle.cbor_grammar.specs.WellFormed.{WellFormedItems}
 use Rattle.cbor_notation.proofs.text.Scalars.{drop_here}
-use Rattle.cbor_edn.proofs.Levels.{well_above}
+use Rattle.cbor_edn_grammar.proofs.Levels.{well_above}
 use Rattle.cbor_edn.proofs.read.pieces.encoded.Goals as goal
 
 pub push_bytes-requires : goal.push_bytes-requires

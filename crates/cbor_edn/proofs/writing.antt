@@ -1,8 +1,0 @@
-pub mod Unescaped
-pub mod Calls
-pub mod Runs
-pub mod Shown
-pub mod Texts
-pub mod Edn
-pub mod Appended
-pub mod Heads

@@ -1,0 +1,11 @@
+pub mod Turns
+pub mod Ends
+pub mod Words
+pub mod Widths
+pub mod Numbers
+pub mod Digits
+pub mod Floats
+pub mod Pieces
+pub mod DigitReads
+pub mod Hex
+pub mod Levels

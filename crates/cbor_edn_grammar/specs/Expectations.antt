@@ -1,0 +1,66 @@
+-- What an error says.
+use Rattle.std.specs.Prelude.{ℕ, List, codes, Option, Some, None}
+use Rattle.cbor_edn_grammar.specs.declared.close.Close.{Close}
+use Rattle.cbor_edn_grammar.specs.declared.close.Close.TheVariants.{Bracket, Brace, Parenthesis, Angles, End}
+use Rattle.cbor_edn_grammar.specs.declared.error.Expected.{Expected}
+use Rattle.cbor_edn_grammar.specs.declared.error.Expected.TheVariants as expected
+
+-- where neither a comma nor what closes the list follows a member
+abbrev pub missing : Close → List ℕ
+missing Bracket = codes "a comma or ] has to follow the member"
+missing Brace = codes "a comma or } has to follow the value"
+missing Parenthesis = codes "a comma or ) has to follow the chunk"
+missing Angles = codes "a comma or >> has to follow the item"
+missing End = codes "a comma or a blank has to follow the item"
+
+abbrev pub text_of : Expected → List ℕ
+text_of expected.Item = codes "an item is expected"
+text_of expected.OneItem = codes "one item is expected"
+text_of expected.Number = codes "not a number"
+text_of expected.TagNumber = codes "the number of a tag is a number from 0 on"
+text_of expected.SimpleNumber = codes "a simple value has a number from 0 to 255"
+text_of expected.SimpleParenthesis = codes "( has to follow simple"
+text_of expected.NegativeNumber = codes "-0 is no integer: write 0, or -0.0 for a float"
+text_of expected.NoEllipsis = codes "an ellipsis has no bytes"
+text_of expected.Prefix = codes "no such prefix is known; h, b64, b32, h32, dt, DT, ip, IP and float are"
+text_of expected.Name = codes "no item begins so"
+text_of expected.FittingWidth = codes "the number does not fit the width that is stated"
+text_of expected.Indicator = codes "an indicator is _i, _0, _1, _2 or _3"
+text_of (expected.Half nearest) = codes "no float of 16 bits is the number"
+text_of expected.LargestHalf = codes "the largest float of 16 bits is 65504.0"
+text_of expected.LargestSingle = codes "the largest float of 32 bits is 3.4028234663852886e38"
+text_of expected.LargestDouble = codes "the largest float of 64 bits is 1.7976931348623157e308"
+text_of expected.FloatIndicator = codes "an indicator of a float is _1, _2 or _3"
+text_of expected.HexDigits = codes "a float in base 16 has up to 53 binary digits"
+text_of expected.HexExponent = codes "the exponent is past those of floats of 64 bits"
+text_of expected.Date = codes "a date with a time is written as in 2026-01-02T03:04:05Z"
+text_of expected.LaterDate = codes "a fraction of a second before 1970 is not read"
+text_of expected.Address = codes "an address is written as in 192.0.2.1 or 2001:db8::1"
+text_of expected.PrefixLength = codes "a prefix has up to 32 bits, or 128 of an IPv6 address"
+text_of expected.ClearBits = codes "the address has a bit set after the prefix"
+text_of expected.FloatBits = codes "the bits of a float are 4, 8 or 16 digits"
+text_of expected.BlankAfterWidth =
+    codes "a blank has to follow: [_1 ] is an empty array, and [_ 1] one of indefinite length"
+text_of expected.BlankAfterUnderscore = codes "a blank, or what closes the list, has to follow _"
+text_of expected.Underscore = codes "_ and a blank have to follow the parenthesis of a string in chunks"
+text_of expected.String = codes "a string is expected"
+text_of expected.Chunk = codes "a chunk is a string of definite length of the kind of the first"
+text_of expected.NoContent = codes "only an empty string may have _ after it"
+text_of expected.Quote = codes "the closing quote is missing"
+text_of expected.Escape = codes "not an escape of a character"
+text_of (expected.SecondHalf first) = codes "half of a character: \\udc00 to \\udfff has to follow"
+text_of (expected.FirstHalf second) = codes "half of a character: \\ud800 to \\udbff has to come before"
+text_of expected.Digits = codes "the digits are not an encoding of bytes"
+text_of expected.Utf8 = codes "the bytes of the text are not UTF-8"
+text_of expected.PlusOrComma = codes "two strings side by side: write + to join them, or a comma between"
+text_of (expected.CommaOrClose close) = missing close
+text_of expected.Colon = codes "a colon has to follow the key"
+text_of expected.Parenthesis = codes "a closing parenthesis is expected"
+text_of expected.Levels = codes "nested deeper than 128 levels"
+
+-- all that is said; not specified where a value is added
+abbrev pub words_of : Expected → Option (List ℕ)
+words_of (expected.Half nearest) = None
+words_of (expected.SecondHalf first) = None
+words_of (expected.FirstHalf second) = None
+words_of e = Some (text_of e)

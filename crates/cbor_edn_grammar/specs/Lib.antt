@@ -1,0 +1,15 @@
+pub mod Reading
+pub mod Blank
+pub mod Word
+pub mod Number
+pub mod HexFloat
+pub mod Float
+pub mod Quoted
+pub mod Digits
+pub mod Strings
+pub mod Big
+pub mod Lists
+pub mod Address
+pub mod Items
+pub mod Edn
+pub mod Expectations

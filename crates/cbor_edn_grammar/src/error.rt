@@ -1,0 +1,279 @@
+//! Errors: why a text is not EDN, and where.
+ghost use Rattle.std.specs.Prelude.{◌≡◌};
+ghost use Rattle.cbor_edn_grammar.specs.Expectations.{text_of, words_of};
+ghost use Rattle.cbor_edn_grammar.specs.declared.error.Stop.TheVariants.{Memory};
+
+use crate::close::Close;
+use crate::word::word_len;
+use cbor_floats::half_value;
+use ryu::Buffer;
+use std::alloc::{AllocError, AllocFailed};
+use std::{fmt, str};
+
+/// What has to be at the place of an error, in EDN.
+#[derive(Clone, Copy, PartialEq, Eq, Debug)]
+pub enum Expected {
+    /// An item: nothing that is here begins one.
+    Item,
+    /// Another item: nothing that is read so far is one.
+    OneItem,
+    /// A number, with an indicator of its width or without.
+    Number,
+    /// A number from 0 on, before the parenthesis of a tag.
+    TagNumber,
+    /// A number from 0 to 255, for a simple value.
+    SimpleNumber,
+    /// An opening parenthesis, after `simple`.
+    SimpleParenthesis,
+    /// A number other than 0, after `-`.
+    NegativeNumber,
+    /// A number: an ellipsis has no bytes.
+    NoEllipsis,
+    /// A name that is known.
+    Name,
+    /// A prefix that is known, before an apostrophe.
+    Prefix,
+    /// A width that the number fits.
+    FittingWidth,
+    /// One of the indicators `_i`, `_0`, `_1`, `_2` and `_3`, or `_` alone.
+    Indicator,
+    /// A number that a float of 16 bits is.
+    Half {
+        /// The bits of the nearest one.
+        nearest: u16,
+    },
+    /// A number that is not past the largest float of 16 bits.
+    LargestHalf,
+    /// A number that is not past the largest float of 32 bits.
+    LargestSingle,
+    /// A number that is not past the largest float of 64 bits.
+    LargestDouble,
+    /// One of the indicators of a float, `_1`, `_2` and `_3`.
+    FloatIndicator,
+    /// At most 53 binary digits, of a float in base 16.
+    HexDigits,
+    /// An exponent that floats of 64 bits have, of a float in base 16.
+    HexExponent,
+    /// The 4, 8 or 16 digits of the bits of a float.
+    FloatBits,
+    /// A date with a time of day and an offset.
+    Date,
+    /// A moment from 1970 on, or one without a fraction of a second.
+    LaterDate,
+    /// A network address.
+    Address,
+    /// How many bits a prefix has, after a network address and a slash.
+    PrefixLength,
+    /// A network address without a bit that is set after the prefix.
+    ClearBits,
+    /// A blank, after the width of a count.
+    BlankAfterWidth,
+    /// A blank or what closes the list, after `_`.
+    BlankAfterUnderscore,
+    /// `_`, after the parenthesis of a string in chunks.
+    Underscore,
+    /// A string.
+    String,
+    /// A chunk: a string of definite length of the same kind as those before.
+    Chunk,
+    /// Nothing between the quotes, where `_` follows them.
+    NoContent,
+    /// A closing quote.
+    Quote,
+    /// An escape of JSON.
+    Escape,
+    /// The escape of the second half of a character, after the first.
+    SecondHalf {
+        /// The first half.
+        first: u16,
+    },
+    /// The escape of the first half of a character, before the second.
+    FirstHalf {
+        /// The second half.
+        second: u16,
+    },
+    /// Digits that are an encoding of bytes.
+    Digits,
+    /// UTF-8, for a text.
+    Utf8,
+    /// `+` or a comma, between two strings.
+    PlusOrComma,
+    /// A comma or what closes the list.
+    CommaOrClose(Close),
+    /// A colon, after a key.
+    Colon,
+    /// A closing parenthesis.
+    Parenthesis,
+    /// At most 128 levels.
+    Levels,
+}
+
+impl Expected {
+    /// Returns what is wrong, in a few words without a full stop. `Display` adds the values that the
+    /// error has.
+    pub fn text(&self) -> &'static str
+        ensures { result.now ≡ text_of self.now }
+    {
+        match self {
+            Expected::Item => "an item is expected",
+            Expected::OneItem => "one item is expected",
+            Expected::Number => "not a number",
+            Expected::TagNumber => "the number of a tag is a number from 0 on",
+            Expected::SimpleNumber => "a simple value has a number from 0 to 255",
+            Expected::SimpleParenthesis => "( has to follow simple",
+            Expected::NegativeNumber => "-0 is no integer: write 0, or -0.0 for a float",
+            Expected::NoEllipsis => "an ellipsis has no bytes",
+            Expected::Name => "no item begins so",
+            Expected::Prefix => {
+                "no such prefix is known; h, b64, b32, h32, dt, DT, ip, IP and float are"
+            },
+            Expected::FittingWidth => "the number does not fit the width that is stated",
+            Expected::Indicator => "an indicator is _i, _0, _1, _2 or _3",
+            Expected::Half { .. } => "no float of 16 bits is the number",
+            Expected::LargestHalf => "the largest float of 16 bits is 65504.0",
+            Expected::LargestSingle => "the largest float of 32 bits is 3.4028234663852886e38",
+            Expected::LargestDouble => "the largest float of 64 bits is 1.7976931348623157e308",
+            Expected::FloatIndicator => "an indicator of a float is _1, _2 or _3",
+            Expected::HexDigits => "a float in base 16 has up to 53 binary digits",
+            Expected::HexExponent => "the exponent is past those of floats of 64 bits",
+            Expected::FloatBits => "the bits of a float are 4, 8 or 16 digits",
+            Expected::Date => "a date with a time is written as in 2026-01-02T03:04:05Z",
+            Expected::LaterDate => "a fraction of a second before 1970 is not read",
+            Expected::Address => "an address is written as in 192.0.2.1 or 2001:db8::1",
+            Expected::PrefixLength => "a prefix has up to 32 bits, or 128 of an IPv6 address",
+            Expected::ClearBits => "the address has a bit set after the prefix",
+            Expected::BlankAfterWidth => {
+                "a blank has to follow: [_1 ] is an empty array, and [_ 1] one of indefinite length"
+            },
+            Expected::BlankAfterUnderscore => "a blank, or what closes the list, has to follow _",
+            Expected::Underscore => {
+                "_ and a blank have to follow the parenthesis of a string in chunks"
+            },
+            Expected::String => "a string is expected",
+            Expected::Chunk => {
+                "a chunk is a string of definite length of the kind of the first"
+            },
+            Expected::NoContent => "only an empty string may have _ after it",
+            Expected::Quote => "the closing quote is missing",
+            Expected::Escape => "not an escape of a character",
+            Expected::SecondHalf { .. } => {
+                "half of a character: \\udc00 to \\udfff has to follow"
+            },
+            Expected::FirstHalf { .. } => {
+                "half of a character: \\ud800 to \\udbff has to come before"
+            },
+            Expected::Digits => "the digits are not an encoding of bytes",
+            Expected::Utf8 => "the bytes of the text are not UTF-8",
+            Expected::PlusOrComma => {
+                "two strings side by side: write + to join them, or a comma between"
+            },
+            Expected::CommaOrClose(close) => close.missing(),
+            Expected::Colon => "a colon has to follow the key",
+            Expected::Parenthesis => "a closing parenthesis is expected",
+            Expected::Levels => "nested deeper than 128 levels",
+        }
+    }
+}
+
+impl fmt::Display for Expected {
+    ghost output = { words_of };
+
+    fn fmt<W: fmt::Write>(&self, f: &mut fmt::Formatter<W>) -> fmt::Result {
+        match self {
+            Expected::Half { nearest } => {
+                f.write_str(self.text())?;
+                f.write_str("; the nearest is ")?;
+                write_half(*nearest, f)
+            }
+            Expected::SecondHalf { first } => {
+                let text = self.text();
+                write!(f, "{text} \\u{first:04x}")
+            }
+            Expected::FirstHalf { second } => {
+                let text = self.text();
+                write!(f, "{text} \\u{second:04x}")
+            }
+            _ => f.write_str(self.text()),
+        }
+    }
+}
+
+impl Expected {
+    /// Returns the message on a text that goes on so from the place of the error.
+    pub fn in_text(self, rest: &[u8]) -> Message<'_> {
+        Message {
+            expected: self,
+            word: &rest[..word_len(rest)],
+        }
+    }
+}
+
+/// What an error says, with the word at its place where that is a prefix that is not known.
+#[derive(Clone, Copy)]
+pub struct Message<'a> {
+    expected: Expected,
+    word: &'a [u8],
+}
+
+impl<'a> fmt::Display for Message<'a> {
+    fn fmt<W: fmt::Write>(&self, f: &mut fmt::Formatter<W>) -> fmt::Result {
+        match (self.expected, str::from_utf8(self.word)) {
+            (Expected::Prefix, Ok(word)) => {
+                write!(f, "no prefix {word}'..' is known; {PREFIXES} are")
+            }
+            _ => write!(f, "{}", self.expected),
+        }
+    }
+}
+
+/// The prefixes that are known.
+const PREFIXES: &str = "h, b64, b32, h32, dt, DT, ip, IP and float";
+
+/// Writes the number of a float of 16 bits, if it is finite.
+fn write_half<W: fmt::Write>(bits: u16, f: &mut fmt::Formatter<W>) -> fmt::Result {
+    let x = half_value(bits);
+    if x.is_finite() {
+        f.write_str(Buffer::new().format_finite(x))
+    } else {
+        Ok(())
+    }
+}
+
+/// Why reading EDN failed.
+#[derive(Clone, Copy, PartialEq, Eq, Debug)]
+pub enum EdnError {
+    /// An allocation failed.
+    Memory,
+    /// The text is not EDN.
+    Wrong {
+        /// How many bytes come before the place of the error.
+        place: usize,
+        /// What has to be there.
+        expected: Expected,
+    },
+}
+
+/// Why a function that reads stops; its cursor says where.
+#[derive(Clone, Copy, PartialEq, Eq, Debug)]
+pub enum Stop {
+    /// An allocation failed.
+    Memory,
+    /// The text is not EDN.
+    At(Expected),
+}
+
+impl From<AllocError> for Stop {
+    ghost from_gives = { λ _ e. e ≡ Memory };
+
+    fn from(_refused: AllocError) -> Stop {
+        Stop::Memory
+    }
+}
+
+impl<T: Drop> From<AllocFailed<T>> for Stop {
+    ghost from_gives = { λ _ e. e ≡ Memory };
+
+    fn from(_refused: AllocFailed<T>) -> Stop {
+        Stop::Memory
+    }
+}

@@ -1,0 +1,9 @@
+//! What EDN is, the extended diagnostic notation of CBOR that people write (RFC 8949 section 8, RFC
+//! 8610 appendix G): the definitions which texts are EDN and which items and bytes they are, in
+//! `specs`, the lemmas that its reader and its writer share, and the errors of reading.
+#![tactic(auto)]
+
+pub mod close;
+pub mod error;
+pub mod opening;
+pub mod word;

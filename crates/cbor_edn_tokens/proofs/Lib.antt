@@ -1,0 +1,7 @@
+pub mod HexFloats
+pub mod Addresses
+pub mod Decoded
+pub mod Apostrophe
+pub mod Blanks
+pub mod PlainHex
+pub mod PlainText

@@ -1,0 +1,14 @@
+//! The tokens of EDN, read: blanks, words, numbers, floats, quoted text, digits, network addresses,
+//! and what opens, separates and closes lists. No item is needed for them.
+#![tactic(auto)]
+
+pub mod address;
+pub mod blank;
+pub mod close;
+pub mod cursor;
+pub mod digits;
+pub mod float;
+pub mod hex_float;
+pub mod number;
+pub mod opening;
+pub mod quoted;

@@ -1,0 +1,15 @@
+pub mod Reads
+pub mod Blanks
+pub mod Names
+pub mod Widths
+pub mod Numbers
+pub mod Decimals
+pub mod Floats
+pub mod Quotes
+pub mod Strings
+pub mod Same
+pub mod Lists
+pub mod Containers
+pub mod Embedded
+pub mod Items
+pub mod Lines

@@ -1,0 +1,6 @@
+-- Without notes the place is the same.
+use Rattle.std.proofs.Common.{refl}
+use Rattle.cbor_edn_writer.proofs.print.place.EdnPlace.at.Goals as goal
+
+pub returns-then-is_empty : goal.returns-then-is_empty
+returns-then-is_empty c = ((c.args.self.now.here, (c.args.self.now.found, refl)), λ _. refl)

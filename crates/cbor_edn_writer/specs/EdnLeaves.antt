@@ -1,0 +1,299 @@
+-- EDN as a dialect of notation: what is written of numbers, strings and what is round members.
+use Rattle.std.specs.Prelude.{◌≡◌, ◌⊎◌, ◌+◌, ◌-◌, ℕ, ◌^◌, List, [], ◌∷◌, ◌++◌, length, codes, Bool, true, false}
+use Rattle.std.specs.Prelude.{Option, Some, None, ◌&&◌, ◌||◌, if◌then◌else◌, nat_lt, nat_le, ◌==◌, not}
+use Rattle.std.specs.Borrow.{Bor}
+use Rattle.std.specs.List.{list_any}
+use Rattle.hex.specs.Hex.{encode_lower}
+use Rattle.cbor_floats.specs.declared.float.EncodedFloat.{EncodedFloat}
+use Rattle.cbor_floats.specs.declared.float.EncodedFloat.TheVariants.{Half, Single, Double}
+use Rattle.cbor_floats.specs.Decimal.{IsTextOf}
+use Rattle.cbor_floats.specs.Value.{value_of, IsEncodingOf, IsShortest}
+use Rattle.cbor_grammar.specs.declared.argument.Argument.{Argument}
+use Rattle.cbor_grammar.specs.declared.argument.Argument.TheVariants.{Number, Indefinite}
+use Rattle.cbor_grammar.specs.declared.layout.Content.{Content}
+use Rattle.cbor_grammar.specs.declared.layout.Content.TheVariants as shown
+use Rattle.cbor_grammar.specs.declared.layout.ContainerStyle.{ContainerStyle}
+use Rattle.cbor_grammar.specs.declared.layout.ContainerStyle.TheVariants as style
+use Rattle.cbor_grammar.specs.declared.layout.Layout.{Layout}
+use Rattle.cbor_grammar.specs.declared.layout.Layout.TheVariants.{Compact, Pretty}
+use Rattle.cbor_grammar.specs.declared.strings.StringKind.{StringKind}
+use Rattle.cbor_grammar.specs.declared.strings.StringKind.TheVariants as kind
+use Rattle.cbor_grammar.specs.declared.width.FloatWidth.{FloatWidth}
+use Rattle.cbor_grammar.specs.declared.width.FloatWidth.TheVariants as float_width
+use Rattle.cbor_grammar.specs.declared.width.IntegerWidth.{IntegerWidth}
+use Rattle.cbor_grammar.specs.declared.width.IntegerWidth.TheVariants as width
+use Rattle.cbor_grammar.specs.Item.{Chunk, Atom, integer, negative, float, simple}
+use Rattle.cbor_grammar.specs.NotationText.{number, indicator, float_text, simple_text, last_line}
+use Rattle.cbor_grammar.specs.StringKind.{no_chunks}
+use Rattle.cbor_notation.specs.Dialect.{Leaves, Texts}
+use Rattle.cbor_notation.specs.declared.parts.Container.{Container}
+use Rattle.cbor_notation.specs.declared.parts.Container.TheVariants.{Array, Map, Chunks, Embedded}
+use Rattle.cbor_notation.specs.mirror.LayoutView.{before_member, after_member}
+use Rattle.cbor_edn_writer.specs.declared.note.Note.{Note}
+use Rattle.cbor_edn_writer.specs.declared.print.place.EdnPlace.{EdnPlace}
+use Rattle.cbor_escapes.specs.Escapes.{escaped_text}
+use Rattle.cbor_edn_writer.specs.Same.{is_empty, is_strict, is_sequence}
+
+-- ---- widths
+
+-- the width where it is longer than the number needs
+abbrev pub longer : ℕ → IntegerWidth → IntegerWidth
+longer n width.Eight = if nat_lt n 24 then width.Eight else width.Unknown
+longer n width.Sixteen = if nat_lt n (2 ^ 8) then width.Sixteen else width.Unknown
+longer n width.ThirtyTwo = if nat_lt n (2 ^ 16) then width.ThirtyTwo else width.Unknown
+longer n width.SixtyFour = if nat_lt n (2 ^ 32) then width.SixtyFour else width.Unknown
+longer n w = width.Unknown
+
+-- the width that stands beside a number: each, or only one that is longer than the number needs
+abbrev pub marked : Bool → ℕ → IntegerWidth → IntegerWidth
+marked all n w = if all then w else longer n w
+
+-- what stands after a string of this length
+abbrev pub length_mark : ℕ → IntegerWidth → List ℕ
+length_mark n w = indicator (longer n w)
+
+-- ---- notes
+
+-- a byte that no note has: all but the characters of ASCII that print, and a slash
+abbrev pub ends_note : ℕ → Bool
+ends_note b = nat_lt b 32 || nat_lt 126 b || (b == 47)
+
+-- a note: characters of ASCII that print, and no slash
+abbrev pub IsNote : List ℕ → Type 0
+IsNote note = list_any ends_note note ≡ false
+
+-- between slashes a note is a comment: `//` and `/*` would begin other ones
+abbrev pub begins_note : List ℕ → Bool
+begins_note [] = false
+begins_note (b ∷ note) = not (b == 42)
+
+-- a note between slashes, or nothing; and what is after an item, which is nothing where no notes are written
+abbrev pub AnyNote : Texts
+AnyNote t = (t ≡ [])
+    ⊎ ((note : List ℕ) × IsNote note × (t ≡ codes " /" ++ (note ++ codes "/")) × (begins_note note ≡ true))
+
+abbrev pub NoteAfter : EdnPlace → Texts
+NoteAfter p t = (t ≡ []) ⊎ ((p.style.notes ≡ true) × AnyNote t)
+
+abbrev pub Noted : EdnPlace → List ℕ → Texts
+Noted p core t = (note : List ℕ) × NoteAfter p note × (t ≡ core ++ note)
+
+-- ---- notes of an item's own
+
+-- a text that a note may have
+abbrev pub is_note : List ℕ → Bool
+is_note note = begins_note note && not (list_any ends_note note)
+
+-- such a text as a comment before an item, or after one; of another text nothing
+abbrev pub comment_before : List ℕ → List ℕ
+comment_before note = if is_note note then codes "/" ++ (note ++ codes "/ ") else []
+
+abbrev pub comment_after : List ℕ → List ℕ
+comment_after note = if is_note note then codes " /" ++ (note ++ codes "/") else []
+
+-- what the note that was found says: what to write before an item, and after one, and whether a byte string is shown
+-- as the items in it
+abbrev pub text_before : Option (Bor Note) → List ℕ
+text_before None = []
+text_before (Some n) = comment_before n.now.before.now
+
+abbrev pub text_after : Option (Bor Note) → List ℕ
+text_after None = []
+text_after (Some n) = comment_after n.now.after.now
+
+abbrev pub is_encoded : Option (Bor Note) → Bool
+is_encoded None = false
+is_encoded (Some n) = n.now.encoded
+
+-- comments are written in a style with notes
+abbrev pub note_before : EdnPlace → List ℕ
+note_before p = if p.style.notes then text_before p.found else []
+
+abbrev pub note_after : EdnPlace → List ℕ
+note_after p = if p.style.notes then text_after p.found else []
+
+-- one of these texts, or it between such notes, or only after the first
+abbrev pub Beside : EdnPlace → Texts → Texts
+Beside p texts t = texts t ⊎ ((core : List ℕ) × texts core × (t ≡ note_before p ++ (core ++ note_after p)))
+
+abbrev pub After : EdnPlace → Texts → Texts
+After p texts t = texts t ⊎ ((core : List ℕ) × texts core × (t ≡ note_before p ++ core))
+
+-- the same place with a note that was found for the item there, if any
+abbrev pub FoundAt : EdnPlace → ℕ → EdnPlace → Type 0
+FoundAt p here q = (found : Option (Bor Note)) × (q ≡ record p { found = found; here = here })
+
+-- what the place of an item becomes; without notes it is the same
+abbrev pub SameButNote : EdnPlace → EdnPlace → Type 0
+SameButNote p q = ((here : ℕ) × FoundAt p here q) × (p.notes.now ≡ [] → q ≡ p)
+
+-- How many bytes the width of an argument is, after the first byte of its head.
+abbrev pub argument_bytes : IntegerWidth → ℕ
+argument_bytes width.Eight = 1
+argument_bytes width.Sixteen = 2
+argument_bytes width.ThirtyTwo = 4
+argument_bytes width.SixtyFour = 8
+argument_bytes w = 0
+
+-- how many bytes remain after a byte string with this head, where so many remain from it on
+abbrev pub after_string : Argument → ℕ → ℕ
+after_string (Number n w) here = here - (1 + argument_bytes w) - n
+after_string Indefinite here = here
+
+-- how many bytes of the outermost ones are behind those that the items in a container are read from
+abbrev pub behind_in : Container → EdnPlace → ℕ
+behind_in (Embedded len) p = after_string len p.here
+behind_in c p = p.behind
+
+-- ---- floats
+
+-- the bits as they are encoded; an unstated width is 64 bits
+abbrev pub encoded_float : ℕ → FloatWidth → EncodedFloat
+encoded_float bits float_width.Sixteen = Half bits
+encoded_float bits float_width.ThirtyTwo = Single bits
+encoded_float bits w = Double bits
+
+abbrev pub float_indicator : FloatWidth → List ℕ
+float_indicator float_width.Sixteen = codes "_1"
+float_indicator float_width.ThirtyTwo = codes "_2"
+float_indicator w = codes "_3"
+
+-- a text of the number, and the width, which may be left out where it is the shortest that has the number
+pub record NumberText (all : Bool) (bits : ℕ) (w : FloatWidth) (t : List ℕ) : Type 0 where
+  pub usual : IsEncodingOf (encoded_float bits w) (value_of (encoded_float bits w))
+  pub text : List ℕ
+  pub number : IsTextOf text (value_of (encoded_float bits w))
+  pub is : (t ≡ text ++ float_indicator w)
+      ⊎ ((t ≡ text) × IsShortest (encoded_float bits w) (value_of (encoded_float bits w)))
+
+-- a float by its number, or by its bits where these are not those of its number
+abbrev pub FloatText : Bool → ℕ → FloatWidth → Texts
+FloatText all bits w t = NumberText all bits w t ⊎ (t ≡ float_text bits w)
+
+-- ---- what holds no item
+
+abbrev pub EdnLeaf : EdnPlace → Atom → Texts
+EdnLeaf p (integer n w) t = Noted p (number n (marked p.style.widths n w)) t
+EdnLeaf p (negative n w) t = Noted p (codes "-" ++ number (n + 1) (marked p.style.widths n w)) t
+EdnLeaf p (float bits w) t = FloatText p.style.widths bits w t
+EdnLeaf p (simple n) t = Noted p (simple_text n) t
+EdnLeaf p other t = ⊥
+
+-- a string between quotes, and the width of its length
+abbrev pub quoted_string : StringKind → Chunk → List ℕ
+quoted_string kind.Bytes c = codes "h'" ++ (encode_lower c.bytes ++ (codes "'" ++ length_mark (length c.bytes) c.width))
+quoted_string kind.Text c = codes "\"" ++ (escaped_text c.bytes ++ (codes "\"" ++ length_mark (length c.bytes) c.width))
+
+-- ---- lists
+
+-- on one line there are always blanks
+abbrev pub spaced : ContainerStyle → ContainerStyle
+spaced style.Compact = style.OneLine 0
+spaced l = l
+
+-- what states the length of a list: the width of the count, or an underscore
+abbrev pub count_mark : Argument → List ℕ
+count_mark (Number n w) = indicator (longer n w)
+count_mark Indefinite = codes "_"
+
+-- a blank after it, or the line end of the members
+abbrev pub gap : ContainerStyle → List ℕ
+gap (style.MultiLine indent) = []
+gap l = codes " "
+
+abbrev pub with_gap : ContainerStyle → List ℕ → List ℕ
+with_gap l [] = []
+with_gap l (b ∷ bs) = (b ∷ bs) ++ gap l
+
+abbrev pub edn_opening : Container → ContainerStyle → List ℕ
+edn_opening (Array count) l = codes "[" ++ with_gap l (count_mark count)
+edn_opening (Map count) l = codes "{" ++ with_gap l (count_mark count)
+edn_opening (Chunks kind) l = codes "(" ++ with_gap l (codes "_")
+edn_opening (Embedded len) l = codes "<<"
+
+abbrev pub embedded_mark : Argument → List ℕ
+embedded_mark (Number n w) = length_mark n w
+embedded_mark Indefinite = []
+
+abbrev pub edn_closing : Container → ContainerStyle → List ℕ
+edn_closing (Array count) l = last_line l ++ codes "]"
+edn_closing (Map count) l = last_line l ++ codes "}"
+edn_closing (Chunks kind) l = last_line l ++ codes ")"
+edn_closing (Embedded len) l = last_line l ++ (codes ">>" ++ embedded_mark len)
+
+-- ---- byte strings as items
+
+-- the first byte of an array, a map or a tagged item
+abbrev pub begins_container : List ℕ → Bool
+begins_container [] = false
+begins_container (b ∷ bs) = nat_le 0x80 b && nat_lt b 0xe0
+
+-- below these tags a byte string is an address, a UUID or a big number
+abbrev pub is_noted : ℕ → Bool
+is_noted tag = (tag == 2) || (tag == 3) || (tag == 37) || (tag == 52) || (tag == 54) || (tag == 260)
+
+abbrev pub item_if : Bool → Content
+item_if shows = if shows then shown.Item else shown.Bytes
+
+-- right below tag 24 an item, and below 63 items, where the same bytes are read back; with `embedded` any array,
+-- map or tagged item, if no note says otherwise
+abbrev pub content_below : Bool → ℕ → ℕ → List ℕ → Content
+content_below embedded level tag b =
+    if tag == 24 then item_if (not (is_empty b) && is_strict b)
+    else if tag == 63 then (if is_sequence level b && is_strict b then shown.Sequence else shown.Bytes)
+    else item_if (embedded && (not (is_noted tag) && (begins_container b && is_strict b)))
+
+abbrev pub content_under : Bool → ℕ → Option ℕ → List ℕ → Content
+content_under embedded level None b = item_if (embedded && (begins_container b && is_strict b))
+content_under embedded level (Some tag) b = content_below embedded level tag b
+
+-- ---- the dialect
+
+-- the layout of a whole text
+abbrev pub layout_of : Bool → Layout
+layout_of lines = if lines then Pretty 0 else Compact
+
+abbrev pub edn_leaves : Leaves EdnPlace
+edn_leaves = record {
+  At = SameButNote;
+  level = λ p. p.level;
+  layout = λ p. p.layout;
+  content = λ p b. content_under (p.style.embedded || is_encoded p.found) p.level p.tag b;
+  joins = λ p kind. false;
+  inside = λ c layout p. record {
+    alloc = p.alloc;
+    level = p.level + 1;
+    layout = layout;
+    style = p.style;
+    tag = None;
+    notes = p.notes;
+    behind = behind_in c p;
+    here = p.here;
+    found = None;
+  };
+  next = λ p. p;
+  value = λ k p. p;
+  below = λ n p. record {
+    alloc = p.alloc;
+    level = p.level + 1;
+    layout = p.layout;
+    style = p.style;
+    tag = Some n;
+    notes = p.notes;
+    behind = p.behind;
+    here = p.here;
+    found = None;
+  };
+  leaf = λ p a. Beside p (EdnLeaf p a);
+  string = λ p kind c. Beside p (Noted p (quoted_string kind c));
+  part = λ p kind c t. t ≡ quoted_string kind c;
+  no_parts = λ p kind. After p (λ t. t ≡ no_chunks kind);
+  opening = λ p c l. After p (λ t. t ≡ edn_opening c l);
+  closing = λ p c l t. t ≡ edn_closing c l;
+  rest = λ p c b t. t ≡ [];
+  tag = λ p n w. After p (λ t. t ≡ number n (marked p.style.widths n w) ++ codes "(");
+  tag_end = λ p n t. t ≡ codes ")";
+  start = λ c l first. before_member (spaced l) first;
+  end = λ c l. after_member l;
+  colon = λ l. codes ": ";
+}

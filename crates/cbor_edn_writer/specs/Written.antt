@@ -1,0 +1,64 @@
+-- What is written as EDN.
+use Rattle.std.specs.Prelude.{◌≡◌, ℕ, true, false, List, [], ◌++◌, Option, Some, None, Result, Ok, Err}
+use Rattle.cbor_grammar.specs.declared.error.Error.{Error}
+use Rattle.cbor_grammar.specs.declared.error.Error.TheVariants as refusal
+use Rattle.cbor_grammar.specs.Item.{Item}
+use Rattle.cbor_grammar.specs.Answer.{Outcome, spelled, cut, fault}
+use Rattle.cbor_grammar.specs.Written.{encoded}
+use Rattle.cbor_notation.specs.Dialect.{TextsAt}
+use Rattle.cbor_edn_writer.specs.declared.note.Note.{Note}
+use Rattle.cbor_edn_writer.specs.declared.print.place.EdnPlace.{EdnPlace}
+use Rattle.cbor_edn_writer.specs.declared.style.EdnStyle.{EdnStyle}
+use Rattle.cbor_edn_writer.specs.Breaks.{Nothing, BreaksApart}
+use Rattle.cbor_edn_grammar.specs.Edn.{bytes_of_edn}
+use Rattle.cbor_edn_writer.specs.EdnLeaves.{edn_leaves, layout_of}
+use Rattle.cbor_escapes.specs.Hidden.{IsShown}
+
+-- on one line without notes, and over several lines with notes
+abbrev pub line_style : EdnStyle
+line_style = record { lines = false; notes = false; embedded = false; widths = false }
+
+abbrev pub pretty_style : EdnStyle
+pretty_style = record { lines = true; notes = true; embedded = false; widths = false }
+
+-- the place of the outermost item of a text in this style, with these notes
+pub record IsOutermost (style : EdnStyle) (notes : List Note) (place : EdnPlace) : Type 0 where
+  pub level : place.level ≡ 1
+  pub layout : place.layout ≡ layout_of style.lines
+  pub style_is : place.style ≡ style
+  pub tag : place.tag ≡ None
+  pub notes_are : place.notes.now ≡ notes
+  pub found : place.found ≡ None
+
+-- The text is one that EDN has for the item, where these are the notes on it and on items in it: each part of it is what
+-- `edn_leaves` says. It is read back as the bytes of the item, all widths included. No character in it is hidden. Where
+-- it has lines, line feeds are in no quotes and in no comment.
+pub record IsNotedText (style : EdnStyle) (notes : List Note) (i : Item) (text : List ℕ) : Type 0 where
+  pub place : EdnPlace
+  pub outermost : IsOutermost style notes place
+  pub written : TextsAt edn_leaves place i text
+  pub read_back : bytes_of_edn text ≡ Some (encoded i)
+  pub shown : IsShown style.lines text
+  pub breaks : BreaksApart Nothing text
+
+-- the same without notes
+abbrev pub IsEdnText : EdnStyle → Item → List ℕ → Type 0
+IsEdnText style i text = IsNotedText style [] i text
+
+-- such a text was appended to the old one
+abbrev pub AppendsNoted : EdnStyle → List Note → Item → List ℕ → List ℕ → Type 0
+AppendsNoted style notes i old new = (text : List ℕ) × IsNotedText style notes i text × (new ≡ old ++ text)
+
+abbrev pub AppendsEdn : EdnStyle → Item → List ℕ → List ℕ → Type 0
+AppendsEdn style i old new = AppendsNoted style [] i old new
+
+-- A call that appends the text of the item at the front gave this outcome, and of an item its text after the old one;
+-- or memory ran out.
+abbrev pub GaveNoted : EdnStyle → List Note → Result (Option ℕ) Error → List ℕ → List ℕ → Outcome → Type 0
+GaveNoted style notes (Ok (Some n)) old new o = (i : Item) × (o ≡ spelled i n) × AppendsNoted style notes i old new
+GaveNoted style notes (Ok None) old new o = o ≡ cut
+GaveNoted style notes (Err refusal.Memory) old new o = Unit {0}
+GaveNoted style notes (Err e) old new o = o ≡ fault e
+
+abbrev pub GaveEdn : EdnStyle → Result (Option ℕ) Error → List ℕ → List ℕ → Outcome → Type 0
+GaveEdn style result old new o = GaveNoted style [] result old new o

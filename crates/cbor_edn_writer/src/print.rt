@@ -1,0 +1,190 @@
+//! EDN as a dialect of notation, which is written straight from bytes.
+#![tactic(auto, using(cbor_grammar::proofs::shared::Appending::appending_steps))]
+
+mod leaf;
+mod lists;
+pub(crate) mod noted;
+mod notes;
+mod numbers;
+pub(crate) mod place;
+mod same;
+mod text;
+
+ghost use Rattle.std.specs.Prelude.{◌<◌, ◌^◌};
+ghost use Rattle.cbor_grammar.specs.NotationText.{style_indent};
+ghost use Rattle.cbor_tokens.specs.Appends.{AppendsText};
+ghost use Rattle.cbor_edn_writer.specs.EdnLeaves.{edn_leaves};
+
+use crate::note::Note;
+use crate::print::leaf::{push_leaf, push_string};
+use crate::print::lists::{push_closing, push_opening, push_tag, spaced};
+use crate::print::numbers::shown_width;
+use crate::print::place::EdnPlace;
+use crate::print::same::content_under;
+use crate::print::text::{push_no_parts, push_part};
+use cbor_grammar::IntegerWidth;
+use cbor_grammar::layout::{ContainerStyle, Content, Layout};
+use cbor_grammar::strings::{StringContent, StringKind};
+use cbor_notation::dialect::Dialect;
+use cbor_notation::members::{push_end, push_start};
+use cbor_notation::parts::{Container, Leaf};
+use std::alloc::{AllocError, Global};
+
+/// EDN, in which no notes are looked for. They are borrowed for so long.
+pub(crate) struct Edn<'a> {
+    notes: &'a [Note<'a>],
+}
+
+impl<'a> Dialect for Edn<'a> {
+    type Place = EdnPlace<'a>;
+
+    ghost leaves = { edn_leaves };
+
+    #[inline(always)]
+    fn at(_place: &EdnPlace<'a>, _remaining: usize) -> Option<EdnPlace<'a>> {
+        None
+    }
+
+    #[inline(always)]
+    fn level(place: &EdnPlace<'a>) -> u8 {
+        place.level
+    }
+
+    #[inline(always)]
+    fn layout(place: &EdnPlace<'a>) -> Layout {
+        place.layout
+    }
+
+    #[inline(always)]
+    fn content(place: &EdnPlace<'a>, bytes: &[u8]) -> Content {
+        content_under(place.shows_items(), place.level, place.tag, bytes)
+    }
+
+    #[inline(always)]
+    fn joins(_place: &EdnPlace<'a>, _kind: StringKind) -> Option<Global> {
+        None
+    }
+
+    #[inline(always)]
+    fn inside(place: &EdnPlace<'a>, container: Container, layout: Layout) -> EdnPlace<'a> {
+        place.inside(container, layout)
+    }
+
+    #[inline(always)]
+    fn pass(_place: &mut EdnPlace<'a>) {}
+
+    #[inline(always)]
+    fn pass_key(_place: &mut EdnPlace<'a>, _bytes: &[u8], _rest: &[u8]) {}
+
+    #[inline(always)]
+    fn below(place: &EdnPlace<'a>, tag: u64) -> EdnPlace<'a> {
+        place.below(tag)
+    }
+
+    #[inline(always)]
+    fn leaf(out: &mut String, leaf: Leaf, place: &EdnPlace<'a>) -> Result<(), AllocError> {
+        push_leaf(out, leaf, place)
+    }
+
+    #[inline(always)]
+    fn string(
+        out: &mut String,
+        content: StringContent<'_>,
+        width: IntegerWidth,
+        place: &EdnPlace<'a>,
+    ) -> Result<(), AllocError> {
+        push_string(out, content, width, place)
+    }
+
+    #[inline(always)]
+    fn part(
+        out: &mut String,
+        content: StringContent<'_>,
+        width: IntegerWidth,
+        _place: &EdnPlace<'a>,
+    ) -> Result<(), AllocError> {
+        push_part(out, content, width)
+    }
+
+    #[inline(always)]
+    fn no_parts(
+        out: &mut String,
+        kind: StringKind,
+        place: &EdnPlace<'a>,
+    ) -> Result<(), AllocError> {
+        push_no_parts(out, kind)
+    }
+
+    #[inline(always)]
+    fn opening(
+        out: &mut String,
+        container: Container,
+        style: ContainerStyle,
+        place: &EdnPlace<'a>,
+    ) -> Result<(), AllocError> {
+        push_opening(out, container, style)
+    }
+
+    #[inline(always)]
+    fn closing(
+        out: &mut String,
+        container: Container,
+        style: ContainerStyle,
+        _place: &EdnPlace<'a>,
+    ) -> Result<(), AllocError> {
+        push_closing(out, container, style)
+    }
+
+    /// Nothing: a byte string is shown as items only if all of its bytes are items.
+    #[inline(always)]
+    fn rest(
+        _out: &mut String,
+        _container: Container,
+        _rest: &[u8],
+        _place: &EdnPlace<'a>,
+    ) -> Result<(), AllocError> {
+        Ok(())
+    }
+
+    #[inline(always)]
+    fn tag(
+        out: &mut String,
+        tag: u64,
+        width: IntegerWidth,
+        place: &EdnPlace<'a>,
+    ) -> Result<(), AllocError> {
+        push_tag(out, tag, shown_width(place.style.widths, tag, width))
+    }
+
+    #[inline(always)]
+    fn tag_end(out: &mut String, _tag: u64, _place: &EdnPlace<'a>) -> Result<(), AllocError> {
+        out.push(')')
+    }
+
+    #[inline(always)]
+    fn start(
+        out: &mut String,
+        _container: Container,
+        style: ContainerStyle,
+        first: bool,
+    ) -> Result<(), AllocError>
+        requires { style_indent style < 2 ^ 32 }
+        ensures { AppendsText result out.old out.new (edn_leaves.start _container style first) }
+    {
+        push_start(out, spaced(style), first)
+    }
+
+    #[inline(always)]
+    fn end(out: &mut String, _container: Container, style: ContainerStyle) -> Result<(), AllocError>
+        ensures { AppendsText result out.old out.new (edn_leaves.end _container style) }
+    {
+        push_end(out, style)
+    }
+
+    #[inline(always)]
+    fn colon(out: &mut String, _style: ContainerStyle) -> Result<(), AllocError>
+        ensures { AppendsText result out.old out.new (edn_leaves.colon _style) }
+    {
+        out.push_str(": ")
+    }
+}

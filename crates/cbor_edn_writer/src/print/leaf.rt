@@ -1,0 +1,96 @@
+//! What holds no item, with notes.
+#![tactic(auto, using(cbor_grammar::proofs::shared::Appending::appending_steps))]
+
+ghost use Rattle.std.specs.Prelude.{◌+◌, ◌++◌, codes};
+ghost use Rattle.cbor_grammar.specs.mirror.StringView.{kind_of, borrowed_chunk};
+ghost use Rattle.cbor_grammar.specs.NotationText.{number, simple_text};
+ghost use Rattle.cbor_notation.specs.Dialect.{Writes};
+ghost use Rattle.cbor_notation.specs.mirror.LeafView.{atom_of, FitsLeaf};
+ghost use Rattle.cbor_edn_writer.specs.EdnLeaves.{EdnLeaf, Noted, marked, quoted_string};
+
+use crate::print::notes::{push_integer_note, push_simple_note, push_string_note};
+use crate::print::numbers::{push_float, shown_width};
+use crate::print::place::EdnPlace;
+use crate::print::text::push_part;
+use cbor_grammar::strings::StringContent;
+use cbor_grammar::{IntegerWidth, Simple};
+use cbor_notation::parts::Leaf;
+use cbor_notation::scalars;
+use std::alloc::AllocError;
+
+/// Writes a number, a float or a simple value.
+#[inline(always)]
+pub(super) fn push_leaf(
+    out: &mut String,
+    leaf: Leaf,
+    place: &EdnPlace<'_>,
+) -> Result<(), AllocError>
+    requires { FitsLeaf leaf }
+    ensures { Writes result out.old out.new (EdnLeaf place.now (atom_of leaf)) }
+{
+    match leaf {
+        Leaf::Integer(value, width) => push_integer(out, value, width, place),
+        Leaf::Negative(value, width) => push_negative(out, value, width, place),
+        Leaf::Float(bits, width) => push_float(out, bits, width, place.style.widths),
+        Leaf::Simple(value, takes_two) => push_simple(out, value, takes_two, place),
+    }
+}
+
+/// Writes an integer.
+#[inline(always)]
+fn push_integer(
+    out: &mut String,
+    value: u64,
+    width: IntegerWidth,
+    place: &EdnPlace<'_>,
+) -> Result<(), AllocError>
+    ensures { Writes result out.old out.new
+        (Noted place.now (number value (marked place.now.style.widths value width))) }
+{
+    scalars::push_number(out, value, shown_width(place.style.widths, value, width))?;
+    push_integer_note(out, value, false, place)
+}
+
+/// Writes a negative integer by its encoded number, which is one less than what is written.
+#[inline(always)]
+fn push_negative(
+    out: &mut String,
+    value: u64,
+    width: IntegerWidth,
+    place: &EdnPlace<'_>,
+) -> Result<(), AllocError>
+    ensures { Writes result out.old out.new (Noted place.now
+        (codes "-" ++ number (value + 1) (marked place.now.style.widths value width))) }
+{
+    scalars::push_negative(out, value, shown_width(place.style.widths, value, width))?;
+    push_integer_note(out, value, true, place)
+}
+
+/// Writes a simple value. `takes_two` says that it takes two bytes.
+#[inline(always)]
+fn push_simple(
+    out: &mut String,
+    value: u8,
+    takes_two: bool,
+    place: &EdnPlace<'_>,
+) -> Result<(), AllocError>
+    ensures { Writes result out.old out.new (Noted place.now (simple_text value)) }
+{
+    scalars::push_simple(out, Simple(value))?;
+    push_simple_note(out, value, takes_two, place)
+}
+
+/// Writes a string of definite length.
+#[inline(always)]
+pub(super) fn push_string(
+    out: &mut String,
+    content: StringContent<'_>,
+    width: IntegerWidth,
+    place: &EdnPlace<'_>,
+) -> Result<(), AllocError>
+    ensures { Writes result out.old out.new (Noted place.now
+        (quoted_string (kind_of content.entry) (borrowed_chunk width content.entry))) }
+{
+    push_part(out, content, width)?;
+    push_string_note(out, content, place)
+}

@@ -1,0 +1,136 @@
+//! Widths beside numbers, and floats.
+#![tactic(auto, using(cbor_grammar::proofs::shared::Appending::appending_steps))]
+
+ghost use Rattle.std.specs.Prelude.{◌≡◌};
+ghost use Rattle.cbor_floats.specs.Decimal.{IsTextOf};
+ghost use Rattle.cbor_grammar.specs.NotationText.{indicator};
+ghost use Rattle.cbor_grammar.specs.WellFormed.{FitsFloat};
+ghost use Rattle.cbor_notation.specs.Dialect.{Writes};
+ghost use Rattle.cbor_tokens.specs.Appends.{AppendsText};
+ghost use Rattle.cbor_edn_writer.specs.EdnLeaves.{longer as longer_width, marked, length_mark};
+ghost use Rattle.cbor_edn_writer.specs.EdnLeaves.{float_indicator};
+ghost use Rattle.cbor_edn_writer.specs.EdnLeaves.{encoded_float as float_of, FloatText};
+
+use cbor_floats::EncodedFloat;
+use cbor_grammar::{FloatWidth, IntegerWidth};
+use cbor_notation::scalars;
+use ryu::Buffer;
+use std::alloc::AllocError;
+
+/// The width of a number where it is longer than the number needs, and else `Unknown`.
+#[inline(always)]
+pub(super) fn longer(number: u64, width: IntegerWidth) -> IntegerWidth
+    ensures { result ≡ longer_width number width }
+{
+    let is_longer = match width {
+        IntegerWidth::Unknown | IntegerWidth::Zero => false,
+        IntegerWidth::Eight => number < 24,
+        IntegerWidth::Sixteen => number < 1 << 8,
+        IntegerWidth::ThirtyTwo => number < 1 << 16,
+        IntegerWidth::SixtyFour => number < 1 << 32,
+    };
+    if is_longer {
+        width
+    } else {
+        IntegerWidth::Unknown
+    }
+}
+
+/// The width that stands beside a number: each with `all`, and else one that is longer than the
+/// number needs.
+#[inline(always)]
+pub(super) fn shown_width(all: bool, number: u64, width: IntegerWidth) -> IntegerWidth
+    ensures { result ≡ marked all number width }
+{
+    if all { width } else { longer(number, width) }
+}
+
+/// Writes an indicator.
+pub(super) fn push_indicator(out: &mut String, width: IntegerWidth) -> Result<(), AllocError>
+    ensures { AppendsText result out.old out.new (indicator width) }
+{
+    match width {
+        IntegerWidth::Unknown | IntegerWidth::Zero => Ok(()),
+        IntegerWidth::Eight => out.push_str("_0"),
+        IntegerWidth::Sixteen => out.push_str("_1"),
+        IntegerWidth::ThirtyTwo => out.push_str("_2"),
+        IntegerWidth::SixtyFour => out.push_str("_3"),
+    }
+}
+
+/// Writes what is after a string of this length.
+#[inline(always)]
+pub(super) fn push_length_mark(
+    out: &mut String,
+    len: u64,
+    width: IntegerWidth,
+) -> Result<(), AllocError>
+    ensures { AppendsText result out.old out.new (length_mark len width) }
+{
+    match longer(len, width) {
+        IntegerWidth::Unknown => Ok(()),
+        width => push_indicator(out, width),
+    }
+}
+
+/// The float as it is encoded.
+fn encoded_float(bits: u64, width: FloatWidth) -> EncodedFloat
+    requires { FitsFloat width bits }
+    ensures { result ≡ float_of bits width }
+{
+    match width {
+        FloatWidth::Sixteen => EncodedFloat::Half(bits as u16),
+        FloatWidth::ThirtyTwo => EncodedFloat::Single(bits as u32),
+        FloatWidth::Unknown | FloatWidth::SixtyFour => EncodedFloat::Double(bits),
+    }
+}
+
+/// Writes the indicator of a float's width.
+fn push_float_indicator(out: &mut String, width: FloatWidth) -> Result<(), AllocError>
+    ensures { AppendsText result out.old out.new (float_indicator width) }
+{
+    match width {
+        FloatWidth::Sixteen => out.push_str("_1"),
+        FloatWidth::ThirtyTwo => out.push_str("_2"),
+        FloatWidth::Unknown | FloatWidth::SixtyFour => out.push_str("_3"),
+    }
+}
+
+/// Writes a number by its shortest digits, or by its word. Unlike the call of `cbor_floats`, it
+/// says what the text is after an error.
+fn push_number(out: &mut String, x: f64) -> Result<(), AllocError>
+    ensures { Writes result out.old out.new (λ t. IsTextOf t x) }
+{
+    if x.is_nan() {
+        out.push_str("NaN")
+    } else if x.is_finite() {
+        out.push_str(Buffer::new().format_finite(x))
+    } else if x.is_sign_negative() {
+        out.push_str("-Infinity")
+    } else {
+        out.push_str("Infinity")
+    }
+}
+
+/// Writes a float by its number, with its width where that is not the shortest that has the number,
+/// or with `all`; and one whose bits are not those of its number by its bits.
+#[inline(never)]
+pub(super) fn push_float(
+    out: &mut String,
+    bits: u64,
+    width: FloatWidth,
+    all: bool,
+) -> Result<(), AllocError>
+    requires { FitsFloat width bits }
+    ensures { Writes result out.old out.new (FloatText all bits width) }
+{
+    let float = encoded_float(bits, width);
+    if !float.is_usual() {
+        return scalars::push_float(out, bits, width);
+    }
+    push_number(out, float.value())?;
+    if all || !float.is_shortest() {
+        return push_float_indicator(out, width);
+    }
+    Ok(())
+}

@@ -1,0 +1,174 @@
+//! Where an item is in a text of EDN: what decides how it is written, beside the item itself.
+ghost use Rattle.std.specs.Prelude.{◌≡◌, ◌≤◌, ◌||◌, unwrap_or};
+ghost use Rattle.cbor_grammar.specs.WellFormed.{deepest};
+ghost use Rattle.cbor_grammar.specs.NotationText.{indent_of};
+ghost use Rattle.cbor_edn_writer.specs.EdnLeaves.{edn_leaves, is_encoded};
+ghost use Rattle.cbor_edn_writer.specs.EdnLeaves.{FoundAt, SameButNote};
+ghost use Rattle.cbor_edn_writer.specs.EdnLeaves.{argument_bytes as bytes_of_width};
+ghost use Rattle.cbor_edn_writer.specs.EdnLeaves.{after_string as behind_string};
+ghost use Rattle.cbor_edn_writer.specs.EdnLeaves.{behind_in as behind_members};
+ghost use Rattle.cbor_edn_writer.specs.Written.{IsOutermost};
+
+use crate::note::Note;
+use crate::style::EdnStyle;
+use cbor_grammar::IntegerWidth;
+use cbor_grammar::argument::Argument;
+use cbor_grammar::layout::Layout;
+use cbor_notation::parts::Container;
+use std::alloc::Global;
+
+/// Where an item is.
+#[derive(Clone, Copy)]
+pub(crate) struct EdnPlace<'a> {
+    /// The allocator of notes.
+    pub(crate) alloc: Global,
+    /// The level of the item; the outermost is at level 1.
+    pub(crate) level: u8,
+    /// How containers are laid out.
+    pub(crate) layout: Layout,
+    /// What is shown.
+    pub(crate) style: EdnStyle,
+    /// The tag right above the item.
+    pub(crate) tag: Option<u64>,
+    /// The notes on items.
+    pub(crate) notes: &'a [Note<'a>],
+    /// How many of the outermost bytes are behind those that items are read from.
+    pub(crate) behind: u64,
+    /// How many of the outermost bytes there are from the item on.
+    pub(crate) here: u64,
+    /// The note on the item.
+    pub(crate) found: Option<&'a Note<'a>>,
+}
+
+impl<'a> EdnPlace<'a> {
+    /// The beginning of a text.
+    pub(crate) fn new(alloc: Global, style: EdnStyle, notes: &'a [Note<'a>]) -> EdnPlace<'a>
+        ensures outermost { IsOutermost style notes.now result }
+        ensures indent { indent_of result.layout ≡ 0 }
+    {
+        EdnPlace {
+            alloc,
+            level: 1,
+            layout: if style.lines {
+                Layout::Pretty { indent: 0 }
+            } else {
+                Layout::Compact
+            },
+            style,
+            tag: None,
+            notes,
+            behind: 0,
+            here: 0,
+            found: None,
+        }
+    }
+
+    /// The same place with the note on the item, from which on so many bytes are read; nothing if
+    /// there are no notes.
+    #[inline(always)]
+    pub(crate) fn at(&self, remaining: usize) -> Option<EdnPlace<'a>>
+        ensures { SameButNote self.now (unwrap_or result self.now) }
+    {
+        if self.notes.is_empty() {
+            return None;
+        }
+        Some(self.with_note(self.behind.saturating_add(remaining as u64)))
+    }
+
+    /// The same place with the note on the item, from which on there are so many of the outermost
+    /// bytes.
+    fn with_note(&self, here: u64) -> EdnPlace<'a>
+        ensures { FoundAt self.now here result }
+    {
+        EdnPlace {
+            here,
+            found: note_at(self.notes, here),
+            ..*self
+        }
+    }
+
+    /// Whether a byte string is shown as the items in it, where it is not by its tag.
+    #[inline(always)]
+    pub(crate) fn shows_items(&self) -> bool
+        ensures { result ≡ (self.now.style.embedded || is_encoded self.now.found) }
+    {
+        self.style.embedded || matches!(self.found, Some(note) if note.encoded)
+    }
+
+    /// In a container, or embedded in a byte string.
+    #[inline(always)]
+    pub(crate) fn inside(self, container: Container, layout: Layout) -> EdnPlace<'a>
+        requires { self.level ≤ deepest }
+        ensures { result ≡ edn_leaves.inside container layout self.entry }
+    {
+        EdnPlace {
+            level: self.level + 1,
+            layout,
+            tag: None,
+            behind: self.behind_in(container),
+            found: None,
+            ..self
+        }
+    }
+
+    /// How many of the outermost bytes are behind those that the items in a container are read
+    /// from.
+    #[inline(always)]
+    fn behind_in(self, container: Container) -> u64
+        ensures { result ≡ behind_members container self.entry }
+    {
+        match container {
+            Container::Embedded(len) => after_string(len, self.here),
+            _ => self.behind,
+        }
+    }
+
+    /// Right below this tag.
+    #[inline(always)]
+    pub(crate) fn below(self, tag: u64) -> EdnPlace<'a>
+        requires { self.level ≤ deepest }
+        ensures { result ≡ edn_leaves.below tag self.entry }
+    {
+        EdnPlace {
+            level: self.level + 1,
+            tag: Some(tag),
+            found: None,
+            ..self
+        }
+    }
+}
+
+/// How many bytes there are after a byte string with this length, from which on there are so many.
+fn after_string(len: Argument, here: u64) -> u64
+    ensures { result ≡ behind_string len here }
+{
+    match len {
+        Argument::Number(count, width) => here
+            .saturating_sub(1 + argument_bytes(width))
+            .saturating_sub(count),
+        Argument::Indefinite => here,
+    }
+}
+
+/// How many bytes an argument of this width takes after the first byte of its head.
+fn argument_bytes(width: IntegerWidth) -> u64
+    ensures value { result ≡ bytes_of_width width }
+    ensures most { result ≤ 8 }
+{
+    match width {
+        IntegerWidth::Unknown | IntegerWidth::Zero => 0,
+        IntegerWidth::Eight => 1,
+        IntegerWidth::Sixteen => 2,
+        IntegerWidth::ThirtyTwo => 4,
+        IntegerWidth::SixtyFour => 8,
+    }
+}
+
+/// The note on the item from which on there are so many bytes.
+#[inline(never)]
+fn note_at<'a>(notes: &'a [Note<'a>], here: u64) -> Option<&'a Note<'a>> {
+    let index = notes
+        .binary_search_by(|note| here.cmp(&(note.at as u64)))
+        .ok()?;
+    notes.get(index)
+}

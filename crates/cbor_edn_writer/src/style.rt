@@ -1,0 +1,58 @@
+//! How EDN is written.
+
+use crate::note::Note;
+
+/// How EDN is written: what is shown, and how it is laid out. The bytes that are read back are the
+/// same in each style.
+///
+/// ```rust
+/// use cbor_edn::{EdnStyle, push_bytes_to_edn};
+///
+/// let style = EdnStyle {
+///     widths: true,
+///     ..EdnStyle::LINE
+/// };
+/// let mut out = String::new(alloc);
+/// push_bytes_to_edn(alloc, b"\x18\x2a", style, &mut out)?;
+/// assert_eq!(rt; out.as_str(), "42_0");
+/// ```
+#[derive(Clone, Copy, PartialEq, Eq, Debug)]
+pub struct EdnStyle {
+    /// A container that is long takes a line for each member.
+    pub lines: bool,
+    /// Comments say what dates, addresses and big numbers are.
+    pub notes: bool,
+    /// Byte strings that are an array, a map or a tagged item are shown as that item.
+    pub embedded: bool,
+    /// Each float, and each number above 23, has its width beside it, also the shortest.
+    pub widths: bool,
+}
+
+impl EdnStyle {
+    /// On one line, without notes.
+    pub const LINE: EdnStyle = EdnStyle {
+        lines: false,
+        notes: false,
+        embedded: false,
+        widths: false,
+    };
+
+    /// Over several lines, with notes.
+    pub const PRETTY: EdnStyle = EdnStyle {
+        lines: true,
+        notes: true,
+        embedded: false,
+        widths: false,
+    };
+}
+
+/// How EDN is written, with notes on items.
+#[derive(Clone, Copy)]
+pub struct NotedStyle<'a> {
+    /// How it is written. Without [`EdnStyle::notes`] no comment is written, also none of these
+    /// notes.
+    pub style: EdnStyle,
+    /// The notes as the items come, so their [`Note::at`] fall. In another order some notes are
+    /// left out.
+    pub notes: &'a [Note<'a>],
+}
