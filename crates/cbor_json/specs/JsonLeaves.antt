@@ -2,10 +2,12 @@
 -- A key is a text as it is, an integer by its digits, and anything else by its EDN, in which no width is stated and
 -- chunks are joined.
 use Rattle.std.specs.Prelude.{◌≡◌, ◌⊎◌, ℕ, ◌+◌, List, [], ◌∷◌, ◌++◌, codes, Bool, true, false, Some, None, ◌&&◌, ◌||◌}
-use Rattle.std.specs.Prelude.{if◌then◌else◌, nat_le, nat_lt, ◌==◌, not, Option}
+use Rattle.std.specs.Prelude.{if◌then◌else◌, nat_le, nat_lt, ◌==◌, not, Option, length}
 use Rattle.std.specs.Float.{float_is_finite}
 use Rattle.std.specs.Float.Ieee.{Float}
+use Rattle.std.specs.Fmt.{sign_text}
 use Rattle.hex.specs.Hex.{encode_lower}
+use Rattle.cbor_digits.specs.Decimal.{number_of, if_more, IsDecimal}
 use Rattle.cbor_floats.specs.declared.float.EncodedFloat.{EncodedFloat}
 use Rattle.cbor_floats.specs.declared.float.EncodedFloat.TheVariants.{Half, Single, Double}
 use Rattle.cbor_floats.specs.Decimal.{IsTextOf}
@@ -107,6 +109,43 @@ string_at p spot.Key kind.Bytes c = in_quotes (quoted Base16 c.bytes)
 string_at p s kind.Bytes c = in_quotes (encoded_bytes p.encoding c.bytes)
 string_at p s kind.Text c = in_quotes (escaped_text c.bytes)
 
+-- ---- big numbers (RFC 8949 section 3.4.3)
+
+-- no key, and no part of one
+abbrev pub is_value : Spot → Bool
+is_value spot.Key = false
+is_value spot.InKey = false
+is_value s = true
+
+abbrev pub is_bytes : StringKind → Bool
+is_bytes kind.Bytes = true
+is_bytes kind.Text = false
+
+abbrev pub is_big_tag : Option ℕ → Bool
+is_big_tag None = false
+is_big_tag (Some tag) = (tag == 2) || (tag == 3)
+
+-- The number below tag 3 is one less than the amount.
+abbrev pub is_negative_tag : Option ℕ → Bool
+is_negative_tag None = false
+is_negative_tag (Some tag) = tag == 3
+
+-- a byte string that is written by the digits of its number: a value, right below such a tag, of at most 1,024 bytes
+abbrev pub is_big : JsonPlace → StringKind → List ℕ → Bool
+is_big p k b = is_bytes k && (is_value p.spot && (is_big_tag p.tag && nat_le (length b) 1024))
+
+abbrev pub BigText : Bool → List ℕ → Texts
+BigText minus b t =
+    (digits : List ℕ) × IsDecimal (if_more minus (number_of b)) digits × (t ≡ sign_text minus ++ digits)
+
+abbrev pub StringIf : Bool → JsonPlace → StringKind → Chunk → Texts
+StringIf true p k c t = BigText (is_negative_tag p.tag) c.bytes t
+StringIf false p k c t = t ≡ string_at p p.spot k c
+
+-- a string of definite length, or the joined chunks of one
+abbrev pub StringAt : JsonPlace → StringKind → Chunk → Texts
+StringAt p k c t = StringIf (is_big p k c.bytes) p k c t
+
 -- a chunk, without quotes
 abbrev pub part_at : JsonPlace → Spot → StringKind → Chunk → List ℕ
 part_at p spot.InKey kind.Text c = twice_escaped c.bytes
@@ -207,12 +246,6 @@ abbrev pub begins_container : List ℕ → Bool
 begins_container [] = false
 begins_container (b ∷ bs) = nat_le 0x80 b && nat_lt b 0xe0
 
--- no key, and no part of one
-abbrev pub is_value : Spot → Bool
-is_value spot.Key = false
-is_value spot.InKey = false
-is_value s = true
-
 -- right below these tags bytes are a big number, a UUID or an address, or are asked for as digits
 abbrev pub wants_bytes : Option ℕ → Bool
 wants_bytes None = false
@@ -229,6 +262,7 @@ content_at p b =
 
 abbrev pub json_leaves : Leaves JsonPlace
 json_leaves = record {
+  At = λ p q. q ≡ p;
   level = λ p. p.level;
   layout = λ p. p.layout;
   content = content_at;
@@ -270,7 +304,7 @@ json_leaves = record {
     tag = Some n;
   };
   leaf = λ p a t. LeafAt p.spot a t;
-  string = λ p k c t. t ≡ string_at p p.spot k c;
+  string = StringAt;
   part = λ p k c t. t ≡ part_at p p.spot k c;
   no_parts = λ p k t. t ≡ empty_at p.spot k;
   opening = λ p c l t. t ≡ opening_at p.spot c;

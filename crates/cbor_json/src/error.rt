@@ -13,11 +13,50 @@ pub struct Clash {
     pub second: usize,
 }
 
+/// What JSON does not keep.
+#[derive(Clone, Copy, PartialEq, Eq, Debug)]
+pub enum LossKind {
+    /// A tag.
+    Tag,
+    /// NaN or an infinity.
+    NotFinite,
+    /// Undefined, or another simple value that is none of false, true and null.
+    Simple,
+    /// A byte string.
+    Bytes,
+    /// A key that is no text.
+    Key,
+}
+
+impl LossKind {
+    /// The error in words.
+    pub const fn text(self) -> &'static str {
+        match self {
+            LossKind::Tag => "JSON keeps no tag",
+            LossKind::NotFinite => "JSON keeps no NaN and no infinity",
+            LossKind::Simple => "JSON keeps no simple value but false, true and null",
+            LossKind::Bytes => "JSON keeps no byte string",
+            LossKind::Key => "JSON keeps no key that is no text",
+        }
+    }
+}
+
+/// Something that JSON does not keep.
+#[derive(Clone, Copy, PartialEq, Eq, Debug)]
+pub struct Loss {
+    /// Its first byte.
+    pub place: usize,
+    /// What it is.
+    pub kind: LossKind,
+}
+
 /// Why bytes are not written as JSON.
 #[derive(Clone, Copy, PartialEq, Eq, Debug)]
 pub enum JsonError {
     /// The bytes are not an item, or memory ran out.
     Cbor(Error),
+    /// In a strict style, the first thing from the left that JSON does not keep.
+    NotKept(Loss),
     /// Two keys of a map become the same.
     SameKeys(Clash),
 }
@@ -49,6 +88,7 @@ impl fmt::Display for JsonError {
     fn fmt<W: fmt::Write>(&self, f: &mut fmt::Formatter<W>) -> Result<(), fmt::Error> {
         match self {
             JsonError::Cbor(error) => error.fmt(f),
+            JsonError::NotKept(loss) => f.write_str(loss.kind.text()),
             JsonError::SameKeys(_) => f.write_str("two keys of a map become the same in JSON"),
         }
     }

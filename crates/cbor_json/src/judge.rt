@@ -1,7 +1,8 @@
 //! Writes an item as JSON, and looks whether two keys of a map became the same.
 #![tactic(auto, using(cbor_grammar::proofs::shared::Appending::appending_steps))]
 
-ghost use Rattle.std.specs.Prelude.{◌≡◌, ◌↔◌, [], IfOk, IfErr, IsTrue, Some, Ok};
+ghost use Rattle.std.specs.Prelude.{◌≡◌, ◌↔◌, ℕ, List, [], IfOk, IfErr, IfSome, IfNone};
+ghost use Rattle.std.specs.Prelude.{IsTrue, Some, Ok};
 ghost use Rattle.std.specs.String.{string_bytes};
 ghost use Rattle.cbor_grammar.specs.Answer.{RefusedSo};
 ghost use Rattle.cbor_grammar.specs.Facts.{IsItem, IsNoItem};
@@ -11,14 +12,17 @@ ghost use Rattle.cbor_grammar.specs.WellFormed.{deepest};
 ghost use Rattle.json.specs.Json.{Json, document};
 ghost use Rattle.json.specs.Strict.{HasUniqueKeys};
 ghost use Rattle.cbor_notation.specs.mirror.Straight.{Written};
-ghost use Rattle.cbor_json.specs.Written.{IsJsonOf, Judges};
+ghost use Rattle.cbor_json.specs.Kept.{IsKept, IsLoss};
+ghost use Rattle.cbor_json.specs.Written.{IsJsonOf, IsNotKept, Judges, Tells};
 
+use crate::error::Loss;
+use crate::loss::first_loss;
 use crate::print;
 use crate::print::place::JsonPlace;
 use crate::style::JsonStyle;
 use cbor_grammar::Error;
 use cbor_notation::outermost::push_outermost;
-use json::{Scratch, Value};
+use json::{Scratch, Tape, Value};
 use std::alloc::{AllocError, Global};
 
 /// What became of an item.
@@ -26,6 +30,8 @@ use std::alloc::{AllocError, Global};
 pub(crate) enum Judged {
     /// Its text.
     Text(String),
+    /// The style is strict, and JSON does not keep this.
+    NotKept(Loss),
     /// Two keys of a map became the same.
     SameKeys,
 }
@@ -36,11 +42,28 @@ fn has_unique_keys(text: &str, alloc: Global) -> Result<bool, AllocError>
         → (IsTrue unique ↔ HasUniqueKeys j)) }
 {
     let mut scratch = Scratch::new(alloc);
-    match Value::parse_strict(alloc, text, &mut scratch) {
+    match Tape::parse_strict(text, &mut scratch, Vec::new(alloc)) {
         Ok(_) => Ok(true),
         Err(json::Error::DuplicateKey) => Ok(false),
+        Err(json::Error::TooLong) => has_unique_keys_of_value(text, alloc),
         // The text is JSON, so this is out of memory.
         Err(_) => Err(AllocError),
+    }
+}
+
+/// The same of a text that is too long for a tape, which is read as a value.
+fn has_unique_keys_of_value(text: &str, alloc: Global) -> Result<bool, AllocError>
+    ensures { IfOk result (λ unique. (j : Json) → document text.now ≡ Some j
+        → (IsTrue unique ↔ HasUniqueKeys j)) }
+{
+    let mut scratch = Scratch::new(alloc);
+    match Value::parse_strict(alloc, text, &mut scratch) {
+        Ok(_) => Ok(true),
+        Err(error) => match error {
+            json::Error::DuplicateKey => Ok(false),
+            // The text is JSON, so this is out of memory.
+            _ => Err(AllocError),
+        },
     }
 }
 
@@ -68,6 +91,21 @@ fn front_text<'a>(
     Ok((text, rest))
 }
 
+/// In a strict style, the first thing that JSON does not keep of the item at the front.
+fn loss_if_strict(bytes: &[u8], style: JsonStyle) -> Option<Loss>
+    ensures loss { IfSome result (IsLoss bytes.now) }
+    ensures lost { (i : Item) (rest : List ℕ) → read_item deepest bytes.now ≡ Ok (i, rest)
+        → IfSome result (λ _. IsNotKept style i) }
+    ensures kept { (i : Item) (rest : List ℕ) → read_item deepest bytes.now ≡ Ok (i, rest)
+        → IfNone result (IsTrue style.strict → IsKept i) }
+{
+    if style.strict {
+        first_loss(bytes)
+    } else {
+        None
+    }
+}
+
 /// Writes the item at the front, and returns what became of it and the bytes after it.
 pub(crate) fn judge_front<'a>(
     bytes: &'a [u8],
@@ -76,9 +114,13 @@ pub(crate) fn judge_front<'a>(
 ) -> cbor_grammar::Result<(Judged, &'a [u8])>
     ensures judged { IfOk result (λ found. (i : Item)
         × (read_item deepest bytes.now ≡ Ok (i, found.1.now)) × Judges style found.0 i) }
+    ensures tells { IfOk result (λ found. Tells bytes.now found.0) }
     ensures refused { IfErr result (λ e. Fails e (read_item deepest bytes.now)) }
 {
     let (text, rest) = front_text(bytes, style, alloc)?;
+    if let Some(loss) = loss_if_strict(bytes, style) {
+        return Ok((Judged::NotKept(loss), rest));
+    }
     if has_unique_keys(text.as_str(), alloc)? {
         Ok((Judged::Text(text), rest))
     } else {
@@ -90,6 +132,7 @@ pub(crate) fn judge_front<'a>(
 pub(crate) fn judge(bytes: &[u8], style: JsonStyle, alloc: Global) -> cbor_grammar::Result<Judged>
     ensures judged { IfOk result (λ found. (i : Item) × IsItem bytes.now i
         × Judges style found i) }
+    ensures tells { IfOk result (λ found. Tells bytes.now found) }
     ensures refused { RefusedSo result (IsNoItem bytes.now) }
 {
     let (judged, rest) = judge_front(bytes, style, alloc)?;

@@ -5,10 +5,11 @@
 mod clash;
 mod error;
 mod judge;
+mod loss;
 mod print;
 mod style;
 mod write;
 
-pub use error::{Clash, JsonError};
+pub use error::{Clash, JsonError, Loss, LossKind};
 pub use style::JsonStyle;
 pub use write::{bytes_to_json, push_bytes_to_json, push_bytes_to_json_partial};

@@ -3,7 +3,7 @@
 
 mod leaf;
 mod lists;
-mod numbers;
+pub(crate) mod numbers;
 pub(crate) mod place;
 pub(crate) mod text;
 
@@ -29,6 +29,11 @@ impl Dialect for Json {
     type Place = JsonPlace;
 
     ghost leaves = { json_leaves };
+
+    #[inline(always)]
+    fn at(_place: &JsonPlace, _remaining: usize) -> Option<JsonPlace> {
+        None
+    }
 
     #[inline(always)]
     fn level(place: &JsonPlace) -> u8 {

@@ -8,7 +8,7 @@ ghost use Rattle.cbor_grammar.specs.Facts.{IsItem, BeginsWithItem, IsCut, IsNoIt
 ghost use Rattle.cbor_grammar.specs.Facts.{BeginsSo, BeginsInOneWay};
 ghost use Rattle.cbor_grammar.specs.Item.{Item};
 ghost use Rattle.cbor_json.specs.Written.{IsJsonText, AppendsJson, IsNoJson, IsErrorOf, IsErrorOr};
-ghost use Rattle.cbor_json.specs.Written.{GaveJson};
+ghost use Rattle.cbor_json.specs.Written.{GaveJson, IsPlaced};
 
 use crate::clash::first_clash;
 use crate::error::JsonError;
@@ -17,7 +17,11 @@ use crate::style::JsonStyle;
 use cbor_grammar::Error;
 use std::alloc::Global;
 
-/// Returns the one item that the bytes are as JSON on one line.
+/// Returns the one item that the bytes are as JSON on one line (RFC 8949 section 6.1).
+///
+/// Returns the errors of `extent`, and `Remaining` if bytes follow the item; in a strict style
+/// `NotKept` with the first thing from the left that JSON does not keep; and `SameKeys` if two keys
+/// of a map become the same.
 ///
 /// ```rust
 /// use cbor_json::{JsonStyle, bytes_to_json};
@@ -39,6 +43,7 @@ pub fn bytes_to_json(alloc: Global, bytes: &[u8], style: JsonStyle) -> Result<St
 {
     match judge(bytes, style, alloc)? {
         Judged::Text(text) => Ok(text),
+        Judged::NotKept(loss) => Err(JsonError::NotKept(loss)),
         Judged::SameKeys => Err(JsonError::SameKeys(first_clash(bytes, style, alloc)?)),
     }
 }
@@ -73,8 +78,8 @@ pub fn push_bytes_to_json(
 /// that it takes. More bytes may follow.
 ///
 /// Returns `Ok(None)` if the bytes end before the item does and before any error, and otherwise the
-/// first error from the left, or that two keys become the same. In all these cases, and if an
-/// allocation fails, `out` is unchanged.
+/// first error from the left, or why the item is not written: `NotKept` or `SameKeys`. In all these
+/// cases, and if an allocation fails, `out` is unchanged.
 pub fn push_bytes_to_json_partial(
     alloc: Global,
     bytes: &[u8],
@@ -90,6 +95,7 @@ pub fn push_bytes_to_json_partial(
     ensures exact { (o : Outcome) → BeginsSo bytes.now o
         → GaveJson style result (string_bytes out.old) (string_bytes out.new) o }
     ensures one_of_three { BeginsInOneWay bytes.now }
+    ensures loss { IfErr result (IsPlaced bytes.now) }
 
     // Nothing is appended without an item.
     ensures cut_unchanged { result ≡ Ok None → string_bytes out.new ≡ string_bytes out.old }
@@ -107,6 +113,7 @@ pub fn push_bytes_to_json_partial(
             out.push_str(text.as_str())?;
             Ok(Some(bytes.len() - rest.len()))
         }
+        Judged::NotKept(loss) => Err(JsonError::NotKept(loss)),
         Judged::SameKeys => Err(JsonError::SameKeys(first_clash(bytes, style, alloc)?)),
     }
 }

@@ -7,4 +7,6 @@ mod keys;
 #[cfg(test)]
 mod refused;
 #[cfg(test)]
+mod strict;
+#[cfg(test)]
 mod written;

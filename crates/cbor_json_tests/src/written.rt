@@ -64,6 +64,23 @@ const WRITTEN: &[(&str, &str)] = &[
     ("7f616162c3bcff", "\"aü\""),
     ("7fff", "\"\""),
     ("5fff", "\"\""),
+    // big numbers by their digits
+    ("c249010000000000000000", "18446744073709551616"),
+    ("c349010000000000000000", "-18446744073709551617"),
+    (
+        "c24cffffffffffffffffffffffff",
+        "79228162514264337593543950335",
+    ),
+    ("c240", "0"),
+    ("c340", "-1"),
+    ("c2420000", "0"),
+    ("c24164", "100"),
+    ("c34163", "-100"),
+    ("c25f4101420203ff", "66051"),
+    ("a16161c24101", "{\"a\": 1}"),
+    ("a1c24101c24102", "{\"2(h'01')\": 2}"),
+    ("c2814101", "[\"AQ\"]"),
+    ("c2626161", "\"aa\""),
     // tags are left out
     ("c11a6553f100", "1700000000"),
     ("d9d9f78101", "[1]"),
@@ -90,7 +107,7 @@ const EMBEDDED: &[(&str, &str)] = &[
     ("40", "\"\""),
     ("a14281016101", "{\"h'8101'\": \"\\u0001\"}"),
     ("43c14180", "[]"),
-    ("c2428101", "\"gQE\""),
+    ("c2428101", "33025"),
     ("d5428101", "\"gQE\""),
     ("d818428101", "[1]"),
 ];
@@ -110,6 +127,33 @@ fn compare(rt: &impl Abort, alloc: Global, rows: &[(&str, &str)], style: JsonSty
             Err(error) => panic!(rt; "{error:?} of {digits}"),
         }
     }
+}
+
+/// The text of a big number of so many bytes, all ff.
+fn big(rt: &impl Abort, alloc: Global, len: u16) -> String {
+    let mut bytes = bytes_of(rt, alloc, "c259");
+    if bytes.extend_from_slice(&len.to_be_bytes()).is_err() {
+        panic!(rt; "out of memory");
+    }
+    let len = bytes.len().saturating_add(usize::from(len));
+    if bytes.resize(len, 0xff).is_err() {
+        panic!(rt; "out of memory");
+    }
+    match bytes_to_json(alloc, &bytes, JsonStyle::PLAIN) {
+        Ok(text) => text,
+        Err(error) => panic!(rt; "{error:?}"),
+    }
+}
+
+/// A number of 1,024 bytes is 2^8192 - 1, and one of more is bytes.
+#[test]
+fn long_numbers(rt: HostRuntime) {
+    let text = big(&rt, rt.alloc(), 1024);
+    assert_eq!(rt; text.len(), 2467);
+    assert!(rt; text.starts_with("109074813561941592946298424473"));
+    assert!(rt; text.ends_with("587661997186505665475715792895"));
+    let longer = big(&rt, rt.alloc(), 1025);
+    assert!(rt; longer.starts_with("\"____"));
 }
 
 #[test]

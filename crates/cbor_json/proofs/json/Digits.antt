@@ -88,6 +88,10 @@ digits_calm : (t : List ℕ) → AllDigits 10 t → Calm t
 digits_calm [] h = tt
 digits_calm (c ∷ t) h = (digit_calm c h.0, digits_calm t h.1)
 
+pub big_calm : (negative : Bool) (ds : List ℕ) → AllDigits 10 ds → Calm (sign_text negative ++ ds)
+big_calm true ds h = (refl, digits_calm ds h)
+big_calm false ds h = digits_calm ds h
+
 pub decimal_calm : (n : ℕ) → n ≤ 2 ^ 64 → Calm (decimal n)
 decimal_calm n le = digits_calm (decimal n) (decimal_is_IsNumeral_wide n (omega (arith, le))).0.1
 

@@ -1,5 +1,6 @@
 -- Numbers of items are numbers of JSON.
-use Rattle.std.proofs.Common.{◌≡◌, ℕ, suc, ◌+◌, ◌^◌, ◌<◌, ◌≤◌, cond, List, [], ◌∷◌, ◌++◌, length}
+use Rattle.std.proofs.Common.{◌==◌, Bool, true, false, drop, slice_index, ◌≡◌, ℕ, suc}
+use Rattle.std.proofs.Common.{◌+◌, ◌^◌, ◌<◌, ◌≤◌, cond, List, [], ◌∷◌, ◌++◌, length}
 use Rattle.std.proofs.Common.{get_or, Some, option_and_then, refl, sym, ap, subst, ◌∙◌, arith, append-nil, inl, inr}
 use Rattle.std.proofs.lemmas.Bool.{ne_eqb, le-leb, and_from, cases_lt}
 use Rattle.std.proofs.lemmas.Fmt.{decimal_is_IsNumeral, first_decimal}
@@ -8,6 +9,10 @@ use Rattle.std.proofs.lemmas.Str.Parse.{digit_at}
 use Rattle.std.specs.Char.{is_ascii_digit}
 use Rattle.std.specs.Fmt.{decimal, digits, sign_text}
 use Rattle.std.specs.List.{prefix_len}
+use Rattle.std.specs.Str.Parse.{AllDigits}
+use Rattle.std.proofs.lemmas.Str.Parse.{digit_from_value}
+use Rattle.json.specs.Word.{head}
+use Rattle.cbor_digits.specs.Decimal.{IsDecimal}
 use Rattle.json.specs.Print.{IsNumber}
 use Rattle.json.specs.Word.{after_whole, after_fraction, after_exponent, after_number}
 use Rattle.json.proofs.Printed.Decimals.{IsNumber-decimal}
@@ -58,3 +63,35 @@ negative_number n lt =
 pub float_number : (t : List ℕ) → IsLaidOutNumber 16 4 t → IsNumber t
 float_number t h =
     let p = h.3.0 in IsNumber-plain t (h.0, p, h.2 ∙ ap (λ x. sign_text h.0 ++ x) h.3.1, h.3.2)
+
+-- ---- big numbers
+
+decimal_whole : (ds : List ℕ) → AllDigits 10 ds → 0 < length ds → (slice_index ds 0 ≡ 48 → length ds ≡ 1)
+    → (after_whole ds ≡ Some []) × ((head ds == 45) ≡ false)
+decimal_whole [] all some first = absurd (omega arith)
+decimal_whole (d ∷ ds) all some first = elim (cases_lt 48 d) [
+  | inl lt ↦ (
+    whole_digits (d ∷ ds) lt (all_digits (d ∷ ds) (λ i l. digit_at (d ∷ ds) i all l)),
+    ne_eqb d 45 (λ e. omega arith),
+  )
+  | inr le ↦
+      let range = digit_from_value d all.0 in
+      let is : d ≡ 48 = omega (arith, range, le) in
+      let none : length ds ≡ 0 = omega (arith, first is) in
+      one_zero d ds is none
+]
+  where
+    one_zero : (d : ℕ) (ds : List ℕ) → d ≡ 48 → length ds ≡ 0
+        → (after_whole (d ∷ ds) ≡ Some []) × ((head (d ∷ ds) == 45) ≡ false)
+    one_zero d [] is none = (rw is refl, rw is refl)
+    one_zero d (c ∷ ds) is none = absurd (omega arith)
+
+pub big_number : (negative : Bool) (n : ℕ) (ds : List ℕ) → IsDecimal n ds → IsNumber (sign_text negative ++ ds)
+unfolding after_number
+big_number true n ds is =
+    let w = decimal_whole ds is.digits.1 is.digits.0 is.shortest in
+    ap (λ o. option_and_then after_exponent (option_and_then after_fraction o)) w.0
+big_number false n ds is =
+    let w = decimal_whole ds is.digits.1 is.digits.0 is.shortest in
+    ap (λ o. option_and_then after_exponent (option_and_then after_fraction o))
+    (ap (λ b. after_whole (cond b (drop 1 ds) ds)) w.1 ∙ w.0)

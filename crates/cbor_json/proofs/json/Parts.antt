@@ -1,9 +1,9 @@
 -- What is written of numbers, strings and what is round members: pieces of strings in a key, and else JSON.
 use Rattle.std.proofs.Common.{◌≡◌, ℕ, ◌+◌, ◌^◌, ◌<◌, ◌≤◌, List, [], ◌∷◌, ◌++◌, Bool, true, false, codes}
-use Rattle.std.proofs.Common.{refl, inl, inr, sym, ap, subst, ◌∙◌, arith, append_assoc, ◌==◌}
+use Rattle.std.proofs.Common.{refl, inl, inr, sym, ap, subst, ◌∙◌, arith, append_assoc, ◌==◌, ◌&&◌, nat_le, length}
 use Rattle.std.specs.Float.{float_is_finite}
 use Rattle.std.specs.Float.Ieee.{Float}
-use Rattle.std.specs.Fmt.{decimal}
+use Rattle.std.specs.Fmt.{decimal, sign_text}
 use Rattle.std.specs.List.{AllByRecursion, flat_map}
 use Rattle.hex.specs.Hex.{encode_lower}
 use Rattle.cbor_floats.specs.declared.float.EncodedFloat.{EncodedFloat}
@@ -25,15 +25,19 @@ use Rattle.cbor_notation.specs.Dialect.{listed, ChunksText, ChunkTexts}
 use Rattle.cbor_notation.specs.declared.parts.Container.{Container}
 use Rattle.cbor_notation.specs.declared.parts.Container.TheVariants.{Array, Map, Chunks, Embedded}
 use Rattle.cbor_json.specs.JsonLeaves.{json_leaves, LeafAt, ValueLeaf, EdnLeaf, EdnFloat, NumberIf, json_simple}
-use Rattle.cbor_json.specs.JsonLeaves.{integer_text, negative_text, string_at}
+use Rattle.cbor_digits.specs.Decimal.{IsDecimal}
+use Rattle.cbor_json.specs.JsonLeaves.{integer_text, negative_text, string_at, is_value, is_bytes, is_big_tag, is_big}
+use Rattle.cbor_json.specs.JsonLeaves.{is_negative_tag, BigText, StringIf, StringAt}
 use Rattle.cbor_json.specs.JsonLeaves.{part_at, edn_opening, edn_closing, key_opening, key_closing, opening_at}
 use Rattle.cbor_json.specs.JsonLeaves.{closing_at, empty_at, before_member, encoded_float}
 use Rattle.cbor_json.specs.declared.print.place.JsonPlace.{JsonPlace}
 use Rattle.cbor_json.specs.declared.print.place.Spot.{Spot}
 use Rattle.cbor_json.specs.declared.print.place.Spot.TheVariants as spot
-use Rattle.cbor_json.proofs.json.Digits.{hex_calm, encoded_calm, number_calm, decimal_calm, number_text_calm, float_bytes}
+use Rattle.cbor_json.proofs.json.Digits.{hex_calm, encoded_calm, number_calm}
+use Rattle.cbor_json.proofs.json.Digits.{decimal_calm, number_text_calm, float_bytes}
+use Rattle.cbor_json.proofs.json.Digits.{big_calm}
 use Rattle.cbor_json.proofs.json.Fills.{Fills, fills_nothing, fills_then, calm_fills, constant}
-use Rattle.cbor_json.proofs.json.Numbers.{integer_number, negative_number, float_number}
+use Rattle.cbor_json.proofs.json.Numbers.{integer_number, negative_number, float_number, big_number}
 use Rattle.cbor_json.proofs.json.Strings.{IsString, is_string, string_in_quotes, escaped_fills, quote_escaped, chosen}
 use Rattle.cbor_json.proofs.json.Tokens.{Reads, string_reads, number_reads, true_reads, false_reads, null_reads}
 
@@ -131,7 +135,7 @@ quoted_fills b h =
     fills_then {a = codes "h'"} (constant (codes "h'") refl)
     (fills_then (calm_fills (encode_lower b) (hex_calm b h)) (constant (codes "'") refl))
 
-pub string_at_part : (p : JsonPlace) (s : Spot) (left : ℕ) (k : StringKind) (c : Chunk)
+string_at_part : (p : JsonPlace) (s : Spot) (left : ℕ) (k : StringKind) (c : Chunk)
     → AllByRecursion (λ x. x < 256) c.bytes → Part s left (string_at p s k c)
 string_at_part p spot.InKey left kind.Bytes c h = quoted_fills c.bytes h
 string_at_part p spot.InKey left kind.Text c h =
@@ -144,6 +148,39 @@ string_at_part p spot.Value left kind.Text c h = string_reads (string_in_quotes 
 string_at_part p spot.Named left kind.Bytes c h =
     string_reads (string_in_quotes _ (calm_fills _ (encoded_calm p.encoding c.bytes h)))
 string_at_part p spot.Named left kind.Text c h = string_reads (string_in_quotes _ (escaped_fills c.bytes))
+
+-- a big number by its digits
+big_reads : (left : ℕ) (minus : Bool) (n : ℕ) (t digits : List ℕ) → IsDecimal n digits
+    → t ≡ sign_text minus ++ digits → Reads left t
+big_reads left minus n t digits is e =
+    subst (λ y. Reads left y) (sym e)
+    (number_reads (sign_text minus ++ digits) (big_number minus n digits is)
+    (calm_fills (sign_text minus ++ digits) (big_calm minus digits is.digits.1)).shows)
+
+big_part : (p : JsonPlace) (s : Spot) (left : ℕ) (c : Chunk) (t : List ℕ) → is_value s ≡ true
+    → BigText (is_negative_tag p.tag) c.bytes t → Part s left t
+big_part p spot.Key left c t v h = absurd cc
+big_part p spot.InKey left c t v h = absurd cc
+big_part p spot.Value left c t v h = big_reads left _ _ t h.0 h.1 h.2
+big_part p spot.Named left c t v h = big_reads left _ _ t h.0 h.1 h.2
+
+string_if : (test : Bool) (p : JsonPlace) (left : ℕ) (k : StringKind) (c : Chunk) (t : List ℕ)
+    → (test ≡ true → is_value p.spot ≡ true) → AllByRecursion (λ x. x < 256) c.bytes → StringIf test p k c t
+    → Part p.spot left t
+string_if true p left k c t value h is = big_part p p.spot left c t (value refl) is
+string_if false p left k c t value h is =
+    subst (λ x. Part p.spot left x) (sym is) (string_at_part p p.spot left k c h)
+
+middle_true : (a b c : Bool) → (a && (b && c)) ≡ true → b ≡ true
+middle_true true true c e = refl
+middle_true true false c e = absurd cc
+middle_true false b c e = absurd cc
+
+pub string_part : (p : JsonPlace) (left : ℕ) (k : StringKind) (c : Chunk) (t : List ℕ)
+    → AllByRecursion (λ x. x < 256) c.bytes → StringAt p k c t → Part p.spot left t
+string_part p left k c t h is =
+    string_if (is_big p k c.bytes) p left k c t
+    (middle_true (is_bytes k) (is_value p.spot) (is_big_tag p.tag && nat_le (length c.bytes) 1024)) h is
 
 part_fills : (p : JsonPlace) (s : Spot) (k : StringKind) (c : Chunk) → IsChunk k c → Fills (part_at p s k c)
 part_fills p spot.InKey kind.Text c h = escaped_fills (escaped_text c.bytes)

@@ -26,13 +26,13 @@ use Rattle.cbor_notation.specs.Dialect.{OneText, EmbeddedText, ContentText, Atom
 use Rattle.cbor_notation.specs.Dialect.{embedding, count_of, style_at, joined, ChunkedText}
 use Rattle.cbor_notation.specs.declared.parts.Container.TheVariants.{Array, Map}
 use Rattle.cbor_json.specs.JsonLeaves.{json_leaves, integer_text, begins_container, is_value, wants_bytes}
-use Rattle.cbor_json.specs.JsonLeaves.{opening_at, closing_at, string_at, tag_at, tag_end_at, joins_at}
+use Rattle.cbor_json.specs.JsonLeaves.{opening_at, closing_at, StringAt, tag_at, tag_end_at, joins_at}
 use Rattle.cbor_json.specs.Spots.{inside_spot, next_spot, value_spot, below_spot}
 use Rattle.cbor_json.specs.declared.print.place.JsonPlace.{JsonPlace}
 use Rattle.cbor_json.specs.declared.print.place.Spot.{Spot}
 use Rattle.cbor_json.specs.declared.print.place.Spot.TheVariants as spot
 use Rattle.cbor_json.proofs.json.Fills.{Fills, fills_then, constant, Shows, shows_then, shows_nothing, all_append}
-use Rattle.cbor_json.proofs.json.Parts.{Part, leaf_part, string_at_part, chunks_part, AllFill, listed_fills, key_list}
+use Rattle.cbor_json.proofs.json.Parts.{Part, leaf_part, string_part, chunks_part, AllFill, listed_fills, key_list}
 use Rattle.cbor_json.proofs.json.Parts.{edn_list, integer_fills, below_limit, three}
 use Rattle.cbor_json.proofs.json.Strings.{IsString, is_string}
 use Rattle.cbor_json.proofs.json.Tokens.{Takes, Reads, deeper, AllTake, all_tokens, list_takes, pair_takes}
@@ -279,10 +279,9 @@ module _ (level left : ℕ) (levels : level + left ≡ 129) (write : Writer Json
 
   -- ---- byte strings
 
-  string_there : (p : JsonPlace) (c : Chunk) (t : List ℕ) → IsChunk kind.Bytes c → t ≡ string_at p p.spot kind.Bytes c
+  string_there : (p : JsonPlace) (c : Chunk) (t : List ℕ) → IsChunk kind.Bytes c → StringAt p kind.Bytes c t
       → Part p.spot (suc left) t
-  string_there p c t well h =
-      subst (λ x. Part p.spot (suc left) x) (sym h) (string_at_part p p.spot (suc left) kind.Bytes c well.bytes)
+  string_there p c t well h = string_part p (suc left) kind.Bytes c t well.bytes h
 
   -- an item in a byte string is as it is
   item_there : (p : JsonPlace) (s : Spot) (b : Chunk) (i : Item) (t : List ℕ) → p.spot ≡ s → is_value s ≡ true
@@ -325,8 +324,7 @@ module _ (level left : ℕ) (levels : level + left ≡ 129) (write : Writer Json
       → AllByRecursion (IsChunk k) cs → ChunkedText json_leaves p k l joins cs t → Part p.spot (suc left) t
   chunked_part p k l false cs t well h = chunks_part p (suc left) k l cs t well h
   chunked_part p k l true cs t well h =
-      subst (λ x. Part p.spot (suc left) x) (sym h)
-      (string_at_part p p.spot (suc left) k (joined cs) (joined_bytes k cs well))
+      string_part p (suc left) k (joined cs) t (joined_bytes k cs well) h
 
   atom_part : (p : JsonPlace) (a : Atom) (t : List ℕ) → WellFormedAtom a → AtomText json_leaves left write p a t
       → Part p.spot (suc left) t
@@ -334,7 +332,7 @@ module _ (level left : ℕ) (levels : level + left ≡ 129) (write : Writer Json
       content_part p (p.style.embedded && (not (wants_bytes p.tag) && (is_value p.spot && begins_container b.bytes))) b t
       (and_parts p.style.embedded (not (wants_bytes p.tag)) (is_value p.spot) (begins_container b.bytes)) well h
   atom_part p (string kind.Text s) t well h =
-      subst (λ x. Part p.spot (suc left) x) (sym h) (string_at_part p p.spot (suc left) kind.Text s well.bytes)
+      string_part p (suc left) kind.Text s t well.bytes h
   atom_part p (chunked_string k cs) t well h =
       chunked_part p k (style_at json_leaves p (atom (chunked_string k cs))) (joins_at p.spot k) cs t well h
   atom_part p (integer n w) t well h = leaf_part p.spot (suc left) (integer n w) t well h
@@ -391,4 +389,5 @@ unfolding TextsOf
 text_part level zero levels p i t well h = absurd h
 text_part level (suc left) levels p i t well h =
     with_part (level + 1) left (omega (arith, levels)) (TextsOf json_leaves left)
-    (λ p i t. text_part (level + 1) left (omega (arith, levels)) p i t) p i t level refl well h
+    (λ p i t. text_part (level + 1) left (omega (arith, levels)) p i t) p i t level refl well
+    (subst (λ x. TextWith json_leaves left (TextsOf json_leaves left) x i t) h.1 h.2)

@@ -23,6 +23,7 @@ use Rattle.cbor_grammar.specs.WellFormed.{WellFormed, levels_left}
 use Rattle.cbor_notation.specs.Dialect.{TextsAt, TextsOf}
 use Rattle.cbor_notation.specs.mirror.Straight.{Written}
 use Rattle.cbor_json.specs.JsonLeaves.{json_leaves}
+use Rattle.cbor_json.specs.Kept.{IsKept}
 use Rattle.cbor_json.specs.Written.{IsOutermost, IsJsonOf, IsJsonText, HasSameKeys, Judges, IsNoJson}
 use Rattle.cbor_json.specs.declared.error.JsonError.TheVariants.{Cbor}
 use Rattle.cbor_json.specs.declared.judge.Judged.{Judged}
@@ -82,8 +83,8 @@ json_is style b i rest t bytes is of =
 module _ (style : JsonStyle) (b : List ℕ) (i : Item) (rest t s : List ℕ) (bytes : IsBytes b)
     (read : read_item 128 b ≡ Ok (i, rest)) (of : IsJsonOf style i t) (same : s ≡ t) (unique : Bool)
     (x : List ℕ) (looked : x ≡ s) (decides : (j : Json) → document x ≡ Some j → (IsTrue unique ↔ HasUniqueKeys j)) where
-  pub is_text : unique ≡ true → IsJsonText style i s
-  is_text true_is =
+  pub is_text : unique ≡ true → (IsTrue style.strict → IsKept i) → IsJsonText style i s
+  is_text true_is kept =
       let d = json_is style b i rest t bytes read of in
       let is : document s ≡ Some d.means = ap document same ∙ d.is in
       record {
@@ -92,6 +93,7 @@ module _ (style : JsonStyle) (b : List ℕ) (i : Item) (rest t s : List ℕ) (by
         is = is;
         unique = (decides d.means (ap document looked ∙ is)).0 true_is;
         shown = subst (IsShown false) (sym same) d.shown;
+        kept = kept;
       }
 
   pub has_same_keys : unique ≡ false → HasSameKeys style i

@@ -16,7 +16,7 @@ use ryu::Buffer;
 use std::alloc::AllocError;
 
 /// The float as it is encoded.
-fn encoded_float(bits: u64, width: FloatWidth) -> EncodedFloat
+pub(crate) fn encoded_float(bits: u64, width: FloatWidth) -> EncodedFloat
     requires { FitsFloat width bits }
     ensures { result ≡ float_of bits width }
 {

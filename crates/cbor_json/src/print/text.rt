@@ -4,17 +4,21 @@
 ghost use Rattle.std.specs.Prelude.{◌≡◌};
 ghost use Rattle.cbor_escapes.specs.Escapes.{escaped_text};
 ghost use Rattle.cbor_grammar.specs.declared.encoding.Encoding.TheVariants.{Base16};
+ghost use Rattle.cbor_grammar.specs.declared.strings.StringKind.TheVariants.{Bytes};
 ghost use Rattle.cbor_grammar.specs.mirror.StringView.{kind_of, borrowed_chunk};
 ghost use Rattle.cbor_grammar.specs.NotationText.{encoded_bytes, quoted};
 ghost use Rattle.cbor_tokens.specs.Appends.{AppendsText};
 ghost use Rattle.cbor_json.specs.JsonLeaves.{in_quotes, twice_escaped, edn_string, string_at};
 ghost use Rattle.cbor_json.specs.JsonLeaves.{part_at, content_at as content_there};
 ghost use Rattle.cbor_json.specs.JsonLeaves.{begins_container as begins, is_value as is_value_spot};
-ghost use Rattle.cbor_json.specs.JsonLeaves.{wants_bytes};
+ghost use Rattle.cbor_json.specs.JsonLeaves.{wants_bytes, is_big as is_big_number, BigText};
+ghost use Rattle.cbor_json.specs.JsonLeaves.{is_negative_tag, StringAt};
+ghost use Rattle.cbor_notation.specs.Dialect.{Writes};
 
 use crate::print::place::{JsonPlace, Spot};
 use base64::engine::general_purpose::{STANDARD, URL_SAFE_NO_PAD};
 use cbor_bytes::quoted::push_quoted;
+use cbor_digits::decimal;
 use cbor_escapes::push_escaped;
 use cbor_grammar::IntegerWidth;
 use cbor_grammar::encoding::Encoding;
@@ -121,8 +125,43 @@ fn push_edn_text(out: &mut String, text: &str, alloc: Global) -> Result<(), Allo
     out.push_str("\\\"")
 }
 
+/// Whether a byte string there is a big number that is written by its digits.
+fn is_big(place: &JsonPlace, bytes: &[u8]) -> bool
+    ensures { result ≡ is_big_number place.now Bytes bytes.now }
+{
+    is_value(place.spot) && matches!(place.tag, Some(2 | 3)) && bytes.len() <= 1024
+}
+
+/// Writes a big number by its digits.
+fn push_big(out: &mut String, bytes: &[u8], place: &JsonPlace) -> Result<(), AllocError>
+    ensures { Writes result out.old out.new (BigText (is_negative_tag place.now.tag) bytes.now) }
+{
+    let negative = matches!(place.tag, Some(3));
+    let digits = decimal(place.alloc, bytes, negative)?;
+    if negative {
+        out.push('-')?;
+    }
+    out.push_str(digits.as_str())
+}
+
 /// Writes a string of definite length.
 pub(super) fn push_string(
+    out: &mut String,
+    content: StringContent<'_>,
+    width: IntegerWidth,
+    place: &JsonPlace,
+) -> Result<(), AllocError>
+    ensures { Writes result out.old out.new (StringAt place.now
+        (kind_of content.entry) (borrowed_chunk width content.entry)) }
+{
+    match content {
+        StringContent::Bytes(bytes) if is_big(place, bytes) => push_big(out, bytes, place),
+        _ => push_plain_string(out, content, width, place),
+    }
+}
+
+/// Writes a string of definite length that is no big number.
+fn push_plain_string(
     out: &mut String,
     content: StringContent<'_>,
     width: IntegerWidth,

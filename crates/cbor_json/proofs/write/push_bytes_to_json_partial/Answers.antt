@@ -1,6 +1,5 @@
 -- The bytes begin with an item, are cut or have a fault, and that one of the three is returned.
-use Rattle.std.proofs.Common.{ap, refl, sym, subst, ◌∙◌, ◌++◌, arith}
-use Rattle.std.proofs.lemmas.Result.{err_from_is_err_and}
+use Rattle.std.proofs.Common.{ap, refl, subst, ◌∙◌, ◌++◌, arith}
 use Rattle.std.specs.String.{string_bytes}
 use Rattle.cbor_grammar.specs.Answer.{cut}
 use Rattle.cbor_grammar.specs.Reading.{Fails, read_item}
@@ -8,7 +7,7 @@ use Rattle.cbor_grammar.proofs.bytes.ExactlyOne.{one_outcome}
 use Rattle.cbor_grammar.proofs.bytes.Outcomes.{same}
 use Rattle.cbor_grammar.proofs.bytes.Shorter.{item_shorter}
 use Rattle.cbor_grammar.proofs.straight.PublicCalls.{begins_so, front_cut_so}
-use Rattle.cbor_json.specs.Written.{Judges}
+use Rattle.cbor_json.specs.Written.{Judges, Tells}
 use Rattle.cbor_json.proofs.writing.Calls.{outcome_is, gave_fault}
 use Rattle.cbor_json.proofs.write.push_bytes_to_json_partial.Goals as goal
 
@@ -99,6 +98,26 @@ returns-in_default c =
           (string_bytes c.args.out.now) o (λ i. omega (arith, c.type_inv.bytes i)) one
           c.in_default.not-CutShort c.in-Err.ensures.refused h;
       one_of_three = one;
+      loss = tt;
       cut_unchanged = λ e. refl;
       unchanged = refl;
     }
+
+pub returns-in-NotKept-clause-loss : goal.returns-in-NotKept-clause-loss
+returns-in-NotKept-clause-loss c = subst (Tells c.args.bytes.now) c.in-NotKept.is c.in-Ok.ensures.tells
+
+pub returns-in-NotKept-clause-one_of_three : goal.returns-in-NotKept-clause-one_of_three
+returns-in-NotKept-clause-one_of_three c =
+    one_outcome 1 128 c.args.bytes.now refl (λ i. omega (arith, c.type_inv.bytes i))
+
+pub returns-in-NotKept-clause-exact : goal.returns-in-NotKept-clause-exact
+returns-in-NotKept-clause-exact c =
+    let p = c.in-Ok.ensures.judged in
+    let b = c.args.bytes.now in
+    λ o h. (
+      p.0,
+      _,
+      outcome_is b c.in-Ok.found.1.now p.0 o (λ i. omega (arith, c.type_inv.bytes i))
+          (one_outcome 1 128 b refl (λ i. omega (arith, c.type_inv.bytes i))) p.1 h,
+      subst (λ x. Judges c.args.style x p.0) c.in-NotKept.is p.2,
+    )
