@@ -11,9 +11,9 @@ use Rattle.cbor_grammar.specs.declared.strings.StringKind.{StringKind}
 use Rattle.cbor_grammar.specs.declared.strings.StringKind.TheVariants.{Bytes, Text}
 use Rattle.cbor_grammar.specs.declared.head.ItemHead.TheVariants as item_head
 use Rattle.cbor_grammar.specs.StringKind.{major_of, IsContent}
-use Rattle.cbor_grammar.specs.Item.{Chunk, integer, negative, string, chunked_string, float, simple, atom}
+use Rattle.cbor_grammar.specs.Item.{Chunk, Atom, integer, negative, string, chunked_string, float, simple, atom}
 use Rattle.cbor_grammar.specs.Head.{opening, break_byte, head, HeadThen, FitsStated, shortest}
-use Rattle.cbor_grammar.specs.Bytes.{SpellsFloat, SpellsChunks}
+use Rattle.cbor_grammar.specs.Bytes.{strict, SpellsFloat, SpellsChunks, SpellsAtom}
 use Rattle.cbor_grammar.specs.Written.{encoded_head, encoded_float, encoded_simple}
 use Rattle.cbor_grammar.proofs.bytes.Heads.{HeadIs}
 use Rattle.cbor_grammar.proofs.bytes.Chunks.{chunk_with, chunk_parts, chunks_front}
@@ -23,18 +23,21 @@ use Rattle.cbor_floats.specs.Value.{bits_of}
 use Rattle.cbor_floats.specs.declared.float.EncodedFloat.{EncodedFloat}
 use Rattle.cbor_floats.specs.declared.float.EncodedFloat.TheVariants.{Half, Single, Double}
 use Rattle.cbor_rules.specs.declared.rules.Rules.{Rules}
-use Rattle.cbor_rules.specs.FirstBreach.{simple_breach, float_breach}
-use Rattle.cbor_rules.specs.Keeps.{float_of, KeepsFloat, IsReduced, without_memory}
+use Rattle.cbor_rules.specs.FirstBreach.{simple_breach}
+use Rattle.cbor_rules.specs.Keeps.{float_of, IsReduced}
 use Rattle.cbor_rules.specs.Reduced.{integer_of}
-use Rattle.cbor_rules.proofs.Floats.{float_found}
 use Rattle.std.specs.Prelude.{is_nan, from_bits, IsTrue}
 use Rattle.std.specs.Float.Ieee.{binary64}
 use Rattle.cbor_reencode.specs.mirror.Checked.{checked_rules}
-use Rattle.cbor_rules.specs.Same.{said_float}
+use Rattle.cbor_rules.specs.Same.{said, said_float}
+use Rattle.cbor_reencode.specs.declared.numbers.Reduced.{Reduced}
+use Rattle.cbor_reencode.specs.declared.numbers.Reduced.TheVariants as code
+use Rattle.cbor_reencode.specs.Reduction.{reduced_atom}
+use Rattle.cbor_reencode.specs.mirror.Numbers.{float_atom, atom_of, FitsNumber, number_bytes, IsNumber}
 use Rattle.cbor_rules.proofs.Heads.{simple_found}
 use Rattle.cbor_reencode.specs.mirror.Chosen.{chosen_width, IsChosen, float_width_of}
 use Rattle.cbor_reencode.specs.mirror.Rewritten.{ChunkAt, contents, Joined, RewrittenChunks, RewrittenAtom}
-use Rattle.cbor_reencode.proofs.Choices.{chosen_fits, chosen_keeps, content_keeps, stated_head}
+use Rattle.cbor_reencode.proofs.Choices.{chosen_fits, chosen_keeps, content_keeps, shortest_fits, stated_head}
 
 -- ---- chunks
 
@@ -107,7 +110,7 @@ front_parts b h r rest e f = e ∙ ap (λ (x : List ℕ). h ++ x) f
 alone : (major n : ℕ) (w : IntegerWidth) → FitsStated w n → HeadThen major n w (head major n w) (λ r. r ≡ [])
 alone major n w fits = (fits, [], sym (append-nil (head major n w)), refl)
 
-alone_written : (major n : ℕ) (w : IntegerWidth) → FitsStated w n
+pub alone_written : (major n : ℕ) (w : IntegerWidth) → FitsStated w n
     → HeadThen major n w (encoded_head major n w) (λ r. r ≡ [])
 alone_written major n w fits = (fits, [], stated_head major n w fits ∙ sym (append-nil (head major n w)), refl)
 
@@ -193,12 +196,12 @@ float_spelled (Half bits) fits = (fits, refl)
 float_spelled (Single bits) fits = (fits, refl)
 float_spelled (Double bits) fits = (fits, refl)
 
-float_is : (f : EncodedFloat) → float_of (bits_of f) (float_width_of f) ≡ f
+pub float_is : (f : EncodedFloat) → float_of (bits_of f) (float_width_of f) ≡ f
 float_is (Half bits) = refl
 float_is (Single bits) = refl
 float_is (Double bits) = refl
 
-said_again : (t : Bool) (bits : ℕ) (w : FloatWidth) (f : EncodedFloat) → bits_of (float_of bits w) ≡ bits
+pub said_again : (t : Bool) (bits : ℕ) (w : FloatWidth) (f : EncodedFloat) → bits_of (float_of bits w) ≡ bits
     → float_width_of (float_of bits w) ≡ w → widened f ≡ widened (float_of bits w)
     → (¬ (t ≡ true) → f ≡ float_of bits w) → said_float t bits w ≡ said_float t (bits_of f) (float_width_of f)
 said_again true bits w f bits_are width_is same kept =
@@ -209,7 +212,7 @@ said_again false bits w f bits_are width_is same kept =
     ∙ ap (λ (v : FloatWidth). float (bits_of f) v) (sym width_is ∙ ap float_width_of (sym is))
 
 -- what is chosen for a float that is reduced
-reduced_again : (rules : Rules) (f g : EncodedFloat) → IsChosen rules f g → IsReduced f → IsReduced g
+pub reduced_again : (rules : Rules) (f g : EncodedFloat) → IsChosen rules f g → IsReduced f → IsReduced g
 reduced_again rules f g is h = (
   subst (λ n. integer_of (from_bits binary64 n) ≡ None) (sym is.same) h.0,
   λ nan.
@@ -217,31 +220,36 @@ reduced_again rules f g is h = (
       is.half 0x7e00 usual ∙ usual,
 )
 
-pub float_again : (rules : Rules) (bits : ℕ) (w : FloatWidth) (f : EncodedFloat) (b rest old new : List ℕ)
-    → HeadIs (item_head.Float bits w) b rest → float_breach (checked_rules rules) (float_of bits w) ≡ None
-    → IsChosen rules (float_of bits w) f → new ≡ old ++ encoded_float (bits_of f) (float_width_of f)
+-- what is written for a float
+pub number_again : (rules : Rules) (bits : ℕ) (w : FloatWidth) (n : Reduced) (b rest old new : List ℕ)
+    → HeadIs (item_head.Float bits w) b rest → IsNumber rules (float_of bits w) n → new ≡ old ++ number_bytes n
     → RewrittenAtom rules b rest old new
-float_again rules bits w f b rest old new h none is e =
-    let reduced = (float_found (checked_rules rules) (float_of bits w) none).0 in
+number_again rules bits w n b rest old new h is e =
     let a = float_at b rest bits w h in
+    let same : float_atom (float_of bits w) ≡ float bits w =
+    ap (λ k. float k (float_width_of (float_of bits w))) a.bits_are ∙ ap (λ (v : FloatWidth). float bits v) a.width_is in
     record {
       atom = float bits w;
       front = a.front;
       parts = a.parts;
       spells = a.spells;
-      bytes = encoded_float (bits_of f) (float_width_of f);
+      bytes = number_bytes n;
       added = e;
-      written = float (bits_of f) (float_width_of f);
-      written_spells = float_spelled f is.fits;
-      keeps = subst (λ (g : EncodedFloat). KeepsFloat (without_memory rules) g) (sym (float_is f))
-          (λ on. reduced_again rules (float_of bits w) f is (reduced on), is.preferred);
-      same = said_again rules.shortest_floats bits w f a.bits_are a.width_is is.same is.kept;
+      written = atom_of n;
+      written_spells = number_spelled n is.fits;
+      keeps = is.keeps;
+      same = ap (λ (x : Atom). said rules.shortest_floats (reduced_atom rules x)) (sym same) ∙ is.same;
     }
+  where
+    number_spelled : (n : Reduced) → FitsNumber n → SpellsAtom strict (number_bytes n) (atom_of n)
+    number_spelled (code.Unsigned m) lt = alone_written 0 m (shortest m) (shortest_fits m lt)
+    number_spelled (code.Negative m) lt = alone_written 1 m (shortest m) (shortest_fits m lt)
+    number_spelled (code.Float f) fits = float_spelled f fits
 
 -- ---- strings
 
 -- a content after a head that has its length
-content_written : (kind : StringKind) (content : List ℕ) (v : IntegerWidth) → FitsStated v (length content)
+pub content_written : (kind : StringKind) (content : List ℕ) (v : IntegerWidth) → FitsStated v (length content)
     → IsContent kind content
     → ChunkAt kind (encoded_head (major_of kind) (length content) v ++ content) content v []
 content_written kind content v fits is = (

@@ -1,5 +1,6 @@
 -- What was checked is read again without an error, part by part.
-use Rattle.std.proofs.Common.{◌≡◌, ℕ, zero, suc, ◌+◌, ◌-◌, ◌<◌, ◌≤◌, Bool, true, false, cond, List, [], ◌∷◌, length, take}
+use Rattle.std.proofs.Common.{◌≡◌, ℕ, zero, suc, ◌+◌, ◌-◌, ◌<◌, ◌≤◌, Bool, true, false}
+use Rattle.std.proofs.Common.{cond, List, [], ◌∷◌, length, take}
 use Rattle.std.proofs.Common.{drop, Option, Some, None, Ok, Err, refl, sym, ap, subst, ◌∙◌, arith}
 use Rattle.std.proofs.lemmas.Bool.{ltb-false}
 use Rattle.std.proofs.lemmas.Str.{IsUtf8-from_is_utf8}
@@ -46,7 +47,8 @@ pub record Started (rules : Rules) (len level : ℕ) (b rest : List ℕ) : Type 
   pub read : read_head b ≡ Ok (head, after)
   pub le : level ≤ deepest
   pub none : head_breach (checked_rules rules) level b head after ≡ None
-  pub body : kept_body (checked_rules rules) len b (kept_item (128 - level) (checked_rules rules) len) (opened head) head after
+  pub body : kept_body (checked_rules rules) len b (kept_item (128 - level) (checked_rules rules) len) (opened head)
+      head after
       ≡ Ok rest
 
 started_in : (left : ℕ) (rules : Rules) (len level : ℕ) (b rest : List ℕ) → left ≡ 129 - level
@@ -81,7 +83,8 @@ started rules len level b rest e = started_in (129 - level) rules len level b re
 pub record Opened (rules : Rules) (len level : ℕ) (b rest : List ℕ) (h : ItemHead) (r : List ℕ) : Type 0 where
   pub le : level ≤ deepest
   pub none : head_breach (checked_rules rules) level b h r ≡ None
-  pub body : kept_body (checked_rules rules) len b (kept_item (128 - level) (checked_rules rules) len) (opened h) h r ≡ Ok rest
+  pub body : kept_body (checked_rules rules) len b (kept_item (128 - level) (checked_rules rules) len) (opened h) h r
+      ≡ Ok rest
 
 pub opened_at : (rules : Rules) (len level : ℕ) (b rest : List ℕ) (h : ItemHead) (r : List ℕ)
     → Checked rules len level b rest → read_head b ≡ Ok (h, r) → Opened rules len level b rest h r
@@ -151,7 +154,8 @@ tag_start rules len level b rest t w r e read =
 pub atom_there : (rules : Rules) (len level : ℕ) (b rest : List ℕ) (h : ItemHead) (r : List ℕ)
     → Opened rules len level b rest h r → opened h ≡ None → CheckedAtom rules len b h r rest
 atom_there rules len level b rest h r o none =
-    subst (λ (x : Option Open). kept_body (checked_rules rules) len b (kept_item (128 - level) (checked_rules rules) len) x h r
+    subst (λ (x : Option Open). kept_body (checked_rules rules) len b
+    (kept_item (128 - level) (checked_rules rules) len) x h r
     ≡ Ok rest) none o.body
 
 pub no_parts : (h : ItemHead) → ((a : Argument) → h ≢ item_head.Array a) → ((a : Argument) → h ≢ item_head.Map a)
@@ -240,9 +244,11 @@ module _ (rules : Rules) (len level : ℕ) (whole : List ℕ) where
         after = p.after;
         item = p.item;
         turns = n.turns;
-        left = subst (λ (r : List ℕ). kept_parts n.turns (checked_rules rules) len read (members (left_of a (held + 1))) r
+        left = subst (λ (r : List ℕ). kept_parts n.turns (checked_rules rules) len read
+            (members (left_of a (held + 1))) r
             ≡ Ok p.after) (same_rest b n.rest x n.reads e)
-            (subst (λ (o : Open). kept_parts n.turns (checked_rules rules) len read o n.rest ≡ Ok p.after) (sym next) n.left);
+            (subst (λ (o : Open). kept_parts n.turns (checked_rules rules) len read o n.rest ≡ Ok p.after) (sym next)
+            n.left);
       }
 
   pub members_end : (a : Argument) (held : ℕ) (b end : List ℕ) → MembersLeft rules len level whole a held b
@@ -273,7 +279,8 @@ module _ (rules : Rules) (len level : ℕ) (whole : List ℕ) where
       let read = kept_item (128 - level) last len in
       let n = next_part p.1.turns last len read (pairs p.0 no_places (left_of a held)) b p.1.after p.1.left none in
       let key : KeyAt = record { place = place_of len b; bytes = front b n.rest } in
-      let u = unless_kept len b (key_breach last p.0 no_places (front b n.rest)) (value key no_places (one_less (left_of a held))) n.next
+      let u = unless_kept len b (key_breach last p.0 no_places (front b n.rest))
+      (value key no_places (one_less (left_of a held))) n.next
       n.part in
       let next : value key no_places (left_of a (held + 1)) ≡ n.next =
       ap (λ (c : Argument). value key no_places c) (sym (left_after a held b none)) ∙ u.1 in (
@@ -317,7 +324,8 @@ module _ (rules : Rules) (len level : ℕ) (whole : List ℕ) where
       → after_members (left_of a held) b ≡ Some end → Checked rules len level whole end
   pairs_end a held b end p some =
       subst (λ (r : List ℕ). Checked rules len level whole r) (parts_done p.1.turns (checked_rules rules) len
-      (kept_item (128 - level) (checked_rules rules) len) (pairs p.0 no_places (left_of a held)) b end p.1.after p.1.left some) p.1.item
+      (kept_item (128 - level) (checked_rules rules) len) (pairs p.0 no_places (left_of a held)) b end p.1.after
+      p.1.left some) p.1.item
 
   -- ---- the item of a tag
 
@@ -442,12 +450,14 @@ string_chunks rules len b kind a r after is e =
 -- items up to the end
 pub next_item : (n : ℕ) (rules : Rules) (len : ℕ) (b : List ℕ) → 0 < length b → length b ≤ n
     → breach_from n (checked_rules rules) len b ≡ None
-    → (m : ℕ) × (r : List ℕ) × (n ≡ suc m) × Checked rules len 1 b r × (breach_from m (checked_rules rules) len r ≡ None)
+    → (m : ℕ) × (r : List ℕ) × (n ≡ suc m) × Checked rules len 1 b r ×
+    (breach_from m (checked_rules rules) len r ≡ None)
 unfolding breach_from
 next_item zero rules len b some le e = absurd (omega arith)
 next_item (suc n) rules len [] some le e = absurd (omega arith)
 next_item (suc n) rules len (first ∷ b) some le e =
-    let t = none_or (kept_item deepest (checked_rules rules) len (first ∷ b)) (breach_from n (checked_rules rules) len) e in
+    let t = none_or (kept_item deepest (checked_rules rules) len (first ∷ b))
+    (breach_from n (checked_rules rules) len) e in
     (n, t.0, refl, t.1, t.2)
   where
     none_or : (r : Kept (List ℕ)) (f : List ℕ → Option Breach) → breach_or r f ≡ None

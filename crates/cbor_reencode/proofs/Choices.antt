@@ -15,7 +15,7 @@ use Rattle.cbor_rules.specs.declared.rules.Rules.{Rules}
 use Rattle.cbor_rules.specs.Keeps.{KeepsNumber, KeepsCount, KeepsContent, without_memory}
 use Rattle.cbor_reencode.specs.mirror.Chosen.{chosen_width, chosen_count}
 
-fits_number : (w : IntegerWidth) (n : ℕ) → FitsStated w n → n < 2 ^ 64
+pub fits_number : (w : IntegerWidth) (n : ℕ) → FitsStated w n → n < 2 ^ 64
 fits_number Unknown n fits = absurd fits
 fits_number Zero n fits = omega arith
 fits_number Eight n fits = omega arith

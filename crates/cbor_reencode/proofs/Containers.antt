@@ -10,25 +10,30 @@ use Rattle.cbor_grammar.specs.declared.width.IntegerWidth.{IntegerWidth}
 use Rattle.cbor_grammar.specs.declared.argument.Argument.{Argument}
 use Rattle.cbor_grammar.specs.declared.argument.Argument.TheVariants.{Number, Indefinite}
 use Rattle.cbor_grammar.specs.Item as spec
-use Rattle.cbor_grammar.specs.Item.{atom, array, tagged, no_items, item, Pairs, no_pairs, pair, item_count, pair_count}
+use Rattle.cbor_grammar.specs.Item.{Item, atom, array, tagged, no_items, item, Pairs}
+use Rattle.cbor_grammar.specs.Item.{no_pairs, pair, item_count, pair_count}
 use Rattle.cbor_grammar.specs.Head.{opening, break_byte, head, HeadThen, FitsStated, shortest}
 use Rattle.cbor_grammar.specs.WellFormed.{deepest}
-use Rattle.cbor_grammar.specs.Bytes.{strict, MembersThen, SpellsItems, SpellsPairs}
-use Rattle.cbor_grammar.specs.Written.{encoded_head, encoded_open, encoded_close}
+use Rattle.cbor_grammar.specs.Bytes.{strict, MembersThen, Spells, SpellsItems, SpellsPairs}
+use Rattle.cbor_grammar.specs.Written.{encoded, encoded_open, encoded_close}
 use Rattle.cbor_grammar.specs.Reading.{after_members, count_width}
 use Rattle.cbor_grammar.specs.mirror.Lengths.{left_of}
-use Rattle.cbor_grammar.proofs.bytes.Heads.{ArgumentThen}
+use Rattle.cbor_grammar.proofs.bytes.Heads.{ArgumentThen, IsBytes}
 use Rattle.cbor_grammar.proofs.bytes.Found.{after_break_is}
+use Rattle.cbor_grammar.proofs.bytes.Strict.{strict_only}
 use Rattle.cbor_rules.specs.declared.rules.Rules.{Rules}
-use Rattle.cbor_rules.specs.FirstBreach.{tag_breach}
+use Rattle.cbor_rules.specs.FirstBreach.{place_of}
 use Rattle.cbor_rules.specs.Keeps.{KeepsCount, without_memory}
-use Rattle.cbor_rules.proofs.BigNumbers.{big_found}
 use Rattle.cbor_reencode.specs.declared.pairs.Pair.{Pair}
-use Rattle.cbor_reencode.specs.mirror.Chosen.{chosen_width, chosen_count, FitsHeld}
-use Rattle.cbor_reencode.specs.mirror.Rewritten.{Again, Rewritten, RewrittenAtom, CountIs, close, PairsAre}
+use Rattle.cbor_reencode.specs.mirror.Chosen.{chosen_count, FitsHeld}
+use Rattle.cbor_reencode.specs.Reencoded.{Again}
+use Rattle.cbor_reencode.specs.mirror.Rewritten.{Rewritten, RewrittenAtom, CountIs, close, PairsAre}
+use Rattle.cbor_reencode.specs.mirror.Rewritten.{PlacesAre}
 use Rattle.cbor_reencode.specs.mirror.Rewritten.{RewrittenItems}
 use Rattle.cbor_reencode.specs.mirror.Rewritten.{RewrittenPairs, pair_bytes, Rises, Sequence}
-use Rattle.cbor_reencode.proofs.Choices.{shortest_fits, chosen_fits, chosen_keeps, stated_head, count_keeps}
+use Rattle.cbor_reencode.specs.mirror.Numbers.{tagged_bytes}
+use Rattle.cbor_reencode.proofs.BigNumbers.{tag_again}
+use Rattle.cbor_reencode.proofs.Choices.{shortest_fits, chosen_fits, stated_head, count_keeps}
 use Rattle.cbor_reencode.proofs.Sorted.{ordered}
 
 pub atom_done : (rules : Rules) (level : ℕ) (b rest old new : List ℕ) → level ≤ deepest
@@ -45,7 +50,7 @@ atom_done rules level b rest old new le a = record {
 
 -- ---- how many are still to come
 
-close_left : (a : Argument) (held : ℕ) → close (left_of a held) ≡ close a
+pub close_left : (a : Argument) (held : ℕ) → close (left_of a held) ≡ close a
 close_left (Number n w) held = refl
 close_left Indefinite held = refl
 
@@ -53,13 +58,13 @@ some_left : (n : ℕ) (w : IntegerWidth) (b : List ℕ) → after_members (Numbe
 some_left zero w b e = absurd cc
 some_left (suc n) w b e = omega arith
 
-one_fewer : (a : Argument) (held : ℕ) (b : List ℕ) (k : ℕ) → after_members (left_of a held) b ≡ None
+pub one_fewer : (a : Argument) (held : ℕ) (b : List ℕ) (k : ℕ) → after_members (left_of a held) b ≡ None
     → CountIs (left_of a (held + 1)) k → CountIs (left_of a held) (suc k)
 one_fewer (Number n w) held b k none is = let some = some_left (n - held) w b none in omega arith
 one_fewer Indefinite held b k none is = tt
 
 -- before any is there
-count_at_first : (a : Argument) (k : ℕ) → CountIs (left_of a 0) k → CountIs a k
+pub count_at_first : (a : Argument) (k : ℕ) → CountIs (left_of a 0) k → CountIs a k
 count_at_first (Number n w) k is = omega arith
 count_at_first Indefinite k is = tt
 
@@ -172,9 +177,9 @@ items_whole rules level a held b rest after written more e =
 
 -- ---- pairs
 
-pub pairs_end : (rules : Rules) (level : ℕ) (a : Argument) (b after : List ℕ) (old : List Pair)
-    → after_members a b ≡ Some after → RewrittenPairs rules level a b after old old
-pairs_end rules level a b after old e =
+pub pairs_end : (rules : Rules) (len level : ℕ) (a : Argument) (b after : List ℕ) (old : List Pair)
+    → after_members a b ≡ Some after → RewrittenPairs rules len level a b after old old
+pairs_end rules len level a b after old e =
     let s = ended a b after e in
     record {
       pairs = no_pairs;
@@ -185,14 +190,21 @@ pairs_end rules level a b after old e =
       kept = [];
       added = sym (append-nil old);
       are = tt;
+      places = tt;
     }
 
-pub pairs_more : (rules : Rules) (level : ℕ) (a : Argument) (held : ℕ) (b r s after : List ℕ) (p : Pair)
-    (old mid new : List Pair) → after_members (left_of a held) b ≡ None
+-- where the bytes after an item are
+pub passed : (len level : ℕ) (b front rest : List ℕ) (i : Item) → length b ≤ len → b ≡ front ++ rest
+    → Spells strict level front i → place_of len rest ≡ place_of len b + length (encoded i)
+passed len level b front rest i le parts spells =
+    omega (arith, ap length parts, length-append front rest, ap length (strict_only level front i spells), le)
+
+pub pairs_more : (rules : Rules) (len level : ℕ) (a : Argument) (held : ℕ) (b r s after : List ℕ) (p : Pair)
+    (old mid new : List Pair) → length b ≤ len → p.place ≡ place_of len b → after_members (left_of a held) b ≡ None
     → Rewritten rules level b r [] p.key.items → Rewritten rules level r s [] p.value.items → mid ≡ old ++ (p ∷ [])
-    → RewrittenPairs rules level (left_of a (held + 1)) s after mid new
-    → RewrittenPairs rules level (left_of a held) b after old new
-pairs_more rules level a held b r s after p old mid new none key value e m = record {
+    → RewrittenPairs rules len level (left_of a (held + 1)) s after mid new
+    → RewrittenPairs rules len level (left_of a held) b after old new
+pairs_more rules len level a held b r s after p old mid new le at none key value e m = record {
   pairs = pair key.item value.item m.pairs;
   front = key.front ++ (value.front ++ m.front);
   parts = key.parts ∙ ap (λ (x : List ℕ). key.front ++ x) (value.parts ∙ ap (λ (x : List ℕ). value.front ++ x) m.parts
@@ -217,16 +229,23 @@ pairs_more rules level a held b r s after p old mid new none key value e m = rec
     },
     m.are,
   );
+  places =
+      let here = passed len level b key.front r key.item le key.parts key.spells in
+      let shorter : length r ≤ len = omega (arith, ap length key.parts, length-append key.front r, le) in
+      let next = passed len level r value.front s value.item shorter value.parts value.spells in (
+        at,
+        subst (λ n. PlacesAre n m.pairs m.kept) (next ∙ ap (λ n. n + length (encoded value.item)) here) m.places,
+      );
 }
 
-abbrev pub PairsMore : Rules → ℕ → Argument → List ℕ → List ℕ → List Pair → Type 0
-PairsMore rules level a b rest kept = (after : List ℕ) (new : List Pair)
-    → RewrittenPairs rules level (left_of a (length kept)) rest after kept new
-    → RewrittenPairs rules level a b after [] new
+abbrev pub PairsMore : Rules → ℕ → ℕ → Argument → List ℕ → List ℕ → List Pair → Type 0
+PairsMore rules len level a b rest kept = (after : List ℕ) (new : List Pair)
+    → RewrittenPairs rules len level (left_of a (length kept)) rest after kept new
+    → RewrittenPairs rules len level a b after [] new
 
-pub pairs_start : (rules : Rules) (level : ℕ) (a : Argument) (b : List ℕ) (kept : List Pair) → kept ≡ []
-    → PairsMore rules level a b b kept
-pairs_start rules level a b kept e = subst (λ (x : List Pair). PairsMore rules level a b b x) (sym e)
+pub pairs_start : (rules : Rules) (len level : ℕ) (a : Argument) (b : List ℕ) (kept : List Pair) → kept ≡ []
+    → PairsMore rules len level a b b kept
+pairs_start rules len level a b kept e = subst (λ (x : List Pair). PairsMore rules len level a b b x) (sym e)
     (λ after new m. record {
       pairs = m.pairs;
       front = m.front;
@@ -236,31 +255,33 @@ pairs_start rules level a b kept e = subst (λ (x : List Pair). PairsMore rules 
       kept = m.kept;
       added = m.added;
       are = m.are;
+      places = m.places;
     })
 
-pub pairs_step : (rules : Rules) (level : ℕ) (a : Argument) (b rest r s : List ℕ) (p : Pair) (kept mid : List Pair)
-    → PairsMore rules level a b rest kept → after_members (left_of a (length kept)) rest ≡ None
+pub pairs_step : (rules : Rules) (len level : ℕ) (a : Argument) (b rest r s : List ℕ) (p : Pair)
+    (kept mid : List Pair) → length rest ≤ len → p.place ≡ place_of len rest
+    → PairsMore rules len level a b rest kept → after_members (left_of a (length kept)) rest ≡ None
     → Rewritten rules level rest r [] p.key.items → Rewritten rules level r s [] p.value.items
-    → mid ≡ kept ++ (p ∷ []) → PairsMore rules level a b s mid
-pairs_step rules level a b rest r s p kept mid more none key value e = λ after new m.
+    → mid ≡ kept ++ (p ∷ []) → PairsMore rules len level a b s mid
+pairs_step rules len level a b rest r s p kept mid le at more none key value e = λ after new m.
     let longer : length mid ≡ length kept + 1 = omega (arith, ap length e, length-append kept (p ∷ [])) in
-    more after new (pairs_more rules level a (length kept) rest r s after p kept mid new none key value e
-    (subst (λ k. RewrittenPairs rules level (left_of a k) s after mid new) longer m))
+    more after new (pairs_more rules len level a (length kept) rest r s after p kept mid new le at none key value e
+    (subst (λ k. RewrittenPairs rules len level (left_of a k) s after mid new) longer m))
 
-pub pairs_whole : (rules : Rules) (level : ℕ) (a : Argument) (b rest after : List ℕ) (kept : List Pair)
-    → PairsMore rules level a b rest kept → after_members (left_of a (length kept)) rest ≡ Some after
-    → RewrittenPairs rules level a b after [] kept
-pairs_whole rules level a b rest after kept more e =
-    more after kept (pairs_end rules level (left_of a (length kept)) rest after kept e)
+pub pairs_whole : (rules : Rules) (len level : ℕ) (a : Argument) (b rest after : List ℕ) (kept : List Pair)
+    → PairsMore rules len level a b rest kept → after_members (left_of a (length kept)) rest ≡ Some after
+    → RewrittenPairs rules len level a b after [] kept
+pairs_whole rules len level a b rest after kept more e =
+    more after kept (pairs_end rules len level (left_of a (length kept)) rest after kept e)
 
 -- ---- a container as a whole
 
-record Whole (major k : ℕ) (a : Argument) (b rest : List ℕ) (Members : List ℕ → List ℕ → Type 0) : Type 0 where
+pub record Whole (major k : ℕ) (a : Argument) (b rest : List ℕ) (Members : List ℕ → List ℕ → Type 0) : Type 0 where
   pub front : List ℕ
   pub parts : b ≡ front ++ rest
   pub spells : MembersThen major k (count_width a) front Members
 
-whole : (major k : ℕ) (a : Argument) (b r inner rest : List ℕ) (Members : List ℕ → List ℕ → Type 0)
+pub whole : (major k : ℕ) (a : Argument) (b r inner rest : List ℕ) (Members : List ℕ → List ℕ → Type 0)
     → ArgumentThen major a b r → r ≡ inner ++ rest → CountIs a k → Members inner (close a)
     → Whole major k a b rest Members
 whole major k (Number n w) b r inner rest Members is parts count inside =
@@ -348,20 +369,20 @@ pairs_number rules level (pair k v ps) [] h = absurd h
 pairs_number rules level (pair k v ps) (x ∷ xs) h = ap suc (pairs_number rules level ps xs h.1)
 
 -- the pairs of a map are as many as were kept
-pub pairs_count : (rules : Rules) (level : ℕ) (a : Argument) (r after : List ℕ) (xs : List Pair)
-    → RewrittenPairs rules level a r after [] xs → CountIs a (length xs)
-pairs_count rules level a r after xs m =
+pub pairs_count : (rules : Rules) (len level : ℕ) (a : Argument) (r after : List ℕ) (xs : List Pair)
+    → RewrittenPairs rules len level a r after [] xs → CountIs a (length xs)
+pairs_count rules len level a r after xs m =
     subst (λ k. CountIs a k)
     (pairs_number rules level m.pairs m.kept m.are ∙ ap (λ (x : List Pair). length x) (sym m.added)) m.count
 
-pub map_done : (rules : Rules) (level : ℕ) (a : Argument) (b r after old new : List ℕ) (xs ys : List Pair)
+pub map_done : (rules : Rules) (len level : ℕ) (a : Argument) (b r after old new : List ℕ) (xs ys : List Pair)
     → level ≤ deepest → level ≤ rules.deepest → length ys < 2 ^ 64 → ArgumentThen 5 a b r
-    → RewrittenPairs rules (level + 1) a r after [] xs → IsPermutation xs ys
+    → RewrittenPairs rules len (level + 1) a r after [] xs → IsPermutation xs ys
     → AllAdjacentBelow (Rises rules.key_order) ys (length ys)
     → new ≡ old ++ (encoded_open 5 (length ys) (chosen_count rules a (length ys))
     ++ (pair_bytes ys ++ encoded_close (chosen_count rules a (length ys))))
     → Rewritten rules level b after old new
-map_done rules level a b r after old new xs ys le deep few is m moves up e =
+map_done rules len level a b r after old new xs ys le deep few is m moves up e =
     let n : ℕ = length ys in
     let v : Option IntegerWidth = chosen_count rules a n in
     let o = ordered rules (level + 1) m.pairs xs ys
@@ -369,7 +390,8 @@ map_done rules level a b r after old new xs ys le deep few is m moves up e =
     let w = whole 5 (pair_count m.pairs) a b r m.front after
     (λ x end. SpellsPairs strict (level + 1) x m.pairs end) is m.parts m.count m.spells in
     let count : CountIs a n =
-    subst (λ k. CountIs a k) (sym (length_permutation xs ys moves)) (pairs_count rules (level + 1) a r after xs m) in
+    subst (λ k. CountIs a k) (sym (length_permutation xs ys moves)) (pairs_count rules len (level + 1) a r after xs m)
+    in
     let bytes : List ℕ = encoded_open 5 n v ++ (pair_bytes ys ++ encoded_close v) in
     let fits = count_fits rules a n few (held_fits 5 a n b r is count) in
     let written = open_written 5 n v (pair_bytes ys) (λ x end. SpellsPairs strict (level + 1) x o.pairs end) fits
@@ -399,44 +421,23 @@ map_done rules level a b r after old new xs ys le deep few is m moves up e =
       };
     }
 
-pub tag_done : (rules : Rules) (level t : ℕ) (w : IntegerWidth) (b r rest y old mid new : List ℕ) → level ≤ deepest
-    → rules.tags ≡ true → HeadThen 6 t w b (λ x. x ≡ r) → Rewritten rules (level + 1) r rest [] y
-    → tag_breach rules t y ≡ None → mid ≡ old ++ encoded_head 6 t (chosen_width rules t w) → new ≡ mid ++ y
-    → Rewritten rules level b rest old new
-tag_done rules level t w b r rest y old mid new le on h inner none e f =
-    let v : IntegerWidth = chosen_width rules t w in
+pub tag_done : (rules : Rules) (level t : ℕ) (w : IntegerWidth) (b r rest y old new : List ℕ) → level ≤ deepest
+    → rules.tags ≡ true → HeadThen 6 t w b (λ x. x ≡ r) → Rewritten rules (level + 1) r rest [] y → IsBytes y
+    → new ≡ old ++ tagged_bytes rules t w y → Rewritten rules level b rest old new
+tag_done rules level t w b r rest y old new le on h inner bytes e =
     let h_bytes = head 6 t w in
     let i = inner.again in
-    let whole_content : tag_breach rules t (inner.bytes ++ []) ≡ None =
-    subst (λ (x : List ℕ). tag_breach rules t x ≡ None) (inner.added ∙ sym (append-nil inner.bytes)) none in
+    let is = sym inner.added in
     record {
       item = tagged t w inner.item;
       front = h_bytes ++ inner.front;
       parts = h.2 ∙ ap (λ (x : List ℕ). h_bytes ++ x) (h.3 ∙ inner.parts)
           ∙ sym (append_assoc h_bytes inner.front rest);
       spells = (le, (h.0, inner.front, refl, inner.spells));
-      bytes = encoded_head 6 t v ++ inner.bytes;
-      added = f ∙ ap (λ (x : List ℕ). x ++ y) e ∙ append_assoc old (encoded_head 6 t v) y
-          ∙ ap (λ (x : List ℕ). old ++ (encoded_head 6 t v ++ x)) inner.added;
-      again = record {
-        item = tagged t v i.item;
-        spells = (
-          le,
-          (
-            chosen_fits rules t w h.0,
-            inner.bytes,
-            ap (λ (x : List ℕ). x ++ inner.bytes) (stated_head 6 t v (chosen_fits rules t w h.0)),
-            i.spells,
-          ),
-        );
-        keeps = (
-          on,
-          chosen_keeps rules t w,
-          big_found rules t i.item (level + 1) inner.bytes [] i.spells whole_content,
-          i.keeps,
-        );
-        same = (refl, i.same);
-      };
+      bytes = tagged_bytes rules t w y;
+      added = e;
+      again = tag_again rules level t w inner.item le on h.0 y i.item bytes
+          (subst (λ (x : List ℕ). Spells strict (level + 1) x i.item) is i.spells) i.keeps i.same;
     }
 
 -- ---- items one after the other

@@ -19,6 +19,7 @@ use Rattle.cbor_rules.specs.Keeps.{KeepsContent, KeepsChunk, KeepsCount, KeepsSi
 use Rattle.cbor_rules.specs.Keeps.{Keeps, KeepsItems, without_memory}
 use Rattle.cbor_rules.specs.Keeps.{KeepsPairs, KeepsRules}
 use Rattle.cbor_rules.specs.Same.{IsSame, SameItems, SamePairs, AreKept}
+use Rattle.cbor_reencode.specs.Reduction.{reduced_items}
 use Rattle.cbor_reencode.specs.Reencoded.{IsReencoded, lasting}
 use Rattle.cbor_reencode.specs.mirror.Checked.{checked_rules}
 use Rattle.cbor_reencode.specs.mirror.Rewritten.{Sequence}
@@ -123,10 +124,10 @@ pub last_less : (rules : Rules) → AsksLess rules (lasting rules)
 last_less rules = record {
   heads = λ on. off on;
   floats = λ on. off on;
-  reduced = λ on. on;
+  reduced = λ on. off on;
   simple = λ on. on;
   lengths = λ on. off on;
-  big = λ on. on;
+  big = λ on. off on;
   nfc = λ on. on;
   order = inl refl;
   distinct = λ on. on;
@@ -177,13 +178,13 @@ all_free rules b nfc distinct h =
 -- ---- the same items
 
 mutual
-  same_item : (floats : Bool) (i : Item) → IsSame floats i i
+  pub same_item : (floats : Bool) (i : Item) → IsSame floats i i
   same_item floats (atom a) = refl
   same_item floats (array is w) = same_items floats is
   same_item floats (spec.map ps w) = same_pairs floats ps
   same_item floats (tagged t w i) = (refl, same_item floats i)
 
-  same_items : (floats : Bool) (is : Items) → SameItems floats is is
+  pub same_items : (floats : Bool) (is : Items) → SameItems floats is is
   same_items floats no_items = tt
   same_items floats (item i is) = (same_item floats i, same_items floats is)
 
@@ -199,7 +200,7 @@ reencoded_itself rules b h = record {
   spells = h.1;
   written = h.0;
   kept = record { spells = h.1; keeps = (rules_kept rules (without_memory rules) (free_less rules) b h).2 };
-  same = same_items rules.shortest_floats h.0;
+  same = same_items rules.shortest_floats (reduced_items rules h.0);
 }
 
 pub reencoded_keeps : (rules : Rules) (b again : List ℕ) → IsReencoded rules b again

@@ -5,5 +5,9 @@ pub mod Choices
 pub mod Chunks
 pub mod Atoms
 pub mod Sorted
-pub mod Containers
 pub mod Kept
+pub mod Reductions
+pub mod BigNumbers
+pub mod Containers
+pub mod Twice
+pub mod Inwards

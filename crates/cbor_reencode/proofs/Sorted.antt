@@ -15,6 +15,7 @@ use Rattle.cbor_rules.specs.KeyOrder.{key_cmp}
 use Rattle.cbor_rules.specs.Keeps.{Keeps, KeepsPairs, KeysAfter, KeysInOrder, without_memory}
 use Rattle.cbor_rules.specs.Same.{SamePairs}
 use Rattle.cbor_reencode.specs.declared.pairs.Pair.{Pair}
+use Rattle.cbor_reencode.specs.Reduction.{reduced_item, reduced_pairs}
 use Rattle.cbor_reencode.specs.mirror.Rewritten.{PairsAre, pair_bytes, Rises}
 use Rattle.cbor_reencode.proofs.Removals.{Removes, removes}
 
@@ -62,10 +63,16 @@ module _ (rules : Rules) (level : ℕ) where
 
   -- ---- the same pairs
 
+  reduced_joined : (ps qs : Pairs) → reduced_pairs rules (joined_pairs ps qs)
+      ≡ joined_pairs (reduced_pairs rules ps) (reduced_pairs rules qs)
+  reduced_joined no_pairs qs = refl
+  reduced_joined (pair k v ps) qs =
+      ap (λ (q : Pairs). pair (reduced_item rules k) (reduced_item rules v) q) (reduced_joined ps qs)
+
   record Moved (ps : Pairs) (ys : List Pair) : Type 0 where
     pub pairs : Pairs
     pub are : WritesAre pairs ys
-    pub same : SamePairs rules.shortest_floats ps pairs
+    pub same : SamePairs rules.shortest_floats (reduced_pairs rules ps) (reduced_pairs rules pairs)
 
   moved : (ps : Pairs) (xs ys : List Pair) → PairsAre rules level ps xs → Removes xs ys → Moved ps ys
   moved no_pairs [] ys are h = record {
@@ -91,14 +98,15 @@ module _ (rules : Rules) (level : ℕ) where
         are = subst (λ (l : List Pair). WritesAre (joined_pairs s.before (pair key.item value.item s.after)) l)
             (sym h.2) (join h.0 (x ∷ h.1) s.before (pair key.item value.item s.after) s.firsts (one, s.lasts));
         same = (
-          s.before,
-          s.after,
-          key.item,
-          value.item,
-          refl,
+          reduced_pairs rules s.before,
+          reduced_pairs rules s.after,
+          reduced_item rules key.item,
+          reduced_item rules value.item,
+          reduced_joined s.before (pair key.item value.item s.after),
           key.same,
           value.same,
-          subst (λ (q : Pairs). SamePairs rules.shortest_floats ps q) s.parts m.same,
+          subst (λ (q : Pairs). SamePairs rules.shortest_floats (reduced_pairs rules ps) q)
+              (ap (λ (q : Pairs). reduced_pairs rules q) s.parts ∙ reduced_joined s.before s.after) m.same,
         );
       }
 
@@ -165,7 +173,7 @@ module _ (rules : Rules) (level : ℕ) where
     pub number : pair_count pairs ≡ length ys
     pub keeps : KeepsPairs (without_memory rules) level pairs
     pub keys : KeysInOrder rules.key_order pairs
-    pub same : SamePairs rules.shortest_floats ps pairs
+    pub same : SamePairs rules.shortest_floats (reduced_pairs rules ps) (reduced_pairs rules pairs)
 
   pub ordered : (ps : Pairs) (xs ys : List Pair) → PairsAre rules level ps xs → IsPermutation xs ys
       → AllAdjacentBelow (Rises rules.key_order) ys (length ys) → Ordered ps ys

@@ -1,2 +1,3 @@
+pub mod Reduction
 pub mod Reencoded
 pub mod mirror

@@ -11,11 +11,12 @@ pub enum ReencodeError {
     /// An allocation failed.
     Memory,
     /// The bytes are no items of RFC 8949, one after the other, or they break a rule that no other
-    /// choice of widths, lengths and order keeps: a tag, a level that is too deep, a big number that
-    /// the rules want shorter, a float that is an integer, another NaN or simple value than the rules
-    /// have, a text that is not in NFC, or, by its bytes, a key that stands twice.
+    /// choice of widths, lengths, order and forms of numbers keeps: a tag, a level that is too deep,
+    /// a simple value other than the rules have, a text that is not in NFC, or, by its bytes, a key
+    /// that stands twice.
     Breach(Breach),
-    /// A map has a key twice: how many bytes come before the first and before the second.
+    /// Two keys of a map are the same bytes once they are encoded again: how many bytes come before
+    /// each of them.
     KeyTwice { first: usize, second: usize },
     /// What the items are encoded to breaks a rule, at this place of it: the chunks of a text are
     /// each in NFC, and joined they are not, or keys become the same where keys have no order.

@@ -15,7 +15,8 @@ ghost use Rattle.cbor_reencode.specs.Reencoded.{IsReencoded, lasting, IsFound};
 ghost use Rattle.cbor_reencode.specs.mirror.Checked.{Checked, checked_rules};
 ghost use Rattle.cbor_reencode.specs.mirror.Chosen.{chosen_count, FitsHeld};
 ghost use Rattle.cbor_reencode.specs.mirror.Rewritten.{Rewritten, RewrittenItems};
-ghost use Rattle.cbor_reencode.specs.mirror.Rewritten.{Rises, pair_bytes};
+ghost use Rattle.cbor_reencode.specs.mirror.Rewritten.{Rises, pair_bytes, IsStopped};
+ghost use Rattle.cbor_reencode.specs.mirror.Twice.{IsFoundAt};
 
 use crate::encoder::Encoder;
 use crate::error::ReencodeError;
@@ -64,7 +65,7 @@ impl Encoder {
             let width = chosen_count self.rules count number in out.new.items ≡ out.old.items
             ++ (encoded_open 5 number width
             ++ (pair_bytes pairs.new.items ++ encoded_close width))) }
-        ensures found { IfErr result (IsFound self.rules) }
+        ensures found { IfErr result (IsStopped self.rules.key_order pairs.new.items) }
     {
         sort_pairs(self.rules.key_order, pairs)?;
         check_rising(self.rules.key_order, pairs)?;
@@ -86,6 +87,7 @@ impl Encoder {
         out: &mut Vec<u8>,
     ) -> Result<&'a [u8], ReencodeError>
         requires level { level ≤ deepest + 1 }
+        requires within { length bytes.now ≤ self.len }
         requires checked { (rest : List ℕ)
             × Checked self.rules self.len level bytes.now rest }
         ensures writes { IfOk result (λ rest.
@@ -93,7 +95,7 @@ impl Encoder {
         ensures checked { IfOk result (λ rest.
             Checked self.rules self.len level bytes.now rest.now) }
         ensures shorter { IfOk result (λ rest. length rest.now < length bytes.now) }
-        ensures found { IfErr result (IsFound self.rules) }
+        ensures found { IfErr result (IsFoundAt self.rules self.len level bytes.now) }
     {
         let Ok((head, rest)) = read_head(bytes) else {
             // The item was checked.
@@ -121,6 +123,7 @@ impl Encoder {
         out: &mut Vec<u8>,
     ) -> Result<&'a [u8], ReencodeError>
         requires level { level ≤ deepest }
+        requires within { length bytes.now ≤ self.len }
         requires read { read_head bytes.now ≡ Ok (item_head.Array count, members.now) }
         requires checked { (rest : List ℕ)
             × Checked self.rules self.len level bytes.now rest }
@@ -129,7 +132,7 @@ impl Encoder {
         ensures checked { IfOk result (λ rest.
             Checked self.rules self.len level bytes.now rest.now) }
         ensures shorter { IfOk result (λ rest. length rest.now ≤ length members.now) }
-        ensures found { IfErr result (IsFound self.rules) }
+        ensures found { IfErr result (IsFoundAt self.rules self.len level bytes.now) }
     {
         let mut written = Vec::new(alloc);
         let mut number = 0;
@@ -156,6 +159,7 @@ impl Encoder {
         out: &mut Vec<u8>,
     ) -> Result<&'a [u8], ReencodeError>
         requires level { level ≤ deepest }
+        requires within { length bytes.now ≤ self.len }
         requires read { read_head bytes.now ≡ Ok (item_head.Map count, members.now) }
         requires checked { (rest : List ℕ)
             × Checked self.rules self.len level bytes.now rest }
@@ -164,7 +168,7 @@ impl Encoder {
         ensures checked { IfOk result (λ rest.
             Checked self.rules self.len level bytes.now rest.now) }
         ensures shorter { IfOk result (λ rest. length rest.now ≤ length members.now) }
-        ensures found { IfErr result (IsFound self.rules) }
+        ensures found { IfErr result (IsFoundAt self.rules self.len level bytes.now) }
     {
         let mut pairs = Vec::new(alloc);
         let mut rest = members;
@@ -195,6 +199,7 @@ impl Encoder {
         out: &mut Vec<u8>,
     ) -> Result<&'a [u8], ReencodeError>
         requires level { level ≤ deepest }
+        requires within { length bytes.now ≤ self.len }
         requires read { read_head bytes.now ≡ Ok (item_head.Tag tag width, content.now) }
         requires checked { (rest : List ℕ)
             × Checked self.rules self.len level bytes.now rest }
@@ -203,27 +208,25 @@ impl Encoder {
         ensures checked { IfOk result (λ rest.
             Checked self.rules self.len level bytes.now rest.now) }
         ensures shorter { IfOk result (λ rest. length rest.now ≤ length content.now) }
-        ensures found { IfErr result (IsFound self.rules) }
+        ensures found { IfErr result (IsFoundAt self.rules self.len level bytes.now) }
     {
-        self.push_tag(out, tag, width)?;
         let mut item = Vec::new(alloc);
         let rest = self.push_item(alloc, level + 1, content, &mut item)?;
-        if let Some(kind) = self.tag_breach(tag, &item) {
-            return Err(self.breach(bytes, kind));
-        }
-        out.extend_from_slice(&item)?;
+        self.push_tagged_item(out, tag, width, &item)?;
         Ok(rest)
     }
 }
 
-/// The rules among these that no choice of widths, lengths and order keeps.
+/// The rules among these that no choice of widths, lengths, order and forms of numbers keeps.
 fn lasting(rules: Rules) -> Rules
     ensures { result ≡ lasting rules }
 {
     Rules {
         shortest_heads: false,
         shortest_floats: false,
+        reduced_floats: false,
         definite_lengths: false,
+        big_numbers: false,
         key_order: KeyOrder::Any,
         ..rules
     }
@@ -239,7 +242,7 @@ fn push_items(
     requires empty { out.old.items ≡ [] }
     requires checked { first_breach (checked_rules rules) bytes.now ≡ None }
     ensures is { IfOk result (λ x. IsReencoded rules bytes.now out.new.items) }
-    ensures found { IfErr result (IsFound rules) }
+    ensures found { IfErr result (IsFound rules bytes.now) }
 {
     let encoder = Encoder {
         rules,
@@ -256,7 +259,7 @@ fn push_items(
 fn check_written(alloc: Global, written: &[u8], rules: Rules) -> Result<(), ReencodeError>
     requires { KeepsRules (without_memory rules) written.now }
     ensures keeps { IfOk result (λ x. KeepsRules rules written.now) }
-    ensures found { IfErr result (IsFound rules) }
+    ensures found { IfErr result (λ e. (b : List ℕ) → IsFound rules b e) }
 {
     if !rules.nfc && !rules.distinct_keys {
         return Ok(());
@@ -268,11 +271,12 @@ fn check_written(alloc: Global, written: &[u8], rules: Rules) -> Result<(), Reen
 }
 
 /// Encodes items again, one after the other, so that they keep the rules. The result is of the same
-/// items but for widths, kinds of length and the order of pairs. Bytes that keep the rules are
-/// returned as they are.
+/// items but for widths, kinds of length, the order of pairs and the forms of numbers. Bytes that
+/// keep the rules are returned as they are.
 ///
-/// Floats that are integers stay floats: where the rules do not allow these, as those of dCBOR,
-/// they are a breach.
+/// Of numbers, those change of which the rules leave one form: by `reduced_floats`, as in dCBOR, a
+/// float that is an integer becomes that integer, and each NaN f97e00; by `big_numbers`, a big number
+/// becomes an integer where one can have it, and else has no zero byte in front.
 pub fn reencoded(alloc: Global, bytes: &[u8], rules: Rules) -> Result<Vec<u8>, ReencodeError>
     ensures is { IfOk result (λ out. IsReencoded rules bytes.now out.items) }
     ensures keeps { IfOk result (λ out. KeepsRules rules out.items) }
@@ -282,7 +286,7 @@ pub fn reencoded(alloc: Global, bytes: &[u8], rules: Rules) -> Result<Vec<u8>, R
         → MatchResult result (λ out. ⊥)
         (λ e. (e ≡ ReencodeError.Breach b) ⊎ (e ≡ ReencodeError.Memory)) }
     ensures found { first_breach (lasting rules) bytes.now ≡ None
-        → IfErr result (IsFound rules) }
+        → IfErr result (IsFound rules bytes.now) }
 {
     if let Some(found) = breach_in(alloc, bytes, lasting(rules))? {
         return Err(ReencodeError::Breach(found));

@@ -17,6 +17,7 @@
 mod encoder;
 mod error;
 mod items;
+mod numbers;
 mod pairs;
 mod scalars;
 

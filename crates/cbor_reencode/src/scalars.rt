@@ -19,6 +19,7 @@ ghost use Rattle.cbor_reencode.specs.mirror.Rewritten.{ChunkAt, Joined, Rewritte
 ghost use Rattle.cbor_reencode.specs.mirror.Rewritten.{RewrittenAtom};
 
 use crate::encoder::Encoder;
+use crate::numbers::push_reduced;
 use cbor_bytes::strings::read_chunk_length;
 use cbor_bytes::write::{push_close, push_float, push_head, push_open, push_simple};
 use cbor_floats::EncodedFloat;
@@ -43,7 +44,7 @@ fn float_of(bits: u64, width: FloatWidth) -> EncodedFloat
 }
 
 /// Writes a float in its width.
-fn push_encoded(out: &mut Vec<u8>, float: EncodedFloat) -> Result<(), AllocError>
+pub fn push_encoded(out: &mut Vec<u8>, float: EncodedFloat) -> Result<(), AllocError>
     requires { FitsWidth float }
     ensures { IfOk result (λ x. out.new.items
         ≡ out.old.items ++ encoded_float (bits_of float) (float_width_of float)) }
@@ -56,7 +57,7 @@ fn push_encoded(out: &mut Vec<u8>, float: EncodedFloat) -> Result<(), AllocError
 }
 
 /// Writes a string of definite length.
-fn push_content(
+pub fn push_content(
     out: &mut Vec<u8>,
     kind: StringKind,
     content: &[u8],
@@ -251,7 +252,7 @@ impl Encoder {
             ItemHead::Negative(number, width) => {
                 self.push_number(out, Major::Negative, number, width)?
             }
-            ItemHead::Float(bits, width) => push_encoded(out, self.float(float_of(bits, width)))?,
+            ItemHead::Float(bits, width) => push_reduced(out, self.reduced(float_of(bits, width)))?,
             ItemHead::Simple(value) => push_simple(out, value)?,
             ItemHead::String(kind, size) => {
                 return self.push_string(alloc, bytes, kind, size, rest, out);

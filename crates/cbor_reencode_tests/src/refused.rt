@@ -1,6 +1,5 @@
 // What is not encoded again, and the places.
 
-use cbor_floats::EncodedFloat;
 use cbor_grammar::Error;
 use cbor_reencode::{ReencodeError, reencoded};
 use cbor_rules::{Breach, BreachKind, Rules};
@@ -47,17 +46,6 @@ fn lasting_rules(rt: HostRuntime) {
     );
     let deep = b"\x81\x81\x81\x81\x9f\xff";
     check(&rt, alloc, deep, Rules::CTAP2, at(4, BreachKind::TooDeep));
-    let small = at(1, BreachKind::SmallBigNumber);
-    check(&rt, alloc, b"\x81\xc2\x41\x05", Rules::CORE, small);
-    check(&rt, alloc, b"\x81\xc2\x5f\x41\x05\xff", Rules::CORE, small);
-    let zero = b"\xc3\x5f\x41\x00\x48\x01\x02\x03\x04\x05\x06\x07\x08\xff";
-    check(
-        &rt,
-        alloc,
-        zero,
-        Rules::CORE,
-        at(0, BreachKind::LeadingZero),
-    );
 }
 
 #[test]
@@ -85,27 +73,24 @@ fn keys_that_stand_twice(rt: HostRuntime) {
         Rules::CORE,
         twice,
     );
+    // 1.0 is the integer 1 in dCBOR, and a big number may be one.
+    let both = b"\xa3\xf9\x3c\0\0\xf5\0\x01\0";
+    let twice = ReencodeError::KeyTwice {
+        first: 1,
+        second: 7,
+    };
+    check(&rt, alloc, both, Rules::DCBOR, twice);
+    let big = b"\xa2\x05\0\xc2\x42\0\x05\0";
+    let twice = ReencodeError::KeyTwice {
+        first: 1,
+        second: 3,
+    };
+    check(&rt, alloc, big, Rules::CORE, twice);
 }
 
 #[test]
 fn rules_of_dcbor(rt: HostRuntime) {
     let alloc = rt.alloc();
-    let float = EncodedFloat::Half(0x4000);
-    let integer = BreachKind::IntegerFloat {
-        float,
-        negative: false,
-        size: 2,
-    };
-    check(
-        &rt,
-        alloc,
-        b"\x98\x01\xf9\x40\0",
-        Rules::DCBOR,
-        at(2, integer),
-    );
-    let float = EncodedFloat::Single(0x7fc0_0000);
-    let nan = BreachKind::OtherNan { float };
-    check(&rt, alloc, b"\xfa\x7f\xc0\0\0", Rules::DCBOR, at(0, nan));
     let undefined = BreachKind::OtherSimple(23);
     check(&rt, alloc, b"\x18\x01\xf7", Rules::DCBOR, at(2, undefined));
     let angstrom = at(1, BreachKind::NotNfc);

@@ -56,6 +56,68 @@ fn of_dcbor(rt: HostRuntime) -> Result<(), ReencodeError> {
     check(&rt, alloc, wide, Rules::DCBOR, short)
 }
 
+/// Floats that are integers, and NaNs (dCBOR, numeric reduction).
+#[test]
+fn reduced_floats(rt: HostRuntime) -> Result<(), ReencodeError> {
+    let alloc = rt.alloc();
+    let rows: [(&[u8], &[u8]); 9] = [
+        (b"\xf9\x40\0", b"\x02"),
+        (b"\xf9\x80\0", b"\0"),
+        (b"\xfa\xbf\x80\0\0", b"\x20"),
+        (b"\xfb\x40\xf0\0\0\0\0\0\0", b"\x1a\0\x01\0\0"),
+        (b"\xfa\x5f\0\0\0", b"\x1b\x80\0\0\0\0\0\0\0"),
+        (b"\xfa\xdf\0\0\0", b"\x3b\x7f\xff\xff\xff\xff\xff\xff\xff"),
+        (b"\xfb\x43\xf0\0\0\0\0\0\0", b"\xfa\x5f\x80\0\0"),
+        (b"\xfa\xff\xc0\0\x01", b"\xf9\x7e\0"),
+        (b"\xa1\xf9\x3c\0\x81\xf9\xc0\0", b"\xa1\x01\x81\x21"),
+    ];
+    for (bytes, expected) in rows {
+        check(&rt, alloc, bytes, Rules::DCBOR, expected)?;
+    }
+    check(
+        &rt,
+        alloc,
+        b"\x18\x01\xf9\x40\0",
+        Rules::CORE,
+        b"\x01\xf9\x40\0",
+    )
+}
+
+/// Big numbers (RFC 8949 section 3.4.3).
+#[test]
+fn big_numbers(rt: HostRuntime) -> Result<(), ReencodeError> {
+    let alloc = rt.alloc();
+    let rows: [(&[u8], &[u8]); 8] = [
+        (b"\xc2\x41\x05", b"\x05"),
+        (b"\xc3\x41\x05", b"\x25"),
+        (b"\xc2\x40", b"\0"),
+        (
+            b"\xc3\x49\0\xff\xff\xff\xff\xff\xff\xff\xff",
+            b"\x3b\xff\xff\xff\xff\xff\xff\xff\xff",
+        ),
+        (
+            b"\xc2\x4a\0\x01\0\0\0\0\0\0\0\0",
+            b"\xc2\x49\x01\0\0\0\0\0\0\0\0",
+        ),
+        (b"\xc2\x5f\x41\x01\x41\0\xff", b"\x19\x01\0"),
+        (b"\xc1\xc2\x41\x05", b"\xc1\x05"),
+        (b"\x81\xc2\x61a", b"\x81\xc2\x61a"),
+    ];
+    for (bytes, expected) in rows {
+        check(&rt, alloc, bytes, Rules::CORE, expected)?;
+    }
+    // In chunks it is left, where lengths may be indefinite.
+    let chunks = b"\xc2\x5f\x41\x01\xff\x18\x05";
+    let kept_open = b"\xc2\x5f\x41\x01\xff\x05";
+    check(&rt, alloc, chunks, Rules::PREFERRED, kept_open)?;
+    // CTAP2 has no tags, and other rules no word of big numbers.
+    let heads = Rules {
+        shortest_heads: true,
+        ..Rules::RFC_8949
+    };
+    check(&rt, alloc, b"\xd8\x02\x58\x01\x05", heads, b"\xc2\x41\x05")
+}
+
 #[test]
 fn lengths(rt: HostRuntime) -> Result<(), ReencodeError> {
     let alloc = rt.alloc();

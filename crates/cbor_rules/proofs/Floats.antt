@@ -44,7 +44,7 @@ nan_again : (f : EncodedFloat) (n u : Bool) → (n ≡ true → u ≡ true)
 nan_again f false u is = refl
 nan_again f true u is = rw (is refl) refl
 
-reduced_found : (f : EncodedFloat) → reduced_breach f ≡ None → IsReduced f
+pub reduced_found : (f : EncodedFloat) → reduced_breach f ≡ None → IsReduced f
 reduced_found f e =
     let p = both_none (integer_float f (reduced f)) (nan_breach f) e in
     (integer_none f (reduced f) p.0, λ on. usual f (nan_found f (is_nan (number_of f)) (is_usual_nan f) p.1 on))

@@ -26,4 +26,5 @@ mod text;
 
 pub use check::{breach, breach_in};
 pub use kind::{Breach, BreachKind};
+pub use reduced::reduced_breach;
 pub use rules::{KeyOrder, Rules};

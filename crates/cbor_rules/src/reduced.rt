@@ -81,7 +81,8 @@ fn nan_breach(float: EncodedFloat) -> Option<BreachKind>
     }
 }
 
-/// What is wrong with a float where integers are not written as floats.
+/// What is wrong with a float where integers are not written as floats, and one NaN is: it is an
+/// integer from -2^63 to 2^64 - 1 (`IntegerFloat`), or a NaN other than `f97e00` (`OtherNan`).
 pub fn reduced_breach(float: EncodedFloat) -> Option<BreachKind>
     ensures { result ≡ reduced_breach float }
 {

@@ -41,7 +41,8 @@ pub record PartsLeft (rules : Rules) (len level : ℕ) (whole : List ℕ) (o : O
   pub after : List ℕ
   pub item : Checked rules len level whole after
   pub turns : ℕ
-  pub left : kept_parts turns (checked_rules rules) len (kept_item (128 - level) (checked_rules rules) len) o b ≡ Ok after
+  pub left : kept_parts turns (checked_rules rules) len (kept_item (128 - level) (checked_rules rules) len) o b
+      ≡ Ok after
 
 abbrev pub MembersLeft : Rules → ℕ → ℕ → List ℕ → Argument → ℕ → List ℕ → Type 0
 MembersLeft rules len level whole a held b = PartsLeft rules len level whole (members (left_of a held)) b

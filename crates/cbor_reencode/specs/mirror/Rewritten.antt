@@ -11,14 +11,18 @@ use Rattle.cbor_grammar.specs.declared.strings.StringKind.{StringKind}
 use Rattle.cbor_grammar.specs.Item.{Chunk, Atom, Item, Items, Pairs, no_pairs, pair, item_count, pair_count}
 use Rattle.cbor_grammar.specs.Head.{break_byte}
 use Rattle.cbor_grammar.specs.Bytes.{strict, ChunkThen, SpellsChunks, SpellsAtom, Spells, SpellsItems, SpellsPairs}
+use Rattle.cbor_grammar.specs.Written.{encoded}
 use Rattle.cbor_rules.specs.declared.rules.Rules.{Rules}
 use Rattle.cbor_rules.specs.declared.rules.KeyOrder.{KeyOrder}
 use Rattle.cbor_rules.specs.declared.rules.KeyOrder.TheVariants.{Any}
 use Rattle.cbor_reencode.specs.declared.error.ReencodeError.{ReencodeError}
-use Rattle.cbor_reencode.specs.declared.error.ReencodeError.TheVariants.{KeyTwice}
+use Rattle.cbor_reencode.specs.declared.error.ReencodeError.TheVariants.{Memory, KeyTwice}
 use Rattle.cbor_rules.specs.KeyOrder.{key_cmp}
-use Rattle.cbor_rules.specs.Keeps.{KeepsChunk, KeepsAtom, Keeps, KeepsItems, without_memory}
-use Rattle.cbor_rules.specs.Same.{said, IsSame, SameItems}
+use Rattle.cbor_rules.specs.Keeps.{KeepsChunk, KeepsAtom, KeepsItems, without_memory}
+use Rattle.cbor_rules.specs.FirstBreach.{place_of}
+use Rattle.cbor_rules.specs.Same.{said}
+use Rattle.cbor_reencode.specs.Reduction.{reduced_atom, SameNumbered}
+use Rattle.cbor_reencode.specs.Reencoded.{Again}
 use Rattle.cbor_reencode.specs.declared.pairs.Pair.{Pair}
 
 -- ---- strings
@@ -49,13 +53,6 @@ pub record RewrittenChunks (rules : Rules) (kind : StringKind) (b rest old new :
 
 -- ---- items
 
--- bytes that are an item which keeps the rules and is the same as this one
-pub record Again (rules : Rules) (level : ℕ) (i : Item) (bytes : List ℕ) : Type 0 where
-  pub item : Item
-  pub spells : Spells strict level bytes item
-  pub keeps : Keeps (without_memory rules) level item
-  pub same : IsSame rules.shortest_floats i item
-
 -- an item at the front of b, for which bytes were appended
 pub record Rewritten (rules : Rules) (level : ℕ) (b rest old new : List ℕ) : Type 0 where
   pub item : Item
@@ -77,7 +74,7 @@ pub record RewrittenAtom (rules : Rules) (b rest old new : List ℕ) : Type 0 wh
   pub written : Atom
   pub written_spells : SpellsAtom strict bytes written
   pub keeps : KeepsAtom (without_memory rules) written
-  pub same : said rules.shortest_floats atom ≡ said rules.shortest_floats written
+  pub same : said rules.shortest_floats (reduced_atom rules atom) ≡ said rules.shortest_floats (reduced_atom rules written)
 
 -- ---- containers
 
@@ -105,7 +102,7 @@ pub record RewrittenItems (rules : Rules) (level : ℕ) (a : Argument) (b rest o
   pub written_number : item_count written ≡ n
   pub written_spells : (end : List ℕ) → SpellsItems strict level (bytes ++ end) written end
   pub keeps : KeepsItems (without_memory rules) level written
-  pub same : SameItems rules.shortest_floats items written
+  pub same : SameNumbered rules items written
 
 -- what was written for a pair
 pub record PairIs (rules : Rules) (level : ℕ) (k v : Item) (p : Pair) : Type 0 where
@@ -117,8 +114,15 @@ PairsAre rules level no_pairs [] = Unit {0}
 PairsAre rules level (pair k v ps) (x ∷ xs) = PairIs rules level k v x × PairsAre rules level ps xs
 PairsAre rules level ps xs = ⊥
 
+-- so many bytes come before each key, and this many before the first
+abbrev pub PlacesAre : ℕ → Pairs → List Pair → Type 0
+PlacesAre start no_pairs [] = Unit {0}
+PlacesAre start (pair k v ps) (x ∷ xs) =
+    (x.place ≡ start) × PlacesAre (start + length (encoded k) + length (encoded v)) ps xs
+PlacesAre start ps xs = ⊥
+
 -- pairs, for which pairs were kept
-pub record RewrittenPairs (rules : Rules) (level : ℕ) (a : Argument) (b rest : List ℕ) (old new : List Pair)
+pub record RewrittenPairs (rules : Rules) (len level : ℕ) (a : Argument) (b rest : List ℕ) (old new : List Pair)
     : Type 0 where
   pub pairs : Pairs
   pub front : List ℕ
@@ -128,6 +132,7 @@ pub record RewrittenPairs (rules : Rules) (level : ℕ) (a : Argument) (b rest :
   pub kept : List Pair
   pub added : new ≡ old ++ kept
   pub are : PairsAre rules level pairs kept
+  pub places : PlacesAre (place_of len b) pairs kept
 
 -- the encoded pairs one after the other
 abbrev pub pair_bytes : List Pair → List ℕ
@@ -155,6 +160,11 @@ abbrev pub IsTwice : KeyOrder → List Pair → ReencodeError → Type 0
 IsTwice order xs (KeyTwice first second) = AreTwice order xs first second
 IsTwice order xs e = ⊥
 
+-- why the pairs are not written
+abbrev pub IsStopped : KeyOrder → List Pair → ReencodeError → Type 0
+IsStopped order xs Memory = Unit {0}
+IsStopped order xs e = IsTwice order xs e
+
 -- items to the end, for which items were appended
 pub record Sequence (rules : Rules) (b old new : List ℕ) : Type 0 where
   pub items : Items
@@ -164,4 +174,4 @@ pub record Sequence (rules : Rules) (b old new : List ℕ) : Type 0 where
   pub written : Items
   pub written_spells : SpellsItems strict 1 bytes written []
   pub keeps : KeepsItems (without_memory rules) 1 written
-  pub same : SameItems rules.shortest_floats items written
+  pub same : SameNumbered rules items written

@@ -7,6 +7,8 @@ use Rattle.cbor_reencode.specs.mirror.Rewritten.{Sequence}
 use Rattle.cbor_reencode.proofs.Checked.{next_item}
 use Rattle.cbor_reencode.proofs.Containers.{sequence_end, sequence_more}
 use Rattle.cbor_reencode.proofs.Kept.{sequence_reencoded}
+use Rattle.std.proofs.lemmas.Result.{err_from_is_err_and}
+use Rattle.cbor_reencode.proofs.Inwards.{bytes_after, found_in_all, item_twice, sequence_inwards, sequence_twice}
 use Rattle.cbor_reencode.proofs.items.push_items.Goals as goal
 
 pub push_item-requires-clause-checked : goal.push_item-requires-clause-checked
@@ -30,7 +32,24 @@ items-preserved c =
       none = subst (λ (x : List ℕ). breach_from n.0 (checked_rules c.args.rules) len x ≡ None) same n.4;
       more = λ new s. i.more new (sequence_more c.args.rules c.items.rest.now rest c.items.out.items
           c.push_item.new.out.items new c.in_ok-rest.ensures.writes s);
+      within = omega (arith, i.within, c.in_ok-rest.ensures.shorter);
+      fits = bytes_after c.args.rules 1 c.items.rest.now rest c.items.out.items c.push_item.new.out.items i.fits
+          c.in_ok-rest.ensures.writes;
+      twice = λ first second t. i.twice first second (sequence_inwards c.args.rules len c.items.rest.now rest
+          c.items.out.items c.push_item.new.out.items first second i.within c.in_ok-rest.ensures.writes t);
     }
+
+pub returns-in_err-rest-clause-found : goal.returns-in_err-rest-clause-found
+returns-in_err-rest-clause-found c =
+    let p = err_from_is_err_and c.from_residual.result c.from_residual.ensures.1 in
+    let rules = c.args.rules in
+    let b = c.args.bytes.now in
+    let i = c.items.invariant in
+    let some : 0 < length c.items.rest.now = grind (arith, c.is_empty.ensures, c.items-test.true) in
+    rw (p.1, p.2) (found_in_all rules (length b) c.items.rest.now b c.in_err-rest.field-0.0
+    (λ first second at. sequence_twice rules b first second (i.twice first second
+    (item_twice i.turns rules (length b) c.items.rest.now first second some i.enough i.fits i.none at)))
+    c.in_err-rest.ensures.found)
 
 pub returns-clause-is : goal.returns-clause-is
 returns-clause-is c =

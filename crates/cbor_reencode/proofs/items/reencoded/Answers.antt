@@ -1,5 +1,6 @@
 -- Bytes that keep the rules are an encoding again of themselves.
 use Rattle.std.proofs.Common.{◌≡◌, ◌≢◌, ℕ, List, Option, Some, None, refl, sym, subst}
+use Rattle.std.proofs.lemmas.Result.{err_from_is_err_and}
 use Rattle.cbor_rules.specs.declared.rules.Rules.{Rules}
 use Rattle.cbor_rules.specs.Keeps.{KeepsRules}
 use Rattle.cbor_reencode.specs.Reencoded.{IsReencoded, lasting}
@@ -25,6 +26,12 @@ pub returns-in_ok-from_slice-in-None-clause-is : goal.returns-in_ok-from_slice-i
 returns-in_ok-from_slice-in-None-clause-is c =
     subst (λ (x : List ℕ). IsReencoded c.args.rules c.args.bytes.now x) (sym c.in_ok-from_slice-in-None.ensures.items)
     (reencoded_itself c.args.rules c.args.bytes.now (c.in_ok-breach_in.ensures.none.0 c.in-None.is))
+
+pub returns-in_err-check_written-in-Some-2-clause-found : goal.returns-in_err-check_written-in-Some-2-clause-found
+returns-in_err-check_written-in-Some-2-clause-found c = λ none.
+    let r = c.from_residual-in_err-check_written-in-Some-2 in
+    let p = err_from_is_err_and r.result r.ensures.1 in
+    rw (p.1, p.2) (c.in_err-check_written-in-Some-2.ensures.found c.args.bytes.now)
 
 pub push_items-requires-clause-checked : goal.push_items-requires-clause-checked
 push_items-requires-clause-checked c =

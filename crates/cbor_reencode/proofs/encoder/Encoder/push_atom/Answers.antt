@@ -8,17 +8,16 @@ use Rattle.cbor_grammar.specs.WellFormed.{FitsFloat}
 use Rattle.cbor_grammar.specs.Reading.{read_head}
 use Rattle.cbor_grammar.proofs.bytes.Heads.{head_takes, IsBytes, HeadIs}
 use Rattle.cbor_floats.specs.declared.float.EncodedFloat.{EncodedFloat}
-use Rattle.cbor_reencode.specs.mirror.Chosen.{IsChosen}
+use Rattle.cbor_reencode.specs.mirror.Numbers.{IsNumber}
 use Rattle.std.proofs.Common.{None}
 use Rattle.cbor_rules.specs.declared.rules.Rules.{Rules}
-use Rattle.cbor_rules.specs.Keeps.{float_of}
-use Rattle.cbor_rules.specs.FirstBreach.{head_breach, simple_breach, float_breach}
+use Rattle.cbor_rules.specs.FirstBreach.{head_breach, simple_breach}
 use Rattle.cbor_reencode.specs.mirror.Checked.{checked_rules, CheckedHead}
-use Rattle.cbor_reencode.proofs.Atoms.{integer_again, negative_again, simple_again, float_again}
+use Rattle.cbor_reencode.proofs.Atoms.{integer_again, negative_again, simple_again, number_again}
 use Rattle.cbor_reencode.proofs.encoder.Encoder.push_atom.Goals as goal
 use Rattle.cbor_reencode.proofs.encoder.Encoder.push_atom.Goals.{in-Integer+in_ok-push_number-in-Integer}
 use Rattle.cbor_reencode.proofs.encoder.Encoder.push_atom.Goals.{in-Negative+in_ok-push_number-in-Negative}
-use Rattle.cbor_reencode.proofs.encoder.Encoder.push_atom.Goals.{in-Float+in_ok-push_encoded-in-Float}
+use Rattle.cbor_reencode.proofs.encoder.Encoder.push_atom.Goals.{in-Float+in_ok-push_reduced-in-Float}
 use Rattle.cbor_reencode.proofs.encoder.Encoder.push_atom.Goals.{in-Simple+in_ok-push_simple-in-Simple}
 
 head_at : (h k : ItemHead) (b rest : List ℕ) → IsBytes b → read_head b ≡ Ok (h, rest) → h ≡ k → HeadIs k b rest
@@ -33,11 +32,6 @@ float_fits bits float_width.SixtyFour b rest h = h.0
 simple_kept : (rules : Rules) (n : ℕ) (h : ItemHead) (b rest : List ℕ) → h ≡ item_head.Simple n
     → CheckedHead rules b h rest → simple_breach (checked_rules rules) n b ≡ None
 simple_kept rules n h b rest is c =
-    subst (λ (x : ItemHead). head_breach (checked_rules rules) c.0 b x rest ≡ None) is c.1
-
-float_kept : (rules : Rules) (bits : ℕ) (w : FloatWidth) (h : ItemHead) (b rest : List ℕ) → h ≡ item_head.Float bits w
-    → CheckedHead rules b h rest → float_breach (checked_rules rules) (float_of bits w) ≡ None
-float_kept rules bits w h b rest is c =
     subst (λ (x : ItemHead). head_breach (checked_rules rules) c.0 b x rest ≡ None) is c.1
 
 pub push_number-requires : goal.push_number-requires
@@ -73,14 +67,13 @@ returns-clause-writes c =
           w.in-Negative.width b rest old w.push_number-in-Negative.new.out.items
           (head_at c.args.head _ b rest fits c.requires.read w.in-Negative.is)
           w.in_ok-push_number-in-Negative.ensures)
-      | in-Float+in_ok-push_encoded-in-Float w ↦
-          let chosen = subst (λ (f : EncodedFloat). IsChosen rules f w.float.result) w.float_of.ensures.is
-          w.float.ensures
+      | in-Float+in_ok-push_reduced-in-Float w ↦
+          let is = subst (λ (f : EncodedFloat). IsNumber rules f w.reduced.result) w.float_of.ensures.is
+          w.reduced.ensures
           in
-          rw w.out-is (float_again rules w.in-Float.bits w.in-Float.width w.float.result b rest old
-          w.push_encoded.new.out.items (head_at c.args.head _ b rest fits c.requires.read w.in-Float.is)
-          (float_kept rules w.in-Float.bits w.in-Float.width c.args.head b rest w.in-Float.is c.requires.head) chosen
-          w.in_ok-push_encoded-in-Float.ensures)
+          rw w.out-is (number_again rules w.in-Float.bits w.in-Float.width w.reduced.result b rest old
+          w.push_reduced.new.out.items (head_at c.args.head _ b rest fits c.requires.read w.in-Float.is) is
+          w.in_ok-push_reduced-in-Float.ensures)
       | in-Simple+in_ok-push_simple-in-Simple w ↦
           rw w.out-is (simple_again rules w.in-Simple.value b rest old w.push_simple.new.out.items
           (head_at c.args.head _ b rest fits c.requires.read w.in-Simple.is)
