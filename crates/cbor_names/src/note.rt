@@ -1,0 +1,207 @@
+//! What is written beside items: their names before them, and their meanings after them.
+
+ghost use Rattle.std.specs.Prelude.{◌≡◌, ℕ, IfOk};
+ghost use Rattle.cbor_names.specs.Falling.{AreInOrder, FallsTo, len_of};
+
+use std::alloc::{AllocError, Global};
+
+/// What to write at an item.
+#[derive(Clone, Copy, PartialEq, Eq, Debug)]
+pub struct Note<'a> {
+    /// How many bytes remain from the first byte of the item on. For an item in a byte string these
+    /// are the bytes around the string, too, up to the end of the outermost item's bytes.
+    pub at: usize,
+    /// The name before it; empty for none.
+    pub before: &'a str,
+    /// The meaning after it; empty for none.
+    pub after: &'a str,
+    /// Whether it is a byte string that holds an encoded item.
+    pub encoded: bool,
+}
+
+/// The notes of an item, in the order of the items in it: each is at an item that begins behind the
+/// one before.
+#[derive(Drop)]
+pub struct Notes<'a> {
+    len: usize,
+    found: Vec<Found<'a>>,
+    dates: String,
+}
+
+/// A note that was found.
+#[derive(Clone, Copy)]
+pub(crate) struct Found<'a> {
+    /// How many bytes remain from the item on.
+    at: usize,
+    /// How many bytes remain after what has the name; of a key, that is its value, too.
+    until: usize,
+    before: &'a str,
+    after: After<'a>,
+    encoded: bool,
+}
+
+/// A meaning.
+#[derive(Clone, Copy)]
+enum After<'a> {
+    /// That of a table; empty for none.
+    Text(&'a str),
+    /// The part of `dates` between these places.
+    Date(usize, usize),
+}
+
+impl<'a> Found<'a> {
+    /// A note of an item's name.
+    pub(crate) fn new(at: usize, before: &'a str) -> Found<'a> {
+        Found {
+            at,
+            until: 0,
+            before,
+            after: After::Text(""),
+            encoded: false,
+        }
+    }
+
+    /// With a meaning.
+    pub(crate) fn meaning(self, text: &'a str) -> Found<'a> {
+        Found {
+            after: After::Text(text),
+            ..self
+        }
+    }
+
+    /// Of a byte string that may hold an item.
+    pub(crate) fn encoded(self, encoded: bool) -> Found<'a> {
+        Found { encoded, ..self }
+    }
+
+    /// Whether it says nothing.
+    fn is_empty(self) -> bool {
+        match self.after {
+            After::Text("") => self.before.is_empty() && !self.encoded,
+            _ => false,
+        }
+    }
+
+    /// With a name if it has none.
+    pub(crate) fn or_name(self, name: &'a str) -> Found<'a> {
+        if self.before.is_empty() {
+            Found {
+                before: name,
+                ..self
+            }
+        } else {
+            self
+        }
+    }
+}
+
+/// Appends a note that is behind those before it, and returns below which place the next one is.
+fn push_next<'a>(list: &mut Vec<Note<'a>>, low: usize, note: Note<'a>) -> Result<usize, AllocError>
+    ensures { (top : ℕ) → FallsTo top list.old.items low
+        → IfOk result (λ next. FallsTo top list.new.items next) }
+{
+    if note.at >= low {
+        return Ok(low);
+    }
+    list.push(note)?;
+    Ok(note.at)
+}
+
+impl<'a> Notes<'a> {
+    /// No notes, of no bytes.
+    pub(crate) fn new(alloc: Global) -> Notes<'a> {
+        Notes {
+            len: 0,
+            found: Vec::new(alloc),
+            dates: String::new(alloc),
+        }
+    }
+
+    /// The same of that many bytes.
+    pub(crate) fn within(self, len: usize) -> Notes<'a>
+        ensures { len_of result ≡ len }
+    {
+        Notes { len, ..self }
+    }
+
+    /// How many there are.
+    pub fn len(&self) -> usize {
+        self.found.len()
+    }
+
+    /// Whether there are none.
+    pub fn is_empty(&self) -> bool {
+        self.found.is_empty()
+    }
+
+    /// The last one, if it says something.
+    pub(crate) fn push(&mut self, found: Found<'a>) -> Result<(), AllocError> {
+        if !found.is_empty() {
+            self.found.push(found)?;
+        }
+        Ok(())
+    }
+
+    /// What has the name of the note at `index` ends here, if that is the note of the item at `at`.
+    pub(crate) fn end(&mut self, index: usize, at: usize, until: usize) {
+        if let Some(found) = self.found.get_mut(index) {
+            if found.at == at {
+                found.until = until;
+            }
+        }
+    }
+
+    /// The note with a date as its meaning.
+    pub(crate) fn dated(&mut self, found: Found<'a>, date: &str) -> Result<Found<'a>, AllocError> {
+        let start = self.dates.len();
+        self.dates.push_str(date)?;
+        let after = After::Date(start, self.dates.len());
+        Ok(Found { after, ..found })
+    }
+
+    /// The text of a meaning.
+    fn text(&self, after: After<'a>) -> &str {
+        match after {
+            After::Text(text) => text,
+            After::Date(start, end) => self.dates.as_str().get(start..end).unwrap_or(""),
+        }
+    }
+
+    /// The notes, as a writer takes them. A note that is not behind the one before it would be left
+    /// out; there is none.
+    pub fn list(&self, alloc: Global) -> Result<Vec<Note<'_>>, AllocError>
+        ensures in_order { IfOk result (λ v. AreInOrder (len_of self.now) v.items) }
+    {
+        let mut list = Vec::with_capacity(alloc, self.found.len())?;
+        let mut low = self.len.saturating_add(1);
+        for found in &self.found {
+            low = push_next(&mut list, low, self.note(found))?;
+        }
+        Ok(list)
+    }
+
+    /// What is written of a note that was found.
+    fn note(&self, found: &Found<'a>) -> Note<'_>
+        ensures { result.at ≡ found.now.at }
+    {
+        Note {
+            at: found.at,
+            before: found.before,
+            after: self.text(found.after),
+            encoded: found.encoded,
+        }
+    }
+
+    /// The names of all that the byte at `place` belongs to, the outermost first: the tags, members
+    /// and keys from the outermost item to it.
+    pub fn names_at(&self, alloc: Global, place: usize) -> Result<Vec<&'a str>, AllocError> {
+        let at = self.len.saturating_sub(place);
+        let mut names = Vec::new(alloc);
+        for found in &self.found {
+            if at <= found.at && found.until < at && !found.before.is_empty() {
+                names.push(found.before)?;
+            }
+        }
+        Ok(names)
+    }
+}

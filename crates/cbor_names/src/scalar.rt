@@ -1,0 +1,108 @@
+//! Integers and texts at the front of bytes, and the keys and values of tables that they are.
+
+use crate::table::{Entry, Key, Kind, Value};
+use cbor_bytes::head::read_head;
+use cbor_grammar::argument::Argument;
+use cbor_grammar::head::ItemHead;
+use cbor_grammar::strings::StringKind;
+
+/// An integer of 64 bits, or a text of definite length.
+#[derive(Clone, Copy)]
+pub(crate) enum Scalar<'b> {
+    Integer(i64),
+    Text(&'b [u8]),
+}
+
+impl Key<'_> {
+    /// Whether the integer or text is this one.
+    fn is(self, scalar: Scalar<'_>) -> bool {
+        match (self, scalar) {
+            (Key::Integer(key), Scalar::Integer(value)) => key == value,
+            (Key::Text(key), Scalar::Text(text)) => key.as_bytes() == text,
+            _ => false,
+        }
+    }
+
+    /// Whether it is at the front.
+    pub(crate) fn is_at(self, bytes: &[u8]) -> bool {
+        match scalar_at(bytes) {
+            Some(scalar) => self.is(scalar),
+            None => false,
+        }
+    }
+}
+
+/// The integer or text at the front.
+pub(crate) fn scalar_at(bytes: &[u8]) -> Option<Scalar<'_>> {
+    let Ok((head, rest)) = read_head(bytes) else {
+        return None;
+    };
+    match head {
+        ItemHead::Integer(number, _) => Some(Scalar::Integer(i64::try_from(number).ok()?)),
+        ItemHead::Negative(number, _) => Some(Scalar::Integer(-1 - i64::try_from(number).ok()?)),
+        ItemHead::String(StringKind::Text, Argument::Number(len, _)) => {
+            if (rest.len() as u64) < len {
+                return None;
+            }
+            let (text, _) = rest.split_at(len as usize);
+            Some(Scalar::Text(text))
+        }
+        _ => None,
+    }
+}
+
+/// The kind of the item at the front, if it is one of them.
+pub(crate) fn kind_at(bytes: &[u8]) -> Option<Kind> {
+    let Ok((head, _)) = read_head(bytes) else {
+        return None;
+    };
+    match head {
+        ItemHead::Integer(..) | ItemHead::Negative(..) | ItemHead::Float(..) => Some(Kind::Number),
+        ItemHead::String(StringKind::Text, _) => Some(Kind::Text),
+        ItemHead::String(StringKind::Bytes, _) => Some(Kind::Bytes),
+        _ => None,
+    }
+}
+
+impl<'a> Entry<'a> {
+    /// Whether it is of this key, in a map in which the key that it may depend on has this value.
+    fn fits(self, key: Scalar<'_>, chosen: Option<Scalar<'_>>) -> bool {
+        if !self.key.is(key) {
+            return false;
+        }
+        match (self.when, chosen) {
+            (None, _) => true,
+            (Some(when), Some(value)) => when.is(value),
+            (Some(_), None) => false,
+        }
+    }
+}
+
+/// What is said of the key at the front.
+pub(crate) fn entry_at<'a>(
+    entries: &'a [Entry<'a>],
+    chosen: Option<Scalar<'_>>,
+    bytes: &[u8],
+) -> Option<Entry<'a>> {
+    if entries.is_empty() {
+        return None;
+    }
+    let key = scalar_at(bytes)?;
+    for entry in entries {
+        if entry.fits(key, chosen) {
+            return Some(*entry);
+        }
+    }
+    None
+}
+
+/// The meaning of the integer or text at the front.
+pub(crate) fn meaning_at<'a>(values: &'a [Value<'a>], bytes: &[u8]) -> Option<&'a str> {
+    let found = scalar_at(bytes)?;
+    for value in values {
+        if value.value.is(found) {
+            return Some(value.meaning);
+        }
+    }
+    None
+}

@@ -1,0 +1,451 @@
+//! The pass over an item that finds the notes. It goes from head to head; a container, a tag and a
+//! byte string that holds an item are a call each, at most 128 deep.
+
+ghost use Rattle.std.specs.Prelude.{◌≡◌, ◌+◌, ◌^◌, ◌<◌, ◌≤◌, length, IfOk};
+ghost use Rattle.cbor_names.specs.Falling.{len_of};
+
+use crate::note::{Found, Notes};
+use crate::pairs::{Pairs, has_signs};
+use crate::scalar::{Scalar, entry_at, meaning_at, scalar_at};
+use crate::table::{Entry, Names, Shape, Type, What};
+use cbor_bytes::head::read_head;
+use cbor_bytes::strings::{read_chunk_length, split_at};
+use cbor_grammar::argument::Argument;
+use cbor_grammar::head::ItemHead;
+use cbor_grammar::level::DEEPEST;
+use cbor_grammar::strings::StringKind;
+use cbor_notes::datetime_of_epoch;
+use std::alloc::{AllocError, Global};
+
+/// Why the pass ends before the bytes do.
+#[derive(Clone, Copy)]
+enum Stop {
+    /// The bytes are no item.
+    NoItem,
+    OutOfMemory,
+}
+
+impl From<AllocError> for Stop {
+    fn from(_refused: AllocError) -> Stop {
+        Stop::OutOfMemory
+    }
+}
+
+/// The tag whose item may be one of any type.
+const SELF_DESCRIBED: u64 = 55_799;
+
+/// What is known of an item before it is read.
+#[derive(Clone, Copy)]
+struct Place<'a> {
+    /// How many levels are left for it and the items in it.
+    left: u8,
+    /// How many bytes follow those that are read, up to the end of the outermost item's.
+    behind: usize,
+    /// Its name; empty for none.
+    name: &'a str,
+    what: What<'a>,
+    /// The tag before it.
+    tag: Option<u64>,
+    /// The tag around that of the item, or of the array that it is a member of.
+    around: Option<u64>,
+}
+
+/// The keys of a map, and the value of the one that some depend on.
+#[derive(Clone, Copy)]
+struct Keys<'a, 'b> {
+    entries: &'a [Entry<'a>],
+    chosen: Option<Scalar<'b>>,
+}
+
+impl<'a> Names<'a> {
+    /// The shape of an item of which this is known.
+    fn shape(self, what: What<'a>) -> Option<Shape<'a>> {
+        match what {
+            What::Of(name) => Some(self.of(name)?.shape),
+            What::Each(name) => Some(Shape::Each(name)),
+            _ => None,
+        }
+    }
+
+    /// The keys of a map of which this is known, and whose head is read already.
+    fn keys<'b>(self, what: What<'a>, count: Argument, bytes: &'b [u8]) -> Keys<'a, 'b> {
+        match self.shape(what) {
+            Some(Shape::Map(entries)) => Keys {
+                entries,
+                chosen: None,
+            },
+            Some(Shape::MapBy(key, entries)) => Keys {
+                entries,
+                chosen: Pairs::new(count, bytes).value_of(key),
+            },
+            _ => Keys {
+                entries: &[],
+                chosen: None,
+            },
+        }
+    }
+
+    /// The type of the item that a byte string of this content holds.
+    fn held(self, place: Place<'a>, content: &[u8]) -> Option<&'a str> {
+        match place.what {
+            What::Encoded(name) if !content.is_empty() => Some(name),
+            What::Payload(name) => {
+                let held = self.of(name)?;
+                let below = held.tag.is_some() && held.tag == place.around;
+                if below || has_signs(held.shape, content) {
+                    Some(name)
+                } else {
+                    None
+                }
+            }
+            _ => None,
+        }
+    }
+}
+
+impl<'a> Place<'a> {
+    /// That of an item in this one, of which nothing is known.
+    fn unknown(self) -> Place<'a>
+        ensures left { result.left ≡ self.entry.left }
+        ensures behind { result.behind ≡ self.entry.behind }
+    {
+        Place {
+            name: "",
+            what: What::Any,
+            tag: None,
+            around: None,
+            ..self
+        }
+    }
+
+    /// That of the member at this index.
+    fn member(self, shape: Option<Shape<'a>>, index: usize) -> Place<'a>
+        ensures left { result.left ≡ self.entry.left }
+        ensures behind { result.behind ≡ self.entry.behind }
+    {
+        let (name, what) = match shape {
+            Some(Shape::Array(members)) => match members.get(index) {
+                Some(member) => (member.name, member.what),
+                None => ("", What::Any),
+            },
+            Some(Shape::Each(name)) => ("", What::Of(name)),
+            _ => ("", What::Any),
+        };
+        Place {
+            name,
+            what,
+            tag: None,
+            ..self
+        }
+    }
+
+    /// That of a key of a map.
+    fn key(self, entry: Option<Entry<'a>>) -> Place<'a>
+        ensures left { result.left ≡ self.entry.left }
+        ensures behind { result.behind ≡ self.entry.behind }
+    {
+        match entry {
+            Some(entry) => Place {
+                name: entry.name,
+                ..self.unknown()
+            },
+            None => self.unknown(),
+        }
+    }
+
+    /// That of the value of a key.
+    fn value(self, entry: Option<Entry<'a>>) -> Place<'a>
+        ensures left { result.left ≡ self.entry.left }
+        ensures behind { result.behind ≡ self.entry.behind }
+    {
+        match entry {
+            Some(entry) => Place {
+                what: entry.what,
+                ..self.unknown()
+            },
+            None => self.unknown(),
+        }
+    }
+}
+
+/// The bytes after a string, whose head is read already.
+fn after_string(kind: StringKind, count: Argument, bytes: &[u8]) -> Result<&[u8], Stop>
+    ensures shorter { IfOk result (λ rest. length rest.now ≤ length bytes.now) }
+{
+    match count {
+        Argument::Number(count, _) => match split_at(bytes, count) {
+            Ok((_, rest)) => Ok(rest),
+            Err(_) => Err(Stop::NoItem),
+        },
+        Argument::Indefinite => after_chunks(kind, bytes),
+    }
+}
+
+/// The bytes after the break of a string in chunks, whose head is read already.
+fn after_chunks(kind: StringKind, bytes: &[u8]) -> Result<&[u8], Stop>
+    ensures shorter { IfOk result (λ rest. length rest.now ≤ length bytes.now) }
+{
+    let mut rest = bytes;
+    'chunks: loop {
+        let Ok((length, after)) = read_chunk_length(kind.major(), rest) else {
+            return Err(Stop::NoItem);
+        };
+        let Some((length, _)) = length else {
+            return Ok(after);
+        };
+        let Ok((_, next)) = split_at(after, length) else {
+            return Err(Stop::NoItem);
+        };
+        rest = next;
+    }
+}
+
+/// The pass.
+#[derive(Drop)]
+struct Pass<'a> {
+    alloc: Global,
+    names: Names<'a>,
+    notes: Notes<'a>,
+}
+
+impl<'a> Pass<'a> {
+    /// The note with the meaning of the item at the front.
+    fn explained(
+        &mut self,
+        note: Found<'a>,
+        what: What<'a>,
+        bytes: &[u8],
+    ) -> Result<Found<'a>, AllocError> {
+        match what {
+            What::Of(_) => match self.names.shape(what) {
+                Some(Shape::Values(values)) => {
+                    Ok(note.meaning(meaning_at(values, bytes).unwrap_or("")))
+                }
+                _ => Ok(note),
+            },
+            What::Date => match scalar_at(bytes) {
+                Some(Scalar::Integer(seconds)) => self.dated(note, seconds),
+                _ => Ok(note),
+            },
+            _ => Ok(note),
+        }
+    }
+
+    /// The note with a date as its meaning.
+    fn dated(&mut self, note: Found<'a>, seconds: i64) -> Result<Found<'a>, AllocError> {
+        match datetime_of_epoch(self.alloc, seconds)? {
+            Some(date) => self.notes.dated(note, date.as_str()),
+            None => Ok(note),
+        }
+    }
+
+    /// The bytes after an item.
+    #[cycle(item)]
+    fn item<'b>(&mut self, place: Place<'a>, bytes: &'b [u8]) -> Result<&'b [u8], Stop>
+        requires total { length bytes.now + place.behind < 2 ^ 64 }
+        ensures shorter { IfOk result (λ rest. length rest.now < length bytes.now) }
+    {
+        if place.left == 0 {
+            return Err(Stop::NoItem);
+        }
+        let Ok((head, rest)) = read_head(bytes) else {
+            return Err(Stop::NoItem);
+        };
+        let inside = Place {
+            left: place.left - 1,
+            ..place
+        };
+        let at = bytes.len() + place.behind;
+        let index = self.notes.len();
+        let note = Found::new(at, place.name);
+        let after = match head {
+            ItemHead::Tag(tag, _) => self.tagged(inside, note, tag, rest)?,
+            ItemHead::Array(count) => {
+                self.notes.push(note)?;
+                self.members(inside, count, rest)?
+            }
+            ItemHead::Map(count) => {
+                self.notes.push(note)?;
+                self.pairs(inside, count, rest)?
+            }
+            ItemHead::String(StringKind::Bytes, Argument::Number(len, _)) => {
+                self.bytes(inside, note, len, rest)?
+            }
+            ItemHead::String(kind, count) => {
+                let note = self.explained(note, place.what, bytes)?;
+                self.notes.push(note)?;
+                after_string(kind, count, rest)?
+            }
+            _ => {
+                let note = self.explained(note, place.what, bytes)?;
+                self.notes.push(note)?;
+                rest
+            }
+        };
+        self.notes.end(index, at, after.len() + place.behind);
+        Ok(after)
+    }
+
+    /// The bytes after the item of a tag.
+    #[cycle(item)]
+    fn tagged<'b>(
+        &mut self,
+        place: Place<'a>,
+        note: Found<'a>,
+        tag: u64,
+        bytes: &'b [u8],
+    ) -> Result<&'b [u8], Stop>
+        requires total { length bytes.now + place.behind < 2 ^ 64 }
+        ensures shorter { IfOk result (λ rest. length rest.now < length bytes.now) }
+    {
+        let (note, what) = match self.names.tagged(tag) {
+            Some(found) => (note.or_name(found.name), What::Of(found.name)),
+            None if tag == SELF_DESCRIBED => (note, place.what),
+            None => (note, What::Any),
+        };
+        self.notes.push(note)?;
+        let inside = Place {
+            name: "",
+            what,
+            tag: Some(tag),
+            around: place.tag,
+            ..place
+        };
+        self.item(inside, bytes)
+    }
+
+    /// The bytes after the members of an array.
+    #[cycle(item)]
+    fn members<'b>(
+        &mut self,
+        place: Place<'a>,
+        count: Argument,
+        bytes: &'b [u8],
+    ) -> Result<&'b [u8], Stop>
+        requires total { length bytes.now + place.behind < 2 ^ 64 }
+        ensures shorter { IfOk result (λ rest. length rest.now ≤ length bytes.now) }
+    {
+        let shape = self.names.shape(place.what);
+        let mut index = 0;
+        let mut rest = bytes;
+        'members: loop {
+            if let Some(after) = count.after_end(index, rest) {
+                return Ok(after);
+            }
+            rest = self.item(place.member(shape, index), rest)?;
+            index += 1;
+        }
+    }
+
+    /// The bytes after the pairs of a map.
+    #[cycle(item)]
+    fn pairs<'b>(
+        &mut self,
+        place: Place<'a>,
+        count: Argument,
+        bytes: &'b [u8],
+    ) -> Result<&'b [u8], Stop>
+        requires total { length bytes.now + place.behind < 2 ^ 64 }
+        ensures shorter { IfOk result (λ rest. length rest.now ≤ length bytes.now) }
+    {
+        let keys = self.names.keys(place.what, count, bytes);
+        let mut index = 0;
+        let mut rest = bytes;
+        'pairs: loop {
+            if let Some(after) = count.after_end(index, rest) {
+                return Ok(after);
+            }
+            let entry = entry_at(keys.entries, keys.chosen, rest);
+            let at = rest.len() + place.behind;
+            let noted = self.notes.len();
+            let value = self.item(place.key(entry), rest)?;
+            rest = self.item(place.value(entry), value)?;
+            self.notes.end(noted, at, rest.len() + place.behind);
+            index += 1;
+        }
+    }
+
+    /// The bytes after the content of a byte string, which may hold an item.
+    #[cycle(item)]
+    fn bytes<'b>(
+        &mut self,
+        place: Place<'a>,
+        note: Found<'a>,
+        len: u64,
+        bytes: &'b [u8],
+    ) -> Result<&'b [u8], Stop>
+        requires total { length bytes.now + place.behind < 2 ^ 64 }
+        ensures shorter { IfOk result (λ rest. length rest.now ≤ length bytes.now) }
+    {
+        let Ok((content, rest)) = split_at(bytes, len) else {
+            self.notes.push(note)?;
+            return Err(Stop::NoItem);
+        };
+        let held = self.names.held(place, content);
+        self.notes.push(note.encoded(held.is_some()))?;
+        let Some(name) = held else {
+            return Ok(rest);
+        };
+        let inside = Place {
+            what: What::Of(name),
+            behind: place.behind + rest.len(),
+            ..place.unknown()
+        };
+        match self.item(inside, content) {
+            Err(Stop::OutOfMemory) => Err(Stop::OutOfMemory),
+            _ => Ok(rest),
+        }
+    }
+}
+
+/// Returns the notes of the item at the front, by these tables. `outer` is the type of the
+/// outermost item, if it is known.
+///
+/// An item has a name if it is a member of an array or a key of a map that the tables name, or if
+/// it has the tag of a type; and the outermost item has that of its type. A member or a value has a
+/// meaning if the tables have one of it, or if it is a date.
+///
+/// Of bytes that are no item, the notes end where they cease to be one. The only error is out of
+/// memory.
+///
+/// ```rust
+/// use cbor_names::{NAMES, notes};
+///
+/// // {1: 4, -1: h'00'}
+/// let bytes = b"\xa2\x01\x04\x20\x41\x00";
+/// let key = notes(alloc, bytes, NAMES, NAMES.of("COSE_Key"))?;
+/// let list = key.list(alloc)?;
+/// assert_eq!(rt; list.len(), 4);
+/// assert_eq!(rt; (list[1].before, list[2].after), ("kty", "Symmetric"));
+/// assert_eq!(rt; (list[3].at, list[3].before), (3, "k"));
+/// ```
+pub fn notes<'a>(
+    alloc: Global,
+    bytes: &[u8],
+    names: Names<'a>,
+    outer: Option<Type<'a>>,
+) -> Result<Notes<'a>, AllocError>
+    ensures len { IfOk result (λ notes. len_of notes ≡ length bytes.now) }
+{
+    let (name, what) = match outer {
+        Some(outer) => (outer.name, What::Of(outer.name)),
+        None => ("", What::Any),
+    };
+    let outermost = Place {
+        left: DEEPEST,
+        behind: 0,
+        name,
+        what,
+        tag: None,
+        around: None,
+    };
+    let mut pass = Pass {
+        alloc,
+        names,
+        notes: Notes::new(alloc),
+    };
+    match pass.item(outermost, bytes) {
+        Err(Stop::OutOfMemory) => Err(AllocError),
+        _ => Ok(pass.notes.within(bytes.len())),
+    }
+}
