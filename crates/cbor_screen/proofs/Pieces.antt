@@ -1,0 +1,228 @@
+-- Texts in colours, and with long strings cut, one after the other.
+use Rattle.std.proofs.Common.{◌≡◌, ◌≢◌, ℕ, ◌+◌, ◌<◌, ◌≤◌, List, [], ◌∷◌, ◌++◌, length, take, drop, get_or, false}
+use Rattle.std.proofs.Common.{refl, sym, ap, ◌∙◌, subst, inl, inr, append_assoc, length-append, arith}
+use Rattle.std.proofs.Common.{eqb, suc, zero, codes}
+use Rattle.std.specs.Fmt.{decimal}
+use Rattle.std.proofs.Math.Seq.{take-add, take-length}
+use Rattle.std.proofs.lemmas.Bool.{ne_eqb}
+use Rattle.std.proofs.lemmas.List.{append-nil, take-append-drop, length-take, length-drop, get_or-take, get_or-drop}
+use Rattle.cbor_screen.specs.declared.kind.Kind.{Kind}
+use Rattle.cbor_screen.specs.declared.kind.Kind.TheVariants as kind
+use Rattle.cbor_screen.specs.Colored.{Span, texts_of, colored, KeepLines, IsColored, Lacks}
+use Rattle.cbor_screen.specs.Colored.{in_color, start_of, end_of}
+use Rattle.cbor_screen.specs.Elided.{Cut, Piece, tokens_of, elided, AreElided, IsElided, IsElidedToken}
+use Rattle.cbor_screen.specs.Sgr.{outside_sgr, without_sgr}
+
+-- what is appended after what was
+pub joined : (old mid new x y : List ℕ) → mid ≡ old ++ x → new ≡ mid ++ y → new ≡ old ++ (x ++ y)
+joined old mid new x y first next = next ∙ ap (λ t. t ++ y) first ∙ append_assoc old x y
+
+-- ---- in colours
+
+pub colored_none : IsColored [] []
+colored_none = ([], refl, refl, tt)
+
+pub colored_one : (k : Kind) (text : List ℕ) → Lacks 10 text → IsColored text (in_color k text)
+colored_one k text line =
+    let span : Span = record { kind = k; text = text } in
+    (span ∷ [], append-nil text, append-nil (in_color k text), (λ _. line, tt))
+
+pub colored_plain : (text : List ℕ) → IsColored text text
+colored_plain text =
+    let span : Span = record { kind = kind.Plain; text = text } in (
+      span ∷ [],
+      append-nil text,
+      append-nil (([] ++ text) ++ []) ∙ append-nil text,
+      (λ other. absurd (other refl), tt),
+    )
+
+-- a part of a line has no line feed either
+pub lacks_part : (line : List ℕ) (at n : ℕ) → Lacks 10 line → Lacks 10 (take n (drop at line))
+lacks_part line at n h k below =
+    let short : k < n = omega (arith, length-take n (drop at line)) in
+    let within : at + k < length line = omega (arith, length-take n (drop at line), length-drop at line) in
+    let same : get_or (take n (drop at line)) k 0 ≡ get_or line (at + k) 0 =
+    get_or-take n (drop at line) k 0 short ∙ get_or-drop at line k 0 in
+    λ is. h (at + k) within (sym same ∙ is)
+
+texts-append : (a b : List Span) → texts_of (a ++ b) ≡ texts_of a ++ texts_of b
+texts-append [] b = refl
+texts-append (s ∷ a) b = ap (λ t. s.text ++ t) (texts-append a b) ∙ sym (append_assoc s.text (texts_of a) (texts_of b))
+
+colored-append : (a b : List Span) → colored (a ++ b) ≡ colored a ++ colored b
+colored-append [] b = refl
+colored-append (s ∷ a) b =
+    ap (λ t. in_color s.kind s.text ++ t) (colored-append a b)
+    ∙ sym (append_assoc (in_color s.kind s.text) (colored a) (colored b))
+
+keep-append : (a b : List Span) → KeepLines a → KeepLines b → KeepLines (a ++ b)
+keep-append [] b h k = k
+keep-append (s ∷ a) b (first, h) k = (first, keep-append a b h k)
+
+pub colored_both : (a x b y : List ℕ) → IsColored a x → IsColored b y → IsColored (a ++ b) (x ++ y)
+colored_both a x b y (s, s-text, s-shown, s-lines) (t, t-text, t-shown, t-lines) =
+    (s ++ t, cc (texts-append s t), cc (colored-append s t), keep-append s t s-lines t-lines)
+
+pub colored_more : (text : List ℕ) (at n : ℕ) (x y : List ℕ) → IsColored (take at text) x
+    → IsColored (take n (drop at text)) y → IsColored (take (at + n) text) (x ++ y)
+colored_more text at n x y before next =
+    rw (take-add at n text) (colored_both (take at text) x (take n (drop at text)) y before next)
+
+-- the first n, and then the next one
+pub colored_next : (text : List ℕ) (n : ℕ) (x y : List ℕ) → IsColored (take n text) x
+    → y ≡ take 1 (drop n text) → IsColored (take (n + 1) text) (x ++ y)
+colored_next text n x y before is =
+    colored_more text n 1 x y before (rw is (colored_plain (take 1 (drop n text))))
+
+take_all : (text : List ℕ) (n : ℕ) → n ≡ length text → take n text ≡ text
+take_all text n all = ap (λ m. take m text) all ∙ take-length text
+
+-- all of it
+pub colored_whole : (text : List ℕ) (n : ℕ) (x : List ℕ) → n ≡ length text → IsColored (take n text) x
+    → IsColored text x
+colored_whole text n x all h = subst (λ (t : List ℕ). IsColored t x) (take_all text n all) h
+
+-- ---- without the sequences
+
+lacks_first : (c : ℕ) (cs : List ℕ) → Lacks 27 (c ∷ cs) → c ≢ 27
+lacks_first c cs h = h 0 (omega arith)
+
+lacks_rest : (c : ℕ) (cs : List ℕ) → Lacks 27 (c ∷ cs) → Lacks 27 cs
+lacks_rest c cs h k below = h (suc k) (omega arith)
+
+lacks_front : (a b : List ℕ) → Lacks 27 (a ++ b) → Lacks 27 a
+lacks_front [] b h k below = absurd (omega arith)
+lacks_front (c ∷ a) b h zero below = h 0 (omega arith)
+lacks_front (c ∷ a) b h (suc k) below = lacks_front a b (lacks_rest c (a ++ b) h) k (omega arith)
+
+lacks_back : (a b : List ℕ) → Lacks 27 (a ++ b) → Lacks 27 b
+lacks_back [] b h = h
+lacks_back (c ∷ a) b h = lacks_back a b (lacks_rest c (a ++ b) h)
+
+-- a text without ESC stays as it is
+plain_stays : (a b : List ℕ) → Lacks 27 a → outside_sgr false (a ++ b) ≡ a ++ outside_sgr false b
+plain_stays [] b h = refl
+plain_stays (c ∷ a) b h =
+    let other : eqb c 27 ≡ false = ne_eqb c 27 (lacks_first c a h) in
+    rw other (ap (λ t. c ∷ t) (plain_stays a b (lacks_rest c a h)))
+
+end_goes : (k : Kind) (b : List ℕ) → outside_sgr false (end_of k ++ b) ≡ outside_sgr false b
+end_goes kind.Plain b = refl
+end_goes kind.Key b = refl
+end_goes kind.Text b = refl
+end_goes kind.Bytes b = refl
+end_goes kind.Number b = refl
+end_goes kind.Tag b = refl
+end_goes kind.Note b = refl
+end_goes kind.Fault b = refl
+
+start_goes : (k : Kind) (b : List ℕ) → outside_sgr false (start_of k ++ b) ≡ outside_sgr false b
+start_goes kind.Plain b = refl
+start_goes kind.Key b = refl
+start_goes kind.Text b = refl
+start_goes kind.Bytes b = refl
+start_goes kind.Number b = refl
+start_goes kind.Tag b = refl
+start_goes kind.Note b = refl
+start_goes kind.Fault b = refl
+
+span_stays : (k : Kind) (a b : List ℕ) → Lacks 27 a
+    → outside_sgr false (in_color k a ++ b) ≡ a ++ outside_sgr false b
+span_stays k a b h =
+    let parts : in_color k a ++ b ≡ start_of k ++ (a ++ (end_of k ++ b)) =
+    append_assoc (start_of k ++ a) (end_of k) b ∙ append_assoc (start_of k) a (end_of k ++ b) in
+    ap (λ t. outside_sgr false t) parts ∙ start_goes k (a ++ (end_of k ++ b))
+    ∙ plain_stays a (end_of k ++ b) h ∙ ap (λ t. a ++ t) (end_goes k b)
+
+spans_stay : (spans : List Span) → Lacks 27 (texts_of spans) → without_sgr (colored spans) ≡ texts_of spans
+spans_stay [] h = refl
+spans_stay (s ∷ spans) h =
+    span_stays s.kind s.text (colored spans) (lacks_front s.text (texts_of spans) h)
+    ∙ ap (λ t. s.text ++ t) (spans_stay spans (lacks_back s.text (texts_of spans) h))
+
+pub colored_same : (text added : List ℕ) → IsColored text added → Lacks 27 text → without_sgr added ≡ text
+colored_same text added (spans, is-text, is-shown, lines) h =
+    ap without_sgr (sym is-shown) ∙ spans_stay spans (subst (Lacks 27) (sym is-text) h) ∙ is-text
+
+-- ---- with long strings cut
+
+pub elided_none : (most : ℕ) → IsElided most [] []
+elided_none most = ([], refl, refl, tt)
+
+pub elided_one : (most : ℕ) (token added : List ℕ) → IsElidedToken most token added → IsElided most token added
+elided_one most token added h =
+    let piece : Piece = record { token = token; added = added } in
+    (piece ∷ [], append-nil token, append-nil added, (h, tt))
+
+cut_whole : (token : List ℕ) (from n : ℕ)
+    → (take from token ++ take n (drop from token)) ++ drop (from + n) token ≡ token
+cut_whole token from n =
+    ap (λ t. t ++ drop (from + n) token) (sym (take-add from n token)) ∙ take-append-drop (from + n) token
+
+-- a token of which a part is left out
+pub elided_cut : (most : ℕ) (token : List ℕ) (from n bytes : ℕ) → most < bytes → most < length token
+    → IsElidedToken most token (take from token ++ codes "..." ++ drop (from + n) token ++ codes " /"
+    ++ decimal bytes ++ codes " bytes/")
+elided_cut most token from n bytes more long =
+    let cut : Cut = record {
+      front = take from token;
+      gone = take n (drop from token);
+      rest = drop (from + n) token;
+      bytes = bytes;
+    } in
+    inr (cut, sym (cut_whole token from n), refl, more, long)
+
+pub grouped : (old a b c d e f : List ℕ)
+    → old ++ a ++ b ++ c ++ d ++ e ++ f ≡ old ++ (a ++ b ++ c ++ d ++ e ++ f)
+grouped old a b c d e f = simp append_assoc
+
+pub elided_kept : (most : ℕ) (token : List ℕ) → IsElided most token token
+elided_kept most token = elided_one most token token (inl refl)
+
+tokens-append : (a b : List Piece) → tokens_of (a ++ b) ≡ tokens_of a ++ tokens_of b
+tokens-append [] b = refl
+tokens-append (p ∷ a) b =
+    ap (λ t. p.token ++ t) (tokens-append a b) ∙ sym (append_assoc p.token (tokens_of a) (tokens_of b))
+
+elided-append : (a b : List Piece) → elided (a ++ b) ≡ elided a ++ elided b
+elided-append [] b = refl
+elided-append (p ∷ a) b =
+    ap (λ t. p.added ++ t) (elided-append a b) ∙ sym (append_assoc p.added (elided a) (elided b))
+
+are-append : (most : ℕ) (a b : List Piece) → AreElided most a → AreElided most b → AreElided most (a ++ b)
+are-append most [] b h k = k
+are-append most (p ∷ a) b (first, h) k = (first, are-append most a b h k)
+
+pub elided_both : (most : ℕ) (a x b y : List ℕ) → IsElided most a x → IsElided most b y
+    → IsElided most (a ++ b) (x ++ y)
+elided_both most a x b y (s, s-tokens, s-shown, s-are) (t, t-tokens, t-shown, t-are) =
+    (s ++ t, cc (tokens-append s t), cc (elided-append s t), are-append most s t s-are t-are)
+
+pub elided_more : (most : ℕ) (text : List ℕ) (at n : ℕ) (x y : List ℕ) → IsElided most (take at text) x
+    → IsElided most (take n (drop at text)) y → IsElided most (take (at + n) text) (x ++ y)
+elided_more most text at n x y before next =
+    rw (take-add at n text) (elided_both most (take at text) x (take n (drop at text)) y before next)
+
+pub elided_next : (most : ℕ) (text : List ℕ) (n : ℕ) (x y : List ℕ) → IsElided most (take n text) x
+    → y ≡ take 1 (drop n text) → IsElided most (take (n + 1) text) (x ++ y)
+elided_next most text n x y before is =
+    elided_more most text n 1 x y before (rw is (elided_kept most (take 1 (drop n text))))
+
+pub elided_whole : (most : ℕ) (text : List ℕ) (n : ℕ) (x : List ℕ) → n ≡ length text
+    → IsElided most (take n text) x → IsElided most text x
+elided_whole most text n x all h = subst (λ (t : List ℕ). IsElided most t x) (take_all text n all) h
+
+-- no token of a short text is cut
+short_same : (most : ℕ) (pieces : List Piece) → AreElided most pieces → length (tokens_of pieces) ≤ most
+    → elided pieces ≡ tokens_of pieces
+short_same most [] h short = refl
+short_same most (p ∷ pieces) (inl same, h) short =
+    let rest : length (tokens_of pieces) ≤ most = omega (arith, length-append p.token (tokens_of pieces)) in
+    ap (λ t. t ++ elided pieces) same ∙ ap (λ t. p.token ++ t) (short_same most pieces h rest)
+short_same most (p ∷ pieces) (inr cut, h) short =
+    absurd (omega (arith, cut.4, length-append p.token (tokens_of pieces)))
+
+pub elided_short : (most : ℕ) (text added : List ℕ) → IsElided most text added → length text ≤ most → added ≡ text
+elided_short most text added (pieces, is-tokens, is-shown, are) short =
+    let fits : length (tokens_of pieces) ≤ most = omega (arith, ap length is-tokens) in
+    sym is-shown ∙ short_same most pieces are fits ∙ is-tokens

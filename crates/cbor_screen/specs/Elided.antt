@@ -1,0 +1,49 @@
+-- What a text is whose long strings are cut.
+use Rattle.std.specs.Prelude.{◌≡◌, ◌⊎◌, ℕ, ◌<◌, List, [], ◌∷◌, ◌++◌, length, codes}
+use Rattle.std.specs.Fmt.{decimal}
+
+-- A token of which a part is left out.
+pub record Cut : Type 0 where
+  pub front : List ℕ
+  pub gone : List ℕ
+  pub rest : List ℕ
+  -- how many bytes the string has
+  pub bytes : ℕ
+
+-- the token as it was
+abbrev pub whole : Cut → List ℕ
+whole cut = cut.front ++ cut.gone ++ cut.rest
+
+-- the token as it is shown: with three points, and with a note of how many bytes the string has
+abbrev pub shown : Cut → List ℕ
+shown cut = cut.front ++ codes "..." ++ cut.rest ++ codes " /" ++ decimal cut.bytes ++ codes " bytes/"
+
+-- it is as it was, or a part is left out of more than so many bytes
+abbrev pub IsElidedToken : ℕ → List ℕ → List ℕ → Type 0
+IsElidedToken most token added = (added ≡ token)
+    ⊎ ((cut : Cut) × (token ≡ whole cut) × (added ≡ shown cut) × (most < cut.bytes) × (most < length token))
+
+-- A token, and what is shown of it.
+pub record Piece : Type 0 where
+  pub token : List ℕ
+  pub added : List ℕ
+
+-- tokens, one after the other
+abbrev pub tokens_of : List Piece → List ℕ
+tokens_of [] = []
+tokens_of (piece ∷ pieces) = piece.token ++ tokens_of pieces
+
+-- what is shown of them
+abbrev pub elided : List Piece → List ℕ
+elided [] = []
+elided (piece ∷ pieces) = piece.added ++ elided pieces
+
+-- it is each token as it was, or cut
+abbrev pub AreElided : ℕ → List Piece → Type 0
+AreElided most [] = Unit {0}
+AreElided most (piece ∷ pieces) = IsElidedToken most piece.token piece.added × AreElided most pieces
+
+-- the second is the first with some long strings cut
+abbrev pub IsElided : ℕ → List ℕ → List ℕ → Type 0
+IsElided most text added =
+    (pieces : List Piece) × (tokens_of pieces ≡ text) × (elided pieces ≡ added) × AreElided most pieces

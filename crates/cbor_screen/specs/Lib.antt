@@ -1,0 +1,3 @@
+pub mod Colored
+pub mod Elided
+pub mod Sgr
