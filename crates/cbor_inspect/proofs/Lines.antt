@@ -1,5 +1,5 @@
 -- What is written of items in EDN, one after the other, is read back as their bytes.
-use Rattle.std.proofs.Common.{◌≡◌, ℕ, ◌≤◌, List, [], ◌∷◌, ◌++◌, length, Some, refl, sym, ap, subst}
+use Rattle.std.proofs.Common.{◌≡◌, ℕ, ◌≤◌, List, [], ◌∷◌, ◌++◌, length, Option, Some, refl, sym, ap, subst}
 use Rattle.std.proofs.Common.{◌∙◌, append_assoc, length-append, arith}
 use Rattle.std.specs.List.{AllByRecursion}
 use Rattle.cbor_grammar.specs.Bytes.{any, Spells}
@@ -13,14 +13,15 @@ use Rattle.cbor_grammar.proofs.bytes.Laws.{AllBytes, all_bytes-front, all_bytes-
 use Rattle.cbor_grammar.proofs.bytes.Resolved.{resolved, spells_well}
 use Rattle.cbor_grammar.proofs.bytes.Sizes.{one_byte}
 use Rattle.cbor_grammar.proofs.bytes.Strict.{strict_any, strict_only}
-use Rattle.cbor_edn.specs.declared.style.EdnStyle.{EdnStyle}
+use Rattle.cbor_edn_writer.specs.declared.style.EdnStyle.{EdnStyle}
 use Rattle.cbor_edn.specs.Edn.{bytes_of_edn}
-use Rattle.cbor_edn.specs.Lines.{AreEdnLines}
-use Rattle.cbor_edn.specs.Written.{IsEdnText}
-use Rattle.cbor_edn.proofs.back.Lines.{items_back}
+use Rattle.cbor_edn.specs.Written.{IsNotedText}
+use Rattle.cbor_edn_writer.proofs.back.Lines.{AreTextsOf, lines_of, lines_back}
+use Rattle.cbor_edn_writer.proofs.back.Lines as edn
 use Rattle.cbor_inspect.specs.declared.form.Form.{Form}
 use Rattle.cbor_inspect.specs.declared.form.Form.TheVariants as form
 use Rattle.cbor_inspect.specs.declared.items.Show.{Show}
+use Rattle.cbor_inspect.specs.declared.naming.Naming.{Naming}
 use Rattle.cbor_inspect.specs.declared.path.Step.{Step}
 use Rattle.cbor_inspect.specs.Ends.{Shows, steps_of}
 use Rattle.cbor_inspect.specs.Forms.{IsEdn, IsFormOf, IsLineOf, edn_style}
@@ -97,35 +98,45 @@ all_well b (i ∷ is) rest bytes (front, after, whole, s, later) =
 
 -- ---- what is written
 
-edn_line : (f : Form) (style : EdnStyle) (i : Item) (output : List ℕ) → IsEdn f → IsFormOf f style i output
-    → IsLineOf style i output
-edn_line form.Pretty style i output is h = h
-edn_line form.Diag style i output is h = h
-edn_line form.Hex style i output is h = absurd is
-edn_line form.Digits style i output is h = absurd is
-edn_line form.Bytes style i output is h = absurd is
+edn_line : (f : Form) (named : Option Naming) (style : EdnStyle) (i : Item) (output : List ℕ) → IsEdn f
+    → IsFormOf f named style i output → IsLineOf named style i output
+edn_line form.Pretty named style i output is h = h
+edn_line form.Diag named style i output is h = h
+edn_line form.Hex named style i output is h = absurd is
+edn_line form.Digits named style i output is h = absurd is
+edn_line form.Bytes named style i output is h = absurd is
 
-edn_lines : (show : Show) → IsEdn show.style.form → steps_of show ≡ [] → (is : List Item) (b rest written : List ℕ)
-    → ItemsThen b is rest → ShowsEach (Shows show) is written → AreEdnLines (edn_style show.style) is written
-edn_lines show edn whole [] b rest written is none = none
-edn_lines show edn whole (i ∷ is) b rest written (front, after, splits, s, later)
+-- the texts of items, on lines, of which each is one that EDN has for its item with some notes
+record TextLines (is : List Item) (written : List ℕ) : Type 0 where
+  pub texts : List (List ℕ)
+  pub whole : written ≡ lines_of texts
+  pub each : AreTextsOf (items_of is) texts
+
+text_lines : (show : Show) → IsEdn show.style.form → steps_of show ≡ [] → (is : List Item) (b rest written : List ℕ)
+    → ItemsThen b is rest → ShowsEach (Shows show) is written → TextLines is written
+text_lines show is_edn whole [] b rest written is none = record { texts = []; whole = none; each = tt }
+text_lines show is_edn whole (i ∷ is) b rest written (front, after, splits, s, later)
     (first, others, joined, (part, leads, is_form), more) =
-    let line = edn_line show.style.form (edn_style show.style) (resolve part) first edn is_form in
+    let line = edn_line show.style.form show.names (edn_style show.style) (resolve part) first is_edn is_form in
+    let text : List ℕ = line.2 in
     let all : part ≡ i = subst (λ (steps : List Step). LeadsTo steps i part) whole leads in
-    let read : resolve part ≡ i = ap resolve all ∙ resolved 1 front i s in (
-      line.0,
-      others,
-      joined ∙ ap (λ t. t ++ others) line.1 ∙ append_assoc line.0 (10 ∷ []) others,
-      subst (λ x. IsEdnText (edn_style show.style) x line.0) read line.2,
-      edn_lines show edn whole is after rest others later more,
-    )
+    let read : resolve part ≡ i = ap resolve all ∙ resolved 1 front i s in
+    let noted = subst (λ x. IsNotedText (edn_style show.style) line.0 x text) read line.4 in
+    let lines = text_lines show is_edn whole is after rest others later more in
+    record {
+      texts = text ∷ lines.texts;
+      whole = joined ∙ ap (λ t. t ++ others) line.3 ∙ ap (λ t. (text ++ 10 ∷ []) ++ t) lines.whole;
+      each = ((noted.place, noted.outermost.level, noted.written), lines.each);
+    }
 
 pub items_read_back : (show : Show) (input rest written : List ℕ)
     (shown : IsShownOfFirst (Shows show) input written rest) → IsEdn show.style.form → steps_of show ≡ []
     → AllBytes input → bytes_of_edn written ≡ Some (encoded_items (items_of shown.items))
-items_read_back show input rest written shown edn whole bytes =
-    items_back (edn_style show.style) shown.items written (all_well input shown.items rest bytes shown.input_is)
-    (edn_lines show edn whole shown.items input rest written shown.input_is shown.output_is)
+items_read_back show input rest written shown is_edn whole bytes =
+    let lines = text_lines show is_edn whole shown.items input rest written shown.input_is shown.output_is in
+    let well = all_well input shown.items rest bytes shown.input_is in
+    ap bytes_of_edn lines.whole
+    ∙ lines_back (items_of shown.items) lines.texts (edn.all_well shown.items well) lines.each
 
 pub bytes_read_back : (show : Show) (front rest written : List ℕ)
     → IsShownOfFirst (Shows show) (front ++ rest) written rest → IsEdn show.style.form → steps_of show ≡ []

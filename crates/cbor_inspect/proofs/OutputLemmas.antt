@@ -14,7 +14,6 @@ use Rattle.cbor_bytes.proofs.bytes.StrictHeads.{strict_is}
 use Rattle.cbor_diag.specs.Item.{Item}
 use Rattle.cbor_diag.specs.Facts.{IsItem, IsWellFormed, BeginsWithItem}
 use Rattle.cbor_diag.specs.Written.{encoded, resolve}
-use Rattle.cbor_inspect.specs.declared.form.Style.{Style}
 use Rattle.cbor_inspect.specs.declared.path.Step.{Step}
 use Rattle.cbor_inspect.specs.Forms.{IsForm}
 use Rattle.cbor_inspect.specs.Parts.{ShowsPart}
@@ -27,25 +26,25 @@ use Rattle.cbor_inspect.proofs.Sequences.{one_shown}
 use Rattle.cbor_inspect.proofs.Fronts.{front_length}
 
 -- without steps the part is the item, which has no unstated width
-pub front_shown : (style : Style) (steps : List Step) (b output : List ℕ) (n : ℕ) → steps ≡ []
-    → ShowsFront (IsForm style) b output n → ShowsFront (ShowsPart style steps) b output n
-front_shown style steps b output n none h =
+pub front_shown : (show : Show) (steps : List Step) (b output : List ℕ) (n : ℕ) → steps ≡ []
+    → ShowsFront (IsForm show) b output n → ShowsFront (ShowsPart show steps) b output n
+front_shown show steps b output n none h =
     let same : resolve h.0 ≡ h.0 = resolved 1 (take n b) h.0 h.1.2 in
-    let whole : ShowsFront (ShowsPart style []) b output n =
-    (h.0, h.1, (h.0, refl, subst (λ (x : Item). IsForm style x output) (sym same) h.2)) in
-    subst (λ (s : List Step). ShowsFront (ShowsPart style s) b output n) (sym none) whole
+    let whole : ShowsFront (ShowsPart show []) b output n =
+    (h.0, h.1, (h.0, refl, subst (λ (x : Item). IsForm show x output) (sym same) h.2)) in
+    subst (λ (s : List Step). ShowsFront (ShowsPart show s) b output n) (sym none) whole
 
 -- the encoding of a part is that part
-pub part_shown : (style : Style) (part output : List ℕ) (n : ℕ) (p : Item) → IsWellFormed p → part ≡ encoded p
-    → ShowsFront (IsForm style) part output n → IsForm style (resolve p) output
-part_shown style part output n p well is h =
+pub part_shown : (show : Show) (part output : List ℕ) (n : ℕ) (p : Item) → IsWellFormed p → part ≡ encoded p
+    → ShowsFront (IsForm show) part output n → IsForm show (resolve p) output
+part_shown show part output n p well is h =
     let spelled : IsItem (encoded p) (resolve p) =
     strict_any 1 (encoded p) (resolve p) (strict_encoded 1 p well) in
     let whole = item_again 1 128 (encoded p) (resolve p) [] refl spelled in
     let front = item_again 1 128 (take n part) h.0 (drop n part) refl h.1.2 in
     let same = ok_is (h.0, drop n part) (resolve p, [])
     (sym front ∙ ap (read_item 128) (take-append-drop n part ∙ is ∙ sym (append-nil (encoded p))) ∙ whole) in
-    subst (λ (x : Item). IsForm style x output) (ap (λ (q : Item × List ℕ). q.0) same) h.2
+    subst (λ (x : Item). IsForm show x output) (ap (λ (q : Item × List ℕ). q.0) same) h.2
 
 -- bytes without a simple value that is too long are the encoding of their item
 pub item_encoded : (b : List ℕ) → (i : Item) × IsItem b i → NoLongSimple b ⊎ StrictHeads b
@@ -76,12 +75,12 @@ Appends old new Written = (written : List ℕ) × (new ≡ old ++ written) × Wr
 
 pub part_appended : (show : Show) (b part old new : List ℕ) (used n : ℕ) (i : Item) → BeginsWithItem b i used
     → (p : Item) × LeadsTo (steps_of show) i p × IsWellFormed p × (part ≡ encoded p)
-    → Appends old new (λ w. ShowsFront (IsForm show.style) part w n)
+    → Appends old new (λ w. ShowsFront (IsForm show) part w n)
     → Appends old new (λ w. ShowsFront (Shows show) b w used)
 part_appended show b part old new used n i begins found front = (
   front.0,
   front.1,
-  (i, begins, (found.0, found.1, part_shown show.style part front.0 n found.0 found.2 found.3 front.2)),
+  (i, begins, (found.0, found.1, part_shown show part front.0 n found.0 found.2 found.3 front.2)),
 )
 
 pub first_appended : (show : Show) (b old new : List ℕ) (r : Result ℕ End)
@@ -92,9 +91,9 @@ first_appended show b old new (Ok n) h =
 first_appended show b old new (Err e) h = tt
 
 pub whole_appended : (show : Show) (b old new : List ℕ) (r : Result ℕ End) → steps_of show ≡ []
-    → IfOk r (λ n. Appends old new (λ w. ShowsFront (IsForm show.style) b w n))
+    → IfOk r (λ n. Appends old new (λ w. ShowsFront (IsForm show) b w n))
     → IfOk r (λ n. Appends old new (λ w. IsShownOfFirst (Shows show) b w (drop n b)))
 whole_appended show b old new (Ok n) none h =
-    let shown = front_shown show.style (steps_of show) b h.0 n none h.2 in
+    let shown = front_shown show (steps_of show) b h.0 n none h.2 in
     (h.0, h.1, one_shown (Shows show) b n shown.0 h.0 shown.1.2 shown.2)
 whole_appended show b old new (Err e) none h = tt

@@ -1,5 +1,6 @@
 -- Steps lead to one item at most.
-use Rattle.std.proofs.Common.{◌≡◌, ◌↔◌, ℕ, zero, suc, arith, Bool, IsTrue, List, [], ◌∷◌, Some, inl, inr, refl, sym, ap, ◌∙◌}
+use Rattle.std.proofs.Common.{◌≡◌, ◌↔◌, ℕ, zero, suc, arith, Bool, IsTrue, List, [], ◌∷◌, Some, inl, inr, refl, sym, ap}
+use Rattle.std.proofs.Common.{◌∙◌}
 use Rattle.std.proofs.Common.{subst, ◌<◌, ◌≤◌, length, map, get_or, Option, None, IfSome, MatchOption}
 use Rattle.std.specs.Option.{option_map, IfNone}
 use Rattle.std.specs.List.{slice_get, HoldsAt}
@@ -14,7 +15,7 @@ use Rattle.cbor_diag.specs.Item.{tagged, Items, no_items, item, Pairs, no_pairs,
 use Rattle.cbor_diag.specs.Item.{items_of, pairs_of}
 use Rattle.cbor_diag.specs.Facts.{IsWellFormed}
 use Rattle.cbor_grammar.specs.WellFormed.{WellFormed, WellFormedItems, WellFormedPairs}
-use Rattle.cbor_edn.proofs.Levels.{well_above}
+use Rattle.cbor_edn_grammar.proofs.Levels.{well_above}
 use Rattle.cbor_diag.specs.Notation.{list_of, pairs_list}
 use Rattle.cbor_inspect.specs.declared.path.Step.{Step}
 use Rattle.cbor_inspect.specs.Paths.{untagged, plain_key, IsKey, IsValue, element_of, IsMember, StepsTo, LeadsTo}

@@ -15,9 +15,9 @@ use Rattle.cbor_inspect.specs.Simple.{BeginsNo8949}
 abbrev pub steps_of : Show → List Step
 steps_of show = show.steps.items
 
--- what is written of an item: the part that the path leads to, in the style
+-- what is written of an item: the part that the path leads to
 abbrev pub Shows : Show → Item → List ℕ → Type 0
-Shows show i output = ShowsPart show.style (steps_of show) i output
+Shows show i output = ShowsPart show (steps_of show) i output
 
 -- the bytes are no item: that number of first bytes has the fault, and fewer are cut
 abbrev pub FaultAt : List ℕ → Error → ℕ → Type 0

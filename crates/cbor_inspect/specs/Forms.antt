@@ -1,14 +1,17 @@
 -- What is written of one item, in each form.
-use Rattle.std.specs.Prelude.{◌≡◌, ◌&&◌, ℕ, Bool, true, false, List, [], ◌∷◌, ◌++◌}
+use Rattle.std.specs.Prelude.{◌≡◌, ◌&&◌, ℕ, Bool, true, false, List, [], ◌∷◌, ◌++◌, Option, Some, None}
 use Rattle.hex.specs.Hex.{encode_lower}
 use Rattle.cbor_diag.specs.Item.{Item}
 use Rattle.cbor_diag.specs.Dump.{dump}
 use Rattle.cbor_diag.specs.Written.{encoded}
-use Rattle.cbor_edn.specs.declared.style.EdnStyle.{EdnStyle}
-use Rattle.cbor_edn.specs.Written.{IsEdnText}
+use Rattle.cbor_edn_writer.specs.declared.style.EdnStyle.{EdnStyle}
+use Rattle.cbor_edn_writer.specs.declared.note.Note.{Note}
+use Rattle.cbor_edn.specs.Written.{IsNotedText}
 use Rattle.cbor_inspect.specs.declared.form.Form.{Form}
 use Rattle.cbor_inspect.specs.declared.form.Form.TheVariants as form
 use Rattle.cbor_inspect.specs.declared.form.Style.{Style}
+use Rattle.cbor_inspect.specs.declared.items.Show.{Show}
+use Rattle.cbor_inspect.specs.declared.naming.Naming.{Naming}
 
 -- only pretty text has lines and notes
 abbrev pub is_pretty : Form → Bool
@@ -24,21 +27,27 @@ edn_style style = record {
   widths = style.widths;
 }
 
--- the item in EDN, and a line feed
-abbrev pub IsLineOf : EdnStyle → Item → List ℕ → Type 0
-IsLineOf style i output = (text : List ℕ) × (output ≡ text ++ 10 ∷ []) × IsEdnText style i text
+-- the notes beside the item and those in it: none without tables of names
+abbrev pub AreBeside : Option Naming → List Note → Type 0
+AreBeside None notes = notes ≡ []
+AreBeside (Some naming) notes = Unit {0}
+
+-- the item in EDN with such notes, and a line feed; it is read back whatever the notes are
+abbrev pub IsLineOf : Option Naming → EdnStyle → Item → List ℕ → Type 0
+IsLineOf named style i output = (notes : List Note) × AreBeside named notes
+    × (text : List ℕ) × (output ≡ text ++ 10 ∷ []) × IsNotedText style notes i text
 
 -- the item in that form, where it is EDN in that style
-abbrev pub IsFormOf : Form → EdnStyle → Item → List ℕ → Type 0
-IsFormOf form.Pretty style i output = IsLineOf style i output
-IsFormOf form.Diag style i output = IsLineOf style i output
-IsFormOf form.Hex style i output = output ≡ dump i
-IsFormOf form.Digits style i output = output ≡ encode_lower (encoded i) ++ 10 ∷ []
-IsFormOf form.Bytes style i output = output ≡ encoded i
+abbrev pub IsFormOf : Form → Option Naming → EdnStyle → Item → List ℕ → Type 0
+IsFormOf form.Pretty named style i output = IsLineOf named style i output
+IsFormOf form.Diag named style i output = IsLineOf named style i output
+IsFormOf form.Hex named style i output = output ≡ dump i
+IsFormOf form.Digits named style i output = output ≡ encode_lower (encoded i) ++ 10 ∷ []
+IsFormOf form.Bytes named style i output = output ≡ encoded i
 
--- the item in that style
-abbrev pub IsForm : Style → Item → List ℕ → Type 0
-IsForm style i output = IsFormOf style.form (edn_style style) i output
+-- the item as it is to be shown
+abbrev pub IsForm : Show → Item → List ℕ → Type 0
+IsForm show i output = IsFormOf show.style.form show.names (edn_style show.style) i output
 
 -- the forms that are EDN
 abbrev pub IsEdn : Form → Type 0

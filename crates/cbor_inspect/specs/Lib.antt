@@ -7,3 +7,4 @@ pub mod Ends
 pub mod Texts
 pub mod Loose
 pub mod Inputs
+pub mod Raw

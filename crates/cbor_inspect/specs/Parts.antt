@@ -3,14 +3,14 @@ use Rattle.std.specs.Prelude.{◌≡◌, ℕ, List, Option, Some, None}
 use Rattle.cbor_diag.specs.Item.{Item}
 use Rattle.cbor_diag.specs.Written.{encoded, resolve}
 use Rattle.cbor_diag.specs.Facts.{IsWellFormed}
-use Rattle.cbor_inspect.specs.declared.form.Style.{Style}
+use Rattle.cbor_inspect.specs.declared.items.Show.{Show}
 use Rattle.cbor_inspect.specs.declared.path.Step.{Step}
 use Rattle.cbor_inspect.specs.Forms.{IsForm}
 use Rattle.cbor_inspect.specs.Paths.{LeadsTo}
 
 -- what is written of the part that the steps lead to; its unstated widths are resolved, and what was read has none
-abbrev pub ShowsPart : Style → List Step → Item → List ℕ → Type 0
-ShowsPart style steps i output = (p : Item) × LeadsTo steps i p × IsForm style (resolve p) output
+abbrev pub ShowsPart : Show → List Step → Item → List ℕ → Type 0
+ShowsPart show steps i output = (p : Item) × LeadsTo steps i p × IsForm show (resolve p) output
 
 -- the steps lead to no part
 abbrev pub HasNoPart : List Step → Item → Type 0

@@ -26,13 +26,18 @@ pub struct Style {
     pub form: Form,
     /// Whether EDN shows byte strings that are an array, a map or a tagged item as `<<..>>`.
     pub embedded: bool,
-    /// Whether pretty EDN has notes, as comments.
+    /// Whether pretty EDN has notes, as comments, and names.
     pub notes: bool,
     /// Whether EDN states the width of each float and of each number above 23.
     pub widths: bool,
 }
 
 impl Style {
+    /// Whether text has notes: only pretty EDN does.
+    pub(crate) fn has_notes(self) -> bool {
+        self.form == Form::Pretty && self.notes
+    }
+
     /// How EDN is written in this style: only pretty text has lines and notes.
     pub(crate) fn edn(self) -> EdnStyle
         ensures { result ≡ edn_style self }

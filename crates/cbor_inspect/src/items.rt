@@ -10,19 +10,20 @@ ghost use Rattle.cbor_diag.specs.Answer.{RefusedSo};
 ghost use Rattle.cbor_diag.specs.Dump.{dump};
 ghost use Rattle.cbor_diag.specs.Facts.{IsItem, IsWellFormed, BeginsWithItem, IsCut, HasFault};
 ghost use Rattle.cbor_diag.specs.Written.{encoded};
-ghost use Rattle.cbor_inspect.specs.Forms.{IsForm, IsLineOf, edn_style};
+ghost use Rattle.cbor_inspect.specs.Forms.{IsForm};
 ghost use Rattle.cbor_inspect.specs.declared.path.Step.{Step};
 ghost use Rattle.cbor_inspect.specs.Sequence.{IsSequence, ItemsThen, IsShownOfFirst, ShowsFront};
 ghost use Rattle.cbor_inspect.specs.Sequence.{OneAtMost};
 ghost use Rattle.cbor_inspect.specs.Ends.{EndsSo, StopsSo, Shows, steps_of};
 
 use crate::form::{Form, Style};
+use crate::naming::Naming;
+use crate::notation::{Work, push_notation};
 use crate::path::{Step, part_bytes};
 use cbor_bytes::strict::is_strict;
 use cbor_diag::{
     DataItem, Error, Extent, extent, parse_bytes, parse_bytes_partial, push_bytes_to_hex_partial,
 };
-use cbor_edn::push_bytes_to_edn_partial;
 use cbor_tokens::push_hex;
 use std::alloc::{AllocError, Global};
 use std::mem;
@@ -32,23 +33,27 @@ const BLOCK: usize = 64 * 1024;
 
 /// What is written of items.
 #[derive(Drop)]
-pub struct Show {
+pub struct Show<'a> {
     /// How each is written.
     pub style: Style,
+    /// The names in pretty EDN, if there are to be any and it has notes.
+    pub names: Option<Naming<'a>>,
     /// The path to the part that is written. Nothing is written of an item without that part.
     pub steps: Vec<Step>,
     /// Whether a call passes at most one item, and stops after it with `Full`.
     pub one: bool,
 }
 
-impl Show {
-    /// Returns what writes whole items in a form, one after the other, with notes in pretty EDN.
-    pub fn new(alloc: Global, form: Form) -> Show
+impl<'a> Show<'a> {
+    /// Returns what writes whole items in a form, one after the other, with notes in pretty EDN, but
+    /// without names.
+    pub fn new(alloc: Global, form: Form) -> Show<'a>
         ensures form { result.style.form ≡ form }
         ensures whole { steps_of result ≡ [] }
         ensures bytes { result.style.embedded ≡ false }
         ensures notes { result.style.notes ≡ true }
         ensures widths { result.style.widths ≡ false }
+        ensures names { result.names ≡ None }
         ensures all { result.one ≡ false }
     {
         let style = Style {
@@ -59,6 +64,7 @@ impl Show {
         };
         Show {
             style,
+            names: None,
             steps: Vec::new(alloc),
             one: false,
         }
@@ -119,10 +125,10 @@ pub fn show_items(show: &Show, bytes: &[u8], out: &mut Vec<u8>) -> Shown
     ensures one { IsTrue show.now.one → OneAtMost bytes.now (drop result.used bytes.now) }
 {
     let limit = out.len().saturating_add(BLOCK);
-    let mut text = String::new(*out.allocator());
+    let mut work = Work::new(*out.allocator());
     let mut used = 0;
     'items: loop {
-        match show_first(show, &bytes[used..], None, &mut text, out) {
+        match show_first(show, &bytes[used..], None, &mut work, out) {
             Ok(count) => used += count,
             Err(end) => return Shown { used, end },
         }
@@ -136,12 +142,12 @@ pub fn show_items(show: &Show, bytes: &[u8], out: &mut Vec<u8>) -> Shown
 }
 
 /// Appends what is written of the item at the front, and returns how many bytes it takes. Its
-/// length may be known already. The text is what was written before; its memory is used again.
+/// length may be known already.
 pub(crate) fn show_first(
     show: &Show,
     bytes: &[u8],
     known: Option<usize>,
-    text: &mut String,
+    work: &mut Work,
     out: &mut Vec<u8>,
 ) -> Result<usize, End>
     requires { IfSome known (λ n. (i : Item) × BeginsWithItem bytes.now i n) }
@@ -154,17 +160,17 @@ pub(crate) fn show_first(
     ensures ends { IfErr result (StopsSo (steps_of show.now) bytes.now) }
     ensures unchanged { OnErr result (out.new.items ≡ out.old.items) }
 {
-    text.clear();
+    work.text.clear();
     if show.steps.is_empty() {
-        push_front(show.style, bytes, known, text, out)
+        push_front(show, bytes, known, work, out)
     } else {
-        push_part(show, bytes, text, out)
+        push_part(show, bytes, work, out)
     }
 }
 
 /// Appends the part of the item at the front that the path leads to. The text is empty.
-fn push_part(show: &Show, bytes: &[u8], text: &mut String, out: &mut Vec<u8>) -> Result<usize, End>
-    requires { string_bytes text.old ≡ [] }
+fn push_part(show: &Show, bytes: &[u8], work: &mut Work, out: &mut Vec<u8>) -> Result<usize, End>
+    requires { string_bytes work.old.text ≡ [] }
     ensures written { IfOk result (λ used. (written : List ℕ)
         × (out.new.items ≡ out.old.items ++ written)
         × ShowsFront (Shows show.now) bytes.now written used) }
@@ -181,7 +187,8 @@ fn push_part(show: &Show, bytes: &[u8], text: &mut String, out: &mut Vec<u8>) ->
         Ok(None) => return Err(End::Lost { len: used }),
         Err(_) => return Err(End::Memory),
     };
-    match push_front(show.style, &part, None, text, out) {
+    work.clear = 0;
+    match push_front(show, &part, None, work, out) {
         Ok(_) => Ok(used),
         // The part is an item, so it was memory that ran out.
         Err(_) => Err(End::Memory),
@@ -190,51 +197,46 @@ fn push_part(show: &Show, bytes: &[u8], text: &mut String, out: &mut Vec<u8>) ->
 
 /// Appends all of the item at the front. The text is empty.
 fn push_front(
-    style: Style,
+    show: &Show,
     bytes: &[u8],
     known: Option<usize>,
-    text: &mut String,
+    work: &mut Work,
     out: &mut Vec<u8>,
 ) -> Result<usize, End>
     requires known { IfSome known (λ n. (i : Item) × BeginsWithItem bytes.now i n) }
-    requires empty { string_bytes text.old ≡ [] }
+    requires empty { string_bytes work.old.text ≡ [] }
     ensures written { IfOk result (λ used. (written : List ℕ)
         × (out.new.items ≡ out.old.items ++ written)
-        × ShowsFront (IsForm style) bytes.now written used) }
+        × ShowsFront (IsForm show.now) bytes.now written used) }
     ensures ends { (steps : List Step) → IfErr result (StopsSo steps bytes.now) }
     ensures unchanged { OnErr result (out.new.items ≡ out.old.items) }
 {
-    if style.form == Form::Bytes {
+    if show.style.form == Form::Bytes {
         return push_encoding(bytes, known, out);
     }
-    let used = match push_form(style, bytes, known, text) {
+    let used = match push_form(show, bytes, known, work) {
         Ok(used) => used,
         Err(end) => return Err(end),
     };
-    match push_text(text, out) {
+    match push_text(&mut work.text, out) {
         Ok(()) => Ok(used),
         Err(_) => Err(End::Memory),
     }
 }
 
 /// Appends the item at the front in a form that is a text. The text is empty.
-fn push_form(
-    style: Style,
-    bytes: &[u8],
-    known: Option<usize>,
-    text: &mut String,
-) -> Result<usize, End>
-    requires form { ¬ (style.form ≡ Form.Bytes) }
+fn push_form(show: &Show, bytes: &[u8], known: Option<usize>, work: &mut Work) -> Result<usize, End>
+    requires form { ¬ (show.now.style.form ≡ Form.Bytes) }
     requires known { IfSome known (λ n. (i : Item) × BeginsWithItem bytes.now i n) }
-    requires empty { string_bytes text.old ≡ [] }
+    requires empty { string_bytes work.old.text ≡ [] }
     ensures written { IfOk result (λ used.
-        ShowsFront (IsForm style) bytes.now (string_bytes text.new) used) }
+        ShowsFront (IsForm show.now) bytes.now (string_bytes work.new.text) used) }
     ensures ends { (steps : List Step) → IfErr result (StopsSo steps bytes.now) }
 {
-    match style.form {
-        Form::Diag | Form::Pretty => push_notation(style, bytes, text),
-        Form::Hex => push_dump(bytes, text),
-        Form::Digits => push_digits(bytes, known, text),
+    match show.style.form {
+        Form::Diag | Form::Pretty => push_notation(show, bytes, work),
+        Form::Hex => push_dump(bytes, &mut work.text),
+        Form::Digits => push_digits(bytes, known, &mut work.text),
         Form::Bytes => unreachable!(),
     }
 }
@@ -350,24 +352,6 @@ fn push_dump(bytes: &[u8], text: &mut String) -> Result<usize, End>
     len_of(bytes, found)
 }
 
-/// Appends the item at the front in EDN, and a line feed. The text is empty.
-fn push_notation(style: Style, bytes: &[u8], text: &mut String) -> Result<usize, End>
-    requires { string_bytes text.old ≡ [] }
-    ensures written { IfOk result (λ used. (i : Item) × BeginsWithItem bytes.now i used
-        × IsLineOf (edn_style style) i (string_bytes text.new)) }
-    ensures ends { (steps : List Step) → IfErr result (StopsSo steps bytes.now) }
-{
-    let found = push_bytes_to_edn_partial(*text.allocator(), bytes, style.edn(), text);
-    let used = match len_of(bytes, found) {
-        Ok(used) => used,
-        Err(end) => return Err(end),
-    };
-    match text.push('\n') {
-        Ok(()) => Ok(used),
-        Err(_) => Err(End::Memory),
-    }
-}
-
 /// The length of the item at the front, which is found out unless it is known, or why there is
 /// none.
 fn first_len(bytes: &[u8], known: Option<usize>) -> Result<usize, End>
@@ -387,7 +371,7 @@ fn first_len(bytes: &[u8], known: Option<usize>) -> Result<usize, End>
 }
 
 /// The length of the item at the front that was written straight from the bytes, or why none was.
-fn len_of(bytes: &[u8], found: cbor_diag::Result<Option<usize>>) -> Result<usize, End>
+pub(crate) fn len_of(bytes: &[u8], found: cbor_diag::Result<Option<usize>>) -> Result<usize, End>
     requires cut { found ≡ Ok None → IsCut bytes.now }
     requires refused { RefusedSo found (HasFault bytes.now) }
     ensures found { IfOk result (λ used. found ≡ Ok (Some used)) }

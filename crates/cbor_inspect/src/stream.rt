@@ -13,6 +13,7 @@ ghost use Rattle.cbor_inspect.specs.Sequence.{OneAtMost};
 ghost use Rattle.cbor_inspect.specs.Ends.{EndsSo, StopsSo, ChecksSo, Shows, steps_of};
 
 use crate::items::{End, Show, show_first, show_items};
+use crate::notation::Work;
 use crate::simple::fault_8949;
 use cbor_diag::{Error, Extent, Scanner, extent};
 use std::alloc::{AllocError, Global};
@@ -368,9 +369,9 @@ impl Stream {
         ensures unchanged { OnErr result (out.new.items ≡ out.old.items) }
         ensures kept { OnErr result (self.new ≡ self.old) }
     {
-        let mut text = String::new(*out.allocator());
+        let mut work = Work::new(*out.allocator());
         match self.scan() {
-            Extent::Item(len) => match show_first(show, self.rest(), Some(len), &mut text, out) {
+            Extent::Item(len) => match show_first(show, self.rest(), Some(len), &mut work, out) {
                 Ok(used) => {
                     self.pass(used);
                     Ok(())

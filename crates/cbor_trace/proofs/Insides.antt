@@ -55,7 +55,7 @@ whole_parts level left (suc k) b rest sum fits h =
     }
 
 -- one value more in front
-one_before : {X : Type 0} (read : List ℕ → Read X) (k : ℕ) (b mid rest : List ℕ) (x : X) → read b ≡ Ok (x, mid)
+pub one_before : {X : Type 0} (read : List ℕ → Read X) (k : ℕ) (b mid rest : List ℕ) (x : X) → read b ≡ Ok (x, mid)
     → After read k mid rest → After read (suc k) b rest
 one_before read zero b mid rest x e h = (b, x, refl, e ∙ ap (λ (r : List ℕ). Ok (x, r)) h)
 one_before read (suc k) b mid rest x e h = (h.0, h.1, one_before read k b mid h.0 x e h.2, h.3)

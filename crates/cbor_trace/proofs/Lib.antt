@@ -5,3 +5,4 @@ pub mod Insides
 pub mod Carried
 pub mod Ends
 pub mod Chunks
+pub mod Members

@@ -27,7 +27,7 @@ unfolding read_head read_argument head_of_major
 break_head b = refl
 
 -- no item begins with a break
-no_break : (left : ℕ) (b : List ℕ) (x : Item × List ℕ) → read_item left b ≡ Ok x → after_break b ≡ None
+pub no_break : (left : ℕ) (b : List ℕ) (x : Item × List ℕ) → read_item left b ≡ Ok x → after_break b ≡ None
 no_break left b x e =
     elim (break_ways b) [
       | inl at ↦ absurd (no_item left b refusal.Head x (ap read_head at.1 ∙ break_head at.0) e)

@@ -1,3 +1,4 @@
 pub mod Around
 pub mod Chunks
+pub mod Members
 pub mod mirror

@@ -1,0 +1,10 @@
+use Rattle.std.proofs.Common.{◌≡◌, ◌++◌, drop, map}
+use Rattle.std.specs.List.{flat_map}
+use Rattle.cbor_diag.specs.Item.{Chunk}
+use Rattle.cbor_diag.specs.Strings.{text_chunk}
+use Rattle.cbor_inspect.proofs.raw.joined_texts.Given as goal
+
+-- what was joined, and the contents that are left, are those of all chunks
+abbrev pub invariant-chunks : goal.invariant-chunks
+invariant-chunks l = l.joined.items ++ flat_map (λ (c : Chunk). c.bytes) (map text_chunk (drop l.chunk-index l.chunks))
+    ≡ flat_map (λ (c : Chunk). c.bytes) (map text_chunk l.chunks)

@@ -1,0 +1,6 @@
+use Rattle.cbor_grammar.proofs.bytes.Outcomes.{fault_refusal}
+use Rattle.cbor_places.proofs.fault.fault_of.Goals as goal
+
+pub returns-in_ok-wrong-in-Fault-clause-refused : goal.returns-in_ok-wrong-in-Fault-clause-refused
+returns-in_ok-wrong-in-Fault-clause-refused c = rw (c.in_ok-wrong-in-Fault.ensures.error)
+    (fault_refusal 1 c.args.bytes.now c.in-Fault.error c.in-Fault.ensures.fault)

@@ -1,0 +1,161 @@
+//! What is around a byte of the data: the path, the open containers, the innermost item.
+
+use crate::nouns::{count_of, noun_of_open, push_there};
+use crate::path::Path;
+use crate::piece::{Piece, Places};
+use cbor_diag::{Extent, extent};
+use cbor_grammar::argument::Argument;
+use cbor_trace::{Open, Part, Spot, part_at};
+use std::alloc::{AllocError, Global};
+use std::fmt::Write;
+
+/// A key of more bytes of notation than this is named by its place in a message.
+const LONGEST: usize = 40;
+
+/// An item, and where it is.
+#[derive(Clone, Copy)]
+pub(crate) struct Named {
+    /// Where it begins in the piece.
+    pub(crate) start: usize,
+    /// How long the path to it is; if it is in a key, to the outermost map of which it is.
+    pub(crate) path_len: usize,
+    /// Whether it is in a key.
+    pub(crate) in_key: bool,
+}
+
+/// A container that is open.
+#[derive(Clone, Copy)]
+pub(crate) struct Inside {
+    pub(crate) open: Open,
+    pub(crate) item: Named,
+}
+
+/// What is around a byte.
+#[derive(Drop)]
+pub struct Around<'a> {
+    /// The bytes that are looked at, which begin with the item.
+    pub(crate) piece: Piece<'a>,
+    /// The path to the innermost item; if that is in a key, to the outermost map of which it is.
+    pub path: Path,
+    /// The innermost item.
+    pub spot: Spot,
+    /// Whether that is in a key.
+    pub in_key: bool,
+    /// The innermost container that is open.
+    pub(crate) last: Option<Inside>,
+    /// The innermost array or map that the path leads into.
+    around: Option<Inside>,
+}
+
+/// The bytes from the item on that has this byte of the data, if items are before it.
+pub fn item_with(piece: Piece, byte: usize) -> Piece {
+    let mut item = piece;
+    for _ in 0..u64::MAX {
+        let Extent::Item(len) = extent(item.bytes) else {
+            break;
+        };
+        let end = item.number(len);
+        if byte < end || len == 0 {
+            break;
+        }
+        item = Piece {
+            begins: end,
+            bytes: item.bytes.get(len..).unwrap_or(b""),
+        };
+    }
+    item
+}
+
+impl<'a> Around<'a> {
+    /// What is around the end of bytes that are cut or have a fault: the item that is cut, or that
+    /// has the fault. Where [`extent`] counts fewer bytes that have the fault, give it these.
+    pub fn of_end(alloc: Global, piece: Piece<'a>) -> Result<Around<'a>, AllocError> {
+        Around::new(alloc, piece, piece.bytes.len())
+    }
+
+    /// What is around the byte at a place of the bytes, which begin with the item.
+    pub fn new(alloc: Global, piece: Piece<'a>, at: usize) -> Result<Around<'a>, AllocError> {
+        let mut around = Around {
+            piece,
+            path: Path::new(alloc, LONGEST),
+            spot: Spot::outermost(),
+            in_key: false,
+            last: None,
+            around: None,
+        };
+        for _ in 0..=u8::MAX {
+            let Some(part) = part_at(piece.bytes, around.spot, at) else {
+                break;
+            };
+            around.enter(part)?;
+        }
+        Ok(around)
+    }
+
+    /// The innermost item.
+    pub(crate) fn named(&self) -> Named {
+        Named {
+            start: self.spot.start,
+            path_len: self.path.len(),
+            in_key: self.in_key,
+        }
+    }
+
+    /// Goes into a part of the innermost item.
+    fn enter(&mut self, part: Part) -> Result<(), AllocError> {
+        let inside = Inside {
+            open: part.open,
+            item: self.named(),
+        };
+        self.last = Some(inside);
+        if !self.in_key {
+            if !matches!(part.open, Open::Tag { .. }) {
+                self.around = Some(inside);
+            }
+            self.push_step(part)?;
+        }
+        self.spot = Spot {
+            start: part.start,
+            level: self.spot.level.saturating_add(1),
+        };
+        Ok(())
+    }
+
+    /// Appends the step to a part.
+    fn push_step(&mut self, part: Part) -> Result<(), AllocError> {
+        match part.open {
+            Open::Array { index, .. } => self.path.push_index(index)?,
+            Open::Key { .. } => self.in_key = true,
+            Open::Value { key, .. } => {
+                let bytes = self.piece.between(key, part.start);
+                self.path.push_key(bytes, self.piece.number(key))?;
+            }
+            Open::Tag { .. } => {}
+        }
+        Ok(())
+    }
+
+    /// Says where in the item this is: nothing at the outermost item. Of an item that is not whole
+    /// it also says how much of the container is there.
+    pub fn words<P: Places>(&self, places: &P, whole: bool) -> Result<String, AllocError> {
+        let mut out = String::new(self.path.allocator());
+        let Some(inside) = self.around else {
+            return Ok(out);
+        };
+        if !self.path.is_empty() {
+            write!(out, "at {}, ", self.path.as_str())?;
+        }
+        let key = if self.in_key { "a key of " } else { "" };
+        write!(out, "in {key}the {}", noun_of_open(inside.open))?;
+        match count_of(inside.open) {
+            Some(Argument::Number(count, _)) => write!(out, " of {count} at ")?,
+            _ => out.push_str(" of indefinite length at ")?,
+        }
+        places.push_byte(&mut out, self.piece.number(inside.item.start))?;
+        if !whole {
+            out.push_str(", of which ")?;
+            push_there(&mut out, inside.open)?;
+        }
+        Ok(out)
+    }
+}

@@ -1,0 +1,94 @@
+//! What `--at` writes: the path, the head and the place of the item that a byte belongs to.
+
+use crate::around::{Around, item_with};
+use crate::piece::Piece;
+use cbor_diag::Error;
+use cbor_edn::bytes_to_edn;
+use cbor_grammar::argument::Argument;
+use cbor_grammar::head::ItemHead;
+use cbor_grammar::strings::StringKind;
+use cbor_trace::{end_at, head_at};
+use std::alloc::{AllocError, Global};
+use std::fmt::Write;
+
+/// What is said of this byte of the data, which is one of these: the path, the head, and where the
+/// item begins and ends, in a line each.
+pub fn lines_at(alloc: Global, piece: Piece, byte: usize) -> Result<String, Error> {
+    let item = item_with(piece, byte);
+    let around = Around::new(alloc, item, byte.saturating_sub(item.begins))?;
+    let key = if around.in_key { ", in a key" } else { "" };
+    let mut out = format!(in alloc; "path: {}{key}\n", around.path.as_str())?;
+    push_head(&mut out, item.bytes, around.spot.start)?;
+    let first = item.number(around.spot.start);
+    match end_at(item.bytes, around.spot) {
+        Some(end) => {
+            let last = item.number(end.saturating_sub(1));
+            push_place(&mut out, first, last)?;
+        }
+        None => write!(out, "item: from byte {first} (0x{first:x}) on, not whole\n")?,
+    }
+    Ok(out)
+}
+
+/// Appends the line of the first and the last byte of an item.
+fn push_place(out: &mut String, first: usize, last: usize) -> Result<(), AllocError> {
+    if first == last {
+        write!(out, "item: byte {first} (0x{first:x})\n")
+    } else {
+        write!(
+            out,
+            "item: bytes {first} to {last} (0x{first:x} to 0x{last:x})\n"
+        )
+    }
+}
+
+/// Appends the line of the head at a place: its digits, and what it is.
+fn push_head(out: &mut String, bytes: &[u8], start: usize) -> Result<(), Error> {
+    let Some((head, end)) = head_at(bytes, start) else {
+        out.push_str("head: none, or not whole\n")?;
+        return Ok(());
+    };
+    let digits = bytes.get(start..end).unwrap_or(b"");
+    out.push_str("head: ")?;
+    push_head_words(out, digits, head)
+}
+
+/// Appends the digits of a head, and what it is, as a line of a dump.
+pub(crate) fn push_head_words(
+    out: &mut String,
+    digits: &[u8],
+    head: ItemHead,
+) -> Result<(), Error> {
+    for byte in digits {
+        write!(out, "{byte:02x} ")?;
+    }
+    out.push_str("# ")?;
+    match head {
+        ItemHead::String(kind, length) => push_count(out, word_of_kind(kind), length)?,
+        ItemHead::Array(count) => push_count(out, "array", count)?,
+        ItemHead::Map(count) => push_count(out, "map", count)?,
+        ItemHead::Tag(number, _) => write!(out, "tag({number})")?,
+        _ => {
+            let edn = bytes_to_edn(*out.allocator(), digits)?;
+            out.push_str(&edn)?;
+        }
+    }
+    out.push('\n')?;
+    Ok(())
+}
+
+/// The word of a dump for a string.
+fn word_of_kind(kind: StringKind) -> &'static str {
+    match kind {
+        StringKind::Bytes => "bytes",
+        StringKind::Text => "text",
+    }
+}
+
+/// Appends what a head is that has a count, as a dump does.
+fn push_count(out: &mut String, word: &str, count: Argument) -> Result<(), AllocError> {
+    match count {
+        Argument::Number(count, _) => write!(out, "{word}({count})"),
+        Argument::Indefinite => write!(out, "{word}(*)"),
+    }
+}

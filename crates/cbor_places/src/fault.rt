@@ -1,0 +1,99 @@
+//! Why bytes are no item, and where in the item that is.
+ghost use Rattle.std.specs.Prelude.{◌≡◌, IfOk, IfErr, IfSome, None};
+ghost use Rattle.cbor_diag.specs.Item.{Item};
+ghost use Rattle.cbor_diag.specs.Facts.{IsItem, IsNoItem};
+
+use crate::around::Around;
+use crate::piece::{ByteNumbers, Piece};
+use cbor_diag::{Error, Extent, extent};
+use cbor_inspect::place_of_fault;
+use std::alloc::Global;
+use std::fmt::Write;
+
+/// Why bytes are no item.
+#[derive(Drop)]
+pub struct Fault {
+    /// The error.
+    pub error: Error,
+    /// How many bytes are before the fault. In a text that is not UTF-8 it is the first byte with
+    /// which no UTF-8 goes on, as [`place_of_fault`] finds it.
+    pub place: usize,
+    /// The path to the item that is cut or has the fault, as `cborcat -p` reads it; `/` for the
+    /// outermost item, and nothing where bytes remain after an item.
+    pub path: String,
+    /// What is wrong, and where in the item: one line in ASCII, but for keys of paths.
+    pub message: String,
+}
+
+/// Returns why bytes are no item, or `None` if they are one. The only error is `Memory`.
+///
+/// ```rust
+/// use cbor_places::fault_of;
+///
+/// // [1, ..: the second member begins with a byte that no head has.
+/// if let Some(fault) = fault_of(alloc, b"\x82\x01\x1f")? {
+///     assert_eq!(rt; fault.path.as_str(), "1");
+///     let message = "no item can have this head, \
+///         at 1, in the array of 2 at byte 0, of which 1 is there";
+///     assert_eq!(rt; fault.message.as_str(), message);
+/// }
+/// ```
+pub fn fault_of(alloc: Global, bytes: &[u8]) -> Result<Option<Fault>, Error>
+    // None exactly for an item, and otherwise an error that is true of the bytes.
+    ensures none { IfOk result (λ f. f ≡ None → (i : Item) × IsItem bytes.now i) }
+    ensures refused { IfOk result (λ f. IfSome f (λ x. IsNoItem bytes.now x.error)) }
+    ensures memory { IfErr result (λ e. e ≡ Error.Memory) }
+{
+    match extent(bytes) {
+        Extent::Item(len) if len == bytes.len() => Ok(None),
+        Extent::Item(len) => Ok(Some(Fault {
+            error: Error::Remaining,
+            place: len,
+            path: String::new(alloc),
+            message: String::from_str(alloc, Error::Remaining.text())?,
+        })),
+        Extent::Cut => Ok(Some(cut(alloc, bytes)?)),
+        Extent::Fault { error, end } => Ok(Some(wrong(alloc, bytes, error, end)?)),
+    }
+}
+
+/// What is said of bytes that are cut.
+fn cut(alloc: Global, bytes: &[u8]) -> Result<Fault, Error>
+    ensures error { IfOk result (λ x. x.error ≡ Error.CutShort) }
+    ensures memory { IfErr result (λ e. e ≡ Error.Memory) }
+{
+    let around = Around::of_end(alloc, Piece { begins: 0, bytes })?;
+    let words = around.cut_words(&ByteNumbers)?;
+    Ok(Fault {
+        error: Error::CutShort,
+        place: bytes.len(),
+        path: String::from_str(alloc, around.path.as_str())?,
+        message: format!(in alloc; "cut short: {words}")?,
+    })
+}
+
+/// What is said of bytes of which the first `end` have this error, and fewer are cut.
+fn wrong(alloc: Global, bytes: &[u8], error: Error, end: usize) -> Result<Fault, Error>
+    ensures error { IfOk result (λ x. x.error ≡ error) }
+    ensures memory { IfErr result (λ e. e ≡ Error.Memory) }
+{
+    let (front, _) = bytes.split_at(end.min(bytes.len()));
+    let around = Around::of_end(
+        alloc,
+        Piece {
+            begins: 0,
+            bytes: front,
+        },
+    )?;
+    let mut message = String::from_str(alloc, error.text())?;
+    let words = around.words(&ByteNumbers, false)?;
+    if !words.is_empty() {
+        write!(message, ", {words}")?;
+    }
+    Ok(Fault {
+        error,
+        place: place_of_fault(bytes, error, end),
+        path: String::from_str(alloc, around.path.as_str())?,
+        message,
+    })
+}

@@ -1,0 +1,150 @@
+//! Paths to items, as `-p` reads them.
+
+use cbor_diag::Error;
+use cbor_edn::{EdnError, bytes_to_edn, parse_edn};
+use cbor_grammar::argument::Argument;
+use cbor_grammar::head::ItemHead;
+use cbor_grammar::strings::StringKind;
+use cbor_inspect::is_shown;
+use cbor_trace::head_at;
+use std::alloc::{AllocError, Global};
+use std::fmt::Write;
+
+/// A path to an item. Tags take no step.
+#[derive(Drop)]
+pub struct Path {
+    text: String,
+    /// A key of more bytes of notation than this is named by its place.
+    longest: usize,
+}
+
+impl Path {
+    /// The path to the outermost item.
+    pub fn new(alloc: Global, longest: usize) -> Path {
+        Path {
+            text: String::new(alloc),
+            longest,
+        }
+    }
+
+    /// The path, or `/` for the outermost item, which `-p` reads so.
+    pub fn as_str(&self) -> &str {
+        if self.text.is_empty() {
+            "/"
+        } else {
+            &self.text
+        }
+    }
+
+    /// Whether it leads to the outermost item.
+    pub fn is_empty(&self) -> bool {
+        self.text.is_empty()
+    }
+
+    /// What its memory is taken from.
+    pub fn allocator(&self) -> Global {
+        *self.text.allocator()
+    }
+
+    /// How many bytes it has.
+    pub fn len(&self) -> usize {
+        self.text.len()
+    }
+
+    /// The path as it was when it had this many bytes.
+    pub fn first(&self, len: usize) -> &str {
+        self.text.get(..len).unwrap_or("")
+    }
+
+    /// Makes it the path that it was when it had this many bytes.
+    pub fn cut(&mut self, len: usize) {
+        if self.text.is_char_boundary(len) {
+            self.text.truncate(len);
+        }
+    }
+
+    /// Appends a `/` if a step is there.
+    fn push_slash(&mut self) -> Result<(), AllocError> {
+        if self.text.is_empty() {
+            return Ok(());
+        }
+        self.text.push('/')
+    }
+
+    /// Appends the step to the member of an array at this index.
+    pub fn push_index(&mut self, index: usize) -> Result<(), AllocError> {
+        self.push_slash()?;
+        write!(self.text, "{index}")
+    }
+
+    /// Appends the step to the value of a key, which begins at that byte of the data.
+    /// A key that is no item is named by its place, as a long one is.
+    pub fn push_key(&mut self, key: &[u8], byte: usize) -> Result<(), AllocError> {
+        self.push_slash()?;
+        let alloc = self.allocator();
+        if let Some(word) = plain_word(alloc, key)?
+            && word.len() <= self.longest
+        {
+            return self.text.push_str(word);
+        }
+        match bytes_to_edn(alloc, key) {
+            Ok(edn) if edn.len() <= self.longest => push_step(&mut self.text, &edn),
+            Err(Error::Memory) => Err(AllocError),
+            _ => write!(self.text, "(key at byte {byte})"),
+        }
+    }
+}
+
+/// The content of a text of definite length.
+fn text_of(key: &[u8]) -> Option<&str> {
+    let (head, place) = head_at(key, 0)?;
+    match head {
+        ItemHead::String(StringKind::Text, Argument::Number(..)) => {
+            str::from_utf8(key.get(place..)?).ok()
+        }
+        _ => None,
+    }
+}
+
+/// Whether a character stands for itself in a step.
+fn is_plain(c: char) -> bool {
+    !(c.is_whitespace() || c == '"' || c == '/' || c == '\'')
+}
+
+/// The text that a key is, if it is a step as it is: no notation, and without blanks.
+fn plain_word(alloc: Global, key: &[u8]) -> Result<Option<&str>, AllocError> {
+    let Some(text) = text_of(key) else {
+        return Ok(None);
+    };
+    let is_mark = text == "*" || text.starts_with('@') || text.starts_with('(');
+    if text.is_empty() || is_mark || !is_shown(false, text.as_bytes()) {
+        return Ok(None);
+    }
+    for c in text.chars() {
+        if !is_plain(c) {
+            return Ok(None);
+        }
+    }
+    match parse_edn(alloc, text) {
+        Ok(_) => Ok(None),
+        Err(EdnError::Memory) => Err(AllocError),
+        Err(_) => Ok(Some(text)),
+    }
+}
+
+/// Appends notation as a step, in which each quote begins or ends a text.
+fn push_step(out: &mut String, edn: &str) -> Result<(), AllocError> {
+    let mut escaped = false;
+    for c in edn.chars() {
+        if escaped && c == '"' {
+            out.push_str("\\u0022")?;
+        } else if escaped {
+            out.push('\\')?;
+            out.push(c)?;
+        } else if c != '\\' {
+            out.push(c)?;
+        }
+        escaped = c == '\\' && !escaped;
+    }
+    Ok(())
+}
