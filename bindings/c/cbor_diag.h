@@ -130,6 +130,9 @@ int64_t cbor_diag_convert(uint32_t from, uint32_t to, const uint8_t *input, size
 int64_t cbor_diag_extent(const uint8_t *input, size_t input_len, size_t *end);
 int64_t cbor_diag_fault(uint32_t from, const uint8_t *input, size_t input_len, size_t *place);
 int64_t cbor_diag_fault_text(uint32_t from, const uint8_t *input, size_t input_len, uint8_t *text, size_t text_len);
+int64_t cbor_diag_fault_path(uint32_t from, const uint8_t *input, size_t input_len, uint8_t *path, size_t path_len);
+int64_t cbor_diag_fault_message(uint32_t from, const uint8_t *input, size_t input_len, uint8_t *message,
+                                size_t message_len);
 void cbor_diag_scanner_init(struct cbor_diag_scanner *scanner);
 int64_t cbor_diag_scanner_feed(struct cbor_diag_scanner *scanner, const uint8_t *input, size_t input_len, size_t *end);
 int64_t cbor_diag_breach(uint32_t rules, const uint8_t *input, size_t input_len, size_t *place, size_t *detail);
@@ -255,6 +258,62 @@ static inline int64_t cbor_diag_fault_text_checked(uint32_t from, const void *in
     return cbor_diag_fault_text(from, in, input_len, out, text_len);
 }
 #define cbor_diag_fault_text cbor_diag_fault_text_checked
+
+/*
+ * Writes the path to the item that is cut or has the fault, in an input in bytes or hex that is no item: steps joined by
+ * `/`, as `cborcat -p` reads them, in UTF-8. `/` is the outermost item.
+ *
+ * Returns the length of the whole path, of which as much is written as fits `path`. It is 0 where there is none: if the
+ * input is an item, if more bytes follow an item, and for notation, EDN and hex whose digits are wrong. On an error,
+ * returns minus CBOR_DIAG_ERROR_MEMORY or minus CBOR_DIAG_ERROR_NO_FORM, and `path` is unchanged.
+ *
+ *     char path[64];
+ *     cbor_diag_fault_path(CBOR_DIAG_FORM_BYTES, "\xa1\x61k\x82\x01\x1f", 6, path, sizeof path);  // 3, "k/1"
+ *
+ * No zero byte is added. A pointer may be null if its length is 0.
+ */
+static inline int64_t cbor_diag_fault_path_checked(uint32_t from, const void *input, size_t input_len, char *path,
+                                                   size_t path_len)
+{
+    const uint8_t *in = input ? (const uint8_t *)input : cbor_diag_no_bytes();
+    uint8_t *out = path ? (uint8_t *)path : cbor_diag_no_bytes();
+    if (input_len > (size_t)PTRDIFF_MAX) {
+        return -CBOR_DIAG_ERROR_MEMORY; /* no object is that large */
+    }
+    if (path_len > (size_t)PTRDIFF_MAX) {
+        path_len = (size_t)PTRDIFF_MAX;
+    }
+    return cbor_diag_fault_path(from, in, input_len, out, path_len);
+}
+#define cbor_diag_fault_path cbor_diag_fault_path_checked
+
+/*
+ * Says what is wrong with an input that is no item, and where in the item that is: in bytes and hex as `cborcat` says it,
+ * in one line of UTF-8, where bytes are named by their numbers in the item. In notation, in EDN and in hex whose digits
+ * are wrong it is what cbor_diag_fault_text says.
+ *
+ * Returns the length of the whole message, of which as much is written as fits `message`; 0 for an item. On an error,
+ * returns minus CBOR_DIAG_ERROR_MEMORY or minus CBOR_DIAG_ERROR_NO_FORM, and `message` is unchanged.
+ *
+ *     cbor_diag_fault_message(CBOR_DIAG_FORM_BYTES, "\x82\x01", 2, message, sizeof message);
+ *     // "cut short: the array at byte 0 has 2 items, 1 is there"
+ *
+ * No zero byte is added. A pointer may be null if its length is 0.
+ */
+static inline int64_t cbor_diag_fault_message_checked(uint32_t from, const void *input, size_t input_len,
+                                                      char *message, size_t message_len)
+{
+    const uint8_t *in = input ? (const uint8_t *)input : cbor_diag_no_bytes();
+    uint8_t *out = message ? (uint8_t *)message : cbor_diag_no_bytes();
+    if (input_len > (size_t)PTRDIFF_MAX) {
+        return -CBOR_DIAG_ERROR_MEMORY; /* no object is that large */
+    }
+    if (message_len > (size_t)PTRDIFF_MAX) {
+        message_len = (size_t)PTRDIFF_MAX;
+    }
+    return cbor_diag_fault_message(from, in, input_len, out, message_len);
+}
+#define cbor_diag_fault_message cbor_diag_fault_message_checked
 
 /*
  * Reports how bytes begin that come in pieces, without memory: feed each piece as it comes, for example from a socket.

@@ -596,6 +596,84 @@ static void test_fault_texts(void)
     check_bytes("the text of 2^64 - 1 bytes", "out of memory", text, 13);
 }
 
+static void test_fault_paths(void)
+{
+    const struct {
+        uint32_t from;
+        struct text input;
+        const char *path, *message;
+    } rows[] = {
+        {BYTES, TEXT("\x82\x01\x02"), "", ""},
+        {BYTES, TEXT(""), "/", "cut short: no item is at byte 0"},
+        {BYTES, TEXT("\x82\x01"), "1", "cut short: the array at byte 0 has 2 items, 1 is there"},
+        {BYTES, TEXT("\x1f"), "/", "no item can have this head"},
+        {BYTES, TEXT("\xa1\x61k\x82\x01\x1f\x00"), "k/1",
+         "no item can have this head, at k/1, in the array of 2 at byte 3, of which 1 is there"},
+        {BYTES, TEXT("\xa1\x62\xc3\xbc\x62\xff\x00"), "\xc3\xbc",
+         "a text is not UTF-8, at \xc3\xbc, in the map of 1 at byte 0, of which a key is there"},
+        {BYTES, TEXT("\x81\x02\x03"), "", "bytes remain after the item"},
+        {HEX, TEXT("82 01 # one\n 1c # 28"), "1",
+         "no item can have this head, at 1, in the array of 2 at byte 0, of which 1 is there"},
+        {HEX, TEXT("82 0g"), "", "not a hex digit"},
+        {DIAG, TEXT("300_0"), "", "a number does not fit its width"},
+        {EDN, TEXT("{\"a\" 1}"), "", "a colon has to follow the key"},
+    };
+    for (size_t i = 0; i < sizeof rows / sizeof *rows; i++) {
+        char name[40], text[128];
+        snprintf(name, sizeof name, "the path of fault %zu", i);
+        const unsigned char *input = (const unsigned char *)rows[i].input.bytes;
+        size_t length = rows[i].input.length, wanted = strlen(rows[i].path), room = strlen(rows[i].message);
+        memset(text, UNTOUCHED, sizeof text);
+        check_answer(name, (int64_t)wanted, cbor_diag_fault_path(rows[i].from, input, length, text, sizeof text));
+        check_bytes(name, rows[i].path, text, wanted);
+        check((unsigned char)text[wanted] == UNTOUCHED, "%s: expected byte %zu untouched", name, wanted);
+        check_answer(name, (int64_t)wanted, cbor_diag_fault_path(rows[i].from, input, length, NULL, 0));
+        snprintf(name, sizeof name, "the message of fault %zu", i);
+        memset(text, UNTOUCHED, sizeof text);
+        check_answer(name, (int64_t)room, cbor_diag_fault_message(rows[i].from, input, length, text, sizeof text));
+        check_bytes(name, rows[i].message, text, room);
+        check((unsigned char)text[room] == UNTOUCHED, "%s: expected byte %zu untouched", name, room);
+        memset(text, UNTOUCHED, sizeof text);
+        check_answer(name, (int64_t)room, cbor_diag_fault_message(rows[i].from, input, length, text, 3));
+        check_bytes(name, rows[i].message, text, room < 3 ? room : 3);
+        check((unsigned char)text[3] == UNTOUCHED, "%s: expected byte 3 untouched", name);
+    }
+    char text[8];
+    check_answer("no form's path", -CBOR_DIAG_ERROR_NO_FORM, cbor_diag_fault_path(99, "\x82", 1, text, sizeof text));
+    check_answer("no form's message", -CBOR_DIAG_ERROR_NO_FORM,
+                 cbor_diag_fault_message(99, "\x82", 1, text, sizeof text));
+    check_answer("the path of null input", 1, cbor_diag_fault_path(BYTES, NULL, 0, text, sizeof text));
+    check_answer("the path of 2^64 - 1 bytes", -CBOR_DIAG_ERROR_MEMORY,
+                 cbor_diag_fault_path(BYTES, "\x01", SIZE_MAX, text, sizeof text));
+    check_answer("the message of 2^64 - 1 bytes", -CBOR_DIAG_ERROR_MEMORY,
+                 cbor_diag_fault_message(BYTES, "\x01", SIZE_MAX, text, sizeof text));
+}
+
+/* Each allocation fails in turn. */
+static void test_paths_without_memory(void)
+{
+    const char input[] = "\xa1\x61k\x82\x01\x1f";
+    int64_t came[2] = {-CBOR_DIAG_ERROR_MEMORY, -CBOR_DIAG_ERROR_MEMORY};
+    for (int i = 0; i < 2; i++) {
+        for (failing = 0; came[i] == -CBOR_DIAG_ERROR_MEMORY && failing < 1000; failing++) {
+            char text[128];
+            memset(text, UNTOUCHED, sizeof text);
+            allocations = held = 0;
+            counting = 1;
+            came[i] = i ? cbor_diag_fault_message(BYTES, input, sizeof input - 1, text, sizeof text)
+                        : cbor_diag_fault_path(BYTES, input, sizeof input - 1, text, sizeof text);
+            counting = 0;
+            check(held == 0, "allocation %ld fails: expected no block held, came %ld", failing, held);
+            if (came[i] == -CBOR_DIAG_ERROR_MEMORY) {
+                check((unsigned char)text[0] == UNTOUCHED, "out of memory: expected no byte written");
+            }
+        }
+        check(failing > 1, "no allocation was made to fail in a path or a message");
+    }
+    check_answer("a path at last", 3, came[0]);
+    check_answer("a message at last", 85, came[1]);
+}
+
 /* Each allocation fails in turn. */
 static void test_faults_without_memory(int from, const char *input, int error)
 {
@@ -735,6 +813,8 @@ static void test_reencoding(void)
         {CBOR_DIAG_RULES_LENGTH_FIRST, TEXT("\xa2\x18\x64\x02\x20\x01"), TEXT("\xa2\x20\x01\x18\x64\x02"), 0},
         {CBOR_DIAG_RULES_PREFERRED, TEXT("\x18\x01\xfa\x3f\xc0\x00\x00"), TEXT("\x01\xf9\x3e\x00"), 0},
         {CBOR_DIAG_RULES_CORE, TEXT("\x7f\x61\x61\x61\x62\xff"), TEXT("\x62" "ab"), 0},
+        {CBOR_DIAG_RULES_CORE, TEXT("\xc2\x41\x05"), TEXT("\x05"), 0},
+        {CBOR_DIAG_RULES_DCBOR, TEXT("\xf9\x40\x00\xf9\x80\x00"), TEXT("\x02\x00"), 0},
 
         {CBOR_DIAG_RULES_CORE, TEXT("\x82\x01"), TEXT(""), CBOR_DIAG_ERROR_NOT_ENCODABLE},
         {CBOR_DIAG_RULES_CTAP2, TEXT("\x18\x01\xc1\x00"), TEXT(""), CBOR_DIAG_ERROR_NOT_ENCODABLE},
@@ -831,6 +911,7 @@ static void test_memory(void)
     test_faults_without_memory(HEX, "82 01 1c # 28", CBOR_DIAG_ERROR_HEAD);
     test_faults_without_memory(DIAG, "[h'00', \"a\", 1.5]", CBOR_DIAG_ERROR_NOTATION);
     test_faults_without_memory(EDN, "[h'00', \"a\", 1.5.]", CBOR_DIAG_ERROR_NOTATION);
+    test_paths_without_memory();
     struct text twice = TEXT("\xa3\x01\x80\x00\x80\x01\x80");
     struct text marks = TEXT("\x6b" "a\xcc\x81\xcc\xa7" "o\xcc\x81" "e\xcc\xa3");
     test_breaches_without_memory(CBOR_DIAG_RULES_VALID, twice, CBOR_DIAG_BREACH_KEY_TWICE);
@@ -983,6 +1064,7 @@ int main(int argc, char **argv)
     test_deep_scanner();
     test_faults();
     test_fault_texts();
+    test_fault_paths();
     test_breaches();
     test_breach_texts();
     test_reencoding();

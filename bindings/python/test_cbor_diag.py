@@ -473,6 +473,8 @@ REENCODED = (
     (Rules.LENGTH_FIRST, "a21864022001", "a22001186402"),
     (Rules.PREFERRED, "1801fa3fc00000", "01f93e00"),
     (Rules.CORE, "7f61616162ff", "626162"),
+    (Rules.CORE, "c24105", "05"),
+    (Rules.DCBOR, "f94000f98000fa7fc00001", "0200f97e00"),
     (Rules.CORE, "9f" + "01" * 30 + "ff", "981e" + "01" * 30),
     (Rules.CORE, "8201", Error.NOT_ENCODABLE),
     (Rules.CTAP2, "1801c100", Error.NOT_ENCODABLE),
@@ -558,6 +560,37 @@ class Errors(unittest.TestCase):
                 self.assertEqual(raised.exception.offset, offset)
                 self.assertEqual(str(raised.exception), text)
                 self.assertEqual(str(pickle.loads(pickle.dumps(raised.exception))), text)
+
+    def test_paths(self):
+        for source, given, path, text in (
+            (Form.BYTES, b"", "/", "cut short: no item is at byte 0"),
+            (Form.BYTES, b"\x82\x01", "1", "cut short: the array at byte 0 has 2 items, 1 is there"),
+            (Form.BYTES, bytearray(b"\xa1\x61k\x82\x01\x1f\x00"), "k/1",
+             "no item can have this head, at k/1, in the array of 2 at byte 3, of which 1 is there"),
+            (Form.BYTES, b"\xa1\x62\xc3\xbc\x62\xff\x00", "\u00fc",
+             "a text is not UTF-8, at \u00fc, in the map of 1 at byte 0, of which a key is there"),
+            (Form.BYTES, b"\x81\x02\x03\x04", None, "bytes remain after the item"),
+            (Form.HEX, "82 # \u00e9\n 1c", "0",
+             "no item can have this head, at 0, in the array of 2 at byte 0, of which none is there"),
+            (Form.HEX, "82 0g", None, "not a hex digit"),
+            (Form.DIAG, "[1, 2.5]", None, "not diagnostic notation"),
+            (Form.EDN, '{"a" 1}', None, "a colon has to follow the key"),
+            (Form.BYTES, b"\x81" * 127 + b"\x1f", "/".join("0" * 127), None),  # longer than the first room
+        ):
+            for target in Form:
+                with self.subTest(source=source, target=target, given=given):
+                    with self.assertRaises(CborDiagError) as raised:
+                        cbor_diag.convert(source, target, given)
+                    for failure in (raised.exception, pickle.loads(pickle.dumps(raised.exception))):
+                        self.assertEqual(failure.path, path)
+                        if text is not None:
+                            self.assertEqual(str(failure), text)
+
+    def test_no_path(self):
+        for failing in (lambda: cbor_diag.extent(b"\x82\x1f"), lambda: cbor_diag.Scanner().feed(b"\x82\x1f")):
+            with self.assertRaises(CborDiagError) as raised:
+                failing()
+            self.assertIsNone(raised.exception.path)
 
     def test_no_form(self):
         for number in (6, 2**32 - 1, 2**32, 2**32 + 2, 2**64, -1, -(2**32)):

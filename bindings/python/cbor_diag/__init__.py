@@ -176,7 +176,8 @@ class Breach(NamedTuple):
 
 
 class CborDiagError(ValueError):
-    """The input is not an item, or memory ran out. The text is the library's; of EDN it says what has to be there.
+    """The input is not an item, or memory ran out. The text says what is wrong: in bytes and hex it also says where in
+    the item, and of EDN what has to be there.
 
     `error` says which error it is. `offset` says where: how many bytes of the input come before the fault, or how many
     characters if `convert` was given a `str`. It is `None` where there is no place: out of memory, and for no form.
@@ -188,19 +189,29 @@ class CborDiagError(ValueError):
     that is none. In EDN it is where the reader stops. In hex, notation or EDN that is not UTF-8 it is the first
     byte that is not.
 
+    `path` leads to the item that is cut or has the fault, in steps joined by `/`, as `cborcat -p` reads them; `/` is the
+    outermost item. It is `None` where there is none: in notation, EDN and hex whose digits are wrong, where more bytes
+    follow an item, out of memory, and if `extent`, `Scanner.feed` or `items` raised the error.
+
     If `extent`, `Scanner.feed` or `items` raised it, `end` is the number of first bytes that have the error.
     """
 
     def __init__(
-        self, error: Error, end: Optional[int] = None, offset: Optional[int] = None, text: Optional[str] = None
+        self,
+        error: Error,
+        end: Optional[int] = None,
+        offset: Optional[int] = None,
+        text: Optional[str] = None,
+        path: Optional[str] = None,
     ) -> None:
         super().__init__(_error_text(error) if text is None else text)
         self.error = error
         self.end = end
         self.offset = offset
+        self.path = path
 
-    def __reduce__(self) -> tuple[type[CborDiagError], tuple[Error, Optional[int], Optional[int], str]]:
-        return type(self), (self.error, self.end, self.offset, str(self))
+    def __reduce__(self) -> tuple[type[CborDiagError], tuple[Error, Optional[int], Optional[int], str, Optional[str]]]:
+        return type(self), (self.error, self.end, self.offset, str(self), self.path)
 
 
 def _library_path() -> str:
@@ -240,6 +251,12 @@ class _Library:
         self.fault_text = library.cbor_diag_fault_text
         self.fault_text.restype = ctypes.c_int64
         self.fault_text.argtypes = [ctypes.c_uint32, pointer, size, ctypes.c_char_p, size]
+        self.fault_path = library.cbor_diag_fault_path
+        self.fault_path.restype = ctypes.c_int64
+        self.fault_path.argtypes = [ctypes.c_uint32, pointer, size, ctypes.c_char_p, size]
+        self.fault_message = library.cbor_diag_fault_message
+        self.fault_message.restype = ctypes.c_int64
+        self.fault_message.argtypes = [ctypes.c_uint32, pointer, size, ctypes.c_char_p, size]
         self.scanner_init = library.cbor_diag_scanner_init
         self.scanner_init.restype = None
         self.scanner_init.argtypes = [pointer]
@@ -350,13 +367,23 @@ def _place(library: _Library, given: Any, length: int, source: int) -> Optional[
 _NO_PLACE = ctypes.c_size_t(-1).value
 
 
-def _fault_text(library: _Library, given: Any, length: int, source: int, error: int) -> Optional[str]:
-    """What has to be at the place of an error in EDN; `None` for another error."""
-    if error != Error.NOTATION or source not in (_EDN, _EDN_PRETTY):
-        return None
+def _words(call: Callable[..., int], given: Any, length: int, source: int) -> Optional[str]:
+    """What a call of the library says of a fault; `None` for nothing, and if memory ran out."""
     text = ctypes.create_string_buffer(256)
-    written = library.fault_text(source, given, length, text, len(text))
-    return text.raw[:written].decode("ascii")
+    wanted = call(source, given, length, text, len(text))
+    if wanted > len(text):
+        text = ctypes.create_string_buffer(wanted)
+        wanted = call(source, given, length, text, wanted)
+    return text.raw[:wanted].decode("utf-8") if wanted > 0 else None
+
+
+def _failure(library: _Library, given: Any, length: int, source: int, error: Error) -> CborDiagError:
+    """The error of a conversion that failed."""
+    if error in (Error.MEMORY, Error.NO_FORM):
+        return CborDiagError(error)
+    text = _words(library.fault_message, given, length, source)
+    path = _words(library.fault_path, given, length, source)
+    return CborDiagError(error, None, _place(library, given, length, source), text, path)
 
 
 class _Room:
@@ -405,8 +432,7 @@ def _converted(
     finally:
         _rooms.append(room)
     if wanted < 0:
-        place = _place(library, given, length, source)
-        raise CborDiagError(Error(-wanted), None, place, _fault_text(library, given, length, source, -wanted))
+        raise _failure(library, given, length, source, Error(-wanted))
     output = ctypes.create_string_buffer(wanted)
     if library.convert(source, target, given, length, output, wanted) != wanted:
         raise AssertionError("the length of an output changed")

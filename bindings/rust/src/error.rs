@@ -48,6 +48,9 @@ const ERRORS: [Error; 10] = [
     Error::PastWidth,
 ];
 
+/// A call of the library that says something of an input: a form, the input, and room for the words.
+type Call = unsafe extern "C" fn(u32, *const u8, usize, *mut u8, usize) -> i64;
+
 /// The number of `NotEncodable`. Those between are of arguments that no call of this crate makes.
 const NOT_ENCODABLE: i64 = 13;
 
@@ -92,8 +95,50 @@ impl Error {
         found.then_some(place)
     }
 
-    /// Returns in words why the input of a conversion failed with this error: for EDN what has to be at the place, and
-    /// in other forms the text of the error.
+    /// Returns the path to the item that is cut or has this error, in the input of a conversion that failed: steps
+    /// joined by `/`, as `cborcat -p` reads them; `/` is the outermost item.
+    ///
+    /// Returns `None` if the input does not have this error; in notation, EDN and hex whose digits are wrong; where more
+    /// bytes follow an item; and if memory runs out.
+    ///
+    /// ```rust
+    /// use semphluk::{bytes_to_edn, Form};
+    ///
+    /// let bytes = b"\xa1\x61k\x82\x01\x1f";
+    /// let error = bytes_to_edn(bytes).unwrap_err();
+    /// assert_eq!(error.path(Form::Bytes, bytes).as_deref(), Some("k/1"));
+    /// ```
+    pub fn path(self, from: Form, input: &[u8]) -> Option<String> {
+        self.words(library::cbor_diag_fault_path, from, input)
+    }
+
+    /// What a call of the library says of the input, if the input has this error.
+    fn words(self, call: Call, from: Form, input: &[u8]) -> Option<String> {
+        self.place(from, input)?;
+        let mut text = vec![0; 256];
+        loop {
+            // SAFETY: the pointers are those of the slices, with their lengths.
+            let answer = unsafe {
+                call(
+                    from.number(),
+                    input.as_ptr(),
+                    input.len(),
+                    text.as_mut_ptr(),
+                    text.len(),
+                )
+            };
+            let length = usize::try_from(answer).ok().filter(|length| *length > 0)?;
+            let fits = length <= text.len();
+            text.resize(length, 0);
+            if fits {
+                return String::from_utf8(text).ok();
+            }
+        }
+    }
+
+    /// Returns in words why the input of a conversion failed with this error: in bytes and hex what is wrong and where
+    /// in the item, for EDN what has to be at the place, and in notation the text of the error. It is the text of the
+    /// error if the input does not have it, and if memory runs out.
     ///
     /// ```rust
     /// use semphluk::{edn_to_bytes, Form};
@@ -104,22 +149,8 @@ impl Error {
     /// assert_eq!(error.explain(Form::Edn, edn.as_bytes()), "a colon has to follow the key");
     /// ```
     pub fn explain(self, from: Form, input: &[u8]) -> String {
-        if self != Error::Notation || !matches!(from, Form::Edn | Form::EdnPretty) {
-            return self.to_string();
-        }
-        let mut text = [0; 256];
-        // SAFETY: the pointers are those of the slices, with their lengths.
-        let length = unsafe {
-            library::cbor_diag_fault_text(
-                from.number(),
-                input.as_ptr(),
-                input.len(),
-                text.as_mut_ptr(),
-                text.len(),
-            )
-        };
-        let written = usize::try_from(length).map_or(0, |length| length.min(text.len()));
-        String::from_utf8_lossy(&text[..written]).into_owned()
+        self.words(library::cbor_diag_fault_message, from, input)
+            .unwrap_or_else(|| self.to_string())
     }
 
     /// Returns the number of the error: from 1 for `Memory` to 10 for `PastWidth`, in the order of the variants, and 13

@@ -67,13 +67,22 @@ mod library {
             input_len: usize,
             place: *mut usize,
         ) -> i64;
-        /// Returns the length of the text that says why the input is no item, or 0, and writes as much of it as fits.
-        pub fn cbor_diag_fault_text(
+        /// Returns the length of the path to where the input is no item, or 0, or minus the number of an error, and
+        /// writes as much of it as fits.
+        pub fn cbor_diag_fault_path(
             from: u32,
             input: *const u8,
             input_len: usize,
-            text: *mut u8,
-            text_len: usize,
+            path: *mut u8,
+            path_len: usize,
+        ) -> i64;
+        /// The same of what is said of that.
+        pub fn cbor_diag_fault_message(
+            from: u32,
+            input: *const u8,
+            input_len: usize,
+            message: *mut u8,
+            message_len: usize,
         ) -> i64;
         /// Makes a scanner of the memory.
         pub fn cbor_diag_scanner_init(scanner: *mut ScannerRoom);

@@ -104,11 +104,41 @@ fn explanations() {
         (Form::Edn, b"{\"a\" 1}", "a colon has to follow the key"),
         (Form::EdnPretty, b"[_1]", blank),
         (Form::Edn, b"\xff", "a text is not UTF-8"),
-        (Form::Bytes, b"\x82\x01", "the item is cut short"),
+        (
+            Form::Bytes,
+            b"\x82\x01",
+            "cut short: the array at byte 0 has 2 items, 1 is there",
+        ),
     ];
     for (from, input, text) in rows {
         let error = convert(from, Form::Bytes, input).unwrap_err();
         assert_eq!(error.explain(from, input), text);
+    }
+    assert_eq!(
+        Error::Head.explain(Form::Bytes, b"\x01"),
+        "no item can have this head"
+    );
+}
+
+#[test]
+fn paths_of_errors() {
+    let deep = [b"\x81".repeat(127), b"\x1f".to_vec()].concat();
+    let path = ["0"; 127].join("/");
+    let rows: [(Form, &[u8], Option<&str>); 9] = [
+        (Form::Bytes, b"", Some("/")),
+        (Form::Bytes, b"\x82\x01", Some("1")),
+        (Form::Bytes, b"\xa1\x61k\x82\x01\x1f", Some("k/1")),
+        (Form::Bytes, b"\x81\x02\x03", None),
+        (Form::Bytes, &deep, Some(&path)),
+        (Form::Hex, b"82 01 # one\n 1c # 28", Some("1")),
+        (Form::Hex, b"82 0g", None),
+        (Form::Diag, b"[1, 2.5]", None),
+        (Form::Edn, b"{\"a\" 1}", None),
+    ];
+    for (from, input, path) in rows {
+        let error = convert(from, Form::Bytes, input).unwrap_err();
+        assert_eq!(error.path(from, input).as_deref(), path, "{input:x?}");
+        assert_eq!(Error::Memory.path(from, input), None, "{input:x?}");
     }
 }
 

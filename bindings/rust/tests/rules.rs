@@ -106,6 +106,8 @@ fn encoded_again() {
     let many = [b"\x9f".as_slice(), &[1; 300], b"\xff"].concat();
     let counted = [b"\x99\x01\x2c".as_slice(), &[1; 300]].concat();
     assert_eq!(again(&many, Rules::Core), counted);
+    assert_eq!(again(b"\xf9\x40\x00\xf9\x80\x00", Rules::Dcbor), b"\x02\x00");
+    assert_eq!(again(b"\xc2\x41\x05", Rules::Core), b"\x05");
 }
 
 #[test]

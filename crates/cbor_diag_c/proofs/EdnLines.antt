@@ -4,7 +4,7 @@ use Rattle.cbor_grammar.specs.Item.{Item}
 use Rattle.cbor_grammar.specs.Written.{resolve}
 use Rattle.cbor_grammar.specs.Facts.{IsItem}
 use Rattle.cbor_grammar.proofs.bytes.Resolved.{resolved}
-use Rattle.cbor_edn.specs.declared.style.EdnStyle.{EdnStyle}
+use Rattle.cbor_edn_writer.specs.declared.style.EdnStyle.{EdnStyle}
 use Rattle.cbor_edn.specs.Written.{IsEdnText}
 
 -- all widths of an item that was read are stated

@@ -10,8 +10,8 @@ use Rattle.cbor_convert.specs.declared.form.Source.TheVariants as source
 use Rattle.cbor_convert.specs.declared.form.To.{To}
 use Rattle.cbor_convert.specs.declared.form.To.TheVariants as target
 use Rattle.cbor_convert.specs.Output.{Reads, Refuses, output_of}
-use Rattle.cbor_edn.specs.declared.style.EdnStyle.{EdnStyle}
-use Rattle.cbor_edn.specs.declared.error.EdnError.{EdnError}
+use Rattle.cbor_edn_writer.specs.declared.style.EdnStyle.{EdnStyle}
+use Rattle.cbor_edn_grammar.specs.declared.error.EdnError.{EdnError}
 use Rattle.cbor_edn.specs.Edn.{item_of_edn, Answers}
 use Rattle.cbor_edn.specs.Written.{IsEdnText, line_style, pretty_style}
 use Rattle.cbor_diag_c.specs.declared.form.Form.{Form}

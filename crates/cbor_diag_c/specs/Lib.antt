@@ -4,5 +4,6 @@ pub mod Beginnings
 pub mod Pieces
 pub mod Places
 pub mod Words
+pub mod Messages
 pub mod Breaches
 pub mod Reencodings

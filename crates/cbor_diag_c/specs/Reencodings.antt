@@ -30,13 +30,13 @@ Breaks rules input = (breach : Breach) × (first_breach (lasting rules) input �
 abbrev pub BreaksBy : ℕ → List ℕ → Type 0
 BreaksBy number input = (rules : Rules) × (rules_of number ≡ Some rules) × Breaks rules input
 
--- why the input is not encoded again: it breaks such a rule; or else a key stands twice once it is encoded, or what
--- chunks are joined to breaks a rule
+-- why the input is not encoded again: it breaks such a rule; or else two keys of a map become one, or what chunks are
+-- joined to breaks a rule
 abbrev pub IsNotEncodable : Rules → List ℕ → Type 0
 IsNotEncodable rules input =
     Breaks rules input
     ⊎ ((first_breach (lasting rules) input ≡ None)
-    × (e : ReencodeError) × (e ≢ reencode_error.Memory) × IsFound rules e)
+    × (e : ReencodeError) × (e ≢ reencode_error.Memory) × IsFound rules input e)
 
 abbrev pub IsNotEncodableBy : ℕ → List ℕ → Type 0
 IsNotEncodableBy number input =

@@ -4,7 +4,7 @@ use Rattle.cbor_grammar.specs.declared.error.Error.{Error}
 use Rattle.cbor_grammar.specs.declared.error.Error.TheVariants as refusal
 use Rattle.cbor_grammar.specs.Item.{Item}
 use Rattle.cbor_diag.specs.Refusals.{text_of}
-use Rattle.cbor_edn.specs.declared.error.Expected.{Expected}
+use Rattle.cbor_edn_grammar.specs.declared.error.Expected.{Expected}
 use Rattle.cbor_edn.specs.Edn.{item_of_edn}
 use Rattle.cbor_edn.specs.Expectations as edn
 use Rattle.cbor_diag_c.specs.declared.form.Form.{Form}

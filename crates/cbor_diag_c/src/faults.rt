@@ -92,8 +92,8 @@ fn in_diag(alloc: Global, text: &str) -> Result<Fault, Error>
     }
 }
 
-/// The place before the last of the first bytes that have this fault, or the end of a text that is
-/// cut short.
+/// The place before the last of the first bytes that have this fault, or the end of a text that may
+/// only be cut short.
 #[tactic(auto, using(crate::proofs::Refusals::place_laws))]
 fn place_before(text: &str, error: Error, end: usize) -> usize
     requires { IsDiagFault text.now error end }
@@ -105,8 +105,8 @@ fn place_before(text: &str, error: Error, end: usize) -> usize
     }
 }
 
-/// The place of the fault in notation, or the end of a text that is cut short. The only error is
-/// `Memory`.
+/// The place of the fault in notation, or the end of a text that may only be cut short. The only
+/// error is `Memory`.
 #[tactic(auto, using(crate::proofs::Refusals::no_place))]
 fn diag_place(alloc: Global, text: &str) -> Result<usize, Error>
     requires { (i : Item) → ¬ (IsNotation text.now i) }
@@ -182,7 +182,7 @@ pub(crate) fn fault(alloc: Global, from: Form, input: &[u8]) -> Result<Fault, Er
 /// them; their end if they are cut; or the end of the item if more follow. In hex it is the first
 /// digit of that byte; or the digit that is wrong, which is the last one of an odd number. In
 /// notation it is the last of the first bytes after which no notation can follow, or the end of a
-/// text that is cut short. That these bytes are the fewest is in no clause. In EDN it is where the
+/// text that may only be cut short. That these bytes are the fewest is in no clause. In EDN it is where the
 /// reader stops; the clause says that it is in the text or at its end. In a text that is not UTF-8
 /// it is the end of the longest front that is.
 #[unsafe(no_mangle)]

@@ -20,6 +20,7 @@ mod error;
 mod extents;
 mod faults;
 mod form;
+mod messages;
 mod reencoding;
 mod scanner;
 mod version;

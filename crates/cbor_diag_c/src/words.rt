@@ -26,7 +26,7 @@ fn edn_words(alloc: Global, input: &[u8]) -> &'static str
 }
 
 /// What an input in this form is wrong in.
-fn words(alloc: Global, from: Form, input: &[u8]) -> &'static str
+pub(crate) fn words(alloc: Global, from: Form, input: &[u8]) -> &'static str
     ensures { IsOrMemory (IsWordsIn from input.now) result.now }
 {
     if let Form::Edn { .. } = from {
