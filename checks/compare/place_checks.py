@@ -1,4 +1,5 @@
 """What `checks/cborcat` checks of places: cuts, faults, the lines of -t paths, and --at."""
+import os
 import random
 
 import places
@@ -11,6 +12,7 @@ class Program:
 
     def __init__(self, run, same, examples):
         self.run, self.same, self.examples = run, same, examples
+        self.names = sorted(it for it in os.listdir(examples) if it.endswith((".hex", ".cbor")))
 
     def data(self, name):
         return self.run("-t", "bytes", f"{self.examples}/{name}")[0]
@@ -33,7 +35,7 @@ def check(run, same, examples):
 def cuts_and_faults(program):
     """Bytes that are cut at each place, and a wrong byte at each head, against a decoder of places."""
     run, same = program.run, program.same
-    for name in ("cwt-claims.hex", "cose-sign1.hex", "log.cbor"):
+    for name in program.names:
         data = program.data(name)
         for end in range(len(data)):
             said = places.said(data[:end])
@@ -50,7 +52,9 @@ def cuts_and_faults(program):
 def leaves(program):
     """The lines of -t paths: their places, their items, and where their paths lead; and --at for each."""
     run, same = program.run, program.same
-    for name in ("cwt-claims.hex", "cose-sign1.hex", "cwt-signed.hex", "webauthn.hex", "uri.hex"):
+    for name in program.names:
+        if name == "log.cbor":  # of its items each path leads to a part of several
+            continue
         data = program.data(name)
         lines = [it.split("  ", 2) for it in run("-t", "paths", f"{program.examples}/{name}")[0].decode().splitlines()]
         decoder = places.Decoder(data)
@@ -141,8 +145,47 @@ def partial(program):
     program.same("a whole item", program.run("--partial", "-t", "diag", data=b"\x81\x01"), (b"[1]\n", "", 0))
     for word in ("-c", "--path=1"):
         program.same(f"--partial {word}", program.run("--partial", word, data=b"\x81\xff")[2], 2)
-    data = program.data("cwt-claims.hex")
-    for end in range(1, len(data)):
-        text = program.run("-f", "bytes", "--partial", "-t", "hex", data=data[:end])[0]
-        again = program.run("-f", "hex", "--partial", "-t", "hex", data=text)[0]
-        program.same(f"claims in part to {end}", again, text)
+    for name in program.names:
+        examples_in_part(program, name)
+    any_in_part(program)
+
+
+def any_in_part(program):
+    """Of items made by a seed: what is shown before a cut is what is shown of them whole."""
+    chance = random.Random(3)
+    for _ in range(30):
+        data = to_bytes(any_item(chance))
+        whole = program.run("-f", "bytes", "-t", "diag", data=data)[0].decode()
+        for end in range(1, len(data)):
+            text = program.run("-f", "bytes", "--partial", "-t", "diag", data=data[:end])[0].decode()
+            front, said, _ = text.rpartition("/cut short/")
+            # Between members it is not known whether one more follows, as it does not before a break.
+            front = front.removesuffix(", ")
+            program.same(f"{data.hex()} to {end}", (said != "", whole.startswith(front)), (True, True))
+
+
+def examples_in_part(program, name):
+    """An example that is cut at each place, or wrong at each head, is shown with every member before that."""
+    data = program.data(name)
+    whole = program.run("-f", "bytes", "-t", "diag", data=data)[0].decode()
+    lines = [it.split("  ", 2) for it in program.run("-f", "bytes", "-t", "paths", data=data)[0].decode().splitlines()]
+    leaves = [(int(at, 16), text) for at, _, text in lines]
+    starts = places.starts(data)
+    shown = [(data[:end], end, "/cut short/") for end in range(1, len(data)) if end not in starts]
+    shown += [(data[:at] + b"\x1f" + data[at + 1:], at, "/fault: no item can have this head/") for at in places.heads(data)]
+    for part, end, said in shown:
+        def written(*words):
+            return program.run("-f", "bytes", "--partial", *words, data=part)[0].decode()
+
+        front, _, after = written("-t", "diag").partition(said)
+        program.same(f"{name} to {end}: the front of the whole", (whole.startswith(front), after != ""), (True, True))
+        before = [text for (at, text), next_at in zip(leaves, [it[0] for it in leaves[1:]] + [len(data)]) if next_at <= end]
+        pretty, at = written("-t", "pretty", "--no-notes"), 0
+        for text in before:
+            at = pretty.find(text, at)
+            program.same(f"{name} to {end}: {text} is shown", at >= 0, True)
+        # At most 64 bytes of the item that is not whole.
+        begins = max(at for at in places.heads(data) if at <= end)
+        dump = bytes.fromhex("".join(line.partition("#")[0] for line in written("-t", "hex").splitlines()))
+        program.same(f"{name} to {end}: a dump", (part.startswith(dump), len(dump) >= min(len(part), begins + 64)),
+                     (True, True))

@@ -114,6 +114,15 @@ def said(data):
     return ""
 
 
+def starts(data):
+    """The places where items that follow one another begin."""
+    found, decoder = [], Decoder(data)
+    while decoder.at < len(data):
+        found.append(decoder.at)
+        decoder.item("", False, "")
+    return found
+
+
 def heads(data):
     """The places of the heads of items."""
     places, decoder = [], Decoder(data)

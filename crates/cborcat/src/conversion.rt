@@ -1,19 +1,23 @@
 //! The conversion of one input, as its bytes come.
 
-use crate::at::lines_at;
+use crate::each::show_each;
+use crate::embedded::push_embedded;
 use crate::encode::Encoding;
 use crate::input::{MORE, block_len, read_into};
 use crate::lost::report_lost;
-use crate::messages::{Left, Place, TWO_BYTES, report_byte, report_end, report_long, say};
-use crate::output::{Target, Written, write, write_dump};
-use crate::partial::partial_text;
-use crate::paths::Paths;
+use crate::messages::{Place, TWO_BYTES, report_byte, report_end, report_long, say};
+use crate::output::{Target, Written, write};
+use crate::plain::Plain;
 use crate::rules::{Items, first_breach};
 use crate::run::Runner;
+use crate::screen::{Screen, language_of};
+use crate::shown::show_of;
 use crate::status::{Next, Status};
 use crate::words::{Job, View};
 use cbor_diag::Error;
 use cbor_inspect::{End, Form, Stream, two_byte_simple};
+use cbor_places::{Leaves, Piece, lines_at, partial_text};
+use cbor_screen::Language;
 use std::io;
 use std::io::Read;
 
@@ -42,6 +46,8 @@ pub struct Conversion<'a> {
     found: bool,
     /// How many bytes were passed last.
     passed: usize,
+    /// How the output is shown.
+    screen: Screen<'a>,
     /// What is written next.
     out: Vec<u8>,
 }
@@ -79,6 +85,7 @@ impl<'a> Conversion<'a> {
             broken: false,
             found: false,
             passed: 0,
+            screen: Screen::new(rt, job),
             out: Vec::new(rt.alloc()),
         }
     }
@@ -163,11 +170,27 @@ impl<'a> Conversion<'a> {
         match self.job.view {
             View::Paths => self.write_paths(),
             View::At(byte) => self.write_at(byte),
-            View::Items if self.job.show.style.form == Form::Hex => {
-                Ok(write_dump(self.rt, self.target, &self.out))
-            }
-            View::Items => Ok(write(self.rt, self.target, &self.out)),
+            View::Items => self.write_items(),
+            View::Json => Ok(self.screen.write(self.target, &self.out, Language::Edn)?),
+            View::Raw => Ok(write(self.rt, self.target, &self.out)),
         }
+    }
+
+    /// Writes what was made of items.
+    fn write_items(&mut self) -> Result<Written, Error> {
+        let style = self.job.show.style;
+        let Some(language) = language_of(style.form) else {
+            return Ok(write(self.rt, self.target, &self.out));
+        };
+        if language == Language::Dump
+            && style.embedded
+            && let Ok(dumps) = str::from_utf8(&self.out)
+        {
+            let mut shown = String::new(self.rt.alloc());
+            push_embedded(&mut shown, dumps)?;
+            return Ok(self.screen.write(self.target, shown.as_bytes(), language)?);
+        }
+        Ok(self.screen.write(self.target, &self.out, language)?)
     }
 
     /// Writes a line for each item of these that holds no other.
@@ -175,16 +198,17 @@ impl<'a> Conversion<'a> {
         let alloc = self.rt.alloc();
         let begins = self.begins().saturating_sub(self.passed);
         let bytes = self.stream.passed(self.passed);
-        let items = Items { bytes, begins };
-        let mut paths = Paths::new(alloc, items, self.job.show.style);
+        let items = Piece { begins, bytes };
+        let mut leaves = Leaves::new(alloc, items, self.job.show.style);
         let mut lines = String::new(alloc);
         for _ in 0..u64::MAX {
-            if paths.is_done() {
+            if leaves.is_done() {
                 break;
             }
             lines.clear();
-            paths.push_block(&mut lines)?;
-            match write(self.rt, self.target, lines.as_bytes()) {
+            leaves.push_block(&mut lines)?;
+            let text = lines.as_bytes();
+            match self.screen.write(self.target, text, Language::Paths)? {
                 Written::Whole => {}
                 end => return Ok(end),
             }
@@ -200,7 +224,7 @@ impl<'a> Conversion<'a> {
             return Ok(Written::Whole);
         }
         let bytes = self.stream.passed(self.passed);
-        let lines = lines_at(self.rt.alloc(), Left { begins, bytes }, byte)?;
+        let lines = lines_at(self.rt.alloc(), Piece { begins, bytes }, byte)?;
         self.found = true;
         Ok(write(self.rt, self.target, lines.as_bytes()))
     }
@@ -210,7 +234,7 @@ impl<'a> Conversion<'a> {
         match self.job.view {
             View::At(byte) => self.write_at_left(byte),
             View::Items if self.job.partial => self.write_partial(end),
-            View::Items | View::Paths => Ok(Written::Whole),
+            View::Items | View::Json | View::Raw | View::Paths => Ok(Written::Whole),
         }
     }
 
@@ -230,10 +254,8 @@ impl<'a> Conversion<'a> {
             }
             _ => return Ok(Written::Whole),
         };
-        if style.form == Form::Hex {
-            return Ok(write_dump(self.rt, self.target, text.as_bytes()));
-        }
-        Ok(write(self.rt, self.target, text.as_bytes()))
+        let language = language_of(style.form).unwrap_or(Language::Edn);
+        Ok(self.screen.write(self.target, text.as_bytes(), language)?)
     }
 
     /// Writes what is said of a byte of an item that is not whole.
@@ -243,22 +265,23 @@ impl<'a> Conversion<'a> {
             return Ok(Written::Whole);
         }
         let bytes = self.stream.rest();
-        let lines = lines_at(self.rt.alloc(), Left { begins, bytes }, byte)?;
+        let lines = lines_at(self.rt.alloc(), Piece { begins, bytes }, byte)?;
         Ok(write(self.rt, self.target, lines.as_bytes()))
     }
 
     /// Converts some items, and tells what follows them.
     fn some_items(&mut self) -> End {
-        let show = &self.job.show;
+        let one = self.job.show.one;
         let before = self.stream.rest().len();
-        if show.one && self.any && before > 0 {
+        if one && self.any && before > 0 {
             return End::Remaining;
         }
         let end = match self.job.view {
-            View::Items if self.job.check => self.stream.check(self.rt.alloc(), show.one),
+            View::Items if self.job.check => self.stream.check(self.rt.alloc(), one),
             View::Items if self.job.encode.is_some() => self.show_encoded(),
-            View::Items => self.stream.show(show, &mut self.out),
-            View::Paths | View::At(_) => self.stream.skip(show.one),
+            View::Items => self.show_some(),
+            View::Json | View::Raw => self.show_plain(),
+            View::Paths | View::At(_) => self.stream.skip(one),
         };
         let passed = before - self.stream.rest().len().min(before);
         self.passed = passed;
@@ -266,6 +289,14 @@ impl<'a> Conversion<'a> {
         self.note_simple(passed);
         match self.note_breach(passed) {
             Ok(()) => end,
+            Err(_) => End::Memory,
+        }
+    }
+
+    /// Shows some items, and tells what follows them.
+    fn show_some(&mut self) -> End {
+        match show_of(self.rt.alloc(), self.job) {
+            Ok(show) => self.stream.show(&show, &mut self.out),
             Err(_) => End::Memory,
         }
     }
@@ -281,7 +312,21 @@ impl<'a> Conversion<'a> {
             place: self.place,
             set,
         };
-        let (end, status) = encoding.show(&mut self.stream, self.came, &mut self.out);
+        let asked = (self.came, self.job.show.one);
+        let (end, status) = show_each(&encoding, &mut self.stream, asked, &mut self.out);
+        self.ended(status);
+        end
+    }
+
+    /// Shows some items as JSON, or their content, and tells what follows them.
+    fn show_plain(&mut self) -> End {
+        let plain = Plain {
+            rt: self.rt,
+            job: self.job,
+            place: self.place,
+        };
+        let asked = (self.came, self.job.show.one);
+        let (end, status) = show_each(&plain, &mut self.stream, asked, &mut self.out);
         self.ended(status);
         end
     }
@@ -316,7 +361,7 @@ impl<'a> Conversion<'a> {
         let bytes = self.stream.passed(passed);
         let items = Items { bytes, begins };
         if let Some((at, what)) = first_breach(self.rt.alloc(), set, items)? {
-            report_byte(self.rt, self.place, Left { begins, bytes }, at, &what)?;
+            report_byte(self.rt, self.place, Piece { begins, bytes }, at, &what)?;
             self.broken = true;
             self.ended(Status::Bad);
         }
@@ -333,7 +378,7 @@ impl<'a> Conversion<'a> {
             Ok(_) => end,
             Err(_) => End::Memory,
         };
-        let left = Left {
+        let left = Piece {
             begins: self.begins(),
             bytes: self.stream.rest(),
         };

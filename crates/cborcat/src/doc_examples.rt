@@ -4,7 +4,8 @@
 use cbor_diag::Error;
 use cbor_inspect::{
     End, Form, Input, Pasted, Show, Stream, is_shown, is_text, looks_like, place_of_digit,
-    place_of_fault, push_shown, recognize, show_items, skip_items, steps_of, two_byte_simple,
+    place_of_fault, push_shown, raw_content, recognize, show_items, skip_items, steps_of,
+    two_byte_simple,
 };
 use std::test::Fail;
 
@@ -76,6 +77,15 @@ fn places_are_found(rt: HostRuntime) -> Result<(), Fail> {
     assert_eq!(rt; place_of_digit(b"0x82 01", 2), 5);
     assert_eq!(rt; steps_of(alloc, "2/@/1")?.len(), 3);
     assert_eq!(rt; place_of_fault(b"\x63a\xffb", Error::Utf8, 4), 2);
+    Ok(())
+}
+
+#[test]
+fn contents_are_raw(rt: HostRuntime) -> Result<(), Fail> {
+    let alloc = rt.alloc();
+    let content = raw_content(alloc, b"\x7f\x61a\x62bc\xff")?;
+    assert_eq!(rt; content.as_slice(), b"abc".as_slice());
+    assert!(rt; raw_content(alloc, b"\xa0").is_err());
     Ok(())
 }
 

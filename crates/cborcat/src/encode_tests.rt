@@ -18,9 +18,9 @@ const ROWS: [Row<'static>; 6] = [
     ),
     (
         "length-first",
-        b"\x81\xc2\x41\x05",
+        b"\x9f\xf8\x14\xff",
         1,
-        "not length-first deterministic: a big number that fits an integer",
+        "not length-first deterministic: a simple value below 32 in two bytes, which RFC 8949 forbids",
     ),
     (
         "ctap2",
@@ -36,9 +36,9 @@ const ROWS: [Row<'static>; 6] = [
     ),
     (
         "dcbor",
-        b"\x9f\xf9\x40\0\xff",
+        b"\x9f\xf7\xff",
         1,
-        "not dCBOR: 2.0 is the integer 2 in dCBOR",
+        "not dCBOR: dCBOR has no simple(23), only false, true and null",
     ),
     (
         "dcbor",

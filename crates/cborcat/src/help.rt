@@ -14,13 +14,18 @@ Input:
       --limit=BYTES  refuse a longer item (default: 268435456)
 
 Output:
-  -t, --to=FORM      pretty, diag, hex, digits, bytes or paths
+  -t, --to=FORM      pretty, diag, hex, digits, bytes, json, raw or paths
                      (default: pretty)
   -p, --path=PATH    only the part that PATH leads to
   -e, --embedded     show byte strings that hold an array, a map or a
-                     tagged item as <<..>>
+                     tagged item as <<..>>, in a dump as its lines
       --no-notes     no comments in notation
       --widths       the width of each float and number above 23
+      --strict       what JSON does not keep is an error (-t json)
+      --elide[=N]    cut strings of more than N bytes (default: 32) in notation,
+                     which then is not to be read back
+      --color=WHEN   auto, always or never (default: auto, in a terminal and
+                     if NO_COLOR is not set)
   -o, --output=FILE  write FILE, once all input is converted
       --partial      show also what is there of an item that is not whole
       --at=N         the path, the head and the place of the item that byte N
@@ -43,6 +48,8 @@ Forms:
   diag    diagnostic notation (EDN), of which JSON is a part; pretty is
           diag over several lines, with comments
   base64  either alphabet (input)
+  json    JSON, a line an item (output; as an input it is diag)
+  raw     the content of a byte or text string (output)
   paths   a line for each item that holds no other: place, path, EDN (output)
 
 Without -f, an input is bytes as soon as a byte comes that no text has, and is

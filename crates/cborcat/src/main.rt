@@ -1,16 +1,15 @@
 //! Shows CBOR data (RFC 8949) as text, or converts it: `cborcat FILE`.
 //!
 //! Its words are in `words.rt`, and its help is what `cborcat --help` prints. The forms and what is
-//! written of an item are in the crate `cbor_inspect`; here are arguments, files and messages.
+//! written of an item are in the crate `cbor_inspect`, and where something is in `cbor_places`; here
+//! are arguments, files and messages.
 #![tactic(auto)]
 
-mod around;
-#[cfg(test)]
-mod around_tests;
-mod at;
 mod conversion;
 #[cfg(test)]
 mod doc_examples;
+mod each;
+mod embedded;
 mod encode;
 #[cfg(test)]
 mod encode_tests;
@@ -20,11 +19,7 @@ mod input;
 mod lost;
 mod messages;
 mod output;
-mod partial;
-#[cfg(test)]
-mod partial_tests;
-mod path;
-mod paths;
+mod plain;
 #[cfg(test)]
 mod recognition_tests;
 mod recognized;
@@ -34,6 +29,8 @@ mod rules;
 #[cfg(test)]
 mod rules_tests;
 mod run;
+mod screen;
+mod shown;
 mod status;
 mod words;
 

@@ -1,6 +1,5 @@
 //! Messages on standard error.
 
-use crate::around::{Around, item_with};
 use crate::excerpt;
 use crate::excerpt::{place_of, show_bytes, show_line};
 use crate::status::Status;
@@ -9,6 +8,7 @@ use cbor_inspect::{
     End, HexFault, Input, Pasted, Refusal, Shown, is_shown, looks_like, place_of_digit,
     place_of_fault,
 };
+use cbor_places::{Around, Piece, Places, item_with};
 use std::alloc::AllocError;
 use std::fmt::{Display, Write};
 use std::io;
@@ -22,15 +22,6 @@ pub struct Place<'a> {
     pub form: Input,
     /// What it is in that form, if it is not bytes.
     pub text: &'a [u8],
-}
-
-/// The bytes of the data that were not converted.
-#[derive(Clone, Copy)]
-pub struct Left<'a> {
-    /// Where they begin in the data.
-    pub begins: usize,
-    /// The bytes, as far as they are in memory.
-    pub bytes: &'a [u8],
 }
 
 /// The name of an input in a message.
@@ -103,17 +94,6 @@ impl Place<'_> {
         }
     }
 
-    /// Appends where a byte of the data is.
-    pub fn push_byte(&self, out: &mut String, byte: usize) -> Result<(), AllocError> {
-        match self.digits(byte) {
-            Some(at) => {
-                let excerpt::Place { line, column, .. } = place_of(self.text, at);
-                write!(out, "{line}:{column}")
-            }
-            None => write!(out, "byte {byte}"),
-        }
-    }
-
     /// What its bytes are counted in, if that is not the input.
     fn within(&self) -> &'static str {
         match self.form {
@@ -124,8 +104,20 @@ impl Place<'_> {
     }
 }
 
+impl Places for Place<'_> {
+    fn push_byte(&self, out: &mut String, byte: usize) -> Result<(), AllocError> {
+        match self.digits(byte) {
+            Some(at) => {
+                let excerpt::Place { line, column, .. } = place_of(self.text, at);
+                write!(out, "{line}:{column}")
+            }
+            None => write!(out, "byte {byte}"),
+        }
+    }
+}
+
 /// Says why no further item is converted.
-pub fn report_end(rt: &HostRuntime, place: &Place, left: Left, end: End) -> Status {
+pub fn report_end(rt: &HostRuntime, place: &Place, left: Piece, end: End) -> Status {
     let said = match end {
         End::Fault { error, end } => report_fault(rt, place, left, (error, end)),
         End::Cut => report_cut(rt, place, left),
@@ -151,14 +143,14 @@ pub fn report_end(rt: &HostRuntime, place: &Place, left: Left, end: End) -> Stat
 fn report_fault(
     rt: &HostRuntime,
     place: &Place,
-    left: Left,
+    left: Piece,
     fault: (Error, usize),
 ) -> Result<(), Error> {
     let (error, end) = fault;
     let at = place_of_fault(left.bytes, error, end);
-    let around = Around::new(rt.alloc(), left, left.bytes.len())?;
-    let line = around.line(place, false)?;
-    say_byte(rt, place, left, at, (error.text(), &line));
+    let around = Around::of_end(rt.alloc(), left)?;
+    let words = around.words(place, false)?;
+    say_byte(rt, place, left, at, (error.text(), &words));
     Ok(())
 }
 
@@ -169,26 +161,33 @@ pub const TWO_BYTES: &str = "a simple value below 32 in two bytes, which RFC 894
 pub fn report_byte(
     rt: &HostRuntime,
     place: &Place,
-    left: Left,
+    left: Piece,
     at_fault: usize,
     what: &str,
 ) -> Result<(), Error> {
-    let byte = left.begins.saturating_add(at_fault);
+    let byte = left.number(at_fault);
     let item = item_with(left, byte);
     let around = Around::new(rt.alloc(), item, byte.saturating_sub(item.begins))?;
-    let line = around.line(place, true)?;
-    say_byte(rt, place, left, at_fault, (what, &line));
+    let words = around.words(place, true)?;
+    say_byte(rt, place, left, at_fault, (what, &words));
     Ok(())
 }
 
-/// Says what is wrong at one of the bytes that are left, and where in the item that is, in a line.
-fn say_byte(rt: &HostRuntime, place: &Place, left: Left, at_fault: usize, words: (&str, &str)) {
-    let (what, line) = words;
-    let byte = left.begins.saturating_add(at_fault);
+/// Says where in the item something is wrong, in a line of its own.
+fn say_where(rt: &HostRuntime, words: &str) {
+    if !words.is_empty() {
+        let _ = eprintln!(rt; "    {words}");
+    }
+}
+
+/// Says what is wrong at one of the bytes that are left, and where in the item that is.
+fn say_byte(rt: &HostRuntime, place: &Place, left: Piece, at_fault: usize, words: (&str, &str)) {
+    let (what, in_item) = words;
+    let byte = left.number(at_fault);
     match place.digits(byte) {
         Some(at) => {
             say_at(rt, (place.name, place.text), at, what);
-            let _ = eprint!(rt; "{line}");
+            say_where(rt, in_item);
             show_line(rt, place.text, at, "^^");
         }
         None => {
@@ -197,17 +196,17 @@ fn say_byte(rt: &HostRuntime, place: &Place, left: Left, at_fault: usize, words:
                 label(place.name),
                 place.within()
             );
-            let _ = eprint!(rt; "{line}");
+            say_where(rt, in_item);
             show_bytes(rt, left.bytes, at_fault);
         }
     }
 }
 
 /// Says which item is not whole, and how much of it is there.
-fn report_cut(rt: &HostRuntime, place: &Place, left: Left) -> Result<(), Error> {
-    let around = Around::new(rt.alloc(), left, left.bytes.len())?;
+fn report_cut(rt: &HostRuntime, place: &Place, left: Piece) -> Result<(), Error> {
+    let around = Around::of_end(rt.alloc(), left)?;
     let words = around.cut_words(place)?;
-    let end = left.begins.saturating_add(left.bytes.len());
+    let end = left.number(left.bytes.len());
     match place.digits(end) {
         Some(at) => say_at(
             rt,
@@ -300,7 +299,7 @@ fn report_data(rt: &HostRuntime, input: (&str, &[u8]), form: Input, shown: Shown
     let Ok(data) = form.decode(rt.alloc(), text) else {
         return say_out_of_memory(rt, name);
     };
-    let left = Left {
+    let left = Piece {
         begins: shown.used,
         bytes: data.get(shown.used..).unwrap_or(b""),
     };

@@ -1,7 +1,6 @@
 //! Where the output goes.
 
 use crate::messages::say;
-use cbor_inspect::{is_shown, push_shown};
 use std::fs::{File, OpenOptions};
 use std::io::{ErrorKind, Write};
 use std::{fs, io};
@@ -61,52 +60,6 @@ fn open_file(rt: &HostRuntime, name: &str) -> io::Result<Target> {
         }
     }
     Err(io::Error::from(ErrorKind::AlreadyExists))
-}
-
-/// Writes a dump. In its comments, which are all that has such characters, what no terminal and no
-/// log is given as it is is escaped.
-pub fn write_dump(rt: &HostRuntime, target: &mut Target, dump: &[u8]) -> Written {
-    let mut rest = dump;
-    for _ in 0..u64::MAX {
-        if rest.is_empty() {
-            break;
-        }
-        let (lines, after) = rest.split_at(lines_len(rest).min(rest.len()));
-        rest = after;
-        match write_lines(rt, target, lines) {
-            Written::Whole => {}
-            end => return end,
-        }
-    }
-    Written::Whole
-}
-
-/// How many bytes of a dump are looked at together, at least.
-const BLOCK: usize = 64 * 1024;
-
-/// How many bytes the first lines of a dump take, which are a block or all of it.
-fn lines_len(dump: &[u8]) -> usize {
-    for (index, byte) in dump.iter().enumerate().skip(BLOCK) {
-        if *byte == b'\n' {
-            return index.saturating_add(1);
-        }
-    }
-    dump.len()
-}
-
-/// Writes lines of a dump, with escapes.
-fn write_lines(rt: &HostRuntime, target: &mut Target, lines: &[u8]) -> Written {
-    if is_shown(true, lines) {
-        return write(rt, target, lines);
-    }
-    let mut escaped = String::new(rt.alloc());
-    if let Ok(text) = str::from_utf8(lines)
-        && push_shown(&mut escaped, text).is_err()
-    {
-        let _ = eprintln!(rt; "cborcat: out of memory");
-        return Written::Failed;
-    }
-    write(rt, target, escaped.as_bytes())
 }
 
 /// Writes bytes, all of them.

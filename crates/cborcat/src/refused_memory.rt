@@ -1,15 +1,11 @@
-//! Calls of `cbor_inspect` and of what is said of places, in which
+//! Calls of `cbor_inspect` and `cbor_places`, in which
 //! `checks/allocations/failing_calls` makes allocations fail, one after the other.
 
-use crate::around::Around;
-use crate::at::lines_at;
-use crate::messages::{Left, Place};
-use crate::paths::Paths;
-use crate::rules::Items;
 use cbor_diag::{DataItem, Error, parse_bytes};
 use cbor_inspect::{
     End, Form, Input, Refusal, Show, Stream, Style, lost_at, recognize, show_items, steps_of,
 };
+use cbor_places::{Around, ByteNumbers, Leaves, Piece, lines_at};
 use std::alloc::Global;
 use std::process::Abort;
 use std::test::Fail;
@@ -79,7 +75,7 @@ fn cases() -> [Case<'static>; 13] {
 }
 
 /// What is written as the case asks.
-fn show_of(alloc: Global, case: &Case) -> Result<Show, Error> {
+fn show_of<'a>(alloc: Global, case: &Case) -> Result<Show<'a>, Error> {
     Ok(Show {
         style: Style {
             form: case.form,
@@ -87,6 +83,7 @@ fn show_of(alloc: Global, case: &Case) -> Result<Show, Error> {
             notes: true,
             widths: false,
         },
+        names: None,
         steps: steps_of(alloc, case.path)?,
         one: false,
     })
@@ -157,20 +154,15 @@ const NESTED: &[u8] = b"\xa1\x62a/\x82\x01\x1f";
 
 /// What is said of a place in an item, or out of memory.
 fn placed(rt: &impl Abort, alloc: Global) -> Result<bool, Error> {
-    let place = Place {
-        name: "-",
-        form: Input::Bytes,
-        text: b"",
-    };
-    let left = Left {
+    let piece = Piece {
         begins: 0,
         bytes: NESTED,
     };
-    let around = Around::new(alloc, left, NESTED.len())?;
-    let line = around.line(&place, false)?;
-    let wanted = "    at \"a/\"/1, in the array of 2 at byte 4, of which 1 is there\n";
-    assert_eq!(rt; line.as_str(), wanted);
-    let lines = lines_at(alloc, left, 5)?;
+    let around = Around::of_end(alloc, piece)?;
+    let words = around.words(&ByteNumbers, false)?;
+    let wanted = "at \"a/\"/1, in the array of 2 at byte 4, of which 1 is there";
+    assert_eq!(rt; words.as_str(), wanted);
+    let lines = lines_at(alloc, piece, 5)?;
     let wanted = "path: \"a/\"/0\nhead: 01 # 1\nitem: byte 5 (0x5)\n";
     assert_eq!(rt; lines.as_str(), wanted);
     Ok(false)
@@ -178,13 +170,13 @@ fn placed(rt: &impl Abort, alloc: Global) -> Result<bool, Error> {
 
 /// The lines of paths, or out of memory.
 fn lined(rt: &impl Abort, alloc: Global) -> Result<bool, Error> {
-    let items = Items {
+    let items = Piece {
         bytes: MAP,
         begins: 0,
     };
-    let mut paths = Paths::new(alloc, items, Show::new(alloc, Form::Diag).style);
+    let mut leaves = Leaves::new(alloc, items, Show::new(alloc, Form::Diag).style);
     let mut out = String::new(alloc);
-    paths.push_block(&mut out)?;
+    leaves.push_block(&mut out)?;
     assert_eq!(rt; out.as_str(), "0x2  1  1(1700000000)\n0x9  2  1.5\n");
     Ok(false)
 }

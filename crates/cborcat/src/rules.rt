@@ -63,7 +63,7 @@ impl<'a> Items<'a> {
     }
 
     /// Writes the item at a place, if it is short, and returns whether it did.
-    fn push_short(self, out: &mut String, place: usize) -> Result<bool, Error> {
+    pub fn push_short(self, out: &mut String, place: usize) -> Result<bool, Error> {
         let rest = self.from(place);
         if let Extent::Item(len) = extent(rest) {
             let text = bytes_to_edn(*out.allocator(), rest.get(..len).unwrap_or(b""))?;
@@ -76,7 +76,7 @@ impl<'a> Items<'a> {
     }
 
     /// Writes the key at a place, if it is short, and else its place.
-    fn push_key(self, out: &mut String, place: usize) -> Result<(), Error> {
+    pub fn push_key(self, out: &mut String, place: usize) -> Result<(), Error> {
         if !self.push_short(out, place)? {
             let byte = self.begins.saturating_add(place);
             write!(out, "at byte {byte}")?;

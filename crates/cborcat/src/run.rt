@@ -6,7 +6,7 @@ use crate::messages::{Place, say, say_no_text};
 use crate::output::{Target, close, open};
 use crate::recognized::data_of;
 use crate::status::{Next, Status};
-use crate::words::Job;
+use crate::words::{Job, View};
 use cbor_inspect::{Form, Input};
 use std::fs::File;
 use std::io;
@@ -14,7 +14,8 @@ use std::io::{IsTerminal, Read};
 
 /// Does what the arguments ask for, and returns the exit status.
 pub fn run(rt: &HostRuntime, job: &Job) -> u8 {
-    if job.show.style.form == Form::Bytes
+    if job.view == View::Items
+        && job.show.style.form == Form::Bytes
         && job.output.is_none()
         && !job.check
         && rt.stdout().is_terminal()

@@ -2,7 +2,8 @@
 
 use crate::help::HELP;
 use crate::rules::{ENCODINGS, RULES, RuleSet, rules_of};
-use cbor_inspect::{Form, Input, Show, Style, steps_of};
+use crate::screen::{COLORS, Color, color_of};
+use cbor_inspect::{Form, Input, Step, Style, steps_of};
 use clap::error::ErrorKind;
 use clap::{Arg, ArgAction, ArgMatches, Command};
 use std::alloc::{AllocError, Global};
@@ -11,13 +12,19 @@ use std::alloc::{AllocError, Global};
 static FROM: [&str; 4] = ["bytes", "hex", "diag", "base64"];
 
 /// The forms of the output.
-static TO: [&str; 6] = ["pretty", "diag", "hex", "digits", "bytes", "paths"];
+static TO: [&str; 8] = [
+    "pretty", "diag", "hex", "digits", "bytes", "json", "raw", "paths",
+];
 
 /// What is looked for in an input.
 #[derive(Clone, Copy, PartialEq, Eq)]
 pub enum View {
     /// Its items, or a part of each.
     Items,
+    /// The same as JSON.
+    Json,
+    /// The same, of which each is a string: its content.
+    Raw,
     /// The items that hold no other, and the paths to them.
     Paths,
     /// The item to which this byte of the data belongs.
@@ -37,12 +44,18 @@ pub struct Job<'a> {
     pub limit: usize,
     /// What is looked for.
     pub view: View,
+    /// Whether the output has colours.
+    pub color: Color,
+    /// How many bytes the longest strings have that are not cut, if others are.
+    pub elide: Option<usize>,
     /// What is written of each item.
-    pub show: Show,
+    pub show: Wanted,
     /// The path as it was given.
     pub path: &'a str,
     /// Whether what is there of an item that is not whole is written.
     pub partial: bool,
+    /// Whether what JSON does not keep is an error.
+    pub strict: bool,
     /// The file that is written.
     pub output: Option<&'a str>,
     /// Whether inputs are checked alone.
@@ -53,6 +66,17 @@ pub struct Job<'a> {
     pub encode: Option<RuleSet>,
     /// The files that are read; `-` for standard input.
     pub files: Vec<&'a str>,
+}
+
+/// What is written of items.
+#[derive(Drop)]
+pub struct Wanted {
+    /// How each is written.
+    pub style: Style,
+    /// The path to the part that is written.
+    pub steps: Vec<Step>,
+    /// Whether at most one item is passed.
+    pub one: bool,
 }
 
 /// What becomes of the arguments.
@@ -94,7 +118,8 @@ fn command<'a>(alloc: Global) -> Result<Command<'a>, AllocError> {
         .version("0.1.0")
         .override_help(HELP)
         .override_usage("cborcat [OPTION]... [FILE]...");
-    with_places(alloc, with_output(alloc, with_input(alloc, command)?)?)
+    let command = with_output(alloc, with_input(alloc, command)?)?;
+    with_screen(alloc, with_places(alloc, command)?)
 }
 
 /// An option that takes a value.
@@ -144,6 +169,7 @@ fn with_output<'a>(alloc: Global, command: Command<'a>) -> Result<Command<'a>, A
         .arg(flag(alloc, "embedded").short('e'))?
         .arg(flag(alloc, "no-notes"))?
         .arg(flag(alloc, "widths"))?
+        .arg(flag(alloc, "strict"))?
         .arg(option(alloc, "output").short('o'))?
         .arg(check)?
         .arg(encode.conflicts_with("check")?)
@@ -172,6 +198,17 @@ fn with_places<'a>(alloc: Global, command: Command<'a>) -> Result<Command<'a>, A
     command.arg(at_option(alloc)?)?.arg(partial_option(alloc)?)
 }
 
+/// The command with the arguments on the screen.
+fn with_screen<'a>(alloc: Global, command: Command<'a>) -> Result<Command<'a>, AllocError> {
+    let color = option(alloc, "color").value_parser(COLORS.as_slice());
+    let elide = option(alloc, "elide")
+        .num_args(0..=1)
+        .require_equals(true)
+        .default_missing_value("32")
+        .value_parser(clap::value_parser!(usize));
+    command.arg(color)?.arg(elide)
+}
+
 /// The form of an input that a word names.
 fn input_of(word: &str) -> Option<Input> {
     match word {
@@ -189,7 +226,8 @@ fn form_of(word: Option<&str>) -> Form {
         Some("diag" | "paths") => Form::Diag,
         Some("hex") => Form::Hex,
         Some("digits") => Form::Digits,
-        Some("bytes") => Form::Bytes,
+        // JSON and contents are made of the bytes of a part.
+        Some("bytes" | "json" | "raw") => Form::Bytes,
         _ => Form::Pretty,
     }
 }
@@ -204,14 +242,39 @@ fn style_of(matches: &ArgMatches) -> Style {
     }
 }
 
-/// What the arguments ask to look for.
+/// What the arguments ask to look for. A check shows nothing.
 fn view_of(matches: &ArgMatches) -> View {
-    match matches.get_one::<usize>("at") {
-        Some(byte) => View::At(byte),
-        None if matches.get_str("to") == Some("paths") && matches.get_str("check").is_none() => {
-            View::Paths
+    if let Some(byte) = matches.get_one::<usize>("at") {
+        return View::At(byte);
+    }
+    match matches.get_str("to") {
+        _ if matches.get_str("check").is_some() => View::Items,
+        Some("json") => View::Json,
+        Some("raw") => View::Raw,
+        Some("paths") => View::Paths,
+        _ => View::Items,
+    }
+}
+
+/// Why what the arguments ask for is not to be had, if it is not.
+fn refusal(job: &Job) -> Option<&'static str> {
+    let encoded = job.encode.is_some();
+    let is_notation = matches!(job.show.style.form, Form::Pretty | Form::Diag);
+    match job.view {
+        _ if job.elide.is_some() && !is_notation => {
+            Some("--elide cuts strings of pretty, diag and paths alone")
         }
-        None => View::Items,
+        View::Paths if encoded || !job.path.is_empty() => {
+            Some("-t paths shows all paths as they are, and has no -p or --encode")
+        }
+        View::Json | View::Raw if encoded || job.partial => {
+            Some(
+                "-t json and -t raw show whole items as they are, and have no --encode or --partial",
+            )
+        }
+        View::Json => None,
+        _ if job.strict => Some("--strict is for -t json"),
+        _ => None,
     }
 }
 
@@ -235,32 +298,32 @@ fn job_of<'a>(rt: &HostRuntime, matches: &ArgMatches<'a>) -> Asked<'a> {
         return out_of_memory(rt);
     };
     let check = matches.get_str("check");
-    let view = view_of(matches);
-    let encode = matches.get_str("encode").and_then(rules_of);
-    if view == View::Paths && (!path.is_empty() || encode.is_some()) {
-        let _ = eprintln!(rt;
-            "cborcat: -t paths shows all paths as they are, and has no -p or --encode"
-        );
-        return Asked::Ended(2);
-    }
-    let show = Show {
+    let show = Wanted {
         style: style_of(matches),
         steps,
         one: matches.get_flag("one"),
     };
-    Asked::Job(Job {
+    let job = Job {
         from: matches.get_str("from").and_then(input_of),
         text: matches.get_str("text"),
         offset: matches.get_one::<usize>("offset").unwrap_or(0),
         limit: matches.get_one::<usize>("limit").unwrap_or(LIMIT),
-        view,
+        view: view_of(matches),
+        color: color_of(matches.get_str("color")),
+        elide: matches.get_one::<usize>("elide"),
         show,
         path,
         partial: matches.get_flag("partial"),
+        strict: matches.get_flag("strict"),
         output: matches.get_str("output"),
         check: check.is_some(),
         rules: check.and_then(rules_of),
-        encode,
+        encode: matches.get_str("encode").and_then(rules_of),
         files,
-    })
+    };
+    if let Some(why) = refusal(&job) {
+        let _ = eprintln!(rt; "cborcat: {why}");
+        return Asked::Ended(2);
+    }
+    Asked::Job(job)
 }

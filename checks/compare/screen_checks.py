@@ -1,0 +1,115 @@
+"""Checks of what `checks/cborcat` sees in a terminal: colours, and long strings that are cut. A part of that script."""
+
+import os
+import re
+
+ENDED = re.compile(rb"([^\x1b]|\x1b\[[0-9;]+m[^\x1b]*\x1b\[0m)*")
+SGR = re.compile(rb"\x1b\[[0-9;]*m")
+KEY, TEXT, BYTES, NUMBER, TAG, NOTE = b"1;34", b"32", b"33", b"36", b"35", b"90"
+
+
+def colored(*parts):
+    """Plain bytes, and pairs of a colour and a token, as they are shown."""
+    return b"".join(part if isinstance(part, bytes) else b"\x1b[%sm%s\x1b[0m" % part for part in parts)
+
+
+def colors(run, same):
+    """A token of each kind, in each form that has colours."""
+    item = bytes.fromhex("a201c1182a6161425e00")
+    pretty = colored(b"{", (KEY, b"1"), b": ", (TAG, b"1"), b"(", (NUMBER, b"42"), b" ",
+                     (NOTE, b"/1970-01-01T00:00:42Z/"), b"), ", (KEY, b'"a"'), b": ", (BYTES, b"h'5e00'"), b"}\n")
+    same("colours", run("--color=always", data=item)[0], pretty)
+    same("a text", run("--color=always", "-t", "diag", "-f", "hex", "-x", "6161 f5")[0],
+         colored((TEXT, b'"a"'), b"\n", (NUMBER, b"true"), b"\n"))
+    same("a dump", run("--color=always", "-t", "hex", "-f", "hex", "-x", "6161")[0],
+         colored((BYTES, b"61    "), (NOTE, b"# text(1)"), b"\n   ", (BYTES, b"61 "), (NOTE, b'#   "a"'), b"\n"))
+    same("paths", run("--color=always", "-t", "paths", "-f", "hex", "-x", "a1 64 61202022 f4")[0],
+         colored((KEY, b'0x6  "a  \\u0022"  '), (NUMBER, b"false"), b"\n"))
+    same("JSON", run("--color=always", "-t", "json", "-f", "hex", "-x", "a161610a")[0],
+         colored(b"{", (KEY, b'"a"'), b": ", (NUMBER, b"10"), b"}\n"))
+    for form in ("digits", "bytes"):
+        same(f"{form} have no colours", run("--color=always", "-t", form, data=item), run("-t", form, data=item))
+    same("never", run("--color=never", data=item), run(data=item))
+
+
+def terminals(in_terminal, run, same):
+    """Colours come in a terminal alone, and by what the environment says."""
+    wanted = run("--color=always", data=b"\x81\x01")[0].decode()
+    for variables, has in [
+        ({"TERM": "xterm"}, True), ({"TERM": "xterm", "NO_COLOR": ""}, True),
+        ({"TERM": "xterm", "NO_COLOR": "0"}, False), ({"TERM": "dumb"}, False), ({"TERM": ""}, False), ({}, False),
+    ]:
+        same(f"a terminal with {variables}", in_terminal([], b"\x81\x01", variables)[0], wanted if has else "[1]\n")
+    same("always in a terminal", in_terminal(["--color=always"], b"\x81\x01", {"NO_COLOR": "1"})[0], wanted)
+    same("never in a terminal", in_terminal(["--color=never"], b"\x81\x01", {"TERM": "xterm"})[0], "[1]\n")
+    same("a pipe", run(data=b"\x81\x01", env={**os.environ, "TERM": "xterm"})[0], b"[1]\n")
+
+
+def elided(run, same):
+    """Strings that are as long as is allowed, and longer ones."""
+    item = "82 43 010203 64 61c3bc62"
+    for most, text in [
+        (0, "[h'...' /3 bytes/, \"...\" /4 bytes/]"), (2, "[h'0102...' /3 bytes/, \"a...\" /4 bytes/]"),
+        (3, "[h'010203', \"aü...\" /4 bytes/]"), (4, "[h'010203', \"aüb\"]"),
+    ]:
+        got = run(f"--elide={most}", "-t", "diag", "-f", "hex", "-x", item)[0].decode()
+        same(f"strings cut at {most}", got, f"{text}\n")
+    same("32 bytes", run("--elide", "-f", "hex", "-x", "5820" + "00" * 32)[0].decode(), "h'" + "00" * 32 + "'\n")
+    same("33 bytes", run("--elide", "-f", "hex", "-x", "5821" + "00" * 33)[0].decode(),
+         "h'" + "00" * 32 + "...' /33 bytes/\n")
+    same("paths are whole", run("--elide=1", "-t", "paths", "-f", "hex", "-x", "a1 6461202061 426162")[0],
+         b"0x6  \"a  a\"  h'61...' /2 bytes/\n")
+    same("in colours", run("--elide=1", "--color=always", "-f", "hex", "-x", "a1 426162 00")[0],
+         colored(b"{", (KEY, b"h'61...'"), b" ", (NOTE, b"/2 bytes/"), b": ", (NUMBER, b"0"), b"}\n"))
+    for form in ("hex", "digits", "bytes", "json", "raw"):
+        same(f"no --elide of {form}", run("--elide", "-t", form, "-x", "[1]"),
+             (b"", "cborcat: --elide cuts strings of pretty, diag and paths alone\n", 2))
+
+
+def dumps(run, same):
+    """Items in byte strings, in dumps."""
+    def dump(digits, *words):
+        return run(*words, "-t", "hex", "-f", "hex", "-x", digits)[0].decode()
+
+    same("a map", dump("43a10126", "-e"), """\
+43       # bytes(3)
+   a1    #   map(1)
+      01 #     unsigned(1)
+      26 #     negative(-7)
+""")
+    same("strings in each other", dump("458143a10126 4180", "-e"), """\
+45             # bytes(5)
+   81          #   array(1)
+      43       #     bytes(3)
+         a1    #       map(1)
+            01 #         unsigned(1)
+            26 #         negative(-7)
+41    # bytes(1)
+   80 #   array(0)
+""")
+    for digits in ("44c14101f5", "424180", "4100", "40", "d81843a10126", "d83f43a10126", "c24180", "d8404180",
+                   "5f43a10126ff", "4482f81401"):
+        same(f"{digits} as it is", dump(digits, "-e"), dump(digits))
+
+
+def check(run, in_terminal, same, examples):
+    """All of them; without the sequences each example is the same text in each form, and no line leaves one open."""
+    colors(run, same)
+    terminals(in_terminal, run, same)
+    elided(run, same)
+    dumps(run, same)
+    for name in sorted(os.listdir(examples)):
+        if not name.endswith((".hex", ".cbor")):
+            continue
+        dump = run("-e", "-t", "hex", f"{examples}/{name}")[0]
+        same(f"the dump of {name} is read back", run("-f", "hex", "-t", "bytes", data=dump),
+             run("-t", "bytes", f"{examples}/{name}"))
+        for words in (
+                ["-t", "pretty"], ["-t", "diag"], ["-t", "hex"], ["-t", "paths"], ["-e"], ["--widths"], ["--elide=8"],
+                ["-e", "-t", "hex"]):
+            plain = run(*words, f"{examples}/{name}")[0]
+            shown = run(*words, "--color=always", f"{examples}/{name}")[0]
+            same(f"{name} {words} without colours", SGR.sub(b"", shown), plain)
+            same(f"{name} {words} has colours", shown != plain, True)
+            open_lines = [line for line in shown.splitlines() if not ENDED.fullmatch(line)]
+            same(f"{name} {words} ends each colour in its line", open_lines, [])

@@ -1,0 +1,219 @@
+//! Items as JSON, and the content of strings.
+
+use crate::each::ShowsItem;
+use crate::lost::report_lost;
+use crate::messages::{Place, label, report_byte};
+use crate::rules::Items;
+use crate::shown::show_of;
+use crate::status::Status;
+use crate::words::{Job, View};
+use cbor_diag::{Error, Extent, extent};
+use cbor_grammar::head::ItemHead;
+use cbor_grammar::strings::StringKind;
+use cbor_inspect::{End, RawError, is_shown, raw_content, show_items};
+use cbor_json::{Clash, JsonError, JsonStyle, Loss, LossKind, bytes_to_json};
+use cbor_places::{Around, Piece};
+use cbor_trace::head_at;
+use std::alloc::Global;
+use std::fmt::Write;
+use std::io::IsTerminal;
+
+/// How the items of an input, or their parts, are written as JSON or as their content.
+#[derive(Clone, Copy)]
+pub struct Plain<'a> {
+    pub rt: &'a HostRuntime,
+    pub job: &'a Job<'a>,
+    pub place: &'a Place<'a>,
+}
+
+impl ShowsItem for Plain<'_> {
+    /// Writes an item, or the parts of it that the path leads to.
+    fn show_one(&self, item: Items, out: &mut Vec<u8>) -> Result<Status, Error> {
+        if self.job.show.steps.is_empty() {
+            return self.write(item, out);
+        }
+        let mut parts = Vec::new(self.rt.alloc());
+        let show = show_of(self.rt.alloc(), self.job)?;
+        match show_items(&show, item.bytes, &mut parts).end {
+            End::Memory => return Err(Error::Memory),
+            End::Lost { .. } => return Ok(report_lost(self.rt, self.job, self.place, item.bytes)),
+            _ => {}
+        }
+        self.write_parts(&parts, out)
+    }
+}
+
+impl Plain<'_> {
+    /// Writes items, one after the other. Their places are their own.
+    fn write_parts(self, parts: &[u8], out: &mut Vec<u8>) -> Result<Status, Error> {
+        let mut status = Status::Fine;
+        let mut rest = parts;
+        for _ in 0..u64::MAX {
+            let Extent::Item(len) = extent(rest) else {
+                break;
+            };
+            let (bytes, after) = rest.split_at(len.min(rest.len()));
+            status = status.or(self.write(Items { bytes, begins: 0 }, out)?);
+            rest = after;
+        }
+        Ok(status)
+    }
+
+    /// Writes an item.
+    fn write(self, item: Items, out: &mut Vec<u8>) -> Result<Status, Error> {
+        if self.job.view == View::Raw {
+            self.write_raw(item, out)
+        } else {
+            self.write_json(item, out)
+        }
+    }
+
+    /// Writes an item as JSON, and a line feed.
+    fn write_json(self, item: Items, out: &mut Vec<u8>) -> Result<Status, Error> {
+        let style = JsonStyle {
+            embedded: self.job.show.style.embedded,
+            strict: self.job.strict,
+        };
+        match bytes_to_json(self.rt.alloc(), item.bytes, style) {
+            Ok(text) => {
+                out.extend_from_slice(text.as_bytes())?;
+                out.push(b'\n')?;
+                Ok(Status::Fine)
+            }
+            Err(error) => {
+                let (at, what) = item.words_of(self.rt.alloc(), error)?;
+                self.refuse(item, at, &what)
+            }
+        }
+    }
+
+    /// Writes the content of a string.
+    fn write_raw(self, item: Items, out: &mut Vec<u8>) -> Result<Status, Error> {
+        let head = head_below_tags(item.bytes);
+        let content = match raw_content(self.rt.alloc(), item.bytes) {
+            Ok(content) => content,
+            Err(RawError::Cbor(error)) => return Err(error),
+            Err(RawError::NoString) => {
+                let noun = noun_of(head);
+                let what = format!(in self.rt.alloc();
+                    "{noun} has no raw content; a byte or text string has"
+                )?;
+                return self.refuse(item, 0, &what);
+            }
+        };
+        if self.job.output.is_none() && self.rt.stdout().is_terminal() {
+            let is_text = matches!(head, Some(ItemHead::String(StringKind::Text, _)));
+            if !(is_text && is_shown(true, &content)) {
+                let _ = self.refuse(item, 0, NO_TERMINAL)?;
+                return Ok(Status::Trouble);
+            }
+        }
+        out.extend_from_slice(&content)?;
+        Ok(Status::Fine)
+    }
+
+    /// Says at which byte of an item something keeps it from being written.
+    fn refuse(self, item: Items, at: usize, what: &str) -> Result<Status, Error> {
+        let left = Piece {
+            begins: item.begins,
+            bytes: item.bytes,
+        };
+        if self.job.show.steps.is_empty() {
+            report_byte(self.rt, self.place, left, at, what)?;
+            return Ok(Status::Bad);
+        }
+        let around = Around::new(self.rt.alloc(), left, at)?;
+        let (name, part) = (label(self.place.name), self.job.path);
+        let mut path = String::from_str(self.rt.alloc(), part)?;
+        if !around.path.is_empty() {
+            path.push('/')?;
+            path.push_str(around.path.as_str())?;
+        }
+        let _ = eprintln!(self.rt;
+            "cborcat: {name}: byte {at} of the part at {part}: {what}\n    at {path}"
+        );
+        Ok(Status::Bad)
+    }
+}
+
+/// What is said of a content that no terminal is given.
+const NO_TERMINAL: &str =
+    "only a text without hidden characters is written to a terminal; use -o FILE or a pipe";
+
+/// The head of an item, below its tags.
+fn head_below_tags(bytes: &[u8]) -> Option<ItemHead> {
+    let mut at = 0;
+    for _ in 0..=u8::MAX {
+        let (head, end) = head_at(bytes, at)?;
+        let ItemHead::Tag(..) = head else {
+            return Some(head);
+        };
+        at = end;
+    }
+    None
+}
+
+/// What an item with this head is called.
+fn noun_of(head: Option<ItemHead>) -> &'static str {
+    match head {
+        Some(ItemHead::Integer(..) | ItemHead::Negative(..)) => "an integer",
+        Some(ItemHead::String(..)) => "a string",
+        Some(ItemHead::Array(_)) => "an array",
+        Some(ItemHead::Map(_)) => "a map",
+        Some(ItemHead::Float(..)) => "a float",
+        _ => "a simple value",
+    }
+}
+
+impl Items<'_> {
+    /// Where an item is not written as JSON, and why.
+    fn words_of(self, alloc: Global, error: JsonError) -> Result<(usize, String), Error> {
+        let mut out = String::new(alloc);
+        match error {
+            JsonError::Cbor(error) => Err(error),
+            JsonError::SameKeys(clash) => {
+                self.push_clash(&mut out, clash)?;
+                Ok((clash.second, out))
+            }
+            JsonError::NotKept(loss) => {
+                self.push_loss(&mut out, loss)?;
+                Ok((loss.place, out))
+            }
+        }
+    }
+
+    /// Writes that two keys become the same.
+    fn push_clash(self, out: &mut String, clash: Clash) -> Result<(), Error> {
+        out.push_str("the key ")?;
+        self.push_key(out, clash.second)?;
+        out.push_str(" is the same in JSON as the key ")?;
+        if self.push_short(out, clash.first)? {
+            let byte = self.begins.saturating_add(clash.first);
+            write!(out, " at byte {byte}")?;
+        } else {
+            self.push_key(out, clash.first)?;
+        }
+        Ok(())
+    }
+
+    /// Writes what JSON does not keep.
+    fn push_loss(self, out: &mut String, loss: Loss) -> Result<(), Error> {
+        out.push_str("JSON does not keep ")?;
+        match loss.kind {
+            LossKind::Tag => match head_at(self.bytes, loss.place) {
+                Some((ItemHead::Tag(tag, _), _)) => write!(out, "the tag {tag}")?,
+                _ => out.push_str("a tag")?,
+            },
+            LossKind::Bytes => out.push_str("a byte string")?,
+            LossKind::Key => {
+                out.push_str("the key ")?;
+                self.push_key(out, loss.place)?;
+                out.push_str(", which is no text")?;
+            }
+            LossKind::NotFinite | LossKind::Simple => {
+                let _ = self.push_short(out, loss.place)?;
+            }
+        }
+        Ok(())
+    }
+}

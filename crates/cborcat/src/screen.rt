@@ -1,0 +1,160 @@
+//! What is shown of a text on the screen: colours, and long strings that are cut.
+
+use crate::output::{Target, Written, write};
+use crate::words::Job;
+use cbor_inspect::{Form, is_shown, push_shown};
+use cbor_screen::{Language, push_colored, push_elided};
+use std::alloc::AllocError;
+use std::env;
+use std::io::IsTerminal;
+
+/// Whether colours are asked for.
+#[derive(Clone, Copy, PartialEq, Eq)]
+pub enum Color {
+    /// If they are written to a terminal that shows them.
+    Auto,
+    Always,
+    Never,
+}
+
+/// The words of these.
+pub static COLORS: [&str; 3] = ["auto", "always", "never"];
+
+/// Whether colours are asked for by a word.
+pub fn color_of(word: Option<&str>) -> Color {
+    match word {
+        Some("always") => Color::Always,
+        Some("never") => Color::Never,
+        _ => Color::Auto,
+    }
+}
+
+/// What a form is written in, if that has colours.
+pub fn language_of(form: Form) -> Option<Language> {
+    match form {
+        Form::Pretty | Form::Diag => Some(Language::Edn),
+        Form::Hex => Some(Language::Dump),
+        Form::Digits | Form::Bytes => None,
+    }
+}
+
+impl Color {
+    /// Whether texts have colours that go to a terminal, or not.
+    fn is_on(self, rt: &HostRuntime, terminal: bool) -> bool {
+        match self {
+            Color::Auto => terminal && wants_colors(rt),
+            Color::Always => true,
+            Color::Never => false,
+        }
+    }
+}
+
+/// Whether the environment wants colours in a terminal: `TERM` is there and is not `dumb`, and
+/// `NO_COLOR` is not there or empty.
+fn wants_colors(rt: &HostRuntime) -> bool {
+    let shows = match env::var(rt, "TERM") {
+        Ok(name) => !name.is_empty() && name.as_str() != "dumb",
+        Err(_) => false,
+    };
+    let refuses = match env::var(rt, "NO_COLOR") {
+        Ok(value) => !value.is_empty(),
+        Err(error) => error != env::VarError::NotPresent,
+    };
+    shows && !refuses
+}
+
+/// How texts are shown.
+#[derive(Clone, Copy)]
+pub struct Screen<'a> {
+    rt: &'a HostRuntime,
+    /// Whether tokens have colours.
+    colors: bool,
+    /// The length of the longest strings that are not cut, if others are.
+    most: Option<usize>,
+}
+
+impl<'a> Screen<'a> {
+    /// How the arguments ask for the output to be shown.
+    pub fn new(rt: &'a HostRuntime, job: &Job) -> Screen<'a> {
+        let terminal = job.output.is_none() && rt.stdout().is_terminal();
+        Screen {
+            rt,
+            colors: job.color.is_on(rt, terminal),
+            most: job.elide,
+        }
+    }
+
+    /// Writes lines of a text.
+    pub fn write(
+        self,
+        target: &mut Target,
+        text: &[u8],
+        language: Language,
+    ) -> Result<Written, AllocError> {
+        if !self.changes(language) {
+            return Ok(write(self.rt, target, text));
+        }
+        let mut rest = text;
+        for _ in 0..u64::MAX {
+            if rest.is_empty() {
+                break;
+            }
+            let (lines, after) = rest.split_at(lines_len(rest).min(rest.len()));
+            rest = after;
+            match self.write_lines(target, lines, language)? {
+                Written::Whole => {}
+                end => return Ok(end),
+            }
+        }
+        Ok(Written::Whole)
+    }
+
+    /// Whether anything of a text is shown in another way than it is.
+    fn changes(self, language: Language) -> bool {
+        self.colors || self.most.is_some() || language == Language::Dump
+    }
+
+    /// Writes some lines. In comments of a dump, which are all that has such characters, what no
+    /// terminal and no log is given as it is is escaped.
+    fn write_lines(
+        self,
+        target: &mut Target,
+        lines: &[u8],
+        language: Language,
+    ) -> Result<Written, AllocError> {
+        let alloc = self.rt.alloc();
+        let mut escaped = String::new(alloc);
+        let mut elided = Vec::new(alloc);
+        let mut colored = Vec::new(alloc);
+        let mut shown = lines;
+        if language == Language::Dump {
+            if !is_shown(true, shown)
+                && let Ok(text) = str::from_utf8(lines)
+            {
+                push_shown(&mut escaped, text)?;
+                shown = escaped.as_bytes();
+            }
+        } else if let Some(most) = self.most {
+            push_elided(&mut elided, shown, language, most)?;
+            shown = elided.as_slice();
+        }
+        if self.colors {
+            push_colored(&mut colored, shown, language)?;
+            shown = colored.as_slice();
+        }
+        Ok(write(self.rt, target, shown))
+    }
+}
+
+/// How many bytes of a text are looked at together, at least.
+const BLOCK: usize = 64 * 1024;
+
+/// How many bytes the first lines of a text take, which are a block or all of it.
+fn lines_len(text: &[u8]) -> usize {
+    for (index, byte) in text.iter().enumerate().skip(BLOCK) {
+        if *byte == b'\n' {
+            return index.saturating_add(1);
+        }
+    }
+    text.len()
+}

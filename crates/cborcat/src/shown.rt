@@ -1,0 +1,16 @@
+//! What is written of items, as `cbor_inspect` is told it.
+
+use crate::words::Job;
+use cbor_diag::Error;
+use cbor_inspect::{Show, steps_of};
+use std::alloc::Global;
+
+/// What is written of items, by the arguments.
+pub fn show_of<'a>(alloc: Global, job: &'a Job<'a>) -> Result<Show<'a>, Error> {
+    Ok(Show {
+        style: job.show.style,
+        names: None,
+        steps: steps_of(alloc, job.path)?,
+        one: job.show.one,
+    })
+}
