@@ -1,24 +1,15 @@
 -- Numbers in base 16 times a power of 2, as C writes floats: `0x1.8p3` (ISO C, section 6.4.4.2).
 use Rattle.std.specs.Prelude.{ℕ, ◌+◌, ◌*◌, ◌^◌, List, [], ◌∷◌, length, take, drop, position, codes, bytes_eq}
-use Rattle.std.specs.Prelude.{Option, Some, None, Bool, ◌==◌, ◌&&◌, ◌||◌, if◌then◌else◌, nat_lt, nat_le, is_some, false}
+use Rattle.std.specs.Prelude.{Option, Some, None, Bool, ◌==◌, ◌&&◌, ◌||◌, if◌then◌else◌, nat_lt, is_some, false}
 use Rattle.std.specs.Char.{digit_value}
 use Rattle.std.specs.Float.Ieee.{Float, round, binary64}
 use Rattle.cbor_floats.specs.Decimal.{unsigned, is_negative}
 use Rattle.cbor_edn_grammar.specs.Reading.{◌>>=◌, after_bytes}
 
--- one more digit of a number n in this base, where the number stays below a bound
-abbrev pub one_more : ℕ → ℕ → ℕ → ℕ → Option ℕ
-one_more base bound n digit =
-    if nat_lt digit base && nat_lt (n * base + digit) bound then Some (n * base + digit) else None
-
--- the number that all of these digits are after those of n, below the bound
-abbrev pub run : ℕ → ℕ → ℕ → List ℕ → Option ℕ
-run base bound n [] = Some n
-run base bound n (b ∷ digits) = one_more base bound n (digit_value b) >>= λ m. run base bound m digits
-
--- a number of at most 53 binary digits, as those of 64 bits have
+-- the number that all of these digits of base 16 are after those of n
 abbrev pub hex_run : ℕ → List ℕ → Option ℕ
-hex_run n digits = run 16 (2 ^ 53) n digits
+hex_run n [] = Some n
+hex_run n (b ∷ digits) = if nat_lt (digit_value b) 16 then hex_run (n * 16 + digit_value b) digits else None
 
 -- the number that digits are without the point at this index, and how many of them are after it
 abbrev pub digits_at : List ℕ → Option ℕ → Option (ℕ × ℕ)
@@ -31,21 +22,26 @@ abbrev pub hex_digits : List ℕ → Option (ℕ × ℕ)
 hex_digits digits = if bytes_eq digits [] || bytes_eq digits (codes ".") then None
     else digits_at digits (position (λ b. b == 46) digits)
 
+-- one more decimal digit of a number n, where it stays below 2 ^ 20
+abbrev pub one_more : ℕ → ℕ → Option ℕ
+one_more n digit = if nat_lt digit 10 && nat_lt (n * 10 + digit) (2 ^ 20) then Some (n * 10 + digit) else None
+
+-- the number that all of these decimal digits are after those of n, below 2 ^ 20
+abbrev pub small_run : ℕ → List ℕ → Option ℕ
+small_run n [] = Some n
+small_run n (b ∷ digits) = one_more n (digit_value b) >>= λ m. small_run m digits
+
 -- the size of an exponent: decimal digits, perhaps after a sign
 abbrev pub exponent : List ℕ → Option ℕ
-exponent text = if bytes_eq (unsigned text) [] then None else run 10 (2 ^ 20) 0 (unsigned text)
+exponent text = if bytes_eq (unsigned text) [] then None else small_run 0 (unsigned text)
 
--- 2 ^ up / 2 ^ down is at most the largest power of 2 of 64 bits, and at least 2 ^ -60 times the least
-abbrev pub is_power : ℕ → ℕ → Bool
-is_power up down = nat_le down (up + 1134) && nat_le up (down + 1023)
-
--- the float of 64 bits that is nearest to n * 2 ^ up / 2 ^ down
-unfoldable pub scaled : Bool → ℕ → ℕ → ℕ → Option Float
-scaled negative n up down =
-    if is_power up down then Some (round binary64 negative (n * 2 ^ up) (2 ^ down)) else None
+-- The float of 64 bits that is nearest to n * 2 ^ up / 2 ^ down, at a tie the one whose last digit is 0: an infinity
+-- where the number is too large, and a zero where it is too small.
+unfoldable pub scaled : Bool → ℕ → ℕ → ℕ → Float
+scaled negative n up down = round binary64 negative (n * 2 ^ up) (2 ^ down)
 
 -- a number with so many of its digits after the point, times 2 to an exponent of this sign and size
-abbrev pub with_exponent : Bool → ℕ → ℕ → Bool → ℕ → Option Float
+abbrev pub with_exponent : Bool → ℕ → ℕ → Bool → ℕ → Float
 with_exponent negative n places below size = if below then scaled negative n 0 (4 * places + size)
     else scaled negative n size (4 * places)
 
@@ -53,7 +49,7 @@ with_exponent negative n places below size = if below then scaled negative n 0 (
 abbrev pub hex_at : Bool → List ℕ → Option ℕ → Option Float
 hex_at negative digits None = None
 hex_at negative digits (Some at) = hex_digits (take at digits) >>= λ d. exponent (drop (at + 1) digits)
-    >>= λ e. with_exponent negative d.0 d.1 (is_negative (drop (at + 1) digits)) e
+    >>= λ e. Some (with_exponent negative d.0 d.1 (is_negative (drop (at + 1) digits)) e)
 
 abbrev pub is_p : ℕ → Bool
 is_p b = (b == 112) || (b == 80)

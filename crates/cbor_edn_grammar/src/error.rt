@@ -50,9 +50,7 @@ pub enum Expected {
     LargestDouble,
     /// One of the indicators of a float, `_1`, `_2` and `_3`.
     FloatIndicator,
-    /// At most 53 binary digits, of a float in base 16.
-    HexDigits,
-    /// An exponent that floats of 64 bits have, of a float in base 16.
+    /// An exponent between -2^20 and 2^20, of a float in base 16.
     HexExponent,
     /// The 4, 8 or 16 digits of the bits of a float.
     FloatBits,
@@ -134,7 +132,6 @@ impl Expected {
             Expected::LargestSingle => "the largest float of 32 bits is 3.4028234663852886e38",
             Expected::LargestDouble => "the largest float of 64 bits is 1.7976931348623157e308",
             Expected::FloatIndicator => "an indicator of a float is _1, _2 or _3",
-            Expected::HexDigits => "a float in base 16 has up to 53 binary digits",
             Expected::HexExponent => "the exponent is past those of floats of 64 bits",
             Expected::FloatBits => "the bits of a float are 4, 8 or 16 digits",
             Expected::Date => "a date with a time is written as in 2026-01-02T03:04:05Z",

@@ -210,6 +210,49 @@ const READ: &[(&str, &str)] = &[
     ("[123456789012345678901, {}]", "82c24906b14e9f812f366c35a0"),
 ];
 
+/// Numbers with many digits.
+const MANY_DIGITS: &[(&str, &str)] = &[
+    (
+        "6277101735386680763835789423207666416120802188537744064512",
+        "c2581901000000000000000000000000000000010000000000000000",
+    ),
+    (
+        "-1000000000000000000000000000000000000000000000000000000000000",
+        "c358199f4f2726179a224501d762422c946590d90fffffffffffffff",
+    ),
+    // more digits than a float has, with the bits that Python reads in them
+    (
+        "0x1.00000000000008p0, 0x1.000000000000081p0, 0x1.00000000000018p0",
+        "f93c00fb3ff0000000000001fb3ff0000000000002",
+    ),
+    (
+        "0x20000000000000p0, 0x20000000000001p0, 0x20000000000003p0",
+        "fa5a000000fa5a000000fb4340000000000002",
+    ),
+    (
+        "0x1.00000000000007ffffffffffffffffp0, 0x1.000000000000080000000000000000000000000000001p0",
+        "f93c00fb3ff0000000000001",
+    ),
+    (
+        "0x0.00000000000000000000000000000000000001p+152, 0x123456789abcdef0123456789p-400",
+        "f93c00fb2cf23456789abcdf",
+    ),
+    (
+        "-0x1.fffffffffffff7ffffffffffp1023, 0x0.ffffffffffffffffffp0",
+        "fbffeffffffffffffff93c00",
+    ),
+    // below the least float of 64 bits, and below the least with all digits
+    (
+        "0x0.8p-1074, 0x0.80000000000000000001p-1074, 0x1.8p-1074",
+        "f90000fb0000000000000001fb0000000000000002",
+    ),
+    (
+        "0x0.fffffffffffff4p-1022, 0x0.fffffffffffff8p-1022, 0x1.fffffffffffffffp-1023",
+        "fb000ffffffffffffffb0010000000000000fb0010000000000000",
+    ),
+    ("0x1p-1135, -0x1p-1048575", "f90000f98000"),
+];
+
 /// The bytes of a text, or its error, as a text.
 fn bytes(alloc: Global, text: &str) -> Result<String, EdnError> {
     match edn_to_bytes(alloc, text) {
@@ -244,6 +287,13 @@ fn check(rt: &impl Abort, found: Result<String, EdnError>, expected: &str, text:
 #[test]
 fn texts_have_these_bytes(rt: HostRuntime) {
     for (text, expected) in READ {
+        check(&rt, bytes(rt.alloc(), text), expected, text);
+    }
+}
+
+#[test]
+fn numbers_with_many_digits_are_read(rt: HostRuntime) {
+    for (text, expected) in MANY_DIGITS {
         check(&rt, bytes(rt.alloc(), text), expected, text);
     }
 }

@@ -8,7 +8,8 @@ use cbor_grammar::Error;
 use std::alloc::{AllocError, Global};
 use std::process::Abort;
 
-/// Bytes in hex, notes on items by their places, and the text that is written in a style with notes.
+/// Bytes in hex, notes on items by their places, and the text that is written in a style with
+/// notes.
 struct Noted<'a> {
     digits: &'a str,
     /// The place of the item, and what to write before and after it.
@@ -104,6 +105,25 @@ const NOTED: &[Noted<'_>] = &[
         notes: &[(4, "a", ""), (2, "b", ""), (1, "c", "")],
         encoded: &[],
         text: "/a/ 24(/b/ <</c/ {}>>)",
+    },
+    Noted {
+        digits: "423131",
+        notes: &[(3, "kid", "")],
+        encoded: &[],
+        text: "/kid/ h'3131' /'11'/",
+    },
+    Noted {
+        digits: "423131",
+        notes: &[(3, "kid", "a/b")],
+        encoded: &[],
+        text: "/kid/ h'3131' /'11'/",
+    },
+    // in place of one
+    Noted {
+        digits: "423131",
+        notes: &[(3, "kid", "of Alice")],
+        encoded: &[],
+        text: "/kid/ h'3131' /of Alice/",
     },
     // items in byte strings
     Noted {

@@ -100,6 +100,25 @@ const STYLED: &[(EdnStyle, &str, &str)] = &[
         "c2510100000000000000000000000000000000",
         "2(h'0100000000000000000000000000000000')",
     ),
+    // notes on bytes that are characters
+    (EdnStyle::PRETTY, "423131", "h'3131' /'11'/"),
+    (EdnStyle::PRETTY, "58023131", "h'3131'_0 /'11'/"),
+    (EdnStyle::PRETTY, "42207e", "h'207e' /' ~'/"),
+    (EdnStyle::PRETTY, "42611f", "h'611f'"),
+    (EdnStyle::PRETTY, "427f61", "h'7f61'"),
+    (EdnStyle::PRETTY, "40", "h''"),
+    (EdnStyle::PRETTY, "432a612a", "h'2a612a' /'*a*'/"),
+    (EdnStyle::PRETTY, "43612f62", "h'612f62'"),
+    (EdnStyle::PRETTY, "43275c22", "h'275c22' /'\\'\\\\\"'/"),
+    (EdnStyle::PRETTY, "5f423131ff", "(_ h'3131')"),
+    (EdnStyle::PRETTY, "a142313101", "{h'3131' /'11'/: 1}"),
+    (EdnStyle::PRETTY, "d5423131", "21(h'3131' /'11'/)"),
+    (EdnStyle::PRETTY, "d818423131", "24(h'3131' /'11'/)"),
+    (EdnStyle::PRETTY, "d8184131", "24(<<-18>>)"),
+    (EdnStyle::PRETTY, "c2423131", "2(h'3131' /12593/)"),
+    (EdnStyle::PRETTY, "d825423131", "37(h'3131')"),
+    (EdnStyle::LINE, "423131", "h'3131'"),
+    (EMBEDDED, "423131", "h'3131'"),
     (EdnStyle::PRETTY, "f810", "simple(16) /two bytes/"),
     (EdnStyle::PRETTY, "f81f", "simple(31) /two bytes/"),
     (EdnStyle::PRETTY, "f0", "simple(16)"),
@@ -160,5 +179,18 @@ fn what_is_no_item(rt: HostRuntime) -> Result<(), Error> {
     let cut = bytes_to_edn_pretty(alloc, b"\x82\x01");
     assert_eq!(rt; cut.err(), Some(Error::CutShort));
     assert_eq!(rt; out.as_str(), "x1");
+    Ok(())
+}
+
+/// Of 64 characters there is a note, of 65 there is none.
+#[test]
+fn notes_on_many_characters(rt: HostRuntime) -> Result<(), Error> {
+    let alloc = rt.alloc();
+    let most = bytes_to_edn_pretty(alloc, &[&[0x58, 64], [b'a'; 64].as_slice()].concat(alloc)?)?;
+    assert!(rt;
+        most.ends_with(" /'aaaaaaaaaaaaaaaaaaaaaaaaaaaaaaaaaaaaaaaaaaaaaaaaaaaaaaaaaaaaaaaa'/")
+    );
+    let more = bytes_to_edn_pretty(alloc, &[&[0x58, 65], [b'a'; 65].as_slice()].concat(alloc)?)?;
+    assert!(rt; more.ends_with("6161'"));
     Ok(())
 }

@@ -1,3 +1,4 @@
+pub mod Nearest
 pub mod HexFloats
 pub mod Addresses
 pub mod Decoded

@@ -1,2 +1,2 @@
 -- Definitions that mirror the code. Only the checker reads them: no contract of a public call needs them.
-pub mod Powers
+pub mod Front

@@ -20,7 +20,7 @@ use crate::note::Note;
 pub struct EdnStyle {
     /// A container that is long takes a line for each member.
     pub lines: bool,
-    /// Comments say what dates, addresses and big numbers are.
+    /// Comments say what dates, addresses and big numbers are, and which characters bytes are.
     pub notes: bool,
     /// Byte strings that are an array, a map or a tagged item are shown as that item.
     pub embedded: bool,

@@ -12,12 +12,16 @@ ghost use Rattle.cbor_edn_writer.specs.EdnLeaves.{comment_before, comment_after}
 ghost use Rattle.cbor_edn_writer.specs.EdnLeaves.{note_before, note_after};
 
 use crate::print::place::EdnPlace;
+use crate::print::same::is_noted;
 use cbor_grammar::strings::StringContent;
 use cbor_notes::{
     date_of_epoch, datetime_of_epoch, epoch_of_date, epoch_of_datetime, ipv4_text, ipv6_text,
     mac_text,
 };
 use std::alloc::{AllocError, Global};
+
+/// The most bytes whose characters are a note, so that the note fits on a line of its own.
+const MOST_CHARACTERS: usize = 64;
 
 /// Writes the caller's note before an item.
 #[inline(always)]
@@ -82,12 +86,16 @@ pub(super) fn push_string_note(
 ) -> Result<(), AllocError>
     ensures { Writes result out.old out.new (NoteAfter place.now) }
 {
-    match place.tag {
-        Some(tag) if place.style.notes => match content {
-            StringContent::Bytes(bytes) => push_bytes_note(out, tag, bytes, place.alloc),
-            StringContent::Text(text) => push_text_note(out, tag, text, place.alloc),
-        },
-        _ => Ok(()),
+    if !place.style.notes {
+        return Ok(());
+    }
+    match (content, place.tag) {
+        (StringContent::Bytes(bytes), Some(tag)) if is_noted(tag) => {
+            push_bytes_note(out, tag, bytes, place.alloc)
+        }
+        (StringContent::Bytes(bytes), _) => push_characters(out, bytes, place),
+        (StringContent::Text(text), Some(tag)) => push_text_note(out, tag, text, place.alloc),
+        (StringContent::Text(_), None) => Ok(()),
     }
 }
 
@@ -235,6 +243,42 @@ fn push_bytes_note(
         52 | 54 | 260 => push_some_note(out, &address(alloc, tag, bytes)?),
         _ => Ok(()),
     }
+}
+
+/// Writes the characters that bytes are, unless a note of the caller stands after the bytes.
+fn push_characters(out: &mut String, bytes: &[u8], place: &EdnPlace<'_>) -> Result<(), AllocError>
+    ensures { Writes result out.old out.new AnyNote }
+{
+    if !are_characters(bytes) || is_noted_after(place) {
+        return Ok(());
+    }
+    push_note(out, &quoted_characters(place.alloc, bytes)?)
+}
+
+/// Whether bytes are at least one character, and not more than a note shows, of ASCII that print.
+fn are_characters(bytes: &[u8]) -> bool {
+    !bytes.is_empty()
+        && bytes.len() <= MOST_CHARACTERS
+        && bytes.iter().all(|byte| (32..127).contains(byte))
+}
+
+/// Whether the caller has a note to write after the item.
+fn is_noted_after(place: &EdnPlace<'_>) -> bool {
+    matches!(place.found, Some(note) if is_note(note.after))
+}
+
+/// Characters between apostrophes, as EDN may have bytes.
+fn quoted_characters(alloc: Global, characters: &[u8]) -> Result<String, AllocError> {
+    let mut note = String::with_capacity(alloc, characters.len() + 2)?;
+    note.push('\'')?;
+    for character in characters {
+        if *character == b'\'' || *character == b'\\' {
+            note.push('\\')?;
+        }
+        note.push(char::from(*character))?;
+    }
+    note.push('\'')?;
+    Ok(note)
 }
 
 /// The address that bytes are.

@@ -53,7 +53,7 @@ fn item_if(yes: bool) -> Content
 }
 
 /// Whether a byte string right below this tag is an address, a UUID or a big number.
-fn is_noted(tag: u64) -> bool
+pub(super) fn is_noted(tag: u64) -> bool
     ensures { result ≡ has_note tag }
 {
     matches!(tag, 2 | 3 | 37 | 52 | 54 | 260)

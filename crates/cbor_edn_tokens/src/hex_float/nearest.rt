@@ -1,0 +1,140 @@
+//! The float of 64 bits that is nearest to a number in base 16, by the digits at its front.
+ghost use Rattle.std.specs.Prelude.{◌≡◌, ◌⊎◌, ℕ, ◌+◌, ◌*◌, ◌/◌, ◌^◌, ◌<◌, ◌≤◌, ◌||◌, nat_lt, false};
+ghost use Rattle.std.specs.Float.Ieee.{round, units, binary64};
+ghost use Rattle.std.specs.Float.Ieee.Nearest.{closest};
+ghost use Rattle.cbor_edn_tokens.specs.mirror.Front.{IsFront, FitsFront, Behind};
+
+use std::num::f64_from_bits_with_nan;
+
+/// The weight of the exponent in the bits of a float of 64 bits, and of the leading digit, which
+/// they leave out.
+const HIDDEN: u128 = 1 << 52;
+
+/// The bits of the infinity.
+const INFINITY: u128 = 2047 * HIDDEN;
+
+/// A number by the digits at its front.
+#[derive(Clone, Copy)]
+pub(super) struct Front {
+    /// The number of the digits at the front, below 2^60.
+    pub(super) digits: u64,
+    /// How many digits of base 16 are behind them: none, if the front is below 2^56.
+    pub(super) behind: u64,
+    /// Whether one of those is not zero.
+    pub(super) more: bool,
+}
+
+impl Front {
+    /// The number 0.
+    pub(super) const ZERO: Front = Front {
+        digits: 0,
+        behind: 0,
+        more: false,
+    };
+
+    /// The number with one more digit.
+    pub(super) fn then(self, digit: u32) -> Front
+        requires fits { FitsFront self }
+        requires digit { digit < 16 }
+        requires room { self.behind + 1 < 2 ^ 64 }
+        ensures number { (n : ℕ) → IsFront self n → IsFront result (n * 16 + digit) }
+        ensures fits { FitsFront result }
+        ensures behind { result.behind ≤ self.behind + 1 }
+    {
+        if self.digits < 1 << 56 {
+            Front {
+                digits: self.digits * 16 + digit as u64,
+                ..self
+            }
+        } else {
+            Front {
+                behind: self.behind + 1,
+                more: is_more(self.more, digit),
+                ..self
+            }
+        }
+    }
+}
+
+/// Whether there is more than zeros, with one more digit.
+fn is_more(more: bool, digit: u32) -> bool
+    ensures { result ≡ (more || nat_lt 0 digit) }
+{
+    more || digit > 0
+}
+
+/// The whole number closest to the digits at the front and those behind, over 2^cut; at a tie the
+/// even one.
+fn rounded(front: Front, cut: u32) -> u64
+    requires { (front.digits < 2 ^ 60) × (1 ≤ cut) × (cut ≤ 62) }
+    ensures closest { (tail : ℕ) → Behind front tail
+        → result ≡ closest (front.digits * 2 ^ (4 * front.behind) + tail)
+        (2 ^ cut * 2 ^ (4 * front.behind)) }
+    ensures least { front.digits / 2 ^ cut ≤ result }
+    ensures most { result ≤ front.digits / 2 ^ cut + 1 }
+{
+    let unit = power_of_two(cut);
+    let kept = front.digits / unit;
+    let twice = front.digits % unit * 2;
+    if twice < unit {
+        kept
+    } else if twice > unit || front.more {
+        kept + 1
+    } else {
+        kept + kept % 2
+    }
+}
+
+fn power_of_two(exponent: u32) -> u64
+    requires { exponent ≤ 62 }
+    ensures same { result ≡ 2 ^ exponent }
+    ensures most { result ≤ 2 ^ 62 }
+    ensures above { 0 < result }
+{
+    1 << exponent
+}
+
+/// So many times 2^scale times the least float above 0; an infinity where that is too large.
+fn float_of_units(kept: u64, scale: u128) -> f64
+    requires kept { kept ≤ 2 ^ 53 }
+    requires scale { scale < 2 ^ 71 }
+    requires normal { (scale ≡ 0) ⊎ (2 ^ 52 ≤ kept) }
+    ensures { result ≡ units binary64 false kept scale }
+{
+    let bits = (scale * HIDDEN + kept as u128).min(INFINITY);
+    f64_from_bits_with_nan(bits as u64)
+}
+
+/// The float that is nearest to a number with so many digits at its front that some are cut off.
+fn nearest_long(front: Front, up: u128, down: u128) -> f64
+    requires low { 2 ^ 56 ≤ front.digits }
+    requires high { front.digits < 2 ^ 60 }
+    requires up { up < 2 ^ 68 }
+    requires down { down < 2 ^ 68 }
+    ensures { (n : ℕ) → IsFront front n → result ≡ round binary64 false (n * 2 ^ up) (2 ^ down) }
+{
+    let size = 64 - front.digits.leading_zeros();
+    let lift = up + 4 * front.behind as u128 + 1074;
+    let scale = (lift + size as u128).saturating_sub(down + 53);
+    let cut = (down + scale - lift).min(62);
+    let kept = rounded(front, cut as u32);
+    float_of_units(kept, scale)
+}
+
+/// The float that is nearest to the number times 2^up / 2^down.
+pub(super) fn nearest(front: Front, up: u128, down: u128) -> f64
+    requires fits { FitsFront front }
+    requires up { up < 2 ^ 67 }
+    requires down { down < 2 ^ 67 }
+    ensures { (n : ℕ) → IsFront front n → result ≡ round binary64 false (n * 2 ^ up) (2 ^ down) }
+{
+    if front.digits == 0 {
+        return 0.0;
+    }
+    if front.behind > 0 {
+        return nearest_long(front, up, down);
+    }
+    let spare = front.digits.leading_zeros() - 4;
+    let digits = front.digits << spare;
+    nearest_long(Front { digits, ..front }, up, down + spare as u128)
+}
