@@ -5,3 +5,4 @@ pub mod Tokens
 pub mod Numbers
 pub mod Parts
 pub mod Texts
+pub mod NoObjects

@@ -17,6 +17,7 @@ use Rattle.cbor_grammar.specs.Answer.{Outcome, spelled, cut, fault}
 use Rattle.cbor_grammar.specs.Item.{Item}
 use Rattle.cbor_notation.specs.Dialect.{TextsAt}
 use Rattle.cbor_json.specs.JsonLeaves.{json_leaves}
+use Rattle.cbor_json.specs.Clashes.{IsClash}
 use Rattle.cbor_json.specs.Kept.{IsKept, IsLoss}
 use Rattle.cbor_json.specs.declared.print.place.JsonPlace.{JsonPlace}
 use Rattle.cbor_json.specs.declared.print.place.Spot.TheVariants.{Value}
@@ -80,12 +81,13 @@ abbrev pub IsNoJson : JsonStyle → List ℕ → JsonError → Type 0
 IsNoJson style b (Cbor refusal.Memory) = Unit {0}
 IsNoJson style b (Cbor e) = IsNoItem b e
 IsNoJson style b (NotKept loss) = IsLoss b loss × (i : Item) × IsItem b i × IsNotKept style i
-IsNoJson style b (SameKeys clash) = (i : Item) × IsItem b i × HasSameKeys style i
+IsNoJson style b (SameKeys clash) = IsClash style b clash × (i : Item) × IsItem b i × HasSameKeys style i
 
--- what is not kept is where the error says
-abbrev pub IsPlaced : List ℕ → JsonError → Type 0
-IsPlaced b (NotKept loss) = IsLoss b loss
-IsPlaced b e = Unit {0}
+-- what is not kept is where the error says, and so are the two keys
+abbrev pub IsPlaced : JsonStyle → List ℕ → JsonError → Type 0
+IsPlaced style b (NotKept loss) = IsLoss b loss
+IsPlaced style b (SameKeys clash) = IsClash style b clash
+IsPlaced style b e = Unit {0}
 
 -- the only errors that an item has
 abbrev pub IsErrorOf : JsonStyle → Item → JsonError → Type 0

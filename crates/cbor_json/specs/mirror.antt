@@ -1,2 +1,3 @@
 -- Definitions that mirror the code. Only the checker reads them: no contract of a public call needs them.
+pub mod Clashing
 pub mod Losing

@@ -1,7 +1,14 @@
-//! Where two keys of a map are that become the same. That there are such keys is known then.
-#![tactic(auto, using(cbor_grammar::proofs::shared::Appending::appending_steps))]
+//! Finds two keys of a map that become the same.
+#![tactic(auto)]
 
-ghost use Rattle.std.specs.Prelude.{◌<◌, ◌≤◌, length, IfSome};
+ghost use Rattle.std.specs.Prelude.{◌≡◌, ◌+◌, ◌≤◌, [], IfOk, IfSome, IsTrue, Ok};
+ghost use Rattle.std.specs.String.{string_bytes};
+ghost use Rattle.cbor_grammar.specs.Item.{Item};
+ghost use Rattle.cbor_grammar.specs.WellFormed.{deepest, levels_left};
+ghost use Rattle.cbor_grammar.specs.mirror.AtLevel.{read_at};
+ghost use Rattle.cbor_json.specs.Clashes.{IsClash, IsName};
+ghost use Rattle.cbor_json.specs.mirror.Clashing.{IsFound, IsFoundBehind, IsShown, below};
+ghost use Rattle.cbor_grammar.specs.declared.width.IntegerWidth.{IntegerWidth};
 
 use crate::error::Clash;
 use crate::print::Json;
@@ -9,38 +16,19 @@ use crate::print::place::JsonPlace;
 use crate::print::text::{begins_container, wants_bytes};
 use crate::style::JsonStyle;
 use cbor_bytes::head::read_head;
-use cbor_bytes::skip::{Extent, extent};
+use cbor_bytes::skip::after_front;
 use cbor_grammar::Error;
 use cbor_grammar::argument::Argument;
 use cbor_grammar::head::ItemHead;
 use cbor_grammar::level::DEEPEST;
 use cbor_grammar::strings::StringKind;
-use cbor_notation::outermost::push_outermost;
+use cbor_notation::from_bytes::push_front;
 use std::alloc::{AllocError, Global};
 use std::collections::BTreeMap;
 
-/// The first two keys of a map that become the same.
-pub(crate) fn first_clash(
-    bytes: &[u8],
-    style: JsonStyle,
-    alloc: Global,
-) -> Result<Clash, AllocError> {
-    let search = Search {
-        style,
-        alloc,
-        tag: None,
-    };
-    let found = clash_front(bytes, bytes.len(), DEEPEST, search)?;
-    // There are two such keys, so none is never found. That is tested, and not proved.
-    Ok(found.unwrap_or(Clash {
-        first: 0,
-        second: 0,
-    }))
-}
-
 /// How items are written.
 #[derive(Clone, Copy)]
-struct Search {
+pub(crate) struct Search {
     style: JsonStyle,
     alloc: Global,
     /// The tag right above.
@@ -49,171 +37,246 @@ struct Search {
 
 impl Search {
     /// Right below this tag, or in a container.
-    fn below(self, tag: Option<u64>) -> Search {
+    fn below(self, tag: Option<u64>) -> Search
+        ensures { result ≡ below self tag }
+    {
         Search { tag, ..self }
     }
 }
 
-/// The bytes after the item at the front.
-fn after_item(bytes: &[u8]) -> Option<&[u8]>
-    ensures { IfSome result (λ rest. length rest.now < length bytes.now) }
-{
-    match extent(bytes) {
-        Extent::Item(len) => Some(&bytes[len..]),
-        _ => None,
-    }
+/// Two keys that become the same: how many bytes are left from each of them on.
+#[derive(Clone, Copy)]
+pub(crate) struct SameKeys {
+    first: usize,
+    second: usize,
 }
 
-/// The text of the key at the front.
-fn key_text(bytes: &[u8], search: Search) -> Result<Option<String>, AllocError> {
-    let mut text = String::new(search.alloc);
-    let place = JsonPlace::key(search.alloc, search.style);
-    match push_outermost::<Json>(&mut text, bytes, &place) {
-        Ok(_) => Ok(Some(text)),
-        Err(error) => match error {
-            Error::Memory => Err(AllocError),
-            _ => Ok(None),
-        },
-    }
-}
-
-/// Two keys that become the same in the item at the front. The bytes end at this place.
-#[cycle(clash)]
-fn clash_front(
+/// Two keys of a map that become the same, the second after the first.
+pub(crate) fn first_clash(
     bytes: &[u8],
-    end: usize,
-    levels: u8,
-    search: Search,
-) -> Result<Option<Clash>, AllocError> {
-    if levels == 0 {
+    style: JsonStyle,
+    alloc: Global,
+) -> Result<Clash, AllocError>
+    ensures { IfOk result (IsClash style bytes.now) }
+{
+    let search = Search {
+        style,
+        alloc,
+        tag: None,
+    };
+    match clash_front(bytes, 1, search)? {
+        Some(keys) => Ok(Clash {
+            first: bytes.len() - keys.first,
+            second: bytes.len() - keys.second,
+        }),
+        // There are such keys, so they are found. That is tested, and not proved.
+        None => Err(AllocError),
+    }
+}
+
+/// Two keys that become the same in the item at the front.
+#[cycle(clash)]
+fn clash_front(bytes: &[u8], level: u8, search: Search) -> Result<Option<SameKeys>, AllocError>
+    requires from { 1 ≤ level }
+    requires to { level ≤ deepest + 1 }
+    ensures { IfOk result (λ o. IfSome o (IsFound search level bytes.now)) }
+{
+    if level > DEEPEST {
         return Ok(None);
     }
     let Ok((head, inner)) = read_head(bytes) else {
         return Ok(None);
     };
     match head {
-        ItemHead::Array(count) => {
-            clash_in_array(count, inner, end, levels - 1, search.below(None))
-        }
-        ItemHead::Map(count) => match same_keys(count, inner, end, search)? {
-            Some(clash) => Ok(Some(clash)),
-            None => clash_in_values(count, inner, end, levels - 1, search.below(None)),
-        },
-        ItemHead::Tag(..) => clash_front(inner, end, levels - 1, search),
-        ItemHead::String(StringKind::Bytes, Argument::Number(len, _)) if search.style.embedded => {
-            match content(inner, len) {
-                Some(content) => {
-                    let after = end.saturating_sub(inner.len() - content.len());
-                    clash_front(content, after, levels - 1, search)
-                }
-                None => Ok(None),
-            }
+        ItemHead::Array(len) => clash_in_array(len, inner, level, search),
+        ItemHead::Map(len) => clash_in_map(len, inner, level, search),
+        ItemHead::Tag(tag, _) => clash_front(inner, level + 1, search.below(Some(tag))),
+        ItemHead::String(StringKind::Bytes, Argument::Number(len, _)) => {
+            clash_in_bytes(len, inner, level, search)
         }
         _ => Ok(None),
     }
 }
 
-/// The content of a byte string of this length, where it is written as an item.
-fn content(bytes: &[u8], len: u64) -> Option<&[u8]>
-    ensures { IfSome result (λ content. length content.now ≤ length bytes.now) }
-{
-    let content = bytes.get(..usize::try_from(len).ok()?)?;
-    if !begins_container(content) {
-        return None;
-    }
-    match after_item(content) {
-        Some([]) => Some(content),
-        _ => None,
-    }
-}
-
-/// Two keys that become the same in one of the items of an array.
+/// Two keys that become the same in one of the items of an array, whose head is before the bytes.
 #[cycle(clash)]
 fn clash_in_array(
-    count: Argument,
+    len: Argument,
     bytes: &[u8],
-    end: usize,
-    levels: u8,
+    level: u8,
     search: Search,
-) -> Result<Option<Clash>, AllocError> {
+) -> Result<Option<SameKeys>, AllocError>
+    requires from { 1 ≤ level }
+    requires to { level ≤ deepest }
+    ensures { IfOk result (λ o. IfSome o
+        (IsFoundBehind search level (ItemHead.Array len) bytes.now)) }
+{
     let mut rest = bytes;
     let mut held: usize = 0;
     'items: loop {
-        if count.after_end(held, rest).is_some() {
+        if len.after_end(held, rest).is_some() {
             return Ok(None);
         }
-        if let Some(clash) = clash_front(rest, end, levels, search)? {
-            return Ok(Some(clash));
+        if let Some(keys) = clash_front(rest, level + 1, search.below(None))? {
+            return Ok(Some(keys));
         }
-        let Some(next) = after_item(rest) else {
+        let Some(next) = after_front(rest, level + 1) else {
             return Ok(None);
         };
         rest = next;
-        held = held.saturating_add(1);
+        held += 1;
     }
 }
 
-/// Two keys that become the same in one of the values of a map.
+/// Two keys that become the same, of a map whose head is before the bytes or in one of its values.
+#[cycle(clash)]
+fn clash_in_map(
+    len: Argument,
+    bytes: &[u8],
+    level: u8,
+    search: Search,
+) -> Result<Option<SameKeys>, AllocError>
+    requires from { 1 ≤ level }
+    requires to { level ≤ deepest }
+    ensures { IfOk result (λ o. IfSome o
+        (IsFoundBehind search level (ItemHead.Map len) bytes.now)) }
+{
+    match same_keys(len, bytes, level, search)? {
+        Some(keys) => Ok(Some(keys)),
+        None => clash_in_values(len, bytes, level, search),
+    }
+}
+
+/// Two keys that become the same in one of the values of such a map.
 #[cycle(clash)]
 fn clash_in_values(
-    count: Argument,
+    len: Argument,
     bytes: &[u8],
-    end: usize,
-    levels: u8,
+    level: u8,
     search: Search,
-) -> Result<Option<Clash>, AllocError> {
-    let mut rest = bytes;
-    let mut held: usize = 0;
-    'pairs: loop {
-        if count.after_end(held, rest).is_some() {
-            return Ok(None);
-        }
-        let Some(value) = after_item(rest) else {
-            return Ok(None);
-        };
-        if let Some(clash) = clash_front(value, end, levels, search)? {
-            return Ok(Some(clash));
-        }
-        let Some(next) = after_item(value) else {
-            return Ok(None);
-        };
-        rest = next;
-        held = held.saturating_add(1);
-    }
-}
-
-/// Two keys of one map that become the same.
-fn same_keys(
-    count: Argument,
-    bytes: &[u8],
-    end: usize,
-    search: Search,
-) -> Result<Option<Clash>, AllocError> {
-    let mut keys = BTreeMap::new(search.alloc);
-    let mut rest = bytes;
-    let mut held: usize = 0;
-    'pairs: loop {
-        if count.after_end(held, rest).is_some() {
-            return Ok(None);
-        }
-        let Some(text) = key_text(rest, search)? else {
-            return Ok(None);
-        };
-        let second = end.saturating_sub(rest.len());
-        if let Some(first) = keys.insert(text, second)? {
-            return Ok(Some(Clash { first, second }));
-        }
-        let Some(next) = after_pair(rest) else {
-            return Ok(None);
-        };
-        rest = next;
-        held = held.saturating_add(1);
-    }
-}
-
-/// The bytes after a key and its value.
-fn after_pair(bytes: &[u8]) -> Option<&[u8]>
-    ensures { IfSome result (λ rest. length rest.now < length bytes.now) }
+) -> Result<Option<SameKeys>, AllocError>
+    requires from { 1 ≤ level }
+    requires to { level ≤ deepest }
+    ensures { IfOk result (λ o. IfSome o
+        (IsFoundBehind search level (ItemHead.Map len) bytes.now)) }
 {
-    after_item(after_item(bytes)?)
+    let mut rest = bytes;
+    let mut held: usize = 0;
+    'pairs: loop {
+        if len.after_end(held, rest).is_some() {
+            return Ok(None);
+        }
+        let Some(value) = after_front(rest, level + 1) else {
+            return Ok(None);
+        };
+        if let Some(keys) = clash_front(value, level + 1, search.below(None))? {
+            return Ok(Some(keys));
+        }
+        let Some(next) = after_front(value, level + 1) else {
+            return Ok(None);
+        };
+        rest = next;
+        held += 1;
+    }
+}
+
+/// Two keys that become the same in a byte string of this length, whose head is before the bytes.
+#[cycle(clash)]
+fn clash_in_bytes(
+    len: u64,
+    bytes: &[u8],
+    level: u8,
+    search: Search,
+) -> Result<Option<SameKeys>, AllocError>
+    requires from { 1 ≤ level }
+    requires to { level ≤ deepest }
+    ensures { (w : IntegerWidth) → IfOk result (λ o. IfSome o (IsFoundBehind search level
+        (ItemHead.String StringKind.Bytes (Argument.Number len w)) bytes.now)) }
+{
+    if (bytes.len() as u64) < len {
+        return Ok(None);
+    }
+    let (content, rest) = bytes.split_at(len as usize);
+    if !is_shown(content, level, search) {
+        return Ok(None);
+    }
+    match clash_front(content, level + 1, search.below(None))? {
+        Some(keys) => Ok(Some(SameKeys {
+            first: keys.first + rest.len(),
+            second: keys.second + rest.len(),
+        })),
+        None => Ok(None),
+    }
+}
+
+/// Whether a byte string of this content is written as the item that its bytes are.
+fn is_shown(content: &[u8], level: u8, search: Search) -> bool
+    requires from { 1 ≤ level }
+    requires to { level ≤ deepest }
+    ensures { IsTrue result → IsShown search level content.now }
+{
+    if !search.style.embedded || wants_bytes(search.tag) || !begins_container(content) {
+        return false;
+    }
+    match after_front(content, level + 1) {
+        Some(rest) => rest.is_empty(),
+        None => false,
+    }
+}
+
+/// Two keys that become the same of a map whose head is before the bytes.
+fn same_keys(
+    len: Argument,
+    bytes: &[u8],
+    level: u8,
+    search: Search,
+) -> Result<Option<SameKeys>, AllocError>
+    requires from { 1 ≤ level }
+    requires to { level ≤ deepest }
+    ensures { IfOk result (λ o. IfSome o
+        (IsFoundBehind search level (ItemHead.Map len) bytes.now)) }
+{
+    let mut places = BTreeMap::new(search.alloc);
+    let mut rest = bytes;
+    let mut held: usize = 0;
+    'pairs: loop {
+        if len.after_end(held, rest).is_some() {
+            return Ok(None);
+        }
+        let Some((name, value)) = name_front(rest, level + 1, search)? else {
+            return Ok(None);
+        };
+        let second = rest.len();
+        if let Some(first) = places.insert(name, second)? {
+            return Ok(Some(SameKeys { first, second }));
+        }
+        let Some(next) = after_front(value, level + 1) else {
+            return Ok(None);
+        };
+        rest = next;
+        held += 1;
+    }
+}
+
+/// The name of the key at the front, and the bytes after it.
+fn name_front<'a>(
+    bytes: &'a [u8],
+    level: u8,
+    search: Search,
+) -> Result<Option<(String, &'a [u8])>, AllocError>
+    requires from { 1 ≤ level }
+    requires to { level ≤ deepest + 1 }
+    ensures { IfOk result (λ o. IfSome o (λ named. (key : Item)
+        × (read_at level bytes.now ≡ Ok (key, named.1.now))
+        × IsName search.style (levels_left level) key (string_bytes named.0))) }
+{
+    let mut name = String::new(search.alloc);
+    let place = JsonPlace::key(search.alloc, search.style, level);
+    match push_front::<Json>(&mut name, bytes, &place) {
+        Ok(rest) => Ok(Some((name, rest))),
+        Err(error) => match error {
+            Error::Memory => Err(AllocError),
+            _ => Ok(None),
+        },
+    }
 }

@@ -23,6 +23,7 @@ use crate::style::JsonStyle;
 use cbor_grammar::Error;
 use cbor_notation::outermost::push_outermost;
 use json::{Scratch, Tape, Value};
+use memchr::memchr;
 use std::alloc::{AllocError, Global};
 
 /// What became of an item.
@@ -36,11 +37,14 @@ pub(crate) enum Judged {
     SameKeys,
 }
 
-/// Whether no object of the text has a key twice.
+/// Whether no object of the text has a key twice. A text without a brace has none, and is not read.
 fn has_unique_keys(text: &str, alloc: Global) -> Result<bool, AllocError>
     ensures { IfOk result (λ unique. (j : Json) → document text.now ≡ Some j
         → (IsTrue unique ↔ HasUniqueKeys j)) }
 {
+    if memchr(b'{', text.as_bytes()).is_none() {
+        return Ok(true);
+    }
     let mut scratch = Scratch::new(alloc);
     match Tape::parse_strict(text, &mut scratch, Vec::new(alloc)) {
         Ok(_) => Ok(true),

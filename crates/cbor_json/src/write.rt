@@ -21,7 +21,7 @@ use std::alloc::Global;
 ///
 /// Returns the errors of `extent`, and `Remaining` if bytes follow the item; in a strict style
 /// `NotKept` with the first thing from the left that JSON does not keep; and `SameKeys` if two keys
-/// of a map become the same.
+/// of a map become the same, with the places of two such keys.
 ///
 /// ```rust
 /// use cbor_json::{JsonStyle, bytes_to_json};
@@ -95,7 +95,7 @@ pub fn push_bytes_to_json_partial(
     ensures exact { (o : Outcome) → BeginsSo bytes.now o
         → GaveJson style result (string_bytes out.old) (string_bytes out.new) o }
     ensures one_of_three { BeginsInOneWay bytes.now }
-    ensures loss { IfErr result (IsPlaced bytes.now) }
+    ensures places { IfErr result (IsPlaced style bytes.now) }
 
     // Nothing is appended without an item.
     ensures cut_unchanged { result ≡ Ok None → string_bytes out.new ≡ string_bytes out.old }

@@ -1,7 +1,7 @@
 // Keys: a text as it is, an integer by its digits, anything else by its EDN.
 
 use cbor_json::{Clash, JsonError, JsonStyle, bytes_to_json};
-use std::alloc::Global;
+use std::alloc::{AllocError, Global};
 use std::process::Abort;
 
 /// Maps of one pair in hex, whose value is 0, and their text.
@@ -114,6 +114,41 @@ fn keys_in_byte_strings(rt: HostRuntime) {
     assert_eq!(rt; shown.err(), Some(JsonError::SameKeys(clash)));
     let plain = bytes_to_json(alloc, bytes, JsonStyle::PLAIN);
     assert!(rt; plain.is_ok());
+}
+
+/// No map is in a byte string that is written as digits, as the tag above it wants.
+#[test]
+fn keys_in_digits(rt: HostRuntime) {
+    let alloc = rt.alloc();
+    let bytes = b"\x82\xd7\x46\xa2\x01\x00\x61\x31\x00\xa2\x01\x00\x61\x31\x00";
+    let clash = Clash {
+        first: 10,
+        second: 12,
+    };
+    let shown = bytes_to_json(alloc, bytes, JsonStyle::EMBEDDED);
+    assert_eq!(rt; shown.err(), Some(JsonError::SameKeys(clash)));
+}
+
+/// Nor in one whose bytes are no item that deep: 120 arrays are round two more items here.
+#[test]
+fn keys_too_deep(rt: HostRuntime) -> Result<(), AllocError> {
+    let alloc = rt.alloc();
+    let mut bytes = Vec::new(alloc);
+    for _ in 0..120 {
+        bytes.push(0x81)?;
+    }
+    bytes.extend_from_slice(b"\x82\x51\xa3\x01\x00\x61\x31\x00\x02")?;
+    for _ in 0..9 {
+        bytes.push(0x81)?;
+    }
+    bytes.extend_from_slice(b"\x00\xa2\x01\x00\x61\x31\x00")?;
+    let clash = Clash {
+        first: 140,
+        second: 142,
+    };
+    let shown = bytes_to_json(alloc, &bytes, JsonStyle::EMBEDDED);
+    assert_eq!(rt; shown.err(), Some(JsonError::SameKeys(clash)));
+    Ok(())
 }
 
 /// A map in a key is EDN, in which a key may stand twice.

@@ -66,6 +66,16 @@ const WRITTEN: &[(&str, &str)] = &[
     ("5fff", "\"\""),
     // big numbers by their digits
     ("c249010000000000000000", "18446744073709551616"),
+    // zeros within the digits
+    ("c2480de0b6b3a7640000", "1000000000000000000"),
+    (
+        "c24c033b2e3c9fd0803ce8000000",
+        "1000000000000000000000000000",
+    ),
+    (
+        "c2532cd76fe086b93ce2f768a00b22a0003b9aca00",
+        "1000000000000000000000000000000000001000000000",
+    ),
     ("c349010000000000000000", "-18446744073709551617"),
     (
         "c24cffffffffffffffffffffffff",
@@ -129,7 +139,7 @@ fn compare(rt: &impl Abort, alloc: Global, rows: &[(&str, &str)], style: JsonSty
     }
 }
 
-/// The text of a big number of so many bytes, all ff.
+/// The text of a big number of `len` bytes, all ff.
 fn big(rt: &impl Abort, alloc: Global, len: u16) -> String {
     let mut bytes = bytes_of(rt, alloc, "c259");
     if bytes.extend_from_slice(&len.to_be_bytes()).is_err() {

@@ -2,6 +2,7 @@
 ghost use Rattle.std.specs.Prelude.{◌≡◌, ◌+◌, ◌≤◌};
 ghost use Rattle.cbor_grammar.specs.NotationText.{indent_of, encoding_below as encoding_under};
 ghost use Rattle.cbor_grammar.specs.WellFormed.{deepest};
+ghost use Rattle.cbor_json.specs.Clashes.{IsKeyPlace};
 ghost use Rattle.cbor_json.specs.JsonLeaves.{json_leaves};
 ghost use Rattle.cbor_json.specs.Spots.{inside_spot, next_spot, value_spot, below_spot};
 ghost use Rattle.cbor_json.specs.Written.{IsOutermost};
@@ -124,11 +125,13 @@ impl JsonPlace {
     }
 
     /// The place of a key by itself.
-    pub(crate) fn key(alloc: Global, style: JsonStyle) -> JsonPlace
-        ensures level { result.level ≡ 1 }
+    pub(crate) fn key(alloc: Global, style: JsonStyle, level: u8) -> JsonPlace
+        ensures at_key { IsKeyPlace style result }
+        ensures level { result.level ≡ level }
         ensures indent { indent_of result.layout ≡ 0 }
     {
         JsonPlace {
+            level,
             spot: Spot::Key,
             ..JsonPlace::new(alloc, style)
         }

@@ -98,13 +98,13 @@ returns-in_default c =
           (string_bytes c.args.out.now) o (λ i. omega (arith, c.type_inv.bytes i)) one
           c.in_default.not-CutShort c.in-Err.ensures.refused h;
       one_of_three = one;
-      loss = tt;
+      places = tt;
       cut_unchanged = λ e. refl;
       unchanged = refl;
     }
 
-pub returns-in-NotKept-clause-loss : goal.returns-in-NotKept-clause-loss
-returns-in-NotKept-clause-loss c = subst (Tells c.args.bytes.now) c.in-NotKept.is c.in-Ok.ensures.tells
+pub returns-in-NotKept-clause-places : goal.returns-in-NotKept-clause-places
+returns-in-NotKept-clause-places c = subst (Tells c.args.bytes.now) c.in-NotKept.is c.in-Ok.ensures.tells
 
 pub returns-in-NotKept-clause-one_of_three : goal.returns-in-NotKept-clause-one_of_three
 returns-in-NotKept-clause-one_of_three c =

@@ -1,0 +1,2 @@
+-- That the keys that are found become the same.
+pub mod Clashes
