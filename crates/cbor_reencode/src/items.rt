@@ -288,16 +288,14 @@ pub fn reencoded(alloc: Global, bytes: &[u8], rules: Rules) -> Result<Vec<u8>, R
     ensures found { first_breach (lasting rules) bytes.now ≡ None
         → IfErr result (IsFound rules bytes.now) }
 {
+    let Some(_) = breach_in(alloc, bytes, rules)? else {
+        return Ok(Vec::from_slice(alloc, bytes)?);
+    };
     if let Some(found) = breach_in(alloc, bytes, lasting(rules))? {
         return Err(ReencodeError::Breach(found));
     }
-    match breach_in(alloc, bytes, rules)? {
-        None => Ok(Vec::from_slice(alloc, bytes)?),
-        Some(_) => {
-            let mut out = Vec::new(alloc);
-            push_items(alloc, bytes, rules, &mut out)?;
-            check_written(alloc, &out, rules)?;
-            Ok(out)
-        }
-    }
+    let mut out = Vec::new(alloc);
+    push_items(alloc, bytes, rules, &mut out)?;
+    check_written(alloc, &out, rules)?;
+    Ok(out)
 }
