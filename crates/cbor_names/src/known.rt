@@ -7,38 +7,21 @@ mod ctap2;
 mod cwt;
 mod senml;
 
-use crate::table::{Names, Type};
-
-/// A type.
-macro_rules! named {
-    ($name:literal, $shape:expr) => {
-        Type {
-            name: $name,
-            tag: None,
-            shape: $shape,
-        }
-    };
-    ($name:literal, tag $tag:literal, $shape:expr) => {
-        Type {
-            name: $name,
-            tag: Some($tag),
-            shape: $shape,
-        }
-    };
-}
+use crate::table::Names;
+use std::alloc::{AllocError, Global};
 
 /// A member of an array.
 macro_rules! member {
     ($name:literal) => {
-        Member {
-            name: $name,
-            what: What::Any,
-        }
+        member!($name, What::Any)
     };
     ($name:literal, $what:expr) => {
-        Member {
+        Part {
+            key: Key::Integer(0),
             name: $name,
             what: $what,
+            when: None,
+            sign: None,
         }
     };
 }
@@ -59,7 +42,7 @@ macro_rules! entry {
         entry!($key, $name, $what, Some(Key::Integer($value)), None)
     };
     ($key:literal, $name:literal, $what:expr, $when:expr, $sign:expr) => {
-        Entry {
+        Part {
             key: Key::Integer($key),
             name: $name,
             what: $what,
@@ -72,42 +55,30 @@ macro_rules! entry {
 /// An integer that means something.
 macro_rules! value {
     ($value:literal, $meaning:literal) => {
-        Value {
-            value: Key::Integer($value),
-            meaning: $meaning,
+        Part {
+            key: Key::Integer($value),
+            name: $meaning,
+            what: What::Any,
+            when: None,
+            sign: None,
         }
     };
 }
 
 pub(crate) use entry;
 pub(crate) use member;
-pub(crate) use named;
 pub(crate) use value;
 
-/// The names of COSE (RFC 9052 to 9054, 9360, 9597), CWT and EAT (RFC 8392, 8747, 9711), SenML
-/// (RFC 8428) and CTAP 2.1.
-pub const NAMES: Names<'static> = Names {
-    types: &[
-        cose::SIGN1,
-        cose::SIGN,
-        cose::SIGNATURE,
-        cose::MAC0,
-        cose::MAC,
-        cose::ENCRYPT0,
-        cose::ENCRYPT,
-        cose::RECIPIENT,
-        cose::HEADER,
-        cose::KEY,
-        cose::KEY_TYPE,
-        cose::KEY_OPERATION,
-        cose::CURVE,
-        algorithms::ALGORITHM,
-        cwt::CWT,
-        cwt::CONFIRMATION,
-        senml::SENML,
-        senml::RECORD,
-        ctap2::MAKE_CREDENTIAL,
-        ctap2::GET_ASSERTION,
-        ctap2::GET_INFO,
-    ],
-};
+impl Names {
+    /// The names of COSE (RFC 9052 to 9054, 9360, 9597), CWT and EAT (RFC 8392, 8747, 9711), SenML
+    /// (RFC 8428) and CTAP 2.1.
+    pub fn known(alloc: Global) -> Result<Names, AllocError> {
+        let mut names = Names::new(alloc);
+        cose::add(&mut names)?;
+        algorithms::add(&mut names)?;
+        cwt::add(&mut names)?;
+        senml::add(&mut names)?;
+        ctap2::add(&mut names)?;
+        Ok(names)
+    }
+}

@@ -4,11 +4,12 @@
 //! [`notes`] gives the names and meanings of the items in an item, each with its place:
 //!
 //! ```rust
-//! use cbor_names::{NAMES, notes};
+//! use cbor_names::{Names, notes};
 //!
 //! // 18([<<{1: -7}>>, {}, h'', h''])
 //! let bytes = b"\xd2\x84\x43\xa1\x01\x26\xa0\x40\x40";
-//! let notes = notes(alloc, bytes, NAMES, None)?;
+//! let names = Names::known(alloc)?;
+//! let notes = notes(alloc, bytes, &names, None)?;
 //! let list = notes.list(alloc)?;
 //! assert_eq!(rt; list.len(), 7);
 //! assert_eq!(rt; list[0].before, "COSE_Sign1");
@@ -17,14 +18,16 @@
 //! ```
 #![tactic(auto)]
 
+mod define;
 mod known;
 mod note;
 mod pairs;
+mod part;
 mod scalar;
 mod table;
 mod walk;
 
-pub use known::NAMES;
 pub use note::{Note, Notes};
-pub use table::{Entry, Key, Kind, Member, Names, Shape, Type, Value, What};
+pub use part::{Definition, Key, Kind, Part, Shape, What};
+pub use table::{Names, Type};
 pub use walk::notes;

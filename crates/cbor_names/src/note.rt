@@ -25,7 +25,8 @@ pub struct Note<'a> {
 pub struct Notes<'a> {
     len: usize,
     found: Vec<Found<'a>>,
-    dates: String,
+    /// The meanings that no table has, one after the other.
+    made: String,
 }
 
 /// A note that was found.
@@ -45,8 +46,8 @@ pub(crate) struct Found<'a> {
 enum After<'a> {
     /// That of a table; empty for none.
     Text(&'a str),
-    /// The part of `dates` between these places.
-    Date(usize, usize),
+    /// The part of `made` between these places.
+    Made(usize, usize),
 }
 
 impl<'a> Found<'a> {
@@ -113,7 +114,7 @@ impl<'a> Notes<'a> {
         Notes {
             len: 0,
             found: Vec::new(alloc),
-            dates: String::new(alloc),
+            made: String::new(alloc),
         }
     }
 
@@ -153,9 +154,19 @@ impl<'a> Notes<'a> {
 
     /// The note with a date as its meaning.
     pub(crate) fn dated(&mut self, found: Found<'a>, date: &str) -> Result<Found<'a>, AllocError> {
-        let start = self.dates.len();
-        self.dates.push_str(date)?;
-        let after = After::Date(start, self.dates.len());
+        let start = self.made.len();
+        self.made.push_str(date)?;
+        let after = After::Made(start, self.made.len());
+        Ok(Found { after, ..found })
+    }
+
+    /// The note with a text in single quotes as its meaning.
+    pub(crate) fn quoted(&mut self, found: Found<'a>, text: &str) -> Result<Found<'a>, AllocError> {
+        let start = self.made.len();
+        self.made.push('\'')?;
+        self.made.push_str(text)?;
+        self.made.push('\'')?;
+        let after = After::Made(start, self.made.len());
         Ok(Found { after, ..found })
     }
 
@@ -163,7 +174,7 @@ impl<'a> Notes<'a> {
     fn text(&self, after: After<'a>) -> &str {
         match after {
             After::Text(text) => text,
-            After::Date(start, end) => self.dates.as_str().get(start..end).unwrap_or(""),
+            After::Made(start, end) => self.made.as_str().get(start..end).unwrap_or(""),
         }
     }
 
@@ -190,6 +201,17 @@ impl<'a> Notes<'a> {
             after: self.text(found.after),
             encoded: found.encoded,
         }
+    }
+
+    /// The name before the item that begins with the byte at `place`, if it has one.
+    pub fn name_before(&self, place: usize) -> Option<&'a str> {
+        let at = self.len.saturating_sub(place);
+        for found in &self.found {
+            if found.at == at && !found.before.is_empty() {
+                return Some(found.before);
+            }
+        }
+        None
     }
 
     /// The names of all that the byte at `place` belongs to, the outermost first: the tags, members

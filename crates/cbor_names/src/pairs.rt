@@ -3,8 +3,8 @@
 
 ghost use Rattle.std.specs.Prelude.{◌<◌, length, IfSome};
 
-use crate::scalar::{Scalar, entry_at, kind_at, scalar_at};
-use crate::table::{Key, Shape};
+use crate::scalar::{Scalar, kind_at, scalar_at};
+use crate::table::{Inside, KeyRow, Names, Type};
 use cbor_bytes::head::read_head;
 use cbor_bytes::skip::after_front;
 use cbor_grammar::argument::Argument;
@@ -71,10 +71,10 @@ impl<'b> Pairs<'b> {
     }
 
     /// The value of this key.
-    pub(crate) fn value_of(self, key: Key<'_>) -> Option<Scalar<'b>> {
+    pub(crate) fn value_of(self, names: &Names, key: KeyRow) -> Option<Scalar<'b>> {
         let mut pairs = self;
         'pairs: while let Some(pair) = pairs.next() {
-            if key.is_at(pair.key) {
+            if names.is_at(key, pair.key) {
                 return scalar_at(pair.value);
             }
         }
@@ -82,28 +82,30 @@ impl<'b> Pairs<'b> {
     }
 }
 
-/// Whether the bytes are a map with the signs of maps of this shape: each value of a key that has a
-/// sign is of its kind, and there are at least two.
-pub(crate) fn has_signs(shape: Shape<'_>, bytes: &[u8]) -> bool {
-    let Shape::Map(entries) = shape else {
-        return false;
-    };
-    let Ok((ItemHead::Map(count), rest)) = read_head(bytes) else {
-        return false;
-    };
-    let mut pairs = Pairs::new(count, rest);
-    let mut signs = 0usize;
-    'pairs: while let Some(pair) = pairs.next() {
-        let Some(entry) = entry_at(entries, None, pair.key) else {
-            continue;
-        };
-        if entry.sign.is_none() {
-            continue;
-        }
-        if entry.sign != kind_at(pair.value) {
+impl Names {
+    /// Whether the bytes are a map with the signs of maps of this type: each value of a key that
+    /// has a sign is of its kind, and there are at least two.
+    pub(crate) fn has_signs(&self, found: Type, bytes: &[u8]) -> bool {
+        let Inside::Keys(parts, _) = self.inside_of(found) else {
             return false;
+        };
+        let Ok((ItemHead::Map(count), rest)) = read_head(bytes) else {
+            return false;
+        };
+        let mut pairs = Pairs::new(count, rest);
+        let mut signs = 0usize;
+        'pairs: while let Some(pair) = pairs.next() {
+            let Some(part) = self.part_at(parts, None, pair.key) else {
+                continue;
+            };
+            if part.sign.is_none() {
+                continue;
+            }
+            if part.sign != kind_at(pair.value) {
+                return false;
+            }
+            signs = signs.saturating_add(1);
         }
-        signs = signs.saturating_add(1);
+        pairs.is_end() && signs >= ENOUGH
     }
-    pairs.is_end() && signs >= ENOUGH
 }

@@ -1,6 +1,7 @@
 //! Integers and texts at the front of bytes, and the keys and values of tables that they are.
 
-use crate::table::{Entry, Key, Kind, Value};
+use crate::part::Kind;
+use crate::table::{KeyRow, Names, PartRow};
 use cbor_bytes::head::read_head;
 use cbor_grammar::argument::Argument;
 use cbor_grammar::head::ItemHead;
@@ -13,22 +14,54 @@ pub(crate) enum Scalar<'b> {
     Text(&'b [u8]),
 }
 
-impl Key<'_> {
+impl Names {
     /// Whether the integer or text is this one.
-    fn is(self, scalar: Scalar<'_>) -> bool {
-        match (self, scalar) {
-            (Key::Integer(key), Scalar::Integer(value)) => key == value,
-            (Key::Text(key), Scalar::Text(text)) => key.as_bytes() == text,
+    fn is(&self, key: KeyRow, scalar: Scalar<'_>) -> bool {
+        match (key, scalar) {
+            (KeyRow::Integer(key), Scalar::Integer(value)) => key == value,
+            (KeyRow::Text(key), Scalar::Text(text)) => self.text(key).as_bytes() == text,
             _ => false,
         }
     }
 
     /// Whether it is at the front.
-    pub(crate) fn is_at(self, bytes: &[u8]) -> bool {
+    pub(crate) fn is_at(&self, key: KeyRow, bytes: &[u8]) -> bool {
         match scalar_at(bytes) {
-            Some(scalar) => self.is(scalar),
+            Some(scalar) => self.is(key, scalar),
             None => false,
         }
+    }
+
+    /// Whether a part is of this key, in a map in which the key that it may depend on has this
+    /// value.
+    fn fits(&self, part: &PartRow, key: Scalar<'_>, chosen: Option<Scalar<'_>>) -> bool {
+        if !self.is(part.key, key) {
+            return false;
+        }
+        match (part.when, chosen) {
+            (None, _) => true,
+            (Some(when), Some(value)) => self.is(when, value),
+            (Some(_), None) => false,
+        }
+    }
+
+    /// What is said of the key at the front, or of the value there.
+    pub(crate) fn part_at(
+        &self,
+        parts: &[PartRow],
+        chosen: Option<Scalar<'_>>,
+        bytes: &[u8],
+    ) -> Option<PartRow> {
+        if parts.is_empty() {
+            return None;
+        }
+        let key = scalar_at(bytes)?;
+        for part in parts {
+            if self.fits(part, key, chosen) {
+                return Some(*part);
+            }
+        }
+        None
     }
 }
 
@@ -62,47 +95,4 @@ pub(crate) fn kind_at(bytes: &[u8]) -> Option<Kind> {
         ItemHead::String(StringKind::Bytes, _) => Some(Kind::Bytes),
         _ => None,
     }
-}
-
-impl<'a> Entry<'a> {
-    /// Whether it is of this key, in a map in which the key that it may depend on has this value.
-    fn fits(self, key: Scalar<'_>, chosen: Option<Scalar<'_>>) -> bool {
-        if !self.key.is(key) {
-            return false;
-        }
-        match (self.when, chosen) {
-            (None, _) => true,
-            (Some(when), Some(value)) => when.is(value),
-            (Some(_), None) => false,
-        }
-    }
-}
-
-/// What is said of the key at the front.
-pub(crate) fn entry_at<'a>(
-    entries: &'a [Entry<'a>],
-    chosen: Option<Scalar<'_>>,
-    bytes: &[u8],
-) -> Option<Entry<'a>> {
-    if entries.is_empty() {
-        return None;
-    }
-    let key = scalar_at(bytes)?;
-    for entry in entries {
-        if entry.fits(key, chosen) {
-            return Some(*entry);
-        }
-    }
-    None
-}
-
-/// The meaning of the integer or text at the front.
-pub(crate) fn meaning_at<'a>(values: &'a [Value<'a>], bytes: &[u8]) -> Option<&'a str> {
-    let found = scalar_at(bytes)?;
-    for value in values {
-        if value.value.is(found) {
-            return Some(value.meaning);
-        }
-    }
-    None
 }

@@ -1,132 +1,147 @@
-//! Tables: what types of items there are, and how their parts and values are called.
+//! Tables of names, which are rows of numbers beside one text, and what is found in them.
 
 ghost use Rattle.std.specs.Prelude.{◌≡◌, IfSome, Some};
+ghost use Rattle.cbor_names.specs.Texts.{text_of};
 
+use crate::part::Kind;
 use std::alloc::{AllocError, Global};
 
-/// Tables of names, where the first of two types of the same name or tag counts.
+/// Tables of names: types, and how their parts and values are called.
 ///
-/// A type refers to others by their names. One that no type has says nothing of an item.
-#[derive(Clone, Copy)]
-pub struct Names<'a> {
-    pub types: &'a [Type<'a>],
+/// [`Names::known`] has those that come with this crate, and [`Names::define`] adds further ones.
+#[derive(Drop)]
+pub struct Names {
+    /// All texts, one after the other.
+    pub(crate) texts: String,
+    pub(crate) types: Vec<Type>,
+    /// The parts of all types; those of a type stand together.
+    pub(crate) parts: Vec<PartRow>,
+    /// The type that was defined last.
+    pub(crate) last: usize,
 }
 
-/// A type of items.
+/// The text between two places.
 #[derive(Clone, Copy)]
-pub struct Type<'a> {
-    /// What it is called; a note of it stands before its tag.
-    pub name: &'a str,
-    /// The tag before its items, if there is one.
-    pub tag: Option<u64>,
-    /// What its items are.
-    pub shape: Shape<'a>,
+pub(crate) struct TextRange {
+    pub start: usize,
+    pub end: usize,
 }
 
-/// What the items of a type are. Items that are something else have no names.
+/// A type of items, in the tables that it was found in.
 #[derive(Clone, Copy)]
-pub enum Shape<'a> {
-    /// Arrays of these members, in this order. Further ones have no names.
-    Array(&'a [Member<'a>]),
-    /// Maps with these keys.
-    Map(&'a [Entry<'a>]),
-    /// Maps with these keys, of which some depend on the value of this one.
-    MapBy(Key<'a>, &'a [Entry<'a>]),
-    /// Arrays of items that are all of the type of this name.
-    Each(&'a str),
-    /// Integers and texts with these meanings.
-    Values(&'a [Value<'a>]),
+pub struct Type {
+    /// Its place among the types.
+    pub(crate) index: usize,
+    pub(crate) name: TextRange,
+    pub(crate) tag: Option<u64>,
+    pub(crate) shape: ShapeRow,
+    /// Where its parts begin.
+    pub(crate) start: usize,
+    /// Where its parts end.
+    pub(crate) end: usize,
 }
 
-/// A member of an array.
+/// What the items of a type are. Another type is its place among the types.
 #[derive(Clone, Copy)]
-pub struct Member<'a> {
-    /// What it is called; empty if it has no name.
-    pub name: &'a str,
-    pub what: What<'a>,
+pub(crate) enum ShapeRow {
+    /// Not known: the type was named and is not defined.
+    Undefined,
+    Array,
+    Map,
+    MapBy(KeyRow),
+    Each(usize),
+    Values,
 }
 
-/// A key of a map.
+/// A part of a type.
 #[derive(Clone, Copy)]
-pub struct Entry<'a> {
-    pub key: Key<'a>,
-    /// What the key is called; empty if it has no name.
-    pub name: &'a str,
-    /// What its value is.
-    pub what: What<'a>,
-    /// The value that the key has which it depends on, in maps with [`Shape::MapBy`].
-    pub when: Option<Key<'a>>,
-    /// The kind of its value, if the key shows that a payload is of this type.
+pub(crate) struct PartRow {
+    pub key: KeyRow,
+    pub name: TextRange,
+    pub what: WhatRow,
+    pub when: Option<KeyRow>,
     pub sign: Option<Kind>,
 }
 
-/// A value that means something.
+/// An integer or a text.
 #[derive(Clone, Copy)]
-pub struct Value<'a> {
-    pub value: Key<'a>,
-    pub meaning: &'a str,
-}
-
-/// An integer or a text, as a key or a value.
-#[derive(Clone, Copy)]
-pub enum Key<'a> {
+pub(crate) enum KeyRow {
     Integer(i64),
-    Text(&'a str),
+    Text(TextRange),
 }
 
-/// What is known of a member, or of the value of a key.
+/// What is known of an item. A type is its place among the types.
 #[derive(Clone, Copy)]
-pub enum What<'a> {
-    /// Nothing.
+pub(crate) enum WhatRow {
     Any,
-    /// An item of the type of this name.
-    Of(&'a str),
-    /// An array of items of this type.
-    Each(&'a str),
-    /// A byte string that holds an encoded item of this type.
-    Encoded(&'a str),
-    /// A byte string that holds an encoded item of this type if the tag of the type stands around
-    /// the tag of what the string is in, or else if the item has signs of the type: it is a map,
-    /// the values of all keys with a sign are of that kind, and there are at least two of them.
-    Payload(&'a str),
-    /// Seconds from 1970-01-01T00:00:00Z.
+    Of(usize),
+    Each(usize),
+    Encoded(usize),
+    Payload(usize),
     Date,
 }
 
-/// The kind of a value.
-#[derive(Clone, Copy, PartialEq, Eq, Debug)]
-pub enum Kind {
-    /// An integer or a float.
-    Number,
-    Text,
-    Bytes,
+/// What is known of the items in an item, or of its value.
+#[derive(Clone, Copy)]
+pub(crate) enum Inside<'a> {
+    Nothing,
+    /// The members of an array.
+    Members(&'a [PartRow]),
+    /// The keys of a map, and the one that some depend on.
+    Keys(&'a [PartRow], Option<KeyRow>),
+    /// The type of all members of an array.
+    Each(usize),
+    /// Values that mean something.
+    Values(&'a [PartRow]),
 }
 
-impl<'a> Names<'a> {
-    /// The type of this name.
-    ///
-    /// ```rust
-    /// use cbor_names::NAMES;
-    ///
-    /// assert!(rt; NAMES.of("COSE_Key").is_some());
-    /// assert!(rt; NAMES.of("COSE").is_none());
-    /// ```
-    pub fn of(self, name: &str) -> Option<Type<'a>>
-        ensures { IfSome result (λ found. found.name.now ≡ name.now) }
+impl Names {
+    /// The text between two places.
+    pub(crate) fn text(&self, range: TextRange) -> &str {
+        self.texts
+            .as_str()
+            .get(range.start..range.end)
+            .unwrap_or("")
+    }
+
+    /// The type of this name, which may be named alone.
+    pub(crate) fn named(&self, name: &str) -> Option<Type>
+        ensures { IfSome result (λ found. text_of self.now found.name ≡ name.now) }
     {
-        for found in self.types {
-            if found.name == name {
+        for found in &self.types {
+            let range = found.name.start..found.name.end;
+            if let Some(text) = self.texts.as_str().get(range)
+                && text == name
+            {
                 return Some(*found);
             }
         }
         None
     }
 
+    /// The type of this name.
+    ///
+    /// ```rust
+    /// use cbor_names::Names;
+    ///
+    /// let names = Names::known(alloc)?;
+    /// assert!(rt; names.of("COSE_Key").is_some());
+    /// assert!(rt; names.of("COSE").is_none());
+    /// ```
+    pub fn of(&self, name: &str) -> Option<Type>
+        ensures { IfSome result (λ found. text_of self.now found.name ≡ name.now) }
+    {
+        match self.named(name) {
+            Some(found) if found.is_defined() => Some(found),
+            _ => None,
+        }
+    }
+
     /// The type whose items have this tag.
-    pub fn tagged(self, tag: u64) -> Option<Type<'a>>
+    pub fn tagged(&self, tag: u64) -> Option<Type>
         ensures { IfSome result (λ found. found.tag ≡ Some tag) }
     {
-        for found in self.types {
+        for found in &self.types {
             if found.tag == Some(tag) {
                 return Some(*found);
             }
@@ -135,14 +150,59 @@ impl<'a> Names<'a> {
     }
 
     /// The names of all types, with `, ` between them, for messages.
-    pub fn list(self, alloc: Global) -> Result<String, AllocError> {
+    pub fn list(&self, alloc: Global) -> Result<String, AllocError> {
         let mut list = String::new(alloc);
-        for found in self.types {
+        for found in &self.types {
+            if !found.is_defined() {
+                continue;
+            }
             if !list.is_empty() {
                 list.push_str(", ")?;
             }
-            list.push_str(found.name)?;
+            list.push_str(self.text(found.name))?;
         }
         Ok(list)
+    }
+
+    /// Whether a type is named here that is defined neither here nor in these tables.
+    pub fn lacks(&self, others: &Names) -> bool {
+        for found in &self.types {
+            if !found.is_defined() && others.of(self.text(found.name)).is_none() {
+                return true;
+            }
+        }
+        false
+    }
+
+    /// What is known of the items in an item of which this is known.
+    pub(crate) fn inside(&self, what: WhatRow) -> Inside<'_> {
+        match what {
+            WhatRow::Of(index) => match self.types.get(index) {
+                Some(found) => self.inside_of(*found),
+                None => Inside::Nothing,
+            },
+            WhatRow::Each(index) => Inside::Each(index),
+            _ => Inside::Nothing,
+        }
+    }
+
+    /// What is known of the items in an item of this type.
+    pub(crate) fn inside_of(&self, found: Type) -> Inside<'_> {
+        let parts = self.parts.get(found.start..found.end).unwrap_or(&[]);
+        match found.shape {
+            ShapeRow::Undefined => Inside::Nothing,
+            ShapeRow::Array => Inside::Members(parts),
+            ShapeRow::Map => Inside::Keys(parts, None),
+            ShapeRow::MapBy(key) => Inside::Keys(parts, Some(key)),
+            ShapeRow::Each(index) => Inside::Each(index),
+            ShapeRow::Values => Inside::Values(parts),
+        }
+    }
+}
+
+impl Type {
+    /// Whether it is defined, not named alone.
+    pub(crate) fn is_defined(self) -> bool {
+        !matches!(self.shape, ShapeRow::Undefined)
     }
 }

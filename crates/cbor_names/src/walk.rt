@@ -5,9 +5,9 @@ ghost use Rattle.std.specs.Prelude.{◌≡◌, ◌+◌, ◌^◌, ◌<◌, ◌≤
 ghost use Rattle.cbor_names.specs.Falling.{len_of};
 
 use crate::note::{Found, Notes};
-use crate::pairs::{Pairs, has_signs};
-use crate::scalar::{Scalar, entry_at, meaning_at, scalar_at};
-use crate::table::{Entry, Names, Shape, Type, What};
+use crate::pairs::Pairs;
+use crate::scalar::{Scalar, scalar_at};
+use crate::table::{Inside, Names, PartRow, Type, WhatRow};
 use cbor_bytes::head::read_head;
 use cbor_bytes::strings::{read_chunk_length, split_at};
 use cbor_grammar::argument::Argument;
@@ -34,6 +34,15 @@ impl From<AllocError> for Stop {
 /// The tag whose item may be one of any type.
 const SELF_DESCRIBED: u64 = 55_799;
 
+/// How many bytes a byte string has at most that is noted as a text.
+const LONGEST: usize = 64;
+
+/// Whether a byte is a character of ASCII that prints, and that a quoted text in a comment can
+/// have.
+fn is_plain(byte: &u8) -> bool {
+    (b' '..=b'~').contains(byte) && !matches!(*byte, b'/' | b'\'' | b'\\')
+}
+
 /// What is known of an item before it is read.
 #[derive(Clone, Copy)]
 struct Place<'a> {
@@ -43,7 +52,9 @@ struct Place<'a> {
     behind: usize,
     /// Its name; empty for none.
     name: &'a str,
-    what: What<'a>,
+    /// Whether it or its key has a name.
+    named: bool,
+    what: WhatRow,
     /// The tag before it.
     tag: Option<u64>,
     /// The tag around that of the item, or of the array that it is a member of.
@@ -53,47 +64,37 @@ struct Place<'a> {
 /// The keys of a map, and the value of the one that some depend on.
 #[derive(Clone, Copy)]
 struct Keys<'a, 'b> {
-    entries: &'a [Entry<'a>],
+    parts: &'a [PartRow],
     chosen: Option<Scalar<'b>>,
 }
 
-impl<'a> Names<'a> {
-    /// The shape of an item of which this is known.
-    fn shape(self, what: What<'a>) -> Option<Shape<'a>> {
-        match what {
-            What::Of(name) => Some(self.of(name)?.shape),
-            What::Each(name) => Some(Shape::Each(name)),
-            _ => None,
-        }
-    }
-
+impl Names {
     /// The keys of a map of which this is known, and whose head is read already.
-    fn keys<'b>(self, what: What<'a>, count: Argument, bytes: &'b [u8]) -> Keys<'a, 'b> {
-        match self.shape(what) {
-            Some(Shape::Map(entries)) => Keys {
-                entries,
-                chosen: None,
-            },
-            Some(Shape::MapBy(key, entries)) => Keys {
-                entries,
-                chosen: Pairs::new(count, bytes).value_of(key),
+    fn keys<'a, 'b>(&'a self, what: WhatRow, count: Argument, bytes: &'b [u8]) -> Keys<'a, 'b> {
+        match self.inside(what) {
+            Inside::Keys(parts, by) => Keys {
+                parts,
+                chosen: match by {
+                    Some(key) => Pairs::new(count, bytes).value_of(self, key),
+                    None => None,
+                },
             },
             _ => Keys {
-                entries: &[],
+                parts: &[],
                 chosen: None,
             },
         }
     }
 
-    /// The type of the item that a byte string of this content holds.
-    fn held(self, place: Place<'a>, content: &[u8]) -> Option<&'a str> {
-        match place.what {
-            What::Encoded(name) if !content.is_empty() => Some(name),
-            What::Payload(name) => {
-                let held = self.of(name)?;
-                let below = held.tag.is_some() && held.tag == place.around;
-                if below || has_signs(held.shape, content) {
-                    Some(name)
+    /// What is known of the item that a byte string of this content holds.
+    fn held(&self, what: WhatRow, around: Option<u64>, content: &[u8]) -> Option<WhatRow> {
+        match what {
+            WhatRow::Encoded(index) if !content.is_empty() => Some(WhatRow::Of(index)),
+            WhatRow::Payload(index) => {
+                let held = *self.types.get(index)?;
+                let below = held.tag.is_some() && held.tag == around;
+                if below || self.has_signs(held, content) {
+                    Some(WhatRow::Of(index))
                 } else {
                     None
                 }
@@ -111,7 +112,8 @@ impl<'a> Place<'a> {
     {
         Place {
             name: "",
-            what: What::Any,
+            named: false,
+            what: WhatRow::Any,
             tag: None,
             around: None,
             ..self
@@ -119,20 +121,21 @@ impl<'a> Place<'a> {
     }
 
     /// That of the member at this index.
-    fn member(self, shape: Option<Shape<'a>>, index: usize) -> Place<'a>
+    fn member(self, names: &'a Names, inside: Inside<'_>, index: usize) -> Place<'a>
         ensures left { result.left ≡ self.entry.left }
         ensures behind { result.behind ≡ self.entry.behind }
     {
-        let (name, what) = match shape {
-            Some(Shape::Array(members)) => match members.get(index) {
-                Some(member) => (member.name, member.what),
-                None => ("", What::Any),
+        let (name, what) = match inside {
+            Inside::Members(parts) => match parts.get(index) {
+                Some(part) => (names.text(part.name), part.what),
+                None => ("", WhatRow::Any),
             },
-            Some(Shape::Each(name)) => ("", What::Of(name)),
-            _ => ("", What::Any),
+            Inside::Each(index) => ("", WhatRow::Of(index)),
+            _ => ("", WhatRow::Any),
         };
         Place {
             name,
+            named: !name.is_empty(),
             what,
             tag: None,
             ..self
@@ -140,13 +143,13 @@ impl<'a> Place<'a> {
     }
 
     /// That of a key of a map.
-    fn key(self, entry: Option<Entry<'a>>) -> Place<'a>
+    fn key(self, names: &'a Names, part: Option<PartRow>) -> Place<'a>
         ensures left { result.left ≡ self.entry.left }
         ensures behind { result.behind ≡ self.entry.behind }
     {
-        match entry {
-            Some(entry) => Place {
-                name: entry.name,
+        match part {
+            Some(part) => Place {
+                name: names.text(part.name),
                 ..self.unknown()
             },
             None => self.unknown(),
@@ -154,13 +157,14 @@ impl<'a> Place<'a> {
     }
 
     /// That of the value of a key.
-    fn value(self, entry: Option<Entry<'a>>) -> Place<'a>
+    fn value(self, part: Option<PartRow>) -> Place<'a>
         ensures left { result.left ≡ self.entry.left }
         ensures behind { result.behind ≡ self.entry.behind }
     {
-        match entry {
-            Some(entry) => Place {
-                what: entry.what,
+        match part {
+            Some(part) => Place {
+                named: part.name.start < part.name.end,
+                what: part.what,
                 ..self.unknown()
             },
             None => self.unknown(),
@@ -204,7 +208,7 @@ fn after_chunks(kind: StringKind, bytes: &[u8]) -> Result<&[u8], Stop>
 #[derive(Drop)]
 struct Pass<'a> {
     alloc: Global,
-    names: Names<'a>,
+    names: &'a Names,
     notes: Notes<'a>,
 }
 
@@ -213,20 +217,44 @@ impl<'a> Pass<'a> {
     fn explained(
         &mut self,
         note: Found<'a>,
-        what: What<'a>,
+        what: WhatRow,
         bytes: &[u8],
     ) -> Result<Found<'a>, AllocError> {
         match what {
-            What::Of(_) => match self.names.shape(what) {
-                Some(Shape::Values(values)) => {
-                    Ok(note.meaning(meaning_at(values, bytes).unwrap_or("")))
-                }
-                _ => Ok(note),
-            },
-            What::Date => match scalar_at(bytes) {
+            WhatRow::Of(_) => Ok(self.meant(note, what, bytes)),
+            WhatRow::Date => match scalar_at(bytes) {
                 Some(Scalar::Integer(seconds)) => self.dated(note, seconds),
                 _ => Ok(note),
             },
+            _ => Ok(note),
+        }
+    }
+
+    /// The note with what the value at the front means.
+    fn meant(&self, note: Found<'a>, what: WhatRow, bytes: &[u8]) -> Found<'a> {
+        let names = self.names;
+        match names.inside(what) {
+            Inside::Values(values) => match names.part_at(values, None, bytes) {
+                Some(value) => note.meaning(names.text(value.name)),
+                None => note,
+            },
+            _ => note,
+        }
+    }
+
+    /// The note of a byte string of this content. If the string or its key has a name and is a
+    /// short text, the text is its meaning.
+    fn quoted(
+        &mut self,
+        note: Found<'a>,
+        named: bool,
+        content: &[u8],
+    ) -> Result<Found<'a>, AllocError> {
+        if !named || content.is_empty() || content.len() > LONGEST {
+            return Ok(note);
+        }
+        match str::from_utf8(content) {
+            Ok(text) if content.iter().all(is_plain) => self.notes.quoted(note, text),
             _ => Ok(note),
         }
     }
@@ -299,13 +327,17 @@ impl<'a> Pass<'a> {
         ensures shorter { IfOk result (λ rest. length rest.now < length bytes.now) }
     {
         let (note, what) = match self.names.tagged(tag) {
-            Some(found) => (note.or_name(found.name), What::Of(found.name)),
+            Some(found) => {
+                let name = self.names.text(found.name);
+                (note.or_name(name), WhatRow::Of(found.index))
+            }
             None if tag == SELF_DESCRIBED => (note, place.what),
-            None => (note, What::Any),
+            None => (note, WhatRow::Any),
         };
         self.notes.push(note)?;
         let inside = Place {
             name: "",
+            named: false,
             what,
             tag: Some(tag),
             around: place.tag,
@@ -325,14 +357,15 @@ impl<'a> Pass<'a> {
         requires total { length bytes.now + place.behind < 2 ^ 64 }
         ensures shorter { IfOk result (λ rest. length rest.now ≤ length bytes.now) }
     {
-        let shape = self.names.shape(place.what);
+        let names = self.names;
+        let inside = names.inside(place.what);
         let mut index = 0;
         let mut rest = bytes;
         'members: loop {
             if let Some(after) = count.after_end(index, rest) {
                 return Ok(after);
             }
-            rest = self.item(place.member(shape, index), rest)?;
+            rest = self.item(place.member(names, inside, index), rest)?;
             index += 1;
         }
     }
@@ -348,18 +381,19 @@ impl<'a> Pass<'a> {
         requires total { length bytes.now + place.behind < 2 ^ 64 }
         ensures shorter { IfOk result (λ rest. length rest.now ≤ length bytes.now) }
     {
-        let keys = self.names.keys(place.what, count, bytes);
+        let names = self.names;
+        let keys = names.keys(place.what, count, bytes);
         let mut index = 0;
         let mut rest = bytes;
         'pairs: loop {
             if let Some(after) = count.after_end(index, rest) {
                 return Ok(after);
             }
-            let entry = entry_at(keys.entries, keys.chosen, rest);
+            let part = names.part_at(keys.parts, keys.chosen, rest);
             let at = rest.len() + place.behind;
             let noted = self.notes.len();
-            let value = self.item(place.key(entry), rest)?;
-            rest = self.item(place.value(entry), value)?;
+            let value = self.item(place.key(names, part), rest)?;
+            rest = self.item(place.value(part), value)?;
             self.notes.end(noted, at, rest.len() + place.behind);
             index += 1;
         }
@@ -381,13 +415,14 @@ impl<'a> Pass<'a> {
             self.notes.push(note)?;
             return Err(Stop::NoItem);
         };
-        let held = self.names.held(place, content);
-        self.notes.push(note.encoded(held.is_some()))?;
-        let Some(name) = held else {
+        let Some(what) = self.names.held(place.what, place.around, content) else {
+            let note = self.quoted(note, place.named, content)?;
+            self.notes.push(note)?;
             return Ok(rest);
         };
+        self.notes.push(note.encoded(true))?;
         let inside = Place {
-            what: What::Of(name),
+            what,
             behind: place.behind + rest.len(),
             ..place.unknown()
         };
@@ -403,17 +438,20 @@ impl<'a> Pass<'a> {
 ///
 /// An item has a name if it is a member of an array or a key of a map that the tables name, or if
 /// it has the tag of a type; and the outermost item has that of its type. A member or a value has a
-/// meaning if the tables have one of it, or if it is a date.
+/// meaning if the tables have one of it, or if it is a date; and a byte string that has a name, or
+/// whose key has one, if it is a text of at most 64 characters of ASCII that print, without `/`,
+/// `'` and `\`: that text in single quotes.
 ///
 /// Of bytes that are no item, the notes end where they cease to be one. The only error is out of
 /// memory.
 ///
 /// ```rust
-/// use cbor_names::{NAMES, notes};
+/// use cbor_names::{Names, notes};
 ///
 /// // {1: 4, -1: h'00'}
 /// let bytes = b"\xa2\x01\x04\x20\x41\x00";
-/// let key = notes(alloc, bytes, NAMES, NAMES.of("COSE_Key"))?;
+/// let names = Names::known(alloc)?;
+/// let key = notes(alloc, bytes, &names, names.of("COSE_Key"))?;
 /// let list = key.list(alloc)?;
 /// assert_eq!(rt; list.len(), 4);
 /// assert_eq!(rt; (list[1].before, list[2].after), ("kty", "Symmetric"));
@@ -422,19 +460,20 @@ impl<'a> Pass<'a> {
 pub fn notes<'a>(
     alloc: Global,
     bytes: &[u8],
-    names: Names<'a>,
-    outer: Option<Type<'a>>,
+    names: &'a Names,
+    outer: Option<Type>,
 ) -> Result<Notes<'a>, AllocError>
     ensures len { IfOk result (λ notes. len_of notes ≡ length bytes.now) }
 {
     let (name, what) = match outer {
-        Some(outer) => (outer.name, What::Of(outer.name)),
-        None => ("", What::Any),
+        Some(outer) => (names.text(outer.name), WhatRow::Of(outer.index)),
+        None => ("", WhatRow::Any),
     };
     let outermost = Place {
         left: DEEPEST,
         behind: 0,
         name,
+        named: false,
         what,
         tag: None,
         around: None,

@@ -25,6 +25,8 @@ pub enum Fault {
     Name,
     /// A tag is no integer from 0 on.
     Tag,
+    /// Two types of the file have this tag.
+    SameTag,
     /// A type has two of `array`, `map`, `each` and `values`.
     TwoShapes,
     /// A member or a key has two of `is`, `each`, `holds` and `may_hold`.
@@ -69,6 +71,7 @@ impl Fault {
             Fault::Word => "no such word here",
             Fault::Name => "a name is printable ASCII without `/` that does not begin with `*`",
             Fault::Tag => "a tag is an integer from 0 on",
+            Fault::SameTag => "another type of the file has this tag",
             Fault::TwoShapes => "a type has one of `array`, `map`, `each` and `values`",
             Fault::TwoTypes => "one of `is`, `each`, `holds` and `may_hold`",
             Fault::Shape => "`array` is an array; `map`, `when` and `values` are tables",

@@ -1,16 +1,10 @@
 //! Files of names, and the lines of what is wrong in them.
 
 use crate::fault::{Fault, FileError};
-use crate::parts::Parts;
+use crate::types::add_types;
 use cbor_names::Names;
 use std::alloc::Global;
 use toml::{Table, table_from_str};
-
-/// A file of names that is right.
-#[derive(Drop)]
-pub struct NamesFile {
-    table: Table,
-}
 
 /// How many lines a text has before the byte `at`, and the one that it is in.
 fn line_at(text: &str, at: usize) -> usize {
@@ -25,19 +19,19 @@ fn line_at(text: &str, at: usize) -> usize {
 
 /// What is wrong with a table; where there are `names`, each type that is named has to be one of
 /// them.
-fn fault_of(alloc: Global, table: &Table, names: Option<Names<'_>>) -> Option<Fault> {
-    let parts = match Parts::new(alloc, table) {
-        Ok(parts) => parts,
-        Err(fault) => return Some(fault),
-    };
+fn fault_of(alloc: Global, table: &Table, names: Option<&Names>) -> Option<Fault> {
+    let mut found = Names::new(alloc);
+    if let Err(fault) = add_types(alloc, table, &mut found) {
+        return Some(fault);
+    }
     match names {
-        Some(names) if !parts.has_types(names) => Some(Fault::NoType),
+        Some(names) if found.lacks(names) => Some(Fault::NoType),
         _ => None,
     }
 }
 
 /// The same of the first bytes of a text, if these are TOML.
-fn fault_before(alloc: Global, text: &str, end: usize, names: Option<Names<'_>>) -> Option<Fault> {
+fn fault_before(alloc: Global, text: &str, end: usize, names: Option<&Names>) -> Option<Fault> {
     let front = text.get(..end)?;
     match table_from_str(alloc, front) {
         Ok(table) => fault_of(alloc, &table, names),
@@ -46,7 +40,7 @@ fn fault_before(alloc: Global, text: &str, end: usize, names: Option<Names<'_>>)
 }
 
 /// What is wrong with a text, with its line: the first one to whose end the text has a fault.
-fn placed(alloc: Global, text: &str, fault: Fault, names: Option<Names<'_>>) -> FileError {
+fn placed(alloc: Global, text: &str, fault: Fault, names: Option<&Names>) -> FileError {
     let mut line = 1usize;
     for (at, byte) in text.as_bytes().iter().enumerate() {
         if *byte != b'\n' {
@@ -67,56 +61,46 @@ fn placed(alloc: Global, text: &str, fault: Fault, names: Option<Names<'_>>) -> 
 /// How many bytes a file may have.
 const LONGEST: usize = 1 << 16;
 
-impl NamesFile {
-    /// Reads a file, whose types may name those of `known`, too.
-    pub fn read(alloc: Global, text: &str, known: Names<'_>) -> Result<NamesFile, FileError> {
-        if text.len() > LONGEST {
-            let fault = Fault::Long;
-            return Err(FileError { line: 1, fault });
-        }
-        let table = match table_from_str(alloc, text) {
-            Ok(table) => table,
-            Err(error) => {
-                return Err(match error.span() {
-                    Some(span) => FileError {
-                        line: line_at(text, span.start),
-                        fault: Fault::Toml(error),
-                    },
-                    None => FileError {
-                        line: 0,
-                        fault: Fault::OutOfMemory,
-                    },
-                });
-            }
-        };
-        match checked(alloc, text, &table, known) {
-            Some(error) => Err(error),
-            None => Ok(NamesFile { table }),
-        }
+/// The table of a text.
+fn table_of(alloc: Global, text: &str) -> Result<Table, FileError> {
+    if text.len() > LONGEST {
+        let fault = Fault::Long;
+        return Err(FileError { line: 1, fault });
     }
-
-    /// What its types are made of.
-    pub fn parts(&self, alloc: Global) -> Result<Parts<'_>, FileError> {
-        match Parts::new(alloc, &self.table) {
-            Ok(parts) => Ok(parts),
-            Err(fault) => Err(FileError { line: 0, fault }),
-        }
+    match table_from_str(alloc, text) {
+        Ok(table) => Ok(table),
+        Err(error) => Err(match error.span() {
+            Some(span) => FileError {
+                line: line_at(text, span.start),
+                fault: Fault::Toml(error),
+            },
+            None => FileError {
+                line: 0,
+                fault: Fault::OutOfMemory,
+            },
+        }),
     }
 }
 
-/// What is wrong with the table of a text.
-fn checked(alloc: Global, text: &str, table: &Table, known: Names<'_>) -> Option<FileError> {
-    let parts = match Parts::new(alloc, table) {
-        Ok(parts) => parts,
-        Err(fault) => return Some(placed(alloc, text, fault, None)),
-    };
-    let Ok(types) = parts.types(alloc, known) else {
-        let fault = Fault::OutOfMemory;
-        return Some(FileError { line: 0, fault });
-    };
-    let names = Names { types: &types };
-    if parts.has_types(names) {
-        return None;
+/// Returns the tables with the types of a file, in TOML as docs/NAMES.md describes it. A type of
+/// the file takes the place of one that has its name, and a tag the place of the same one.
+///
+/// Returns what is wrong with the text, and the line: it is no TOML, it has more than 65,536 bytes,
+/// a table is no type, a name has a character that notes cannot have, or a type that is named is
+/// neither in the file nor in `names`. The line is 0 if memory ran out.
+pub fn with_file(alloc: Global, names: Names, text: &str) -> Result<Names, FileError> {
+    let table = table_of(alloc, text)?;
+    let mut names = names;
+    match add_types(alloc, &table, &mut names) {
+        Ok(()) => {}
+        Err(Fault::OutOfMemory) => {
+            let fault = Fault::OutOfMemory;
+            return Err(FileError { line: 0, fault });
+        }
+        Err(fault) => return Err(placed(alloc, text, fault, None)),
     }
-    Some(placed(alloc, text, Fault::NoType, Some(names)))
+    if names.lacks(&names) {
+        return Err(placed(alloc, text, Fault::NoType, Some(&names)));
+    }
+    Ok(names)
 }

@@ -2,15 +2,13 @@
 //! with `cbor_names`.
 //!
 //! ```rust
-//! use cbor_names::{NAMES, Names, notes};
-//! use cbor_names_file::NamesFile;
+//! use cbor_names::{Names, notes};
+//! use cbor_names_file::with_file;
 //!
-//! let file = NamesFile::read(alloc, "[Reading]\ntag = 1001\nmap.1 = 'sensor'", NAMES)?;
-//! let parts = file.parts(alloc)?;
-//! let types = parts.types(alloc, NAMES)?;
-//! let names = Names { types: &types };
+//! let known = Names::known(alloc)?;
+//! let names = with_file(alloc, known, "[Reading]\ntag = 1001\nmap.1 = 'sensor'")?;
 //! // 1001({1: 7})
-//! let found = notes(alloc, b"\xd9\x03\xe9\xa1\x01\x07", names, None)?;
+//! let found = notes(alloc, b"\xd9\x03\xe9\xa1\x01\x07", &names, None)?;
 //! let around = found.names_at(alloc, 5)?;
 //! assert_eq!(rt; around.as_slice(), ["Reading", "sensor"].as_slice());
 //! ```
@@ -18,9 +16,8 @@
 
 mod fault;
 mod file;
-mod parts;
 mod read;
+mod types;
 
 pub use fault::{Fault, FileError};
-pub use file::NamesFile;
-pub use parts::Parts;
+pub use file::with_file;

@@ -1,7 +1,7 @@
 //! The words, names and keys of a file.
 
 use crate::fault::Fault;
-use cbor_names::{Entry, Key, Kind, Member, What};
+use cbor_names::{Key, Kind, Part, What};
 use toml::{Table, Value};
 
 /// The word for a date in the place of a type's name.
@@ -78,9 +78,9 @@ fn what<'t>(word: &str, value: &'t Value) -> Result<What<'t>, Fault> {
     }
 }
 
-/// A key with what its table says.
-fn entry_of<'t>(key: Key<'t>, fields: &'t Table) -> Result<Entry<'t>, Fault> {
-    let mut entry = Entry {
+/// A key or a member with what its table says.
+fn part_of<'t>(key: Key<'t>, fields: &'t Table) -> Result<Part<'t>, Fault> {
+    let mut part = Part {
         key,
         name: "",
         what: What::Any,
@@ -89,50 +89,40 @@ fn entry_of<'t>(key: Key<'t>, fields: &'t Table) -> Result<Entry<'t>, Fault> {
     };
     for (word, value) in fields.iter() {
         match word.as_str() {
-            "name" => entry.name = name(text(value)?)?,
-            "sign" => entry.sign = Some(sign(value)?),
+            "name" => part.name = name(text(value)?)?,
+            "sign" => part.sign = Some(sign(value)?),
             word => {
                 let what = what(word, value)?;
-                if !matches!(entry.what, What::Any) {
+                if !matches!(part.what, What::Any) {
                     return Err(Fault::TwoTypes);
                 }
-                entry.what = what;
+                part.what = what;
             }
         }
     }
-    Ok(entry)
+    Ok(part)
 }
 
 /// A key with its name, or with its table.
-pub(crate) fn entry<'t>(
-    key: Key<'t>,
-    when: Option<Key<'t>>,
-    value: &'t Value,
-) -> Result<Entry<'t>, Fault> {
+pub(crate) fn part<'t>(key: Key<'t>, value: &'t Value) -> Result<Part<'t>, Fault> {
     match value {
-        Value::String(text) => Ok(Entry {
+        Value::String(text) => Ok(Part {
             key,
             name: name(text.as_str())?,
             what: What::Any,
-            when,
+            when: None,
             sign: None,
         }),
-        Value::Table(fields) => {
-            let entry = entry_of(key, fields)?;
-            Ok(Entry { when, ..entry })
-        }
+        Value::Table(fields) => part_of(key, fields),
         _ => Err(Fault::Member),
     }
 }
 
 /// A member of an array, likewise.
-pub(crate) fn member<'t>(value: &'t Value) -> Result<Member<'t>, Fault> {
-    let entry = entry(Key::Integer(0), None, value)?;
-    if entry.sign.is_some() {
+pub(crate) fn member(value: &Value) -> Result<Part<'_>, Fault> {
+    let part = part(Key::Integer(0), value)?;
+    if part.sign.is_some() {
         return Err(Fault::Word);
     }
-    Ok(Member {
-        name: entry.name,
-        what: entry.what,
-    })
+    Ok(part)
 }
