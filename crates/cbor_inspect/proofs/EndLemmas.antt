@@ -1,6 +1,6 @@
 -- Ends of calls, and how many items they passed.
-use Rattle.std.proofs.Common.{◌≡◌, ℕ, ◌<◌, ◌≤◌, List, [], ◌++◌, length, take, drop, inl, inr, refl, sym, ap, subst}
-use Rattle.std.proofs.Common.{arith, length-append, take-append-drop, IsTrue, Bool}
+use Rattle.std.proofs.Common.{◌≡◌, ℕ, ◌<◌, List, length, take, drop, inl, inr, refl, sym, ap, subst}
+use Rattle.std.proofs.Common.{arith, length-append, take-append-drop}
 use Rattle.cbor_diag.specs.Item.{Item}
 use Rattle.cbor_diag.specs.Facts.{BeginsWithItem}
 use Rattle.cbor_inspect.specs.declared.items.End.{End}

@@ -10,7 +10,7 @@ use Rattle.cbor_grammar.specs.declared.width.IntegerWidth.TheVariants.{SixtyFour
 use Rattle.cbor_grammar.specs.declared.width.FloatWidth.{FloatWidth}
 use Rattle.cbor_grammar.specs.declared.width.FloatWidth.TheVariants as float_width
 use Rattle.cbor_diag.specs.Item as spec
-use Rattle.cbor_diag.specs.Item.{Atom, integer, negative, string, chunked_string, float, simple, Item, atom, array}
+use Rattle.cbor_diag.specs.Item.{integer, negative, string, chunked_string, float, simple, Item, atom, array}
 use Rattle.cbor_diag.specs.Item.{tagged}
 use Rattle.cbor_diag.specs.Head.{HeadThen}
 use Rattle.cbor_diag.specs.Bytes.{any, SpellsFloat, SpellsSimple, MembersThen}

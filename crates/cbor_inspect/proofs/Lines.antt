@@ -1,6 +1,6 @@
 -- What is written of items in EDN, one after the other, is read back as their bytes.
 use Rattle.std.proofs.Common.{◌≡◌, ℕ, ◌≤◌, List, [], ◌∷◌, ◌++◌, length, Option, Some, refl, sym, ap, subst}
-use Rattle.std.proofs.Common.{◌∙◌, append_assoc, length-append, arith}
+use Rattle.std.proofs.Common.{◌∙◌, append_assoc, append-nil, length-append, arith, map}
 use Rattle.std.specs.List.{AllByRecursion}
 use Rattle.cbor_grammar.specs.Bytes.{any, Spells}
 use Rattle.cbor_grammar.specs.Item.{Item, items_of}
@@ -24,8 +24,8 @@ use Rattle.cbor_inspect.specs.declared.items.Show.{Show}
 use Rattle.cbor_inspect.specs.declared.naming.Naming.{Naming}
 use Rattle.cbor_inspect.specs.declared.path.Step.{Step}
 use Rattle.cbor_inspect.specs.Ends.{Shows, steps_of}
-use Rattle.cbor_inspect.specs.Forms.{IsEdn, IsFormOf, IsLineOf, edn_style}
-use Rattle.cbor_inspect.specs.Paths.{LeadsTo}
+use Rattle.cbor_inspect.specs.Forms.{IsEdn, IsForm, IsFormOf, IsLineOf, edn_style}
+use Rattle.cbor_inspect.specs.Parts.{AreParts, ShowsPart}
 use Rattle.cbor_inspect.specs.Sequence.{ItemsThen, ShowsEach, IsShownOfFirst, AreStrictItems, IsStrictSequence}
 
 -- ---- the items of bytes
@@ -49,7 +49,7 @@ then_shorter b (i ∷ is) rest (front, after, whole, s, later) =
     omega (arith, then_shorter after is rest later, ap length whole, length-append front after)
 
 -- bytes before the rest are these items, and so no others
-same_items : (is js : List Item) (b front rest : List ℕ) → b ≡ front ++ rest → ItemsThen b is rest
+pub same_items : (is js : List Item) (b front rest : List ℕ) → b ≡ front ++ rest → ItemsThen b is rest
     → AreStrictItems front js → is ≡ js
 same_items [] [] b front rest whole first strict = refl
 same_items [] (j ∷ js) b front rest whole first (other, later, is, s, more) =
@@ -112,15 +112,24 @@ record TextLines (is : List Item) (written : List ℕ) : Type 0 where
   pub whole : written ≡ lines_of texts
   pub each : AreTextsOf (items_of is) texts
 
+-- of a whole item that item alone is written
+whole_shown : (show : Show) (steps : List Step) (i : Item) (output : List ℕ) → steps ≡ []
+    → ShowsPart show steps i output → IsForm show (resolve i) output
+whole_shown show steps i output none (parts, are, some, shown) =
+    let whole : parts ≡ i ∷ [] = subst (λ (s : List Step). AreParts s i parts) none are in
+    let one = subst (λ (l : List Item). ShowsEach (IsForm show) (map resolve l) output) whole shown in
+    let same : output ≡ one.0 = one.2 ∙ ap (λ (o : List ℕ). one.0 ++ o) one.4 ∙ append-nil one.0 in
+    subst (IsForm show (resolve i)) (sym same) one.3
+
 text_lines : (show : Show) → IsEdn show.style.form → steps_of show ≡ [] → (is : List Item) (b rest written : List ℕ)
     → ItemsThen b is rest → ShowsEach (Shows show) is written → TextLines is written
 text_lines show is_edn whole [] b rest written is none = record { texts = []; whole = none; each = tt }
 text_lines show is_edn whole (i ∷ is) b rest written (front, after, splits, s, later)
-    (first, others, joined, (part, leads, is_form), more) =
-    let line = edn_line show.style.form show.names (edn_style show.style) (resolve part) first is_edn is_form in
+    (first, others, joined, part, more) =
+    let one = whole_shown show (steps_of show) i first whole part in
+    let line = edn_line show.style.form show.names (edn_style show.style) (resolve i) first is_edn one in
     let text : List ℕ = line.2 in
-    let all : part ≡ i = subst (λ (steps : List Step). LeadsTo steps i part) whole leads in
-    let read : resolve part ≡ i = ap resolve all ∙ resolved 1 front i s in
+    let read : resolve i ≡ i = resolved 1 front i s in
     let noted = subst (λ x. IsNotedText (edn_style show.style) line.0 x text) read line.4 in
     let lines = text_lines show is_edn whole is after rest others later more in
     record {

@@ -1,4 +1,4 @@
--- Steps lead to one item at most.
+-- Where one step leads: members of arrays and maps, and that they are well formed.
 use Rattle.std.proofs.Common.{◌≡◌, ◌↔◌, ℕ, zero, suc, arith, Bool, IsTrue, List, [], ◌∷◌, Some, inl, inr, refl, sym, ap}
 use Rattle.std.proofs.Common.{◌∙◌}
 use Rattle.std.proofs.Common.{subst, ◌<◌, ◌≤◌, length, map, get_or, Option, None, IfSome, MatchOption}
@@ -7,20 +7,17 @@ use Rattle.std.specs.List.{slice_get, HoldsAt}
 use Rattle.std.proofs.lemmas.Option.{slice_get-map, slice_get_past, slice_get_read}
 use Rattle.cbor_diag.specs.declared.syntax.DataItem.{DataItem}
 use Rattle.cbor_grammar.specs.declared.width.IntegerWidth.{IntegerWidth}
-use Rattle.cbor_diag.specs.View.{view, pairs_view}
-use Rattle.cbor_inspect.specs.declared.path.Step.TheVariants as step
+use Rattle.cbor_diag.specs.View.{view, items_view, pairs_view}
 use Rattle.cbor_diag.specs.Item as spec
-use Rattle.cbor_diag.specs.Item.{Atom, integer, negative, string, chunked_string, float, simple, Item, atom, array}
+use Rattle.cbor_diag.specs.Item.{integer, negative, string, chunked_string, float, simple, Item, atom, array}
 use Rattle.cbor_diag.specs.Item.{tagged, Items, no_items, item, Pairs, no_pairs, pair}
 use Rattle.cbor_diag.specs.Item.{items_of, pairs_of}
 use Rattle.cbor_diag.specs.Facts.{IsWellFormed}
 use Rattle.cbor_grammar.specs.WellFormed.{WellFormed, WellFormedItems, WellFormedPairs}
 use Rattle.cbor_edn_grammar.proofs.Levels.{well_above}
 use Rattle.cbor_diag.specs.Notation.{list_of, pairs_list}
-use Rattle.cbor_inspect.specs.declared.path.Step.{Step}
-use Rattle.cbor_inspect.specs.Paths.{untagged, plain_key, IsKey, IsValue, element_of, IsMember, StepsTo, LeadsTo}
-use Rattle.cbor_inspect.specs.Paths.{pair_views}
-use Rattle.cbor_inspect.specs.Parts.{HasNoPart, HasPart}
+use Rattle.cbor_inspect.specs.Paths.{untagged, plain_key, IsKey, IsValue, element_of, IsMember}
+use Rattle.cbor_inspect.specs.Paths.{pair_views, values_of, members_of}
 
 one_value : (wanted : Item) (ps : List (Item × Item)) (a b : Item) → IsValue wanted ps a → IsValue wanted ps b → a ≡ b
 one_value wanted [] a b ha hb = absurd ha
@@ -35,19 +32,6 @@ one_member wanted (atom x) a b ha hb = absurd ha
 one_member wanted (array is w) a b ha hb = cc
 one_member wanted (spec.map ps w) a b ha hb = one_value wanted _ a b ha hb
 one_member wanted (tagged t w i) a b ha hb = absurd ha
-
--- what is written, after one more step that leads to one item alone
-pub after_step : {X : Type 0} (items : X → List ℕ) (s : Step) (steps : List Step) (i next : Item) (p : Option X)
-    → StepsTo s i next → ((other : Item) → StepsTo s i other → other ≡ next) → HasPart items steps next p
-    → HasPart items (s ∷ steps) i p
-after_step items s steps i next (Some part) here only h = (h.0, (next, here, h.1), h.2, h.3)
-after_step items s steps i next None here only h =
-    λ p leads. h p (subst (λ (x : Item). LeadsTo steps x p) (only leads.0 leads.1) leads.2)
-
--- a step that leads nowhere
-pub no_step : (s : Step) (steps : List Step) (i : Item) → ((next : Item) → ¬ (StepsTo s i next))
-    → HasNoPart (s ∷ steps) i
-no_step s steps i none = λ p leads. none leads.0 leads.1
 
 -- items in memory are the items of the list
 pub list_of_items : (xs : List Item) → list_of (items_of xs) ≡ xs
@@ -141,14 +125,6 @@ pub no_value : {B : Type 0} (r : Option B) (wanted i : Item) (ps : List (DataIte
 no_value None wanted i ps w e h = λ m is. let both = map_member wanted i m (pair_views ps) w e in h m (both.0 is)
 no_value (Some x) wanted i ps w e h = tt
 
--- what is written after a step by a key
-pub after_key : {X : Type 0} (items : X → List ℕ) (wanted : DataItem) (steps : List Step) (i next : Item) (p : Option X)
-    → IsMember (view wanted) (untagged i) next → HasPart items steps next p
-    → HasPart items (step.Key wanted ∷ steps) i p
-after_key items wanted steps i next p here h =
-    after_step items (step.Key wanted) steps i next p here
-    (λ other is. one_member (view wanted) (untagged i) other next is here) h
-
 -- ---- parts of a well formed item are well formed
 
 one_of_items : (level : ℕ) (is : Items) (n : ℕ) (m : Item) → WellFormedItems level is
@@ -187,4 +163,65 @@ untagged_well (array is w) h = h
 untagged_well (spec.map ps w) h = h
 untagged_well (tagged t w i) h = untagged_well i (well_above 1 2 i (omega arith) h.2)
 
-pub ruleset part_steps = (after_step, after_key, no_step, member_well, untagged_well)
+-- ---- each member
+
+nth_of_values : (level : ℕ) (ps : Pairs) (n : ℕ) (m : Item) → WellFormedPairs level ps
+    → slice_get (values_of (pairs_list ps)) n ≡ Some m → WellFormed level m
+nth_of_values level no_pairs n m h e = let bad : ⊥ = cc e in absurd bad
+nth_of_values level (pair k v ps) zero m h e = let same : v ≡ m = cc e in subst (WellFormed level) same h.1
+nth_of_values level (pair k v ps) (suc n) m h e = nth_of_values level ps n m h.2 e
+
+-- so is each member
+pub nth_well : (i m : Item) (n : ℕ) → IsWellFormed i → slice_get (members_of i) n ≡ Some m → IsWellFormed m
+nth_well (atom a) m n h e = let bad : ⊥ = cc e in absurd bad
+nth_well (array is w) m n h e = well_above 1 2 m (omega arith) (one_of_items 2 is n m h.2 e)
+nth_well (spec.map ps w) m n h e = well_above 1 2 m (omega arith) (nth_of_values 2 ps n m h.2 e)
+nth_well (tagged t w i) m n h e = let bad : ⊥ = cc e in absurd bad
+
+-- the members of an array and of a map in memory
+pub array_members : (i : Item) (xs : List DataItem) (w : Option IntegerWidth) → i ≡ array (items_view xs) w
+    → members_of i ≡ map view xs
+array_members i xs w is = ap members_of is ∙ list_of_items (map view xs)
+
+values_view : (ps : List (DataItem × DataItem)) → values_of (pair_views ps) ≡ map (λ p. view p.1) ps
+values_view [] = refl
+values_view (p ∷ ps) = ap (λ (l : List Item). view p.1 ∷ l) (values_view ps)
+
+pub map_members : (i : Item) (ps : List (DataItem × DataItem)) (w : Option IntegerWidth) → i ≡ spec.map (pairs_view ps) w
+    → members_of i ≡ map (λ p. view p.1) ps
+map_members i ps w is =
+    ap members_of is ∙ ap values_of (pairs_of_list (pair_views ps)) ∙ values_view ps
+
+-- what a look-up by an index gives: the member of an array, and the value of a pair or none
+pub nth_of_array : {B : Type 0} (now : B → DataItem) (r : Option B) (i : Item) (xs found : List DataItem)
+    (w : Option IntegerWidth) (n : ℕ) → i ≡ array (items_view xs) w → found ≡ xs
+    → IfSome r (λ x. now x ≡ get_or found n (now x))
+    → MatchOption r (length found ≤ n) (λ x. (n < length found) × HoldsAt (λ y. now x ≡ y) found n)
+    → option_map (λ x. view (now x)) r ≡ slice_get (members_of i) n
+nth_of_array now r i xs found w n is same h m =
+    got now r found n h m ∙ ap (λ (l : List DataItem). slice_get (map view l) n) same
+    ∙ ap (λ (l : List Item). slice_get l n) (sym (array_members i xs w is))
+
+pub nth_of_map : {B : Type 0} (now : B → DataItem × DataItem) (r : Option B) (i : Item)
+    (ps found : List (DataItem × DataItem)) (w : Option IntegerWidth) (n : ℕ) → i ≡ spec.map (pairs_view ps) w
+    → found ≡ ps → IfSome r (λ x. now x ≡ get_or found n (now x))
+    → MatchOption r (length found ≤ n) (λ x. (n < length found) × HoldsAt (λ y. now x ≡ y) found n)
+    → MatchOption r (◌≡◌ {A = Option Item} None (slice_get (members_of i) n))
+    (λ x. Some (view (now x).1) ≡ slice_get (members_of i) n)
+nth_of_map now None i ps found w n is same h m =
+    sym (slice_get-map (λ (p : DataItem × DataItem). view p.1) found n
+    ∙ ap (option_map (λ (p : DataItem × DataItem). view p.1)) (slice_get_past found n m))
+    ∙ ap (λ (l : List (DataItem × DataItem)). slice_get (map (λ p. view p.1) l) n) same
+    ∙ ap (λ (l : List Item). slice_get l n) (sym (map_members i ps w is))
+nth_of_map now (Some x) i ps found w n is same h m =
+    sym (slice_get-map (λ (p : DataItem × DataItem). view p.1) found n
+    ∙ ap (option_map (λ (p : DataItem × DataItem). view p.1)) (slice_get_read found (length found) n (now x) refl m.0 h))
+    ∙ ap (λ (l : List (DataItem × DataItem)). slice_get (map (λ p. view p.1) l) n) same
+    ∙ ap (λ (l : List Item). slice_get l n) (sym (map_members i ps w is))
+
+-- there is one below their number
+pub some_within : (members : List Item) (n : ℕ) → ◌≡◌ {A = Option Item} None (slice_get members n)
+    → n < length members → ⊥
+some_within [] n none within = omega (arith, within)
+some_within (m ∷ members) zero none within = let bad : ⊥ = cc none in bad
+some_within (m ∷ members) (suc n) none within = some_within members n none (omega (arith, within))

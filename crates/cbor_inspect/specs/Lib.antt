@@ -2,9 +2,11 @@ pub mod Forms
 pub mod Sequence
 pub mod Paths
 pub mod Parts
+pub mod Lost
 pub mod Simple
 pub mod Ends
 pub mod Texts
 pub mod Loose
 pub mod Inputs
 pub mod Raw
+pub mod Named

@@ -1,23 +1,64 @@
--- What is written of the part of an item, or that there is none.
-use Rattle.std.specs.Prelude.{◌≡◌, ℕ, List, Option, Some, None}
-use Rattle.cbor_diag.specs.Item.{Item}
-use Rattle.cbor_diag.specs.Written.{encoded, resolve}
+-- The parts of an item that steps lead to, and what is written of them.
+use Rattle.std.specs.Prelude.{◌≡◌, ◌≢◌, ℕ, List, [], ◌∷◌, ◌++◌, map}
+use Rattle.std.specs.List.{AllByRecursion}
+use Rattle.cbor_diag.specs.Item.{Item, items_of}
+use Rattle.cbor_diag.specs.Written.{encoded_items, resolve}
 use Rattle.cbor_diag.specs.Facts.{IsWellFormed}
 use Rattle.cbor_inspect.specs.declared.items.Show.{Show}
 use Rattle.cbor_inspect.specs.declared.path.Step.{Step}
+use Rattle.cbor_inspect.specs.declared.path.Step.TheVariants as step
 use Rattle.cbor_inspect.specs.Forms.{IsForm}
-use Rattle.cbor_inspect.specs.Paths.{LeadsTo}
+use Rattle.cbor_inspect.specs.Paths.{untagged, members_of, StepsTo, LeadsTo}
+use Rattle.cbor_inspect.specs.Sequence.{ShowsEach}
 
--- what is written of the part that the steps lead to; its unstated widths are resolved, and what was read has none
+-- the one item of that kind, or none if there is none
+abbrev pub AreOnly : (Item → Type 0) → List Item → Type 0
+AreOnly Is [] = (i : Item) → ¬ (Is i)
+AreOnly Is (i ∷ []) = Is i
+AreOnly Is (i ∷ (j ∷ is)) = ⊥
+
+-- all items that one step leads to, in order: only `*` leads to more than one
+abbrev pub AreNext : Step → Item → List Item → Type 0
+AreNext step.Each i nexts = nexts ≡ members_of (untagged i)
+AreNext s i nexts = AreOnly (StepsTo s i) nexts
+
+-- what is found from the first of these items, then from the next, and so on
+abbrev pub FromEach : (Item → List Item → Type 0) → List Item → List Item → Type 0
+FromEach Found [] all = all ≡ []
+FromEach Found (i ∷ is) all =
+    (first more : List Item) × (all ≡ first ++ more) × Found i first × FromEach Found is more
+
+-- all parts that the steps lead to, in order
+abbrev pub AreParts : List Step → Item → List Item → Type 0
+AreParts [] i parts = parts ≡ i ∷ []
+AreParts (s ∷ steps) i parts = (nexts : List Item) × AreNext s i nexts × FromEach (AreParts steps) nexts parts
+
+-- What is written of each part that the steps lead to, in order, of which there is one at least. Their unstated widths
+-- are resolved, and what was read has none.
 abbrev pub ShowsPart : Show → List Step → Item → List ℕ → Type 0
-ShowsPart show steps i output = (p : Item) × LeadsTo steps i p × IsForm show (resolve p) output
+ShowsPart show steps i output =
+    (parts : List Item) × AreParts steps i parts × (parts ≢ []) × ShowsEach (IsForm show) (map resolve parts) output
 
 -- the steps lead to no part
 abbrev pub HasNoPart : List Step → Item → Type 0
 HasNoPart steps i = (p : Item) → ¬ (LeadsTo steps i p)
 
--- the encoding of the part that the steps lead to, or that there is none
-abbrev pub HasPart : {X : Type 0} → (X → List ℕ) → List Step → Item → Option X → Type 0
-HasPart items steps i (Some part) =
-    (p : Item) × LeadsTo steps i p × IsWellFormed p × (items part ≡ encoded p)
-HasPart items steps i None = HasNoPart steps i
+-- no step is `*`
+abbrev pub NoneEach : List Step → Type 0
+NoneEach [] = Unit {0}
+NoneEach (step.Each ∷ steps) = ⊥
+NoneEach (s ∷ steps) = NoneEach steps
+
+-- the encodings of the parts that the steps lead to were appended, in order
+pub record AppendsParts (steps : List Step) (i : Item) (old new : List ℕ) : Type 0 where
+  pub parts : List Item
+  pub are : AreParts steps i parts
+  pub well : AllByRecursion IsWellFormed parts
+  pub appended : new ≡ old ++ encoded_items (items_of parts)
+
+-- so of the parts that they lead to from each of these items
+pub record AppendsEach (steps : List Step) (is : List Item) (old new : List ℕ) : Type 0 where
+  pub parts : List Item
+  pub are : FromEach (AreParts steps) is parts
+  pub well : AllByRecursion IsWellFormed parts
+  pub appended : new ≡ old ++ encoded_items (items_of parts)

@@ -1,12 +1,13 @@
 -- Parts of an item, by a path.
-use Rattle.std.specs.Prelude.{◌≡◌, ◌⊎◌, List, [], ◌∷◌, map, Option, Some, None, slice_get}
+use Rattle.std.specs.Prelude.{◌≡◌, ◌⊎◌, ℕ, List, [], ◌∷◌, map, drop, Option, Some, None, slice_get}
+use Rattle.std.specs.List.{Contains}
 use Rattle.cbor_grammar.specs.declared.width.IntegerWidth.TheVariants.{Unknown}
 use Rattle.cbor_diag.specs.Item as spec
 use Rattle.cbor_diag.specs.Item.{Item, atom, integer, negative, string, array, tagged}
 use Rattle.cbor_grammar.specs.declared.strings.StringKind.TheVariants.{Bytes}
 use Rattle.cbor_diag.specs.declared.syntax.DataItem.{DataItem}
 use Rattle.cbor_diag.specs.View.{view}
-use Rattle.cbor_diag.specs.Facts.{IsItem}
+use Rattle.cbor_diag.specs.Facts.{IsItem, BeginsWithItem}
 use Rattle.cbor_diag.specs.Notation.{list_of, pairs_list}
 use Rattle.cbor_inspect.specs.declared.path.Step.{Step}
 use Rattle.cbor_inspect.specs.declared.path.Step.TheVariants as step
@@ -49,9 +50,26 @@ abbrev pub IsInside : Item → Item → Type 0
 IsInside (atom (string Bytes c)) inner = IsItem c.bytes inner
 IsInside _ inner = ⊥
 
+-- the item that begins at that byte of a byte string, whatever follows it
+abbrev pub IsInsideAt : ℕ → Item → Item → Type 0
+IsInsideAt n (atom (string Bytes c)) inner = (used : ℕ) × BeginsWithItem (drop n c.bytes) inner used
+IsInsideAt n _ inner = ⊥
+
+-- the values of these pairs
+abbrev pub values_of : List (Item × Item) → List Item
+values_of ps = map (λ (p : Item × Item). p.1) ps
+
+-- the members of an array, or the values of a map, in order
+abbrev pub members_of : Item → List Item
+members_of (array is w) = list_of is
+members_of (spec.map ps w) = values_of (pairs_list ps)
+members_of _ = []
+
 -- where one step leads
 abbrev pub StepsTo : Step → Item → Item → Type 0
 StepsTo step.Inside i next = IsInside (untagged i) next
+StepsTo (step.InsideAt n) i next = IsInsideAt n (untagged i) next
+StepsTo step.Each i next = Contains (members_of (untagged i)) next
 StepsTo (step.Key wanted) i next = IsMember (view wanted) (untagged i) next
 
 -- where all steps lead, one after the other

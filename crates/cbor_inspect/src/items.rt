@@ -19,7 +19,8 @@ ghost use Rattle.cbor_inspect.specs.Ends.{EndsSo, StopsSo, Shows, steps_of};
 use crate::form::{Form, Style};
 use crate::naming::Naming;
 use crate::notation::{Work, push_notation};
-use crate::path::{Step, part_bytes};
+use crate::part::push_part;
+use crate::path::Step;
 use cbor_bytes::strict::is_strict;
 use cbor_diag::{
     DataItem, Error, Extent, extent, parse_bytes, parse_bytes_partial, push_bytes_to_hex_partial,
@@ -38,7 +39,8 @@ pub struct Show<'a> {
     pub style: Style,
     /// The names in pretty EDN, if there are to be any and it has notes.
     pub names: Option<Naming<'a>>,
-    /// The path to the part that is written. Nothing is written of an item without that part.
+    /// The path to the parts that are written: to one at most, but for a `*`. Nothing is written of
+    /// an item without any.
     pub steps: Vec<Step>,
     /// Whether a call passes at most one item, and stops after it with `Full`.
     pub one: bool,
@@ -86,7 +88,7 @@ pub enum End {
     Fault { error: Error, end: usize },
     /// The input was to be one item, and more bytes follow it. No call here returns this.
     Remaining,
-    /// The item that follows, of this many bytes, does not have the part.
+    /// The item that follows, of this many bytes, has no part where the path leads.
     Lost { len: usize },
     /// The item that follows is none by RFC 8949: at its byte `at` is a simple value below 32 in
     /// two bytes. Only [`Stream::check`](crate::Stream::check) returns this.
@@ -168,35 +170,8 @@ pub(crate) fn show_first(
     }
 }
 
-/// Appends the part of the item at the front that the path leads to. The text is empty.
-fn push_part(show: &Show, bytes: &[u8], work: &mut Work, out: &mut Vec<u8>) -> Result<usize, End>
-    requires { string_bytes work.old.text ≡ [] }
-    ensures written { IfOk result (λ used. (written : List ℕ)
-        × (out.new.items ≡ out.old.items ++ written)
-        × ShowsFront (Shows show.now) bytes.now written used) }
-    ensures ends { IfErr result (StopsSo (steps_of show.now) bytes.now) }
-    ensures unchanged { OnErr result (out.new.items ≡ out.old.items) }
-{
-    let alloc = *out.allocator();
-    let (item, used) = match first_item(alloc, bytes) {
-        Ok(found) => found,
-        Err(end) => return Err(end),
-    };
-    let part = match part_bytes(alloc, &item, &show.steps) {
-        Ok(Some(part)) => part,
-        Ok(None) => return Err(End::Lost { len: used }),
-        Err(_) => return Err(End::Memory),
-    };
-    work.clear = 0;
-    match push_front(show, &part, None, work, out) {
-        Ok(_) => Ok(used),
-        // The part is an item, so it was memory that ran out.
-        Err(_) => Err(End::Memory),
-    }
-}
-
 /// Appends all of the item at the front. The text is empty.
-fn push_front(
+pub(crate) fn push_front(
     show: &Show,
     bytes: &[u8],
     known: Option<usize>,
@@ -387,7 +362,7 @@ pub(crate) fn len_of(bytes: &[u8], found: cbor_diag::Result<Option<usize>>) -> R
 }
 
 /// The item at the front of the bytes and its length, or why there is none.
-fn first_item(alloc: Global, bytes: &[u8]) -> Result<(DataItem, usize), End>
+pub(crate) fn first_item(alloc: Global, bytes: &[u8]) -> Result<(DataItem, usize), End>
     ensures found { IfOk result (λ x. BeginsWithItem bytes.now (view x.0) x.1) }
     ensures well_formed { IfOk result (λ x. IsWellFormed (view x.0)) }
     ensures ends { (steps : List Step) → IfErr result (StopsSo steps bytes.now) }

@@ -8,18 +8,19 @@ use std::alloc::{AllocError, Global};
 ///
 /// ```rust
 /// use cbor_inspect::{Form, Naming, Show, show_items};
-/// use cbor_names::NAMES;
+/// use cbor_names::Names;
 ///
+/// let names = Names::known(alloc)?;
 /// let mut show = Show::new(alloc, Form::Pretty);
-/// show.names = Some(Naming::new(NAMES, NAMES.of("COSE_Key")));
+/// show.names = Some(Naming::new(&names, names.of("COSE_Key")));
 /// let mut out = Vec::new(alloc);
 /// show_items(&show, b"\xa1\x01\x04", &mut out);
 /// assert_eq!(rt; out.as_slice(), b"/COSE_Key/ {/kty/ 1: 4 /Symmetric/}\n".as_slice());
 /// ```
 #[derive(Clone, Copy)]
 pub struct Naming<'a> {
-    names: Names<'a>,
-    outer: Option<Type<'a>>,
+    names: &'a Names,
+    outer: Option<Type>,
     /// A bit for each low five bits of a head's first byte by which a tag of the tables may begin.
     marks: u32,
 }
@@ -27,14 +28,12 @@ pub struct Naming<'a> {
 /// The tags whose numbers follow in further bytes: their heads begin with `d8` to `db`.
 const LONG_TAGS: u32 = 0x0f00_0000;
 
-/// The bits for the tags of these types.
-fn marks_of(types: &[Type<'_>]) -> u32 {
+/// The bits for the tags of these tables.
+fn marks_of(names: &Names) -> u32 {
     let mut marks = LONG_TAGS;
-    for found in types {
-        if let Some(tag) = found.tag {
-            if tag < 24 {
-                marks |= 1 << tag as u32;
-            }
+    for tag in 0u32..24 {
+        if names.tagged(u64::from(tag)).is_some() {
+            marks |= 1 << tag;
         }
     }
     marks
@@ -50,8 +49,8 @@ const NEAR: usize = 128;
 impl<'a> Naming<'a> {
     /// The names of these tables; `outer` is the type of what is shown, the whole item or its part,
     /// if it is known.
-    pub fn new(names: Names<'a>, outer: Option<Type<'a>>) -> Naming<'a> {
-        let marks = marks_of(names.types);
+    pub fn new(names: &'a Names, outer: Option<Type>) -> Naming<'a> {
+        let marks = marks_of(names);
         Naming {
             names,
             outer,

@@ -1,16 +1,17 @@
 //! Parts of an item, by a path.
-ghost use Rattle.std.specs.Prelude.{◌≡◌, ◌↔◌, IsTrue, IfOk, IfSome, IfNone, option_map, map, List};
-ghost use Rattle.std.specs.Prelude.{[]};
+ghost use Rattle.std.specs.Prelude.{◌≡◌, ◌↔◌, ℕ, IsTrue, IfOk, IfSome, IfNone, OnOk, option_map, map};
+ghost use Rattle.std.specs.Prelude.{length, slice_get, ◌∷◌, [], ◌+◌, ◌^◌, ◌<◌, ◌≤◌, ◌⊎◌, MatchOption};
 ghost use Rattle.cbor_diag.specs.Item.{Item};
 ghost use Rattle.cbor_diag.specs.View.{view};
 ghost use Rattle.cbor_inspect.specs.Paths.{untagged, IsKey, IsValue, element_of, IsMember};
-ghost use Rattle.cbor_inspect.specs.Paths.{IsInside};
+ghost use Rattle.cbor_inspect.specs.Paths.{IsInside, IsInsideAt, LeadsTo, StepsTo, members_of};
 ghost use Rattle.cbor_inspect.specs.Paths.{pair_views};
-ghost use Rattle.cbor_inspect.specs.declared.path.Step.{Step};
-ghost use Rattle.cbor_inspect.specs.Parts.{HasPart};
+ghost use Rattle.cbor_inspect.specs.Parts.{AppendsParts, AppendsEach, HasNoPart};
+ghost use Rattle.cbor_inspect.specs.Lost.{LeadAsFar, LeadAsFarFrom};
 ghost use Rattle.cbor_diag.specs.Facts.{IsWellFormed};
 
-use cbor_diag::{DataItem, Error, IntegerWidth, TextString, parse_bytes};
+use crate::stream::bytes_from;
+use cbor_diag::{DataItem, Error, Extent, IntegerWidth, TextString, extent, parse_bytes};
 use cbor_edn::{EdnError, parse_edn};
 use std::alloc::Global;
 
@@ -19,13 +20,18 @@ use std::alloc::Global;
 pub enum Step {
     /// To the item that a byte string of definite length is.
     Inside,
+    /// To the item that begins at this byte of a byte string of definite length, whatever bytes
+    /// follow that item.
+    InsideAt(usize),
+    /// To each member of an array, or to the value of each key of a map, in order.
+    Each,
     /// To the member of an array at this index, or to the value of this key in a map: of the first
     /// key that is the same but for the width of a number or of the length of a string.
     Key(DataItem),
 }
 
 /// Whether a step leads to a key.
-fn is_key(wanted: &DataItem, key: &DataItem) -> bool
+pub(crate) fn is_key(wanted: &DataItem, key: &DataItem) -> bool
     ensures { IsTrue result ↔ IsKey (view wanted.now) (view key.now) }
 {
     match wanted {
@@ -125,47 +131,120 @@ fn inside(alloc: Global, item: &DataItem) -> Result<Option<DataItem>, Error>
     }
 }
 
-/// The encoding of the part of an item that the steps lead to, if there is one.
-#[tactic(auto, using(crate::proofs::PathLemmas::part_steps))]
-pub(crate) fn part_bytes(
-    alloc: Global,
-    item: &DataItem,
-    steps: &[Step],
-) -> Result<Option<Vec<u8>>, Error>
-    requires { IsWellFormed (view item.now) }
-    ensures part { IfOk result (HasPart (λ x. x.items) steps.now (view item.now)) }
+/// The item that begins at a byte of a byte string, if a whole one does.
+fn inside_at(alloc: Global, item: &DataItem, byte: usize) -> Result<Option<DataItem>, Error>
+    ensures some { IfOk result (λ o. IfSome o
+        (λ inner. IsInsideAt byte (view item.now) (view inner))) }
+    ensures none { IfOk result (λ o. IfNone o
+        ((inner : Item) → ¬ (IsInsideAt byte (view item.now) inner))) }
+    ensures well_formed { IfOk result (λ o. IfSome o (λ inner. IsWellFormed (view inner))) }
 {
-    let Some((first, rest)) = steps.split_first() else {
-        return whole_bytes(alloc, item);
+    let DataItem::ByteString(string) = item else {
+        return Ok(None);
     };
-    match first {
-        Step::Key(wanted) => match member(wanted, untagged(item)) {
-            Some(next) => part_bytes(alloc, next, rest),
-            None => Ok(None),
-        },
-        Step::Inside => match inside(alloc, untagged(item))? {
-            Some(next) => part_bytes(alloc, &next, rest),
-            None => Ok(None),
-        },
+    let rest = bytes_from(&string.content, byte);
+    match extent(rest) {
+        Extent::Item(len) => Ok(Some(parse_bytes(alloc, &rest[..len])?)),
+        _ => Ok(None),
     }
 }
 
-/// The encoding of all of an item.
-fn whole_bytes(alloc: Global, item: &DataItem) -> Result<Option<Vec<u8>>, Error>
-    requires { IsWellFormed (view item.now) }
-    ensures { (steps : List Step) → steps ≡ []
-        → IfOk result (HasPart (λ x. x.items) steps (view item.now)) }
+/// How many members an array has, or how many pairs a map; none of another item.
+fn member_count(item: &DataItem) -> usize
+    ensures { result ≡ length (members_of (view item.now)) }
 {
-    Ok(Some(item.to_bytes(alloc)?))
+    match item {
+        DataItem::Array { content, .. } => content.len(),
+        DataItem::Map { content, .. } => content.len(),
+        _ => 0,
+    }
 }
 
-/// Reads a path: steps joined by `/`, each `@`, EDN, or a plain word, which is a text. A `/`
-/// between quotes joins nothing. The empty path has no steps.
+/// The member of an array, or the value of a map, at this index.
+fn nth_member<'a>(item: &'a DataItem, index: usize) -> Option<&'a DataItem>
+    ensures { option_map (λ m. view m.now) result
+        ≡ slice_get (members_of (view item.now)) index }
+{
+    match item {
+        DataItem::Array { content, .. } => content.get(index),
+        DataItem::Map { content, .. } => match content.get(index) {
+            Some(pair) => Some(&pair.1),
+            None => None,
+        },
+        _ => None,
+    }
+}
+
+/// Appends the encodings of the parts of an item that the steps lead to, in order.
+#[cycle(parts)]
+#[tactic(auto, using(crate::proofs::PartLemmas::part_steps))]
+pub(crate) fn push_parts(out: &mut Vec<u8>, item: &DataItem, steps: &[Step]) -> Result<(), Error>
+    requires { IsWellFormed (view item.now) }
+    ensures parts { OnOk result
+        (AppendsParts steps.now (view item.now) out.old.items out.new.items) }
+{
+    let Some((first, rest)) = steps.split_first() else {
+        item.push_bytes(out)?;
+        return Ok(());
+    };
+    let alloc = *out.allocator();
+    match first {
+        Step::Key(wanted) => match member(wanted, untagged(item)) {
+            Some(next) => push_parts(out, next, rest),
+            None => Ok(()),
+        },
+        Step::Inside => match inside(alloc, untagged(item))? {
+            Some(next) => push_parts(out, &next, rest),
+            None => Ok(()),
+        },
+        Step::InsideAt(byte) => match inside_at(alloc, untagged(item), *byte)? {
+            Some(next) => push_parts(out, &next, rest),
+            None => Ok(()),
+        },
+        Step::Each => push_each(out, untagged(item), rest),
+    }
+}
+
+/// Appends the encodings of the parts that the steps lead to from each member of an array, or from
+/// each value of a map, in order.
+#[cycle(parts)]
+fn push_each(out: &mut Vec<u8>, item: &DataItem, steps: &[Step]) -> Result<(), Error>
+    requires { IsWellFormed (view item.now) }
+    ensures parts { OnOk result
+        (AppendsEach steps.now (members_of (view item.now)) out.old.items out.new.items) }
+{
+    'members: for index in 0..member_count(item) {
+        let Some(member) = nth_member(item, index) else {
+            unreachable!()
+        };
+        push_parts(out, member, steps)?;
+    }
+    Ok(())
+}
+
+/// Whether the steps lead to a part of an item.
+pub(crate) fn has_part(alloc: Global, item: &DataItem, steps: &[Step]) -> Result<bool, Error>
+    requires { IsWellFormed (view item.now) }
+    ensures yes { IfOk result (λ found. IsTrue found
+        → (p : Item) × LeadsTo steps.now (view item.now) p) }
+    ensures no { IfOk result (λ found. ¬ (IsTrue found) → HasNoPart steps.now (view item.now)) }
+{
+    let mut parts = Vec::new(alloc);
+    push_parts(&mut parts, item, steps)?;
+    if parts.is_empty() {
+        return Ok(false);
+    }
+    Ok(true)
+}
+
+/// Reads a path: steps joined by `/`. A step is `@`, `@` and a decimal number, `*`, EDN, or a plain
+/// word, which is a text. A `/` between quotes joins nothing. The empty path has no steps.
 ///
 /// ```rust
 /// use cbor_inspect::steps_of;
 ///
 /// assert_eq!(rt; steps_of(alloc, "2/@/1")?.len(), 3);
+/// assert_eq!(rt; steps_of(alloc, "authData/@71")?.len(), 2);
 /// ```
 pub fn steps_of(alloc: Global, path: &str) -> Result<Vec<Step>, Error> {
     let mut steps = Vec::new(alloc);
@@ -191,20 +270,45 @@ fn push_step(alloc: Global, steps: &mut Vec<Step>, word: &str) -> Result<(), Err
     if word.is_empty() {
         return Ok(());
     }
-    if word == "@" {
-        steps.push(Step::Inside)?;
-        return Ok(());
+    let step = match mark_of(word) {
+        Some(mark) => mark,
+        None => Step::Key(key_of(alloc, word)?),
+    };
+    steps.push(step)?;
+    Ok(())
+}
+
+/// The step that a word is if it is no key: `@`, `@` and a decimal number, or `*`.
+fn mark_of(word: &str) -> Option<Step> {
+    if word == "*" {
+        return Some(Step::Each);
     }
-    let key = match parse_edn(alloc, word) {
-        Ok(key) => key,
-        Err(EdnError::Memory) => return Err(Error::Memory),
-        Err(_) => DataItem::TextString(TextString {
+    let digits = word.strip_prefix('@')?;
+    if digits.is_empty() {
+        return Some(Step::Inside);
+    }
+    for digit in digits.chars() {
+        if !digit.is_ascii_digit() {
+            return None;
+        }
+    }
+    // No byte string has as many bytes as a number that is out of range.
+    match digits.parse::<usize>() {
+        Ok(byte) => Some(Step::InsideAt(byte)),
+        Err(_) => Some(Step::InsideAt(usize::MAX)),
+    }
+}
+
+/// The key that a word is: EDN, or else a text.
+fn key_of(alloc: Global, word: &str) -> Result<DataItem, Error> {
+    match parse_edn(alloc, word) {
+        Ok(key) => Ok(key),
+        Err(EdnError::Memory) => Err(Error::Memory),
+        Err(_) => Ok(DataItem::TextString(TextString {
             content: String::from_str(alloc, word)?,
             bitwidth: IntegerWidth::Unknown,
-        }),
-    };
-    steps.push(Step::Key(key))?;
-    Ok(())
+        })),
+    }
 }
 
 /// Where a path that leads nowhere ends.
@@ -216,28 +320,110 @@ pub struct Lost {
     pub item: DataItem,
 }
 
-/// Follows the steps as far as they lead.
-pub fn lost_at(alloc: Global, item: &DataItem, steps: &[Step]) -> Result<Lost, Error> {
-    let here = untagged(item);
-    let deeper = match steps {
-        [] => None,
-        [Step::Key(wanted), rest @ ..] => match member(wanted, here) {
-            Some(next) => Some(lost_at(alloc, next, rest)?),
-            None => None,
-        },
-        [Step::Inside, rest @ ..] => match inside(alloc, here)? {
-            Some(next) => Some(lost_at(alloc, &next, rest)?),
-            None => None,
-        },
-    };
-    match deeper {
-        Some(lost) => Ok(Lost {
-            steps: lost.steps.saturating_add(1),
-            item: lost.item,
-        }),
-        None => Ok(Lost {
-            steps: 0,
-            item: here.clone(alloc)?,
-        }),
+impl Lost {
+    /// The same place, one step further.
+    fn deeper(self) -> Lost
+        requires { self.steps + 1 < 2 ^ 64 }
+        ensures steps { result.steps ≡ self.steps + 1 }
+        ensures item { result.item ≡ self.item }
+    {
+        Lost {
+            steps: self.steps + 1,
+            item: self.item,
+        }
     }
+
+    /// The one of two places that is farther; the one before, if they are as far.
+    fn or_before(self, before: Option<Lost>) -> Lost
+        ensures { MatchOption before (result ≡ self)
+            (λ other. ((self.steps ≤ other.steps) × (result ≡ other))
+            ⊎ ((other.steps < self.steps) × (result ≡ self))) }
+    {
+        match before {
+            Some(other) if self.steps <= other.steps => other,
+            _ => self,
+        }
+    }
+}
+
+/// Follows the steps as far as they lead. After `*` that is from the member from which they lead
+/// farthest, the first of these.
+#[cycle(lost)]
+pub fn lost_at(alloc: Global, item: &DataItem, steps: &[Step]) -> Result<Lost, Error>
+    // So many steps lead to that item, and one more leads nowhere.
+    ensures { IfOk result (λ lost.
+        LeadAsFar steps.now (view item.now) lost.steps (view lost.item)) }
+{
+    let Some((first, rest)) = steps.split_first() else {
+        return lost_here(alloc, item);
+    };
+    match lost_after(alloc, item, first, rest)? {
+        Some(lost) => Ok(lost),
+        None => lost_here(alloc, item),
+    }
+}
+
+/// No step leads anywhere from this item.
+fn lost_here(alloc: Global, item: &DataItem) -> Result<Lost, Error>
+    ensures { IfOk result (λ lost.
+        (lost.steps ≡ 0) × (view lost.item ≡ untagged (view item.now))) }
+{
+    Ok(Lost {
+        steps: 0,
+        item: untagged(item).clone(alloc)?,
+    })
+}
+
+/// Takes the first step, and follows the others as far as they lead. Returns `None` if the first
+/// leads nowhere.
+#[cycle(lost)]
+#[tactic(auto, using(crate::proofs::LostLemmas::far_steps))]
+fn lost_after(
+    alloc: Global,
+    item: &DataItem,
+    first: &Step,
+    rest: &[Step],
+) -> Result<Option<Lost>, Error>
+    ensures some { IfOk result (λ o. IfSome o (λ lost.
+        LeadAsFar (first.now ∷ rest.now) (view item.now) lost.steps (view lost.item))) }
+    ensures none { IfOk result (λ o. IfNone o
+        ((next : Item) → ¬ (StepsTo first.now (view item.now) next))) }
+{
+    match first {
+        Step::Key(wanted) => match member(wanted, untagged(item)) {
+            Some(next) => Ok(Some(lost_at(alloc, next, rest)?.deeper())),
+            None => Ok(None),
+        },
+        Step::Inside => match inside(alloc, untagged(item))? {
+            Some(next) => Ok(Some(lost_at(alloc, &next, rest)?.deeper())),
+            None => Ok(None),
+        },
+        Step::InsideAt(byte) => match inside_at(alloc, untagged(item), *byte)? {
+            Some(next) => Ok(Some(lost_at(alloc, &next, rest)?.deeper())),
+            None => Ok(None),
+        },
+        Step::Each => match lost_in_members(alloc, untagged(item), rest)? {
+            Some(lost) => Ok(Some(lost.deeper())),
+            None => Ok(None),
+        },
+    }
+}
+
+/// Follows the steps from each member of an array, or from each value of a map, and returns where
+/// they lead farthest, or `None` if there are no members.
+#[cycle(lost)]
+fn lost_in_members(alloc: Global, item: &DataItem, steps: &[Step]) -> Result<Option<Lost>, Error>
+    ensures some { IfOk result (λ o. IfSome o (λ lost. LeadAsFarFrom steps.now
+        (members_of (view item.now)) lost.steps (view lost.item))) }
+    ensures none { IfOk result (λ o. IfNone o (members_of (view item.now) ≡ [])) }
+{
+    let mut farthest: Option<Lost> = None;
+    'places: for index in 0..member_count(item) {
+        let Some(member) = nth_member(item, index) else {
+            unreachable!()
+        };
+        let lost = lost_at(alloc, member, steps)?;
+        farthest = Some(lost.or_before(farthest));
+    }
+    Ok(farthest)
 }

@@ -48,7 +48,7 @@ impl Model for Stream {
 }
 
 /// The bytes from a place on; none are past the end.
-fn bytes_from(bytes: &[u8], start: usize) -> &[u8]
+pub(crate) fn bytes_from(bytes: &[u8], start: usize) -> &[u8]
     ensures { result.now ≡ drop start bytes.now }
 {
     match bytes.get(start..) {

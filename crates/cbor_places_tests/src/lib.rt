@@ -7,3 +7,5 @@ mod around;
 mod doc_examples;
 #[cfg(test)]
 mod partial;
+#[cfg(test)]
+mod refused_memory;

@@ -1,7 +1,6 @@
-use Rattle.std.proofs.Common.{rules, ◌≡◌, ◌≢◌, ℕ, List, arith}
+use Rattle.std.proofs.Common.{rules, ◌≡◌}
 use Rattle.cbor_inspect.specs.declared.decode.Input.TheVariants as input
-use Rattle.cbor_inspect.specs.declared.decode.Refusal.TheVariants as refusal
-use Rattle.cbor_inspect.specs.Inputs.{Reads, NoneBefore}
+use Rattle.cbor_inspect.specs.Inputs.{Reads}
 use Rattle.cbor_inspect.specs.Texts.{IsText}
 use Rattle.cbor_inspect.proofs.InputLemmas.{text_is_none, none_is_read, why_or}
 use Rattle.cbor_inspect.proofs.decode.recognize.Goals as goal

@@ -1,4 +1,4 @@
-use Rattle.std.proofs.Common.{◌≡◌, ℕ, ◌+◌, List, ◌++◌, drop, arith, append_assoc, vec_items}
+use Rattle.std.proofs.Common.{◌++◌, drop, arith, append_assoc, vec_items}
 use Rattle.std.proofs.lemmas.List.{take_rest, drop-drop, length-drop}
 use Rattle.cbor_inspect.specs.Ends.{Shows}
 use Rattle.cbor_inspect.proofs.Sequences.{more_shown}

@@ -1,4 +1,4 @@
-use Rattle.std.proofs.Common.{◌≡◌, ◌∙◌, ℕ, Result, IfErr, sym, subst}
+use Rattle.std.proofs.Common.{◌∙◌, ℕ, Result, IfErr, sym, subst}
 use Rattle.cbor_inspect.specs.declared.items.End.{End}
 use Rattle.cbor_inspect.specs.Ends.{StopsSo}
 use Rattle.cbor_inspect.proofs.notation.push_notation.Goals as goal

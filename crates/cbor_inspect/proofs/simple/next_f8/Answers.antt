@@ -1,5 +1,5 @@
 -- No byte before the place that is found is 0xf8, or none is.
-use Rattle.std.proofs.Common.{drop, sym, subst, ◌∙◌, ap, arith}
+use Rattle.std.proofs.Common.{drop, sym, subst, ◌∙◌, ap}
 use Rattle.std.proofs.lemmas.List.{drop-drop}
 use Rattle.cbor_inspect.specs.Simple.{NoPair}
 use Rattle.cbor_inspect.proofs.SimpleLemmas.{no_f8, before_f8}

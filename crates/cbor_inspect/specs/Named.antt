@@ -1,0 +1,15 @@
+-- Why there is no item whose name is looked for.
+use Rattle.std.specs.Prelude.{ℕ, List}
+use Rattle.cbor_diag.specs.Item.{Item}
+use Rattle.cbor_diag.specs.Facts.{IsItem, IsNoItem}
+use Rattle.cbor_grammar.specs.declared.error.Error.TheVariants as refusal
+use Rattle.cbor_inspect.specs.Parts.{HasNoPart}
+use Rattle.cbor_inspect.specs.declared.path.Step.{Step}
+use Rattle.cbor_inspect.specs.declared.name.NameError.{NameError}
+use Rattle.cbor_inspect.specs.declared.name.NameError.TheVariants.{Cbor, NoPart}
+
+-- the bytes are no item, or the steps lead to none in it; nothing is said of memory
+abbrev pub HasNoName : List ℕ → List Step → NameError → Type 0
+HasNoName b steps (Cbor refusal.Memory) = Unit {0}
+HasNoName b steps (Cbor e) = IsNoItem b e
+HasNoName b steps NoPart = (i : Item) × IsItem b i × HasNoPart steps i

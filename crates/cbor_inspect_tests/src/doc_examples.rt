@@ -1,0 +1,126 @@
+//! The examples of the doc comments of `cbor_inspect`, line for line: `checks/examples`
+//! compares.
+
+use cbor_diag::Error;
+use cbor_inspect::{
+    End, Form, Input, Naming, Pasted, Show, Stream, is_shown, is_text, looks_like, name_at,
+    place_of_digit, place_of_fault, push_shown, raw_content, recognize, show_items, skip_items,
+    steps_of, two_byte_simple,
+};
+use cbor_names::Names;
+use std::test::Fail;
+
+#[test]
+fn hex_is_shown(rt: HostRuntime) -> Result<(), Fail> {
+    let alloc = rt.alloc();
+    let found = recognize(alloc, b"0x82 01 02 # two numbers")?;
+    let mut out = Vec::new(alloc);
+    let shown = show_items(&Show::new(alloc, Form::Diag), &found.bytes, &mut out);
+    assert_eq!(rt; shown.end, End::Done);
+    assert_eq!(rt; out.as_slice(), b"[1, 2]\n".as_slice());
+    Ok(())
+}
+
+#[test]
+fn notation_is_recognized(rt: HostRuntime) -> Result<(), Fail> {
+    let alloc = rt.alloc();
+    let found = recognize(alloc, b"[1, 2]")?;
+    assert_eq!(rt; found.form, Input::Diag);
+    assert_eq!(rt; found.bytes.as_slice(), b"\x82\x01\x02".as_slice());
+    Ok(())
+}
+
+#[test]
+fn items_are_passed(rt: HostRuntime) -> Result<(), Fail> {
+    let shown = skip_items(b"\x01\x82\x02", false);
+    assert_eq!(rt; shown.used, 1);
+    assert_eq!(rt; shown.end, End::Cut);
+    Ok(())
+}
+
+#[test]
+fn items_come_in_pieces(rt: HostRuntime) -> Result<(), Fail> {
+    let alloc = rt.alloc();
+    let show = Show::new(alloc, Form::Diag);
+    let mut out = Vec::new(alloc);
+    let mut stream = Stream::new(Vec::from_slice(alloc, b"\x01\x82\x02")?);
+    assert_eq!(rt; stream.show(&show, &mut out), End::Cut);
+    stream.push(alloc, b"\x03")?;
+    assert_eq!(rt; stream.show(&show, &mut out), End::Done);
+    assert_eq!(rt; out.as_slice(), b"1\n[2, 3]\n".as_slice());
+    Ok(())
+}
+
+#[test]
+fn items_are_checked(rt: HostRuntime) -> Result<(), Fail> {
+    let alloc = rt.alloc();
+    let mut stream = Stream::new(Vec::from_slice(alloc, b"\x01\x81\xf8\x14")?);
+    assert_eq!(rt; stream.check(alloc, false), End::TwoByteSimple { at: 1 });
+    assert_eq!(rt; stream.rest(), b"\x81\xf8\x14".as_slice());
+    assert_eq!(rt; two_byte_simple(b"\x82\xf8\xff\xf8\x14"), Some(3));
+    Ok(())
+}
+
+#[test]
+fn texts_hide_characters(rt: HostRuntime) -> Result<(), Fail> {
+    assert!(rt; is_shown(true, b"two\nlines"));
+    assert!(rt; !is_shown(false, b"two\nlines"));
+    let alloc = rt.alloc();
+    let mut out = String::new(alloc);
+    push_shown(&mut out, "a\u{202e}b\n")?;
+    assert_eq!(rt; out.as_str(), "a\\u{202e}b\n");
+    Ok(())
+}
+
+#[test]
+fn places_are_found(rt: HostRuntime) -> Result<(), Fail> {
+    let alloc = rt.alloc();
+    assert_eq!(rt; place_of_digit(b"0x82 01", 2), 5);
+    assert_eq!(rt; steps_of(alloc, "2/@/1")?.len(), 3);
+    assert_eq!(rt; steps_of(alloc, "authData/@71")?.len(), 2);
+    assert_eq!(rt; place_of_fault(b"\x63a\xffb", Error::Utf8, 4), 2);
+    Ok(())
+}
+
+#[test]
+fn contents_are_raw(rt: HostRuntime) -> Result<(), Fail> {
+    let alloc = rt.alloc();
+    let content = raw_content(alloc, b"\x7f\x61a\x62bc\xff")?;
+    assert_eq!(rt; content.as_slice(), b"abc".as_slice());
+    assert!(rt; raw_content(alloc, b"\xa0").is_err());
+    Ok(())
+}
+
+#[test]
+fn names_are_shown(rt: HostRuntime) -> Result<(), Fail> {
+    let alloc = rt.alloc();
+    let names = Names::known(alloc)?;
+    let mut show = Show::new(alloc, Form::Pretty);
+    show.names = Some(Naming::new(&names, names.of("COSE_Key")));
+    let mut out = Vec::new(alloc);
+    show_items(&show, b"\xa1\x01\x04", &mut out);
+    assert_eq!(rt;
+        out.as_slice(),
+        b"/COSE_Key/ {/kty/ 1: 4 /Symmetric/}\n".as_slice()
+    );
+    Ok(())
+}
+
+#[test]
+fn names_are_found(rt: HostRuntime) -> Result<(), Fail> {
+    let alloc = rt.alloc();
+    // 18([<<{1: -7}>>, {}, h'', h''])
+    let bytes = b"\xd2\x84\x43\xa1\x01\x26\xa0\x40\x40";
+    let names = Names::known(alloc)?;
+    let naming = Naming::new(&names, None);
+    let steps = steps_of(alloc, "0/@/1")?;
+    assert_eq!(rt; name_at(alloc, naming, bytes, &steps)?, Some("alg"));
+    Ok(())
+}
+
+#[test]
+fn texts_are_told(rt: HostRuntime) {
+    assert!(rt; is_text(b"two\nlines"));
+    assert!(rt; !is_text(b"a\x1b"));
+    assert_eq!(rt; looks_like(b"82-01"), Some(Pasted::Dashes));
+}

@@ -1,0 +1,226 @@
+//! Calls of `cbor_inspect` and `cbor_places`, in which
+//! `checks/allocations/failing_calls` makes allocations fail, one after the other.
+
+use cbor_diag::{DataItem, Error, parse_bytes};
+use cbor_inspect::{
+    End, Form, Input, Refusal, Show, Stream, Style, lost_at, recognize, show_items, steps_of,
+};
+use cbor_places::{Around, ByteNumbers, Leaves, Piece, lines_at};
+use std::alloc::Global;
+use std::process::Abort;
+use std::test::Fail;
+
+/// What is written of one item, or of its part.
+#[derive(Clone, Copy)]
+struct Case<'a> {
+    form: Form,
+    embedded: bool,
+    path: &'a str,
+    input: &'a [u8],
+    output: &'a [u8],
+}
+
+const SIGNED: &[u8] = b"\x43\xa1\x01\x26";
+
+const MAP: &[u8] = b"\xa2\x01\xc1\x1a\x65\x53\xf1\x00\x02\xf9\x3e\x00";
+
+const PRETTY: &[u8] = b"{1: 1(1700000000 /2023-11-14T22:13:20Z/), 2: 1.5}\n";
+
+const HIDDEN: &[u8] = b"\x63a\x0ab";
+
+/// Bytes right below tag 24, and items in bytes right below tag 63.
+const WITHIN: &[u8] = b"\x82\xd8\x18\x43\xa1\x01\x26\xd8\x3f\x43\x01\xf9\x00";
+
+fn row<'a>(form: Form, embedded: bool, input: &'a [u8], output: &'a [u8]) -> Case<'a> {
+    Case {
+        form,
+        embedded,
+        path: "",
+        input,
+        output,
+    }
+}
+
+fn part<'a>(path: &'a str, input: &'a [u8], output: &'a [u8]) -> Case<'a> {
+    Case {
+        form: Form::Diag,
+        embedded: false,
+        path,
+        input,
+        output,
+    }
+}
+
+fn cases() -> [Case<'static>; 16] {
+    [
+        row(Form::Bytes, false, SIGNED, SIGNED),
+        row(Form::Digits, false, SIGNED, b"43a10126\n"),
+        row(Form::Diag, false, SIGNED, b"h'a10126'\n"),
+        row(Form::Diag, true, SIGNED, b"<<{1: -7}>>\n"),
+        row(Form::Pretty, true, SIGNED, b"<<{1: -7}>>\n"),
+        row(Form::Pretty, false, MAP, PRETTY),
+        row(Form::Pretty, true, MAP, PRETTY),
+        row(Form::Diag, false, HIDDEN, b"\"a\\nb\"\n"),
+        row(Form::Hex, false, b"\x20", b"20 # negative(-1)\n"),
+        row(
+            Form::Pretty,
+            false,
+            WITHIN,
+            b"[24(<<{1: -7}>>), 63(h'01f900')]\n",
+        ),
+        part("@/1", SIGNED, b"-7\n"),
+        part("2", MAP, b"1.5\n"),
+        part("a", b"\xa1\x61a\x03", b"3\n"),
+        part("@1/@0", b"\x44\x00\x42\x05\xff", b"5\n"),
+        part("*", b"\x82\x01\x61\x61", b"1\n\"a\"\n"),
+        part(
+            "*/*/0",
+            b"\xa2\x01\x82\x81\x07\x80\x02\x81\x82\x08\x09",
+            b"7\n8\n",
+        ),
+    ]
+}
+
+/// What is written as the case asks.
+fn show_of<'a>(alloc: Global, case: &Case) -> Result<Show<'a>, Error> {
+    Ok(Show {
+        style: Style {
+            form: case.form,
+            embedded: case.embedded,
+            notes: true,
+            widths: false,
+        },
+        names: None,
+        steps: steps_of(alloc, case.path)?,
+        one: false,
+    })
+}
+
+/// An item is shown rightly, or memory runs out and nothing is written. Returns whether it did.
+fn shown(rt: &impl Abort, alloc: Global, case: &Case) -> Result<bool, Error> {
+    let show = show_of(alloc, case)?;
+    let mut out = Vec::new(alloc);
+    let shown = show_items(&show, case.input, &mut out);
+    if shown.end == End::Memory {
+        assert!(rt; out.is_empty());
+        return Ok(true);
+    }
+    assert_eq!(rt; shown.end, End::Done);
+    assert_eq!(rt; out.as_slice(), case.output);
+    Ok(false)
+}
+
+/// The same of an item that comes in two pieces, of which the first alone writes nothing.
+fn streamed(rt: &impl Abort, alloc: Global, case: &Case) -> Result<bool, Error> {
+    let show = show_of(alloc, case)?;
+    let (first, second) = case.input.split_at(case.input.len().saturating_sub(1));
+    let mut out = Vec::new(alloc);
+    let mut stream = Stream::new(Vec::from_slice(alloc, first)?);
+    let cut = stream.show(&show, &mut out);
+    stream.push(alloc, second)?;
+    let end = stream.show(&show, &mut out);
+    if end == End::Memory {
+        assert!(rt; out.is_empty());
+        return Ok(true);
+    }
+    assert_eq!(rt; end, End::Done);
+    assert_eq!(rt; out.as_slice(), case.output);
+    Ok(cut == End::Memory)
+}
+
+/// A text is recognized rightly, or memory runs out. Returns whether it did.
+fn recognized(rt: &impl Abort, alloc: Global, form: Input, text: &[u8]) -> bool {
+    match recognize(alloc, text) {
+        Ok(found) => {
+            assert_eq!(rt; found.form, form);
+            assert_eq!(rt; found.bytes.as_slice(), b"\x82\x01\x02".as_slice());
+            false
+        }
+        Err(refusal) => {
+            assert_eq!(rt; refusal, Refusal::Memory);
+            true
+        }
+    }
+}
+
+/// The place where a path ends, or out of memory.
+fn lost(rt: &impl Abort, alloc: Global) -> Result<bool, Error> {
+    let item = parse_bytes(alloc, b"\x82\x01\x43\xa1\x01\x26")?;
+    for path in ["1/@/5", "1/@0/*/1", "*/@/5"] {
+        let steps = steps_of(alloc, path)?;
+        let lost = lost_at(alloc, &item, &steps)?;
+        let is_farthest = match lost.item {
+            DataItem::Map { .. } => lost.steps == 2,
+            DataItem::Negative { .. } => lost.steps == 3,
+            _ => false,
+        };
+        assert!(rt; is_farthest);
+    }
+    Ok(false)
+}
+
+const NESTED: &[u8] = b"\xa1\x62a/\x82\x01\x1f";
+
+/// What is said of a place in an item, or out of memory.
+fn placed(rt: &impl Abort, alloc: Global) -> Result<bool, Error> {
+    let piece = Piece {
+        begins: 0,
+        bytes: NESTED,
+    };
+    let around = Around::of_end(alloc, piece)?;
+    let words = around.words(&ByteNumbers, false)?;
+    let wanted = "at \"a/\"/1, in the array of 2 at byte 4, of which 1 is there";
+    assert_eq!(rt; words.as_str(), wanted);
+    let lines = lines_at(alloc, piece, 5)?;
+    let wanted = "path: \"a/\"/0\nhead: 01 # 1\nitem: byte 5 (0x5)\n";
+    assert_eq!(rt; lines.as_str(), wanted);
+    Ok(false)
+}
+
+/// The lines of paths, or out of memory.
+fn lined(rt: &impl Abort, alloc: Global) -> Result<bool, Error> {
+    let items = Piece {
+        bytes: MAP,
+        begins: 0,
+    };
+    let mut leaves = Leaves::new(alloc, items, Show::new(alloc, Form::Diag).style);
+    let mut out = String::new(alloc);
+    leaves.push_block(&mut out)?;
+    assert_eq!(rt; out.as_str(), "0x2  1  1(1700000000)\n0x9  2  1.5\n");
+    Ok(false)
+}
+
+fn answer<E: Drop>(refused: Result<bool, E>) -> &'static str {
+    match refused {
+        Ok(false) => "ok",
+        Ok(true) | Err(_) => "memory",
+    }
+}
+
+// `checks/allocations/failing_calls` runs this while it makes allocations fail, and reads the
+// lines: a call in which one failed has to print `memory`, and any other `ok`.
+#[test]
+fn a_call_answers_or_memory_is_refused(rt: HostRuntime) -> Result<(), Fail> {
+    let alloc = rt.alloc();
+    for (number, case) in cases().iter().enumerate() {
+        for _ in 0..2 {
+            println!(rt; "item {number}: {}", answer(shown(&rt, alloc, case)))?;
+            println!(rt; "pieces {number}: {}", answer(streamed(&rt, alloc, case)))?;
+        }
+    }
+    for _ in 0..2 {
+        for (form, name, text) in [
+            (Input::Hex, "hex", b"82 01 02".as_slice()),
+            (Input::Diag, "diag", b"[1, 2]".as_slice()),
+            (Input::Base64, "base64", b"ggEC".as_slice()),
+            (Input::Bytes, "bytes", b"\x82\x01\x02".as_slice()),
+        ] {
+            let refused: Result<bool, Error> = Ok(recognized(&rt, alloc, form, text));
+            println!(rt; "recognized as {name}: {}", answer(refused))?;
+        }
+        println!(rt; "lost: {}", answer(lost(&rt, alloc)))?;
+        println!(rt; "placed: {}", answer(placed(&rt, alloc)))?;
+        println!(rt; "lined: {}", answer(lined(&rt, alloc)))?;
+    }
+    Ok(())
+}
