@@ -1,5 +1,5 @@
-//! Base 16, 32, 58 and 64. The vectors of `foobar` are those of RFC 4648, section 10; the encodings of
-//! all bytes and the texts in base 58 were made by an independent implementation.
+//! Base 16, 32, 58 and 64. The vectors of `foobar` are those of RFC 4648, section 10; the encodings
+//! of all bytes and the texts in base 58 were made by an independent implementation.
 
 use cbor_notes::{
     base32_decode, base32hex_decode, base58, base64_any_decode, base64_lines, decode_hex, push_hex,

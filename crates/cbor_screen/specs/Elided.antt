@@ -18,7 +18,7 @@ whole cut = cut.front ++ cut.gone ++ cut.rest
 abbrev pub shown : Cut → List ℕ
 shown cut = cut.front ++ codes "..." ++ cut.rest ++ codes " /" ++ decimal cut.bytes ++ codes " bytes/"
 
--- it is as it was, or a part is left out of more than so many bytes
+-- it is as it was, or a part is left out of a string of more than `most` bytes
 abbrev pub IsElidedToken : ℕ → List ℕ → List ℕ → Type 0
 IsElidedToken most token added = (added ≡ token)
     ⊎ ((cut : Cut) × (token ≡ whole cut) × (added ≡ shown cut) × (most < cut.bytes) × (most < length token))

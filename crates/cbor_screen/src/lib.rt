@@ -1,5 +1,5 @@
-//! What a screen is shown of a text: colours round the tokens of EDN and of dumps, and long strings
-//! that are cut.
+//! What a screen is shown of a text: colours round the tokens of EDN and of dumps, long strings
+//! that are cut, and dumps with the items that are in byte strings.
 //!
 //! ```rust
 //! use cbor_screen::{Language, push_colored};
@@ -17,11 +17,13 @@
 
 mod color;
 mod elide;
+mod embedded;
 mod kind;
 mod quoted;
 mod token;
 
 pub use color::{push_colored, push_in_color};
 pub use elide::push_elided;
+pub use embedded::push_embedded;
 pub use kind::Kind;
 pub use token::Language;

@@ -150,13 +150,13 @@ fn kind_before(line: &[u8], token: Token) -> Kind
     }
 }
 
-/// Whether a colon follows a place of a line, maybe after a note.
+/// Whether a colon follows a place of a line, maybe after notes.
 fn is_key(line: &[u8], end: usize) -> bool
     requires { end ≤ length line.now }
 {
     let mut at = end;
-    if end + 1 < line.len() && line[end] == b' ' && line[end + 1] == b'/' {
-        at = comment_end(line, end + 1);
+    'notes: while at + 1 < line.len() && line[at] == b' ' && line[at + 1] == b'/' {
+        at = comment_end(line, at + 1);
     }
     byte_at(line, at) == b':'
 }

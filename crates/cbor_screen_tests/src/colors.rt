@@ -78,6 +78,10 @@ fn keys(rt: HostRuntime) -> Result<(), Fail> {
             "‹c›/alg/‹› ‹k›1‹›: ‹n›-7‹› ‹c›/ES256/‹›",
         ),
         ("h'01' /1 byte/: 2", "‹k›h'01'‹› ‹c›/1 byte/‹›: ‹n›2‹›"),
+        (
+            "h'61...' /2 bytes/ /'ab'/: 2",
+            "‹k›h'61...'‹› ‹c›/2 bytes/‹› ‹c›/'ab'/‹›: ‹n›2‹›",
+        ),
         ("/fault: no item/ h''", "‹!›/fault: no item/‹› ‹b›h''‹›"),
         ("/cut short/ h''", "‹!›/cut short/‹› ‹b›h''‹›"),
         ("{1(2): [3]}", "{‹#›1‹›(‹n›2‹›): [‹n›3‹›]}"),

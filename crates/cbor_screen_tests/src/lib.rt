@@ -8,3 +8,5 @@ mod colors;
 mod doc_examples;
 #[cfg(test)]
 mod elided;
+#[cfg(test)]
+mod embedded;

@@ -1,0 +1,137 @@
+//! What is said of the first place that breaks a set of rules.
+
+use crate::kind::{kind_number, kind_text};
+use crate::rule_set::RuleSet;
+use crate::widths::{major_of, push_integer_float, push_long_float, push_long_head};
+use crate::words::{Message, TWO_BYTES, Words};
+use cbor_diag::Error;
+use cbor_grammar::major::Major;
+use cbor_places::Piece;
+use cbor_reencode::ReencodeError;
+use cbor_rules::{Breach, BreachKind, breach_in};
+use std::alloc::Global;
+use std::fmt::Write;
+
+/// What is said of the first breach of the set in whole items; `None` if they keep it. The only
+/// error is `Memory`.
+pub fn first_breach(alloc: Global, set: RuleSet, items: Piece) -> Result<Option<Message>, Error> {
+    let Some(breach) = breach_in(alloc, items.bytes, set.rules)? else {
+        return Ok(None);
+    };
+    Ok(Some(message_on(alloc, set, items, breach)?))
+}
+
+/// What is said of whole items that cannot be encoded so that they keep the set: the error is that
+/// of `reencoded`. The only error is `Memory`.
+pub fn not_encoded(
+    alloc: Global,
+    set: RuleSet,
+    items: Piece,
+    error: ReencodeError,
+) -> Result<Message, Error> {
+    let breach = match error {
+        ReencodeError::Memory => return Err(Error::Memory),
+        ReencodeError::Breach(breach) => breach,
+        ReencodeError::KeyTwice { first, second } => Breach {
+            place: second,
+            kind: BreachKind::KeyTwice { first },
+        },
+        ReencodeError::Written(_) => {
+            let mut words = Words::new(alloc, items);
+            words.push(set.not)?;
+            words.push("a text in chunks is not in NFC once they are joined")?;
+            return Ok(words.at(0));
+        }
+    };
+    message_on(alloc, set, items, breach)
+}
+
+/// What is said of a breach of the set.
+fn message_on(alloc: Global, set: RuleSet, items: Piece, breach: Breach) -> Result<Message, Error> {
+    let mut words = Words::new(alloc, items);
+    words.push(set.not)?;
+    words.push_breach(breach)?;
+    Ok(words.at(breach.place))
+}
+
+/// What a head opens.
+fn noun_of(bytes: &[u8]) -> &'static str {
+    match major_of(bytes) {
+        Major::Bytes => "a byte string",
+        Major::Text => "a text",
+        Major::Array => "an array",
+        _ => "a map",
+    }
+}
+
+impl Words<'_> {
+    /// Writes what is wrong at a place.
+    fn push_breach(&mut self, breach: Breach) -> Result<(), Error> {
+        let Breach { place, kind } = breach;
+        let rest = self.from(place);
+        match kind {
+            BreachKind::NoItem(error) => self.push(error.text())?,
+            BreachKind::LongSimple => self.push(TWO_BYTES)?,
+            BreachKind::LongHead { number, width } => push_long_head(
+                &mut self.out,
+                rest,
+                number,
+                width,
+            )?,
+            BreachKind::LongFloat { float, shortest } => push_long_float(
+                &mut self.out,
+                float,
+                shortest,
+            )?,
+            BreachKind::IntegerFloat {
+                float,
+                negative,
+                size,
+            } => push_integer_float(&mut self.out, float, negative, size)?,
+            BreachKind::OtherNan { .. } => self.push("the only NaN of dCBOR is f97e00")?,
+            BreachKind::OtherSimple(value) => {
+                write!(
+                    self.out,
+                    "dCBOR has no simple({value}), only false, true and null"
+                )?;
+            }
+            BreachKind::NotNfc => self.push_not_nfc(place)?,
+            BreachKind::Indefinite => write!(self.out, "{} of indefinite length", noun_of(rest))?,
+            BreachKind::Tag => self.push("CTAP2 has no tags")?,
+            BreachKind::LeadingZero | BreachKind::SmallBigNumber => {
+                self.push(kind_text(kind_number(kind)))?;
+            }
+            BreachKind::TooDeep => self.push("CTAP2 has at most 4 levels of arrays and maps")?,
+            BreachKind::KeyOrder { .. } | BreachKind::KeyTwice { .. } => {
+                self.push_key_breach(place, kind)?;
+            }
+        }
+        Ok(())
+    }
+
+    /// Writes that the text at a place is not in NFC.
+    fn push_not_nfc(&mut self, place: usize) -> Result<(), Error> {
+        if !self.push_short(place)? {
+            self.push("a text")?;
+        }
+        Ok(self.push(" is not in NFC")?)
+    }
+
+    /// Writes what is wrong with a key.
+    fn push_key_breach(&mut self, place: usize, kind: BreachKind) -> Result<(), Error> {
+        self.push("the key ")?;
+        self.push_key(place)?;
+        match kind {
+            BreachKind::KeyOrder { previous } => {
+                self.push(" comes after ")?;
+                self.push_key(previous)?;
+            }
+            BreachKind::KeyTwice { first } => {
+                self.push(" was ")?;
+                self.push_byte(first)?;
+            }
+            _ => {}
+        }
+        Ok(())
+    }
+}

@@ -1,0 +1,39 @@
+//! What is said of what is wrong, as `cborcat` says it: of a rule that is broken, of what JSON does
+//! not keep, of a path that leads nowhere; and the lines that a message shows.
+//!
+//! ```rust
+//! use cbor_messages::{RuleSet, first_breach};
+//! use cbor_places::Piece;
+//!
+//! // {"b": 2, "a": 1}: the keys are not in the order of their bytes.
+//! let items = Piece {
+//!     begins: 0,
+//!     bytes: b"\xa2\x61b\x02\x61a\x01",
+//! };
+//! let core = RuleSet::named("core").expect(&rt, "core");
+//! let message = first_breach(alloc, core, items)?.expect(&rt, "a breach");
+//! assert_eq!(rt; message.place, 4);
+//! let text = "not core deterministic: the key \"a\" comes after \"b\"";
+//! assert_eq!(rt; message.text.as_str(), text);
+//! ```
+//!
+//! Nothing here knows of arguments or files. In the examples of this crate, `rt` is the
+//! `HostRuntime` of a test, and `alloc` is `rt.alloc()`.
+#![tactic(auto)]
+
+mod breach;
+mod excerpt;
+mod json;
+mod kind;
+mod lost;
+mod rule_set;
+mod widths;
+mod words;
+
+pub use breach::{first_breach, not_encoded};
+pub use excerpt::{Excerpt, Position, position_of};
+pub use json::not_json;
+pub use kind::{kind_number, kind_text};
+pub use lost::lost_words;
+pub use rule_set::{ENCODINGS, RULES, RuleSet};
+pub use words::{Message, TWO_BYTES};

@@ -1,0 +1,21 @@
+//! The examples of the doc comments of `cbor_messages`, line for line: `checks/examples` compares.
+
+use cbor_messages::{RuleSet, first_breach};
+use cbor_places::Piece;
+use std::test::Fail;
+
+#[test]
+fn of_the_crate(rt: HostRuntime) -> Result<(), Fail> {
+    let alloc = rt.alloc();
+    // {"b": 2, "a": 1}: the keys are not in the order of their bytes.
+    let items = Piece {
+        begins: 0,
+        bytes: b"\xa2\x61b\x02\x61a\x01",
+    };
+    let core = RuleSet::named("core").expect(&rt, "core");
+    let message = first_breach(alloc, core, items)?.expect(&rt, "a breach");
+    assert_eq!(rt; message.place, 4);
+    let text = "not core deterministic: the key \"a\" comes after \"b\"";
+    assert_eq!(rt; message.text.as_str(), text);
+    Ok(())
+}
