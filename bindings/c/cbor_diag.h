@@ -1,6 +1,6 @@
 /*
  * cbor_diag.h - CBOR data items (RFC 8949, which replaced RFC 7049) in bytes, in hex with comments, in diagnostic
- * notation and in EDN, the notation that people write.
+ * notation, in EDN, the notation that people write, and as JSON.
  *
  *     static const char notation[] = "[1, {\"a\": h'00ff'}]";
  *     unsigned char bytes[64];
@@ -38,7 +38,9 @@ enum cbor_diag_form {
     CBOR_DIAG_FORM_DIAG = 2,  /* diagnostic notation; the output has no line breaks of its own; a line feed ends it */
     CBOR_DIAG_FORM_PRETTY = 3, /* diagnostic notation; the output may have several lines; a line feed ends it */
     CBOR_DIAG_FORM_EDN = 4,    /* one item in EDN, of which JSON is a part; the output is one line */
-    CBOR_DIAG_FORM_EDN_PRETTY = 5 /* one item in EDN; the output may have several lines, and has notes as comments */
+    CBOR_DIAG_FORM_EDN_PRETTY = 5, /* one item in EDN; the output may have several lines, and has notes as comments */
+    CBOR_DIAG_FORM_JSON = 6,       /* JSON on one line, which a line feed ends; an input is read as EDN */
+    CBOR_DIAG_FORM_JSON_STRICT = 7 /* the same, but an output that JSON does not keep is an error */
 };
 
 /*
@@ -47,8 +49,14 @@ enum cbor_diag_form {
  * bytes, which RFC 8949 does not have. An output in EDN has no control characters but line feeds, which are outside of
  * texts.
  *
+ * JSON is written as RFC 8949, section 6.1 advises: tags are left out, NaN, the infinities and undefined are null, byte
+ * strings are base64url, and a key that is no text is a string of its EDN, so 1 is "1". Two keys of a map that become
+ * the same are an error. CBOR_DIAG_FORM_JSON_STRICT also refuses what JSON does not keep: a tag, NaN, an infinity, a
+ * simple value but false, true and null, a byte string, and a key that is no text. JSON has no control characters but
+ * the line feed at its end.
+ *
  * In both outputs in diagnostic notation a text string is shown as it is, with its line feeds and control characters:
- * of hostile input, a line is not one item, and a terminal obeys what it is sent. A dump and EDN escape them.
+ * of hostile input, a line is not one item, and a terminal obeys what it is sent. A dump, EDN and JSON escape them.
  */
 
 /* Errors. A call returns minus one of these. */
@@ -66,7 +74,18 @@ enum cbor_diag_error {
     CBOR_DIAG_ERROR_PAST_WIDTH = 10, /* a number does not fit its width */
     CBOR_DIAG_ERROR_NO_FORM = 11,    /* no such form: `from` or `to` is not an enum cbor_diag_form */
     CBOR_DIAG_ERROR_NO_RULES = 12,   /* no such rules: `rules` is not an enum cbor_diag_rules */
-    CBOR_DIAG_ERROR_NOT_ENCODABLE = 13 /* no encoding of the items keeps the rules, or the bytes are no items */
+    CBOR_DIAG_ERROR_NOT_ENCODABLE = 13, /* no encoding of the items keeps the rules, or the bytes are no items */
+    CBOR_DIAG_ERROR_SAME_KEYS = 14,  /* two keys of a map become the same in JSON */
+    CBOR_DIAG_ERROR_NOT_KEPT = 15    /* JSON does not keep all of the item: only for CBOR_DIAG_FORM_JSON_STRICT */
+};
+
+/* What JSON does not keep. */
+enum cbor_diag_loss {
+    CBOR_DIAG_LOSS_TAG = 1,        /* a tag */
+    CBOR_DIAG_LOSS_NOT_FINITE = 2, /* NaN or an infinity */
+    CBOR_DIAG_LOSS_SIMPLE = 3,     /* undefined, or another simple value that is none of false, true and null */
+    CBOR_DIAG_LOSS_BYTES = 4,      /* a byte string */
+    CBOR_DIAG_LOSS_KEY = 5         /* a key that is no text */
 };
 
 /* Sets of rules for an encoding. Each has the rules of the first one. */
@@ -133,11 +152,15 @@ int64_t cbor_diag_fault_text(uint32_t from, const uint8_t *input, size_t input_l
 int64_t cbor_diag_fault_path(uint32_t from, const uint8_t *input, size_t input_len, uint8_t *path, size_t path_len);
 int64_t cbor_diag_fault_message(uint32_t from, const uint8_t *input, size_t input_len, uint8_t *message,
                                 size_t message_len);
+int64_t cbor_diag_output_fault(uint32_t from, uint32_t to, const uint8_t *input, size_t input_len, size_t *place,
+                               size_t *detail);
 void cbor_diag_scanner_init(struct cbor_diag_scanner *scanner);
 int64_t cbor_diag_scanner_feed(struct cbor_diag_scanner *scanner, const uint8_t *input, size_t input_len, size_t *end);
 int64_t cbor_diag_breach(uint32_t rules, const uint8_t *input, size_t input_len, size_t *place, size_t *detail);
 int64_t cbor_diag_breach_text(uint32_t kind, uint8_t *output, size_t output_len);
 int64_t cbor_diag_reencode(uint32_t rules, const uint8_t *input, size_t input_len, uint8_t *output, size_t output_len);
+int64_t cbor_diag_reencode_fault(uint32_t rules, const uint8_t *input, size_t input_len, size_t *place,
+                                 size_t *detail);
 int64_t cbor_diag_error_text(uint32_t error, uint8_t *output, size_t output_len);
 uint32_t cbor_diag_version(void);
 
@@ -316,6 +339,43 @@ static inline int64_t cbor_diag_fault_message_checked(uint32_t from, const void 
 #define cbor_diag_fault_message cbor_diag_fault_message_checked
 
 /*
+ * Reports why an item has no JSON, and where in its bytes. Call it after a conversion to CBOR_DIAG_FORM_JSON or
+ * CBOR_DIAG_FORM_JSON_STRICT has failed. Where an input is no item, cbor_diag_fault has the place.
+ *
+ * Returns 0 if cbor_diag_convert has an output for the two forms, and otherwise minus the number of its error.
+ *
+ * - For CBOR_DIAG_ERROR_SAME_KEYS, sets `*place` to how many bytes of the item come before the second of the two keys,
+ *   and `*detail` to how many come before the first.
+ * - For CBOR_DIAG_ERROR_NOT_KEPT, sets `*place` to how many bytes of the item come before the first thing, from the
+ *   left, that JSON does not keep, and `*detail` to what it is, an enum cbor_diag_loss.
+ * - Otherwise both are set to CBOR_DIAG_NO_PLACE.
+ *
+ * The bytes of the item are those of an input in bytes, those that the digits of one in hex are, and for one in
+ * notation, EDN or JSON those that a conversion to CBOR_DIAG_FORM_BYTES has.
+ *
+ *     size_t second, first;
+ *     cbor_diag_output_fault(CBOR_DIAG_FORM_BYTES, CBOR_DIAG_FORM_JSON, "\xa2\x01\x00\x61\x31\x00", 6,
+ *                            &second, &first);  // _SAME_KEYS: the key 1 at 1, and "1" at 3
+ *
+ * `input` may be null if its length is 0, and `place` and `detail` may be null.
+ */
+static inline int64_t cbor_diag_output_fault_checked(uint32_t from, uint32_t to, const void *input, size_t input_len,
+                                                     size_t *place, size_t *detail)
+{
+    const uint8_t *in = input ? (const uint8_t *)input : cbor_diag_no_bytes();
+    size_t unused_place, unused_detail;
+    size_t *at = place ? place : &unused_place;
+    size_t *other = detail ? detail : &unused_detail;
+    if (input_len > (size_t)PTRDIFF_MAX) {
+        *at = CBOR_DIAG_NO_PLACE;
+        *other = CBOR_DIAG_NO_PLACE;
+        return -CBOR_DIAG_ERROR_MEMORY; /* no object is that large */
+    }
+    return cbor_diag_output_fault(from, to, in, input_len, at, other);
+}
+#define cbor_diag_output_fault cbor_diag_output_fault_checked
+
+/*
  * Reports how bytes begin that come in pieces, without memory: feed each piece as it comes, for example from a socket.
  * The time grows with the new bytes alone: of those before, at most eight are looked at again, which are those of a
  * head or a character that is cut.
@@ -394,6 +454,8 @@ static inline int64_t cbor_diag_breach_checked(uint32_t rules, const void *input
  *   if the joined chunks of a text or of a big number break a rule;
  * - CBOR_DIAG_ERROR_NO_RULES and CBOR_DIAG_ERROR_MEMORY.
  *
+ * cbor_diag_reencode_fault says what is wrong, and where.
+ *
  * A pointer may be null if its length is 0. The output must not overlap the input.
  */
 static inline int64_t cbor_diag_reencode_checked(uint32_t rules, const void *input, size_t input_len, void *output,
@@ -410,6 +472,46 @@ static inline int64_t cbor_diag_reencode_checked(uint32_t rules, const void *inp
     return cbor_diag_reencode(rules, in, input_len, out, output_len);
 }
 #define cbor_diag_reencode cbor_diag_reencode_checked
+
+/*
+ * Reports why no encoding of the items keeps the rules, and where. Call it after cbor_diag_reencode has returned minus
+ * CBOR_DIAG_ERROR_NOT_ENCODABLE.
+ *
+ * Returns 0 if there is an encoding, and otherwise the number of what is wrong, an enum cbor_diag_breach_kind. `*place`
+ * is set to how many bytes of the input come before the head, or before the key, that is wrong. `*detail` is set to
+ *
+ * - the place of the first of the two keys, for CBOR_DIAG_BREACH_KEY_TWICE: `*place` is that of the second. The two may
+ *   differ in the input, as 01 and 18 01, and are one once they are encoded again;
+ * - the number of the error, an enum cbor_diag_error, for CBOR_DIAG_BREACH_NO_ITEM;
+ * - CBOR_DIAG_NO_PLACE for each other kind.
+ *
+ * If what is wrong is not in the input but in what it is encoded to, such as a text whose joined chunks are not in NFC,
+ * both are set to CBOR_DIAG_NO_PLACE.
+ *
+ * On an error, returns minus CBOR_DIAG_ERROR_NO_RULES or minus CBOR_DIAG_ERROR_MEMORY. Then, and if there is an
+ * encoding, both are set to CBOR_DIAG_NO_PLACE.
+ *
+ *     size_t second, first;
+ *     cbor_diag_reencode_fault(CBOR_DIAG_RULES_CORE, "\xa2\x01\x80\x18\x01\x80", 6, &second, &first);
+ *     // CBOR_DIAG_BREACH_KEY_TWICE: the key 1 at 1, and again at 3
+ *
+ * `input` may be null if its length is 0, and `place` and `detail` may be null.
+ */
+static inline int64_t cbor_diag_reencode_fault_checked(uint32_t rules, const void *input, size_t input_len,
+                                                       size_t *place, size_t *detail)
+{
+    const uint8_t *in = input ? (const uint8_t *)input : cbor_diag_no_bytes();
+    size_t unused_place, unused_detail;
+    size_t *at = place ? place : &unused_place;
+    size_t *other = detail ? detail : &unused_detail;
+    if (input_len > (size_t)PTRDIFF_MAX) {
+        *at = CBOR_DIAG_NO_PLACE;
+        *other = CBOR_DIAG_NO_PLACE;
+        return -CBOR_DIAG_ERROR_MEMORY; /* no object is that large */
+    }
+    return cbor_diag_reencode_fault(rules, in, input_len, at, other);
+}
+#define cbor_diag_reencode_fault cbor_diag_reencode_fault_checked
 
 /*
  * Writes the text of an error into `text`, with a zero byte at its end, and returns `text`. `answer` is the negative

@@ -20,7 +20,9 @@
 #define PRETTY CBOR_DIAG_FORM_PRETTY
 #define EDN CBOR_DIAG_FORM_EDN
 #define EDN_PRETTY CBOR_DIAG_FORM_EDN_PRETTY
-#define FORMS 6
+#define FORMS 6 /* those that keep all of an item */
+#define JSON CBOR_DIAG_FORM_JSON
+#define JSON_STRICT CBOR_DIAG_FORM_JSON_STRICT
 #define UNTOUCHED 0xa5
 
 /* ---- reports */
@@ -207,6 +209,111 @@ static void test_edn(void)
     }
 }
 
+/* ---- JSON */
+
+static void test_json(void)
+{
+    const struct {
+        const char *name;
+        struct text bytes, line;
+    } rows[] = {
+        {"integer keys", TEXT("\xa2\x01\x02\x20\x03"), TEXT("{\"1\": 2, \"-1\": 3}\n")},
+        {"2^64 - 1", TEXT("\x1b\xff\xff\xff\xff\xff\xff\xff\xff"), TEXT("18446744073709551615\n")},
+        {"-2^64", TEXT("\x3b\xff\xff\xff\xff\xff\xff\xff\xff"), TEXT("-18446744073709551616\n")},
+        {"2^64", TEXT("\xc2\x49\x01\x00\x00\x00\x00\x00\x00\x00\x00"), TEXT("18446744073709551616\n")},
+        {"no numbers", TEXT("\x83\xf9\x7e\x00\xf9\x7c\x00\xf9\xfc\x00"), TEXT("[null, null, null]\n")},
+        {"simple values", TEXT("\x84\xf4\xf5\xf6\xf7"), TEXT("[false, true, null, null]\n")},
+        {"floats", TEXT("\x82\xf9\x3e\x00\xfb\x40\x00\x00\x00\x00\x00\x00\x00"), TEXT("[1.5, 2.0]\n")},
+        {"byte strings", TEXT("\x82\x43\x01\x02\x03\xd7\x41\x01"), TEXT("[\"AQID\", \"01\"]\n")},
+        {"nested", TEXT("\xa1\x61" "a\x82\x01\xa1\x61" "b\xc1\x18\x00"), TEXT("{\"a\": [1, {\"b\": 0}]}\n")},
+        {"chunks", TEXT("\x7f\x61\n\x62\xc3\xbc\xff"), TEXT("\"\\n\xc3\xbc\"\n")},
+    };
+    for (size_t i = 0; i < sizeof rows / sizeof *rows; i++) {
+        test_room(rows[i].name, BYTES, JSON, rows[i].bytes, rows[i].line);
+        test_exact_room(rows[i].name, BYTES, JSON, rows[i].bytes, rows[i].line);
+    }
+    struct text json = TEXT("{\"1\": [2, 1.0]}\n"), strict = TEXT("{\"a\": [1.5, null, -2, \"\\n\"]}\n");
+    test_room("hex to JSON", HEX, JSON, (struct text)TEXT("a1 01 82 02 f9 3c00 # a map"), json);
+    test_room("notation to JSON", DIAG, JSON, (struct text)TEXT("{1: [_ 2, float'3c00']}"), json);
+    test_room("EDN to JSON", EDN_PRETTY, JSON, (struct text)TEXT("{1_1: [2, 1.0_3]} # a map"), json);
+    test_room("JSON to itself", JSON, JSON, strict, strict);
+    test_room("JSON to strict JSON", JSON, JSON_STRICT, strict, strict);
+    test_room("JSON to bytes", JSON_STRICT, BYTES, (struct text)TEXT("{\"a\": 1.5}"),
+              (struct text)TEXT("\xa1\x61\x61\xf9\x3e\x00"));
+}
+
+static void test_output_faults(void)
+{
+    const size_t none = CBOR_DIAG_NO_PLACE;
+    const struct {
+        uint32_t from, to;
+        struct text input;
+        int error;
+        size_t place, detail;
+    } rows[] = {
+        {BYTES, JSON, TEXT("\xa2\x01\x00\x61\x31\x00"), CBOR_DIAG_ERROR_SAME_KEYS, 3, 1},
+        {BYTES, JSON, TEXT("\x82\x00\xa3\x02\x00\x01\x00\x18\x01\x00"), CBOR_DIAG_ERROR_SAME_KEYS, 7, 5},
+        {BYTES, JSON_STRICT, TEXT("\xa2\x61" "a\x00\x61" "a\x00"), CBOR_DIAG_ERROR_SAME_KEYS, 4, 1},
+        {HEX, JSON, TEXT("a2 01 00 # one\n 61 31 00"), CBOR_DIAG_ERROR_SAME_KEYS, 3, 1},
+        {DIAG, JSON, TEXT("[0,{1:0,\"1\":0}]"), CBOR_DIAG_ERROR_SAME_KEYS, 5, 3},
+        {EDN, JSON, TEXT("{\"a\": 0, \"\\u0061\": 0}"), CBOR_DIAG_ERROR_SAME_KEYS, 4, 1},
+        {BYTES, JSON_STRICT, TEXT("\xa2\x01\x00\x61\x31\x00"), CBOR_DIAG_ERROR_NOT_KEPT, 1, CBOR_DIAG_LOSS_KEY},
+        {BYTES, JSON_STRICT, TEXT("\xc1\x00"), CBOR_DIAG_ERROR_NOT_KEPT, 0, CBOR_DIAG_LOSS_TAG},
+        {HEX, JSON_STRICT, TEXT("82 f97e00 c100"), CBOR_DIAG_ERROR_NOT_KEPT, 1, CBOR_DIAG_LOSS_NOT_FINITE},
+        {JSON, JSON_STRICT, TEXT("[null, undefined]"), CBOR_DIAG_ERROR_NOT_KEPT, 2, CBOR_DIAG_LOSS_SIMPLE},
+        {PRETTY, JSON_STRICT, TEXT("[[1], h'00']"), CBOR_DIAG_ERROR_NOT_KEPT, 3, CBOR_DIAG_LOSS_BYTES},
+        {BYTES, JSON, TEXT("\xc1\x00"), 0, none, none},
+        {BYTES, EDN, TEXT("\xa2\x01\x00\x61\x31\x00"), 0, none, none},
+        {BYTES, JSON, TEXT("\x82\x01"), CBOR_DIAG_ERROR_CUT_SHORT, none, none},
+        {DIAG, BYTES, TEXT("1.5"), CBOR_DIAG_ERROR_NOTATION, none, none},
+        {8, JSON, TEXT("\x01"), CBOR_DIAG_ERROR_NO_FORM, none, none},
+        {BYTES, 8, TEXT("\x01"), CBOR_DIAG_ERROR_NO_FORM, none, none},
+    };
+    for (size_t i = 0; i < sizeof rows / sizeof *rows; i++) {
+        char name[40];
+        snprintf(name, sizeof name, "the output's fault of row %zu", i);
+        size_t length = rows[i].input.length, place = 99, detail = 99;
+        unsigned char *input = malloc(length);
+        memcpy(input, rows[i].input.bytes, length);
+        uint32_t from = rows[i].from, to = rows[i].to;
+        check_answer(name, -rows[i].error, cbor_diag_output_fault(from, to, input, length, &place, &detail));
+        check(place == rows[i].place, "%s: expected the place %zu, came %zu", name, rows[i].place, place);
+        check(detail == rows[i].detail, "%s: expected the detail %zu, came %zu", name, rows[i].detail, detail);
+        check_answer(name, -rows[i].error, cbor_diag_output_fault(from, to, input, length, NULL, NULL));
+        int64_t came = cbor_diag_convert(from, to, input, length, NULL, 0);
+        check_answer(name, -rows[i].error, came < 0 ? came : 0);
+        free(input);
+    }
+    size_t place = 99, detail = 99;
+    check_answer("null input", -CBOR_DIAG_ERROR_CUT_SHORT,
+                 cbor_diag_output_fault(BYTES, JSON, NULL, 0, &place, &detail));
+    check(place == none && detail == none, "null input: expected no place, came %zu and %zu", place, detail);
+    place = detail = 99;
+    check_answer("2^64 - 1 bytes", -CBOR_DIAG_ERROR_MEMORY,
+                 cbor_diag_output_fault(BYTES, JSON, "\x01", SIZE_MAX, &place, &detail));
+    check(place == none && detail == none, "2^64 - 1 bytes: expected no place, came %zu and %zu", place, detail);
+}
+
+/* Each allocation fails in turn. */
+static void test_output_faults_without_memory(void)
+{
+    int64_t came = -CBOR_DIAG_ERROR_MEMORY;
+    for (failing = 0; came == -CBOR_DIAG_ERROR_MEMORY && failing < 1000; failing++) {
+        size_t place = 99, detail = 99;
+        allocations = held = 0;
+        counting = 1;
+        came = cbor_diag_output_fault(EDN, JSON, "{1: 0, \"1\": 0}", 14, &place, &detail);
+        counting = 0;
+        check(held == 0, "allocation %ld fails: expected no block held, came %ld", failing, held);
+        if (came == -CBOR_DIAG_ERROR_MEMORY) {
+            check(place == CBOR_DIAG_NO_PLACE && detail == CBOR_DIAG_NO_PLACE,
+                  "out of memory: expected no place, came %zu and %zu", place, detail);
+        }
+    }
+    check(failing > 1, "no allocation was made to fail in the fault of an output");
+    check_answer("the fault of an output, with memory enough", -CBOR_DIAG_ERROR_SAME_KEYS, came);
+}
+
 /* ---- errors */
 
 struct refused {
@@ -240,8 +347,18 @@ static const struct refused refusals[] = {
     {"hex that is cut, to EDN", HEX, EDN_PRETTY, TEXT("82 01"), CBOR_DIAG_ERROR_CUT_SHORT},
     {"a g among hex digits, to EDN", HEX, EDN, TEXT("0g"), CBOR_DIAG_ERROR_BAD_HEX},
     {"a decimal fraction in notation, to EDN", DIAG, EDN, TEXT("1.5"), CBOR_DIAG_ERROR_NOTATION},
-    {"from the form 6", 6, BYTES, TEXT("\x01"), CBOR_DIAG_ERROR_NO_FORM},
-    {"to the form 6", BYTES, 6, TEXT("\x01"), CBOR_DIAG_ERROR_NO_FORM},
+    {"bytes that are cut, to JSON", BYTES, JSON, TEXT("\x82\x01"), CBOR_DIAG_ERROR_CUT_SHORT},
+    {"a g among hex digits, to JSON", HEX, JSON_STRICT, TEXT("0g"), CBOR_DIAG_ERROR_BAD_HEX},
+    {"a decimal fraction in notation, to JSON", DIAG, JSON, TEXT("1.5"), CBOR_DIAG_ERROR_NOTATION},
+    {"two lines of JSON", JSON, JSON, TEXT("1\n2\n"), CBOR_DIAG_ERROR_NOTATION},
+    {"JSON of the byte ff", JSON_STRICT, BYTES, TEXT("\"\xff\""), CBOR_DIAG_ERROR_UTF8},
+    {"two keys of a map that become the same", BYTES, JSON, TEXT("\xa2\x01\x00\x61\x31\x00"),
+     CBOR_DIAG_ERROR_SAME_KEYS},
+    {"the same in EDN", EDN, JSON, TEXT("{1: 0, \"1\": 0}"), CBOR_DIAG_ERROR_SAME_KEYS},
+    {"a tag in strict JSON", HEX, JSON_STRICT, TEXT("c1 00"), CBOR_DIAG_ERROR_NOT_KEPT},
+    {"undefined in strict JSON", JSON, JSON_STRICT, TEXT("[undefined]"), CBOR_DIAG_ERROR_NOT_KEPT},
+    {"from the form 8", 8, BYTES, TEXT("\x01"), CBOR_DIAG_ERROR_NO_FORM},
+    {"to the form 8", BYTES, 8, TEXT("\x01"), CBOR_DIAG_ERROR_NO_FORM},
     {"from the form 2^32 - 1", UINT32_MAX, BYTES, TEXT("\x01"), CBOR_DIAG_ERROR_NO_FORM},
     {"to the form 2^31", BYTES, 1u << 31, TEXT("\x01"), CBOR_DIAG_ERROR_NO_FORM},
     {"to no form, of no item", BYTES, 99, TEXT(""), CBOR_DIAG_ERROR_NO_FORM},
@@ -280,12 +397,14 @@ static const char *const error_texts[] = {
     "no such form",
     "no such rules",
     "no encoding of the items keeps the rules",
+    "two keys of a map become the same in JSON",
+    "JSON does not keep all of the item",
     "no such error",
 };
 
 static void test_error_texts(void)
 {
-    for (int64_t number = 0; number <= 13; number++) {
+    for (int64_t number = 0; number <= 16; number++) {
         const char *expected = error_texts[number];
         char text[CBOR_DIAG_ERROR_TEXT_SIZE];
         check(strcmp(expected, cbor_diag_strerror(-number, text, sizeof text)) == 0,
@@ -529,7 +648,10 @@ static void test_faults(void)
         {EDN, TEXT("[1, \"\\q\"]"), CBOR_DIAG_ERROR_NOTATION, 5},
         {EDN_PRETTY, TEXT("[1, x]"), CBOR_DIAG_ERROR_NOTATION, 4},
         {EDN, TEXT("[\"\xc3\xbc\", \xff]"), CBOR_DIAG_ERROR_UTF8, 7},
-        {6, TEXT("\x01"), CBOR_DIAG_ERROR_NO_FORM, CBOR_DIAG_NO_PLACE},
+        {JSON, TEXT("{\"a\" 1}"), CBOR_DIAG_ERROR_NOTATION, 5},
+        {JSON, TEXT("{\"a\": 1}"), 0, CBOR_DIAG_NO_PLACE},
+        {BYTES, TEXT("\xa2\x01\x00\x61\x31\x00"), 0, CBOR_DIAG_NO_PLACE},
+        {8, TEXT("\x01"), CBOR_DIAG_ERROR_NO_FORM, CBOR_DIAG_NO_PLACE},
     };
     for (size_t i = 0; i < sizeof rows / sizeof *rows; i++) {
         char name[40], other[8];
@@ -569,7 +691,8 @@ static void test_fault_texts(void)
         {BYTES, TEXT("\x01"), ""},
         {HEX, TEXT("0g"), "not a hex digit"},
         {DIAG, TEXT("300_0"), "a number does not fit its width"},
-        {6, TEXT("1"), "no such form"},
+        {JSON_STRICT, TEXT("{\"a\" 1}"), "a colon has to follow the key"},
+        {8, TEXT("1"), "no such form"},
     };
     for (size_t i = 0; i < sizeof rows / sizeof *rows; i++) {
         char name[40];
@@ -671,7 +794,7 @@ static void test_paths_without_memory(void)
         check(failing > 1, "no allocation was made to fail in a path or a message");
     }
     check_answer("a path at last", 3, came[0]);
-    check_answer("a message at last", 85, came[1]);
+    check_answer("a message at last", 84, came[1]);
 }
 
 /* Each allocation fails in turn. */
@@ -843,6 +966,70 @@ static void test_reencoding(void)
                  cbor_diag_reencode(CBOR_DIAG_RULES_CORE, "\x01", SIZE_MAX, NULL, 0));
 }
 
+static void test_reencoding_faults(void)
+{
+    const size_t none = CBOR_DIAG_NO_PLACE;
+    const struct {
+        uint32_t rules;
+        struct text input;
+        int64_t kind;
+        size_t place, detail;
+    } rows[] = {
+        {CBOR_DIAG_RULES_CORE, TEXT(""), 0, none, none},
+        {CBOR_DIAG_RULES_CORE, TEXT("\xa2\x02\x80\x01\x80"), 0, none, none},
+        {CBOR_DIAG_RULES_CORE, TEXT("\xa2\x01\x80\x18\x01\x80"), CBOR_DIAG_BREACH_KEY_TWICE, 3, 1},
+        {CBOR_DIAG_RULES_CORE, TEXT("\x81\xa3\x01\x80\x02\x80\x18\x01\x80"), CBOR_DIAG_BREACH_KEY_TWICE, 6, 2},
+        {CBOR_DIAG_RULES_VALID, TEXT("\xa2\x01\x80\x01\x80"), CBOR_DIAG_BREACH_KEY_TWICE, 3, 1},
+        {CBOR_DIAG_RULES_CTAP2, TEXT("\x18\x01\xc1\x00"), CBOR_DIAG_BREACH_TAG, 2, none},
+        {CBOR_DIAG_RULES_CORE, TEXT("\x01\x82\x01"), CBOR_DIAG_BREACH_NO_ITEM, 3, CBOR_DIAG_ERROR_CUT_SHORT},
+        {CBOR_DIAG_RULES_DCBOR, TEXT("\x7f\x61" "e\x62\xcc\x81\xff"), CBOR_DIAG_BREACH_NOT_NFC, none, none},
+        {7, TEXT("\x00"), -CBOR_DIAG_ERROR_NO_RULES, none, none},
+    };
+    for (size_t i = 0; i < sizeof rows / sizeof *rows; i++) {
+        char name[40];
+        snprintf(name, sizeof name, "why encoding %zu fails", i);
+        size_t length = rows[i].input.length, place = 99, detail = 99;
+        unsigned char *input = malloc(length);
+        memcpy(input, rows[i].input.bytes, length);
+        check_answer(name, rows[i].kind, cbor_diag_reencode_fault(rows[i].rules, input, length, &place, &detail));
+        check(place == rows[i].place, "%s: expected the place %zu, came %zu", name, rows[i].place, place);
+        check(detail == rows[i].detail, "%s: expected the detail %zu, came %zu", name, rows[i].detail, detail);
+        check_answer(name, rows[i].kind, cbor_diag_reencode_fault(rows[i].rules, input, length, NULL, NULL));
+        int64_t came = cbor_diag_reencode(rows[i].rules, input, length, NULL, 0);
+        check((came == -CBOR_DIAG_ERROR_NOT_ENCODABLE) == (rows[i].kind > 0), "%s: encoding it gave %lld", name,
+              (long long)came);
+        free(input);
+    }
+    size_t place = 99, detail = 99;
+    check_answer("why no bytes at a null pointer fail", 0,
+                 cbor_diag_reencode_fault(CBOR_DIAG_RULES_CORE, NULL, 0, &place, &detail));
+    check(place == none && detail == none, "no bytes: expected no place, came %zu and %zu", place, detail);
+    place = detail = 99;
+    check_answer("why 2^64 - 1 bytes fail", -CBOR_DIAG_ERROR_MEMORY,
+                 cbor_diag_reencode_fault(CBOR_DIAG_RULES_CORE, "\x01", SIZE_MAX, &place, &detail));
+    check(place == none && detail == none, "2^64 - 1 bytes: expected no place, came %zu and %zu", place, detail);
+}
+
+/* Each allocation fails in turn. */
+static void test_reencoding_faults_without_memory(void)
+{
+    int64_t came = -CBOR_DIAG_ERROR_MEMORY;
+    for (failing = 0; came == -CBOR_DIAG_ERROR_MEMORY && failing < 1000; failing++) {
+        size_t place = 99, detail = 99;
+        allocations = held = 0;
+        counting = 1;
+        came = cbor_diag_reencode_fault(CBOR_DIAG_RULES_CORE, "\xa2\x01\x80\x18\x01\x80", 6, &place, &detail);
+        counting = 0;
+        check(held == 0, "allocation %ld fails: expected no block held, came %ld", failing, held);
+        if (came == -CBOR_DIAG_ERROR_MEMORY) {
+            check(place == CBOR_DIAG_NO_PLACE && detail == CBOR_DIAG_NO_PLACE,
+                  "out of memory: expected no place, came %zu and %zu", place, detail);
+        }
+    }
+    check(failing > 1, "no allocation was made to fail in why an encoding fails");
+    check_answer("why an encoding fails, with memory enough", CBOR_DIAG_BREACH_KEY_TWICE, came);
+}
+
 static void test_reencoding_without_memory(void)
 {
     int64_t came = -CBOR_DIAG_ERROR_MEMORY;
@@ -920,6 +1107,12 @@ static void test_memory(void)
     test_breaches_without_memory(CBOR_DIAG_RULES_CORE, twice, CBOR_DIAG_BREACH_KEY_ORDER);
     check(failing == 1, "a rule that needs no memory took some");
     test_reencoding_without_memory();
+    test_reencoding_faults_without_memory();
+    struct text map = TEXT("\xa2\x01\x00\x61" "a\xf9\x3c\x00"), json = TEXT("{\"1\": 0, \"a\": 1.0}\n");
+    test_failing_memory(BYTES, JSON, map, json);
+    test_failing_memory(HEX, JSON, (struct text)TEXT("a2 01 00 61 61 f9 3c 00"), json);
+    test_failing_memory(EDN, JSON, (struct text)TEXT("{1: 0, \"a\": 1.0}"), json);
+    test_output_faults_without_memory();
 }
 
 /* ---- openings */
@@ -1055,6 +1248,8 @@ int main(int argc, char **argv)
     rounds_of_threads = (long)count / 25;
     test_all_pairs_in_every_room();
     test_edn();
+    test_json();
+    test_output_faults();
     test_errors();
     test_error_texts();
     test_extents();
@@ -1068,6 +1263,7 @@ int main(int argc, char **argv)
     test_breaches();
     test_breach_texts();
     test_reencoding();
+    test_reencoding_faults();
     test_limits();
     test_memory();
     test_openings();

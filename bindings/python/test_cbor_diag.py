@@ -13,7 +13,7 @@ import threading
 import unittest
 
 import cbor_diag
-from cbor_diag import Breach, BreachKind, CborDiagError, Error, Form, Rules
+from cbor_diag import Breach, BreachKind, CborDiagError, Error, Form, Loss, LossKind, Rules
 
 URI = {
     Form.BYTES: b"\xd8\x20\x73https://example.com",
@@ -69,6 +69,8 @@ TEXTS = {
     Error.NO_FORM: "no such form",
     Error.NO_RULES: "no such rules",
     Error.NOT_ENCODABLE: "no encoding of the items keeps the rules",
+    Error.SAME_KEYS: "two keys of a map become the same in JSON",
+    Error.NOT_KEPT: "JSON does not keep all of the item",
 }
 
 
@@ -159,6 +161,38 @@ class Conversions(unittest.TestCase):
                 self.assertEqual(cbor_diag.edn_to_hex(line), cbor_diag.bytes_to_hex(item))
         self.assertEqual(cbor_diag.bytes_to_edn(b"\xc1\x00"), "1(0)")
         self.assertEqual(cbor_diag.bytes_to_edn_pretty(b"\xc1\x00"), "1(0 /1970-01-01T00:00:00Z/)")
+
+    def test_json(self):
+        for given, line in (
+            ("a201020303", '{"1": 2, "3": 3}'),
+            ("1bffffffffffffffff", "18446744073709551615"),
+            ("3bffffffffffffffff", "-18446744073709551616"),
+            ("c249010000000000000000", "18446744073709551616"),
+            ("83f97e00f97c00f9fc00", "[null, null, null]"),
+            ("84f4f5f6f7", "[false, true, null, null]"),
+            ("82f93e00fb4000000000000000", "[1.5, 2.0]"),
+            ("8243010203d74101", '["AQID", "01"]'),
+            ("a161618201a16162c11800", '{"a": [1, {"b": 0}]}'),
+            ("7f61616163ff", '"ac"'),
+            ("660a22c3bc5c1f", '"\\n\\"\u00fc\\\\\\u001f"'),
+        ):
+            with self.subTest(given=given):
+                data = bytes.fromhex(given)
+                self.assertEqual(cbor_diag.bytes_to_json(data), line)
+                self.assertEqual(cbor_diag.bytes_to_json(bytearray(data)), line)
+                self.assertEqual(cbor_diag.hex_to_json(given), line)
+                self.assertEqual(cbor_diag.convert(Form.BYTES, Form.JSON, data), line.encode() + b"\n")
+
+    def test_json_from_text(self):
+        for source, target, given, output in (
+            (Form.EDN, Form.JSON, "{1: 1(h'00ff'), -1: 1.5_3}", b'{"1": "AP8", "-1": 1.5}\n'),
+            (Form.DIAG, Form.JSON, "{1: [_ 1, 2]}", b'{"1": [1, 2]}\n'),
+            (Form.JSON, Form.BYTES, '{"a": [1.5, "\\u00fc"]}', b"\xa1\x61a\x82\xf9\x3e\x00\x62\xc3\xbc"),
+        ):
+            self.assertEqual(cbor_diag.convert(source, target, given), output)
+        for given in ('{"a": [1.5, "\u00fc\\n", null, true, 1e300]}', "18446744073709551615"):
+            for form in (Form.JSON, Form.JSON_STRICT):
+                self.assertEqual(cbor_diag.convert(form, form, given), given.encode() + b"\n")
 
     def test_an_output_far_longer_than_its_input(self):
         # 120 arrays, one in the other: each but the innermost has a line of its own, 3 blanks deeper
@@ -485,7 +519,31 @@ REENCODED = (
 )
 
 
+# rules, bytes, and why they have no encoding; None where that is in what they would be encoded to
+NOT_ENCODABLE = (
+    (Rules.CORE, "a20180180180", Breach(BreachKind.KEY_TWICE, 3, 1)),
+    (Rules.CORE, "81a3018002801b000000000000000180", Breach(BreachKind.KEY_TWICE, 6, 2)),
+    (Rules.VALID, "a201800180", Breach(BreachKind.KEY_TWICE, 3, 1)),
+    (Rules.CTAP2, "1801c100", Breach(BreachKind.TAG, 2)),
+    (Rules.CORE, "018201", Breach(BreachKind.NO_ITEM, 3, error=Error.CUT_SHORT)),
+    (Rules.DCBOR, "7f616562cc81ff", None),
+)
+
+
 class Reencoding(unittest.TestCase):
+    def test_why_not(self):
+        for rules, given, found in NOT_ENCODABLE:
+            for data in (bytes.fromhex(given), bytearray.fromhex(given)):
+                with self.subTest(rules=rules, data=data):
+                    with self.assertRaises(CborDiagError) as raised:
+                        cbor_diag.reencode(data, rules)
+                    words = str(found) if found else "a text that is not in NFC"
+                    for failure in (raised.exception, pickle.loads(pickle.dumps(raised.exception))):
+                        self.assertIs(failure.error, Error.NOT_ENCODABLE)
+                        self.assertEqual(failure.breach, found)
+                        self.assertEqual(failure.offset, found.place if found else None)
+                        self.assertEqual(str(failure), f"no encoding of the items keeps the rules: {words}")
+
     def test_each_row(self):
         for rules, given, wanted in REENCODED:
             for data in (bytes.fromhex(given), bytearray.fromhex(given)):
@@ -586,6 +644,50 @@ class Errors(unittest.TestCase):
                         if text is not None:
                             self.assertEqual(str(failure), text)
 
+    def test_keys_that_become_the_same(self):
+        for source, given, keys in (
+            (Form.BYTES, b"\xa2\x01\x00\x61\x31\x00", (1, 3)),
+            (Form.BYTES, bytearray(b"\x82\x00\xa3\x02\x00\x01\x00\x18\x01\x00"), (5, 7)),
+            (Form.BYTES, b"\xa1\x61a\xa2\x61b\x00\x7f\x61b\xff\x00", (4, 7)),
+            (Form.HEX, "a2 01 00 # one\n 61 31 00", (1, 3)),
+            (Form.DIAG, "[0,{1:0,\"1\":0}]", (3, 5)),
+            (Form.EDN, '{1: 0, "\\u0031": 0}', (1, 3)),
+        ):
+            with self.subTest(source=source, given=given):
+                with self.assertRaises(CborDiagError) as raised:
+                    cbor_diag.convert(source, Form.JSON, given)
+                for failure in (raised.exception, pickle.loads(pickle.dumps(raised.exception))):
+                    self.assertIs(failure.error, Error.SAME_KEYS)
+                    self.assertEqual(failure.keys, keys)
+                    self.assertEqual(failure.offset, keys[1] if source is Form.BYTES else None)
+                    self.assertEqual((failure.loss, failure.path), (None, None))
+                    self.assertEqual(str(failure), TEXTS[Error.SAME_KEYS])
+        with self.assertRaises(CborDiagError) as raised:
+            cbor_diag.bytes_to_json(b"\xa2\x61a\x00\x61a\x00", strict=True)
+        self.assertEqual(raised.exception.keys, (1, 4))
+
+    def test_what_json_does_not_keep(self):
+        for given, loss in (
+            ("c100", Loss(LossKind.TAG, 0)),
+            ("82f97e00c100", Loss(LossKind.NOT_FINITE, 1)),
+            ("82f6f7", Loss(LossKind.SIMPLE, 2)),
+            ("a1616182014100", Loss(LossKind.BYTES, 5)),
+            ("a26161000100", Loss(LossKind.KEY, 4)),
+        ):
+            with self.subTest(given=given):
+                for failing in (
+                    lambda: cbor_diag.bytes_to_json(bytes.fromhex(given), strict=True),
+                    lambda: cbor_diag.hex_to_json(given, strict=True),
+                ):
+                    with self.assertRaises(CborDiagError) as raised:
+                        failing()
+                    failure = pickle.loads(pickle.dumps(raised.exception))
+                    self.assertIs(failure.error, Error.NOT_KEPT)
+                    self.assertEqual(failure.loss, loss)
+                    self.assertIsNone(failure.keys)
+                    self.assertEqual(str(failure), TEXTS[Error.NOT_KEPT])
+                cbor_diag.bytes_to_json(bytes.fromhex(given))
+
     def test_no_path(self):
         for failing in (lambda: cbor_diag.extent(b"\x82\x1f"), lambda: cbor_diag.Scanner().feed(b"\x82\x1f")):
             with self.assertRaises(CborDiagError) as raised:
@@ -593,7 +695,7 @@ class Errors(unittest.TestCase):
             self.assertIsNone(raised.exception.path)
 
     def test_no_form(self):
-        for number in (6, 2**32 - 1, 2**32, 2**32 + 2, 2**64, -1, -(2**32)):
+        for number in (8, 2**32 - 1, 2**32, 2**32 + 2, 2**64, -1, -(2**32)):
             for source, target in ((number, 0), (0, number)):
                 with self.subTest(source=source, target=target):
                     with self.assertRaises(CborDiagError) as raised:

@@ -1,10 +1,12 @@
-"""CBOR data items (RFC 8949) in bytes, in hex with comments, in diagnostic notation, and in EDN, the notation that
-people write.
+"""CBOR data items (RFC 8949) in bytes, in hex with comments, in diagnostic notation, in EDN, the notation that people
+write, and as JSON.
 
     >>> edn_to_bytes('[1.5, {"a": 2}]').hex()
     '82f93e00a1616102'
     >>> bytes_to_edn(bytes.fromhex("82f93e00a1616102"))
     '[1.5, {"a": 2}]'
+    >>> bytes_to_json(bytes.fromhex("a201f97e000243010203"))
+    '{"1": null, "2": "AQID"}'
 
 The library libcbor_diag does the work. It is searched for at the path in the environment variable CBOR_DIAG_LIBRARY,
 then beside this module, then in this repository's dist/lib, then where the system looks for libraries.
@@ -20,7 +22,7 @@ import ctypes.util
 import enum
 import operator
 import os
-from typing import Any, BinaryIO, Callable, Iterator, NamedTuple, Optional, TypeVar, Union
+from typing import Any, BinaryIO, Callable, Iterator, NamedTuple, Optional, Tuple, TypeVar, Union
 
 __all__ = [
     "Breach",
@@ -28,6 +30,8 @@ __all__ = [
     "CborDiagError",
     "Error",
     "Form",
+    "Loss",
+    "LossKind",
     "Rules",
     "Scanner",
     "breach",
@@ -36,6 +40,7 @@ __all__ = [
     "bytes_to_edn",
     "bytes_to_edn_pretty",
     "bytes_to_hex",
+    "bytes_to_json",
     "convert",
     "diag_to_bytes",
     "diag_to_hex",
@@ -47,6 +52,7 @@ __all__ = [
     "hex_to_diag_pretty",
     "hex_to_edn",
     "hex_to_edn_pretty",
+    "hex_to_json",
     "items",
     "library_version",
     "reencode",
@@ -72,6 +78,10 @@ class Form(enum.IntEnum):
     """One item in EDN, of which JSON is a part. As an output it is one line, and a line feed ends it."""
     EDN_PRETTY = 5
     """One item in EDN. As an output it may have several lines, with notes as comments, and a line feed ends it."""
+    JSON = 6
+    """JSON on one line, and a line feed ends it. An input is read as EDN, of which JSON is a part."""
+    JSON_STRICT = 7
+    """The same, but an output that JSON does not keep is an error."""
 
 
 class Error(enum.IntEnum):
@@ -103,6 +113,10 @@ class Error(enum.IntEnum):
     """No such rules."""
     NOT_ENCODABLE = 13
     """No encoding of the items keeps the rules, or the bytes are no items."""
+    SAME_KEYS = 14
+    """Two keys of a map become the same in JSON."""
+    NOT_KEPT = 15
+    """JSON does not keep all of the item: only for `JSON_STRICT`."""
 
 
 class Rules(enum.IntEnum):
@@ -159,6 +173,30 @@ class BreachKind(enum.IntEnum):
     """A key that stands twice."""
 
 
+class LossKind(enum.IntEnum):
+    """What JSON does not keep."""
+
+    TAG = 1
+    """A tag."""
+    NOT_FINITE = 2
+    """NaN or an infinity."""
+    SIMPLE = 3
+    """Undefined, or another simple value that is none of false, true and null."""
+    BYTES = 4
+    """A byte string."""
+    KEY = 5
+    """A key that is no text."""
+
+
+class Loss(NamedTuple):
+    """The first thing from the left that JSON does not keep."""
+
+    kind: LossKind
+    """What it is."""
+    place: int
+    """How many bytes of the item come before it."""
+
+
 class Breach(NamedTuple):
     """The first place where bytes break a rule. Its `str` says in words what is wrong."""
 
@@ -194,6 +232,15 @@ class CborDiagError(ValueError):
     follow an item, out of memory, and if `extent`, `Scanner.feed` or `items` raised the error.
 
     If `extent`, `Scanner.feed` or `items` raised it, `end` is the number of first bytes that have the error.
+
+    Where an item has no JSON, `keys` is for `SAME_KEYS` how many bytes of the item come before the first and the second
+    of the two keys, and `loss` is for `NOT_KEPT` what JSON does not keep. The bytes of the item are those of data in
+    bytes, those that the digits of hex are, and of notation and EDN those that it is converted to. Of data in bytes
+    `offset` is the place of the second key, or of the loss; in other forms it is `None`.
+
+    If `reencode` raised `NOT_ENCODABLE`, `breach` says what is wrong and where: if a key stands twice, its `place` is
+    that of the second, and its `other` that of the first. It is `None` if what is wrong is not in the data but in what
+    it is encoded to.
     """
 
     def __init__(
@@ -203,15 +250,22 @@ class CborDiagError(ValueError):
         offset: Optional[int] = None,
         text: Optional[str] = None,
         path: Optional[str] = None,
+        keys: Optional[Tuple[int, int]] = None,
+        loss: Optional[Loss] = None,
+        breach: Optional[Breach] = None,
     ) -> None:
         super().__init__(_error_text(error) if text is None else text)
         self.error = error
         self.end = end
         self.offset = offset
         self.path = path
+        self.keys = keys
+        self.loss = loss
+        self.breach = breach
 
-    def __reduce__(self) -> tuple[type[CborDiagError], tuple[Error, Optional[int], Optional[int], str, Optional[str]]]:
-        return type(self), (self.error, self.end, self.offset, str(self), self.path)
+    def __reduce__(self) -> tuple[type[CborDiagError], tuple[Any, ...]]:
+        told = self.end, self.offset, str(self), self.path, self.keys, self.loss, self.breach
+        return type(self), (self.error, *told)
 
 
 def _library_path() -> str:
@@ -257,6 +311,11 @@ class _Library:
         self.fault_message = library.cbor_diag_fault_message
         self.fault_message.restype = ctypes.c_int64
         self.fault_message.argtypes = [ctypes.c_uint32, pointer, size, ctypes.c_char_p, size]
+        self.output_fault = library.cbor_diag_output_fault
+        self.output_fault.restype = ctypes.c_int64
+        self.output_fault.argtypes = [
+            ctypes.c_uint32, ctypes.c_uint32, pointer, size, ctypes.POINTER(size), ctypes.POINTER(size)
+        ]
         self.scanner_init = library.cbor_diag_scanner_init
         self.scanner_init.restype = None
         self.scanner_init.argtypes = [pointer]
@@ -272,6 +331,9 @@ class _Library:
         self.reencode = library.cbor_diag_reencode
         self.reencode.restype = ctypes.c_int64
         self.reencode.argtypes = [ctypes.c_uint32, pointer, size, pointer, size]
+        self.reencode_fault = library.cbor_diag_reencode_fault
+        self.reencode_fault.restype = ctypes.c_int64
+        self.reencode_fault.argtypes = [ctypes.c_uint32, pointer, size, ctypes.POINTER(size), ctypes.POINTER(size)]
         self.error_text = library.cbor_diag_error_text
         self.error_text.restype = ctypes.c_int64
         self.error_text.argtypes = [ctypes.c_uint32, ctypes.c_char_p, size]
@@ -346,7 +408,8 @@ def _on_bytes(data: Data, call: Callable[..., _Result], *arguments: Any) -> _Res
     return call(_releasing, data, len(data), *arguments)
 
 
-_BYTES, _HEX, _DIAG, _PRETTY, _EDN, _EDN_PRETTY = map(int, Form)  # plain numbers, which ctypes takes in less time
+# plain numbers, which ctypes takes in less time
+_BYTES, _HEX, _DIAG, _PRETTY, _EDN, _EDN_PRETTY, _JSON, _JSON_STRICT = map(int, Form)
 
 
 def _form_number(form: Form) -> int:
@@ -377,10 +440,24 @@ def _words(call: Callable[..., int], given: Any, length: int, source: int) -> Op
     return text.raw[:wanted].decode("utf-8") if wanted > 0 else None
 
 
-def _failure(library: _Library, given: Any, length: int, source: int, error: Error) -> CborDiagError:
+def _no_json(library: _Library, given: Any, length: int, source: int, target: int, error: Error) -> CborDiagError:
+    """The error of an item that has no JSON."""
+    place, detail = ctypes.c_size_t(), ctypes.c_size_t()
+    told = library.output_fault(source, target, given, length, ctypes.byref(place), ctypes.byref(detail))
+    if told != -error:
+        return CborDiagError(error)  # memory ran out
+    offset = place.value if source == _BYTES else None
+    if error is Error.SAME_KEYS:
+        return CborDiagError(error, None, offset, keys=(detail.value, place.value))
+    return CborDiagError(error, None, offset, loss=Loss(LossKind(detail.value), place.value))
+
+
+def _failure(library: _Library, given: Any, length: int, source: int, target: int, error: Error) -> CborDiagError:
     """The error of a conversion that failed."""
     if error in (Error.MEMORY, Error.NO_FORM):
         return CborDiagError(error)
+    if error in (Error.SAME_KEYS, Error.NOT_KEPT):
+        return _no_json(library, given, length, source, target, error)
     text = _words(library.fault_message, given, length, source)
     path = _words(library.fault_path, given, length, source)
     return CborDiagError(error, None, _place(library, given, length, source), text, path)
@@ -432,7 +509,7 @@ def _converted(
     finally:
         _rooms.append(room)
     if wanted < 0:
-        raise _failure(library, given, length, source, Error(-wanted))
+        raise _failure(library, given, length, source, target, Error(-wanted))
     output = ctypes.create_string_buffer(wanted)
     if library.convert(source, target, given, length, output, wanted) != wanted:
         raise AssertionError("the length of an output changed")
@@ -455,8 +532,8 @@ def _convert(source: int, target: int, data: Data, kept: Callable[[memoryview], 
 def convert(source: Form, target: Form, data: Data) -> bytes:
     """Converts an item from the form `source` to the form `target`.
 
-    A `str` is taken as its UTF-8. An output in notation ends with a line feed. Raises `CborDiagError` if the input is
-    not an item in its form, and `TypeError` if it has no bytes.
+    A `str` is taken as its UTF-8. An output in notation, EDN or JSON ends with a line feed. Raises `CborDiagError` if
+    the input is not an item in its form or the item has no output in the other, and `TypeError` if it has no bytes.
     """
     return _convert(_form_number(source), _form_number(target), data, bytes)
 
@@ -499,6 +576,16 @@ def _breach(
     return library.breach(rules, given, length, ctypes.byref(place), ctypes.byref(detail))
 
 
+def _told_breach(found: int, place: int, detail: int) -> Optional[Breach]:
+    """The breach of this kind, if it has a place."""
+    if place == _NO_PLACE:
+        return None
+    kind = BreachKind(found)
+    if kind is BreachKind.NO_ITEM:
+        return Breach(kind, place, error=Error(detail))
+    return Breach(kind, place, None if detail == _NO_PLACE else detail)
+
+
 def breach(data: Data, rules: Rules) -> Optional[Breach]:
     """Returns where `data` first breaks the rules; `None` if it is items, none or more, one after the other, that keep
     them all.
@@ -515,10 +602,20 @@ def breach(data: Data, rules: Rules) -> Optional[Breach]:
         return None
     if found < 0:
         raise CborDiagError(Error(-found))
-    kind = BreachKind(found)
-    if kind is BreachKind.NO_ITEM:
-        return Breach(kind, place.value, error=Error(detail.value))
-    return Breach(kind, place.value, None if detail.value == _NO_PLACE else detail.value)
+    return _told_breach(found, place.value, detail.value)
+
+
+def _no_encoding(library: _Library, given: Any, length: int, rules: int, error: Error) -> CborDiagError:
+    """The error of data that is not encoded again."""
+    if error is not Error.NOT_ENCODABLE:
+        return CborDiagError(error)
+    place, detail = ctypes.c_size_t(), ctypes.c_size_t()
+    found = library.reencode_fault(rules, given, length, ctypes.byref(place), ctypes.byref(detail))
+    if found <= 0:
+        return CborDiagError(error)  # memory ran out
+    told = _told_breach(found, place.value, detail.value)
+    words = str(told) if told else _breach_text(BreachKind(found))
+    return CborDiagError(error, None, told.place if told else None, f"{_error_text(error)}: {words}", breach=told)
 
 
 def _reencoded(library: _Library, given: Any, length: int, rules: int) -> bytes:
@@ -527,7 +624,7 @@ def _reencoded(library: _Library, given: Any, length: int, rules: int) -> bytes:
         output = ctypes.create_string_buffer(max(wanted, 1))
         room, wanted = wanted, library.reencode(rules, given, length, output, wanted)
         if wanted < 0:
-            raise CborDiagError(Error(-wanted))
+            raise _no_encoding(library, given, length, rules, Error(-wanted))
         if wanted <= room:
             return output.raw[:wanted]
 
@@ -541,7 +638,8 @@ def reencode(data: Data, rules: Rules) -> bytes:
 
     Raises `CborDiagError` with the error `NOT_ENCODABLE` if the data is no items; if it breaks a rule that no choice of
     widths, lengths and order keeps; if two keys of a map are one once they are encoded again; or if the joined chunks
-    of a text or of a big number break a rule. Raises it also for no such rules, and if memory runs out.
+    of a text or of a big number break a rule. The `breach` of the error says which of these, and where. Raises it also
+    for no such rules, and if memory runs out.
     """
     return _on_bytes(data, _reencoded, _rules_number(rules))
 
@@ -711,6 +809,20 @@ def edn_to_bytes(text: Data) -> bytes:
 def edn_to_hex(text: Data) -> str:
     """The dump of one item in EDN."""
     return _convert(_EDN, _HEX, text, _dump)
+
+
+def bytes_to_json(data: Data, strict: bool = False) -> str:
+    """An item as JSON on one line, without a line feed at the end (RFC 8949, section 6.1). With `strict`, what JSON
+    does not keep is an error.
+
+    Raises `CborDiagError` also for an item of which two keys of a map become the same, as `1` and `"1"`.
+    """
+    return _convert(_BYTES, _JSON_STRICT if strict else _JSON, data, _text)
+
+
+def hex_to_json(text: Data, strict: bool = False) -> str:
+    """An item in hex as JSON, as `bytes_to_json` writes it."""
+    return _convert(_HEX, _JSON_STRICT if strict else _JSON, text, _text)
 
 
 def library_version() -> tuple[int, int, int]:

@@ -29,6 +29,10 @@ pub enum Error {
     PastWidth,
     /// No encoding of the items keeps the rules, or the bytes are no items.
     NotEncodable,
+    /// Two keys of a map become the same in JSON.
+    SameKeys,
+    /// JSON does not keep all of the item: only for [`Form::JsonStrict`].
+    NotKept,
 }
 
 /// The result of a conversion.
@@ -54,16 +58,22 @@ type Call = unsafe extern "C" fn(u32, *const u8, usize, *mut u8, usize) -> i64;
 /// The number of `NotEncodable`. Those between are of arguments that no call of this crate makes.
 const NOT_ENCODABLE: i64 = 13;
 
+/// The numbers of `SameKeys` and `NotKept`.
+const SAME_KEYS: i64 = 14;
+const NOT_KEPT: i64 = 15;
+
 impl Error {
     /// The error for a negative result of the library.
     pub(crate) fn of(answer: i64) -> Error {
-        if answer == -NOT_ENCODABLE {
-            return Error::NotEncodable;
+        match -answer {
+            NOT_ENCODABLE => Error::NotEncodable,
+            SAME_KEYS => Error::SameKeys,
+            NOT_KEPT => Error::NotKept,
+            number => usize::try_from(number - 1)
+                .ok()
+                .and_then(|index| ERRORS.get(index).copied())
+                .unwrap_or_else(|| unreachable!("the library answered {answer}")),
         }
-        usize::try_from(-1 - answer)
-            .ok()
-            .and_then(|index| ERRORS.get(index).copied())
-            .unwrap_or_else(|| unreachable!("the library answered {answer}"))
     }
 
     /// Finds the place of this error in the input of a conversion that failed: how many bytes of the input come before
@@ -153,11 +163,13 @@ impl Error {
             .unwrap_or_else(|| self.to_string())
     }
 
-    /// Returns the number of the error: from 1 for `Memory` to 10 for `PastWidth`, in the order of the variants, and 13
-    /// for `NotEncodable`.
+    /// Returns the number of the error: from 1 for `Memory` to 10 for `PastWidth`, in the order of the variants, and
+    /// from 13 for `NotEncodable` to 15 for `NotKept`.
     pub fn number(self) -> u32 {
         match self {
             Error::NotEncodable => NOT_ENCODABLE as u32,
+            Error::SameKeys => SAME_KEYS as u32,
+            Error::NotKept => NOT_KEPT as u32,
             other => other as u32 + 1,
         }
     }
@@ -186,7 +198,13 @@ mod tests {
             assert_eq!(error.number() as usize, index + 1, "{error:?}");
             assert_eq!(Error::of(-1 - index as i64), error);
         }
-        assert_eq!(Error::of(-13), Error::NotEncodable);
-        assert_eq!(Error::NotEncodable.number(), 13);
+        for (number, error) in [
+            (13, Error::NotEncodable),
+            (14, Error::SameKeys),
+            (15, Error::NotKept),
+        ] {
+            assert_eq!(error.number(), number);
+            assert_eq!(Error::of(-i64::from(number)), error);
+        }
     }
 }

@@ -2,11 +2,14 @@
 #![warn(missing_docs)]
 
 mod error;
+mod json;
 mod rules;
 mod scanner;
 
 pub use error::{Error, Result};
-pub use rules::{breach, reencode, Breach, BreachKind, Rules};
+pub use json::{bytes_to_json, bytes_to_json_strict, hex_to_json, hex_to_json_strict, json_fault};
+pub use json::{JsonFault, LossKind};
+pub use rules::{breach, reencode, reencode_fault, Breach, BreachKind, ReencodeFault, Rules};
 pub use scanner::Scanner;
 
 /// The form of an input or of an output.
@@ -24,6 +27,10 @@ pub enum Form {
     Edn,
     /// One item in EDN. As an output it may have several lines, with notes as comments, and a line feed ends it.
     EdnPretty,
+    /// JSON on one line, and a line feed ends it. An input is read as EDN, of which JSON is a part.
+    Json,
+    /// The same, but an output that JSON does not keep is an error.
+    JsonStrict,
 }
 
 impl Form {
@@ -35,6 +42,8 @@ impl Form {
             Form::Pretty => 3,
             Form::Edn => 4,
             Form::EdnPretty => 5,
+            Form::Json => 6,
+            Form::JsonStrict => 7,
         }
     }
 }
@@ -84,6 +93,16 @@ mod library {
             message: *mut u8,
             message_len: usize,
         ) -> i64;
+        /// Returns minus the number of the error for which there is no output, or 0, and writes to `place` and `detail`
+        /// where in the bytes of the item that is, and what else is told of it, or `usize::MAX`.
+        pub fn cbor_diag_output_fault(
+            from: u32,
+            to: u32,
+            input: *const u8,
+            input_len: usize,
+            place: *mut usize,
+            detail: *mut usize,
+        ) -> i64;
         /// Makes a scanner of the memory.
         pub fn cbor_diag_scanner_init(scanner: *mut ScannerRoom);
         /// Does what `cbor_diag_extent` does for all bytes that the scanner was fed.
@@ -111,6 +130,15 @@ mod library {
             output: *mut u8,
             output_len: usize,
         ) -> i64;
+        /// Returns the number of the kind of what no encoding avoids, or 0, or minus the number of an error, and writes
+        /// to `place` and `detail` where it is, and what else is told of it, or `usize::MAX`.
+        pub fn cbor_diag_reencode_fault(
+            rules: u32,
+            input: *const u8,
+            input_len: usize,
+            place: *mut usize,
+            detail: *mut usize,
+        ) -> i64;
         pub fn cbor_diag_breach_text(kind: u32, output: *mut u8, output_len: usize) -> i64;
         pub fn cbor_diag_error_text(error: u32, output: *mut u8, output_len: usize) -> i64;
         pub fn cbor_diag_version() -> u32;
@@ -123,7 +151,8 @@ fn likely_room(to: Form, input: &[u8]) -> usize {
     input.len().saturating_mul(factor).saturating_add(64)
 }
 
-/// Converts an item from one form to another. [`Error::place`] finds the place of an error in the input.
+/// Converts an item from one form to another. [`Error::place`] finds the place of an error in the input, and
+/// [`json_fault`] says why an item has no JSON.
 pub fn convert(from: Form, to: Form, input: &[u8]) -> Result<Vec<u8>> {
     let mut output = Vec::new();
     let mut room = likely_room(to, input);
@@ -160,7 +189,7 @@ fn text(from: Form, to: Form, input: &[u8]) -> Result<String> {
 }
 
 /// Notation without the line feed at its end.
-fn notation(from: Form, to: Form, input: &[u8]) -> Result<String> {
+pub(crate) fn notation(from: Form, to: Form, input: &[u8]) -> Result<String> {
     let mut text = text(from, to, input)?;
     text.pop();
     Ok(text)

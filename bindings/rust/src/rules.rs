@@ -175,7 +175,7 @@ pub fn breach(bytes: &[u8], rules: Rules) -> Result<Option<Breach>> {
 ///
 /// The error is [`Error::NotEncodable`] if the bytes are no items; if they break a rule that no choice of widths, lengths
 /// and order keeps; if two keys of a map are one once they are encoded again; or if the joined chunks of a text or of a
-/// big number break a rule. Otherwise it is [`Error::Memory`].
+/// big number break a rule: [`reencode_fault`] says which of these, and where. Otherwise it is [`Error::Memory`].
 ///
 /// ```rust
 /// use semphluk::{reencode, Rules};
@@ -207,5 +207,48 @@ pub fn reencode(bytes: &[u8], rules: Rules) -> Result<Vec<u8>> {
             return Ok(output);
         }
         room = length;
+    }
+}
+
+/// Why items have no encoding that keeps the rules.
+#[derive(Clone, Copy, PartialEq, Eq, Hash, Debug)]
+pub enum ReencodeFault {
+    /// This is wrong in the bytes, and no encoding avoids it. A key that stands twice may differ in the bytes from the
+    /// first of the two, as `01` and `18 01`: they are one once they are encoded again.
+    Breach(Breach),
+    /// What the items are encoded to breaks a rule, such as a text whose joined chunks are not in NFC.
+    Written,
+}
+
+/// Finds why no encoding of the items keeps the rules, after [`reencode`] has failed with [`Error::NotEncodable`].
+/// Returns `None` if there is an encoding. The only error is [`Error::Memory`].
+///
+/// ```rust
+/// use semphluk::{reencode_fault, Breach, BreachKind, ReencodeFault, Rules};
+///
+/// let found = reencode_fault(b"\xa2\x01\x80\x18\x01\x80", Rules::Core).unwrap();
+/// let kind = BreachKind::KeyTwice { first: 1 };
+/// assert_eq!(found, Some(ReencodeFault::Breach(Breach { place: 3, kind })));
+/// ```
+pub fn reencode_fault(bytes: &[u8], rules: Rules) -> Result<Option<ReencodeFault>> {
+    let (mut place, mut detail) = (0, 0);
+    // SAFETY: the pointers are those of the slice, with its length, and of the variables.
+    let answer = unsafe {
+        library::cbor_diag_reencode_fault(
+            rules as u32,
+            bytes.as_ptr(),
+            bytes.len(),
+            &mut place,
+            &mut detail,
+        )
+    };
+    match u32::try_from(answer) {
+        Ok(0) => Ok(None),
+        Ok(_) if place == usize::MAX => Ok(Some(ReencodeFault::Written)),
+        Ok(number) => {
+            let kind = BreachKind::of(number, detail);
+            Ok(Some(ReencodeFault::Breach(Breach { place, kind })))
+        }
+        Err(_) => Err(Error::of(answer)),
     }
 }

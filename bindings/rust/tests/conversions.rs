@@ -3,6 +3,7 @@
 use semphluk::{convert, extent, Error, Extent, Form};
 use std::thread;
 
+/// The forms that keep all of an item.
 const FORMS: [Form; 6] = [
     Form::Bytes,
     Form::Hex,
@@ -168,7 +169,7 @@ fn each_error() {
         (Form::Edn, b"\xff", Error::Utf8),
     ];
     for (from, input, error) in rows {
-        for to in FORMS {
+        for to in FORMS.into_iter().chain([Form::Json, Form::JsonStrict]) {
             let begin = &input[..input.len().min(20)];
             assert_eq!(
                 convert(from, to, input),

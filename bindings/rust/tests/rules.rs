@@ -1,6 +1,7 @@
 //! Each kind of breach with its place, and items encoded again. Expected values are worked out by hand from docs/RULES.md.
 
-use semphluk::{breach, reencode, Breach, BreachKind, Error, Rules};
+use semphluk::{breach, reencode, reencode_fault};
+use semphluk::{Breach, BreachKind, Error, ReencodeFault, Rules};
 
 fn assert_kept(bytes: &[u8], rules: Rules) {
     assert_eq!(breach(bytes, rules), Ok(None), "{bytes:x?} by {rules:?}");
@@ -106,7 +107,10 @@ fn encoded_again() {
     let many = [b"\x9f".as_slice(), &[1; 300], b"\xff"].concat();
     let counted = [b"\x99\x01\x2c".as_slice(), &[1; 300]].concat();
     assert_eq!(again(&many, Rules::Core), counted);
-    assert_eq!(again(b"\xf9\x40\x00\xf9\x80\x00", Rules::Dcbor), b"\x02\x00");
+    assert_eq!(
+        again(b"\xf9\x40\x00\xf9\x80\x00", Rules::Dcbor),
+        b"\x02\x00"
+    );
     assert_eq!(again(b"\xc2\x41\x05", Rules::Core), b"\x05");
 }
 
@@ -119,4 +123,39 @@ fn not_encodable() {
     assert_eq!(reencode(twice, Rules::Core), refused);
     let text = Error::NotEncodable.to_string();
     assert_eq!(text, "no encoding of the items keeps the rules");
+}
+
+#[test]
+fn why_not_encodable() {
+    let twice = |first| BreachKind::KeyTwice { first };
+    let breach = |place, kind| Some(ReencodeFault::Breach(Breach { place, kind }));
+    let cut = BreachKind::NoItem(Error::CutShort);
+    let nested = b"\x81\xa3\x01\x80\x02\x80\x18\x01\x80";
+    let written = Some(ReencodeFault::Written);
+    let rows: [(Rules, &[u8], Option<ReencodeFault>); 7] = [
+        (Rules::Core, b"\xa2\x02\x80\x01\x80", None),
+        (
+            Rules::Core,
+            b"\xa2\x01\x80\x18\x01\x80",
+            breach(3, twice(1)),
+        ),
+        (Rules::Core, nested, breach(6, twice(2))),
+        (Rules::Valid, b"\xa2\x01\x80\x01\x80", breach(3, twice(1))),
+        (
+            Rules::Ctap2,
+            b"\x18\x01\xc1\x00",
+            breach(2, BreachKind::Tag),
+        ),
+        (Rules::Core, b"\x01\x82\x01", breach(3, cut)),
+        (Rules::Dcbor, b"\x7f\x61e\x62\xcc\x81\xff", written),
+    ];
+    for (rules, bytes, fault) in rows {
+        assert_eq!(
+            reencode_fault(bytes, rules),
+            Ok(fault),
+            "{bytes:x?} by {rules:?}"
+        );
+        let is_encoded = reencode(bytes, rules).is_ok();
+        assert_eq!(is_encoded, fault.is_none(), "{bytes:x?} by {rules:?}");
+    }
 }

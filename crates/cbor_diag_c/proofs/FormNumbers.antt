@@ -1,5 +1,5 @@
 -- The numbers of forms.
-use Rattle.std.proofs.Common.{◌≡◌, ◌≢◌, ◌<◌, ℕ, List, true, false, refl, arith}
+use Rattle.std.proofs.Common.{◌≡◌, ◌≢◌, ℕ, List, true, false, refl, arith}
 use Rattle.cbor_grammar.specs.declared.error.Error.{Error}
 use Rattle.cbor_grammar.specs.declared.error.Error.TheVariants as refusal
 use Rattle.cbor_diag.specs.Facts.{IsNoItem}
@@ -9,6 +9,7 @@ use Rattle.cbor_convert.specs.declared.form.To.{To}
 use Rattle.cbor_convert.specs.declared.form.To.TheVariants as target
 use Rattle.cbor_diag_c.specs.declared.form.Form.{Form}
 use Rattle.cbor_diag_c.specs.declared.form.Form.TheVariants as form
+use Rattle.cbor_diag_c.specs.declared.form.Text.TheVariants as text
 use Rattle.cbor_diag_c.specs.Forms.{form_number, read_as, IsNoForm, IsRefusedIn}
 
 -- the number of a form is not one of no form
@@ -17,8 +18,10 @@ known n (form.Plain target.Bytes) is past = omega arith
 known n (form.Plain target.Hex) is past = omega arith
 known n (form.Plain target.Diag) is past = omega arith
 known n (form.Plain target.Pretty) is past = omega arith
-known n (form.Edn false) is past = omega arith
-known n (form.Edn true) is past = omega arith
+known n (form.Text (text.Edn false)) is past = omega arith
+known n (form.Text (text.Edn true)) is past = omega arith
+known n (form.Text (text.Json false)) is past = omega arith
+known n (form.Text (text.Json true)) is past = omega arith
 
 -- 0 is the number of bytes
 pub other_number : (f : To) → read_as f ≢ source.Bytes → form_number (form.Plain f) ≢ 0
@@ -45,7 +48,9 @@ bytes_refusal (form.Plain target.Bytes) b e zero h is = not_memory b e h is
 bytes_refusal (form.Plain target.Hex) b e zero h is = omega arith
 bytes_refusal (form.Plain target.Diag) b e zero h is = omega arith
 bytes_refusal (form.Plain target.Pretty) b e zero h is = omega arith
-bytes_refusal (form.Edn false) b e zero h is = omega arith
-bytes_refusal (form.Edn true) b e zero h is = omega arith
+bytes_refusal (form.Text (text.Edn false)) b e zero h is = omega arith
+bytes_refusal (form.Text (text.Edn true)) b e zero h is = omega arith
+bytes_refusal (form.Text (text.Json false)) b e zero h is = omega arith
+bytes_refusal (form.Text (text.Json true)) b e zero h is = omega arith
 
 pub ruleset number_laws = (known, bytes_refusal)

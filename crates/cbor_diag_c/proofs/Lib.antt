@@ -1,4 +1,5 @@
 pub mod Refusals
-pub mod EdnLines
+pub mod Lines
+pub mod NoOutput
 pub mod FormNumbers
 pub mod Told

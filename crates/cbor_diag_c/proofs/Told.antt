@@ -1,13 +1,18 @@
 -- What is told of the first breach.
-use Rattle.std.proofs.Common.{◌≡◌, ◌≢◌, ◌↔◌, ℕ, List, Bool, false, Option, Some, None, refl, sym, subst, ◌∙◌, arith}
+use Rattle.std.proofs.Common.{◌≡◌, ◌≢◌, ◌↔◌, ◌⊎◌, ℕ, List, Bool, false, Option, Some, None, inl, inr, refl, sym}
+use Rattle.std.proofs.Common.{subst, ◌∙◌, arith}
 use Rattle.cbor_rules.specs.declared.rules.Rules.{Rules}
 use Rattle.cbor_rules.specs.declared.kind.Breach.{Breach}
 use Rattle.cbor_rules.specs.declared.kind.BreachKind.{BreachKind}
 use Rattle.cbor_rules.specs.declared.kind.BreachKind.TheVariants as kind
 use Rattle.cbor_rules.specs.FirstBreach.{first_breach}
 use Rattle.cbor_rules.specs.Keeps.{KeepsRules, without_memory}
-use Rattle.cbor_diag_c.specs.Breaches.{rules_of, kind_number, IsTold, KeepsBy}
-use Rattle.cbor_diag_c.specs.Reencodings.{Breaks, BreaksBy}
+use Rattle.cbor_reencode.specs.declared.error.ReencodeError.{ReencodeError}
+use Rattle.cbor_reencode.specs.declared.error.ReencodeError.TheVariants as reencode_error
+use Rattle.cbor_reencode.specs.Reencoded.{IsFound, lasting}
+use Rattle.cbor_messages.specs.Kinds.{kind_number}
+use Rattle.cbor_diag_c.specs.Breaches.{rules_of, IsTold, KeepsBy}
+use Rattle.cbor_diag_c.specs.Reencodings.{Breaks, BreaksBy, IsToldWhy, IsToldWhyNot}
 
 -- the rules with these two
 abbrev with_two : Rules → Bool → Bool → Rules
@@ -90,3 +95,50 @@ kept number b rules (Some breach) n place detail is none told = (
   λ nought. absurd (some_number breach.kind (sym told.0 ∙ nought)),
   λ keeps. absurd (no_breach breach (none.1 (same_rules number b rules is keeps))),
 )
+
+-- ---- why there is no encoding
+
+some_told : (breach : Breach) (n place detail : ℕ) → IsTold (Some breach) n place detail → n ≢ 0
+some_told breach n place detail told nought = some_number breach.kind (sym told.0 ∙ nought)
+
+-- what is told of an error has a number
+pub some_why : (e : ReencodeError) (n place detail : ℕ) → IsToldWhy e n place detail → n ≢ 0
+some_why reencode_error.Memory n place detail told nought = told
+some_why (reencode_error.Breach breach) n place detail told nought = some_told breach n place detail told nought
+some_why (reencode_error.KeyTwice first second) n place detail told nought =
+    let fifteen : n ≡ 15 = told.0 in omega arith
+some_why (reencode_error.Written breach) n place detail told nought = some_number breach.kind (sym told.0 ∙ nought)
+
+-- of out of memory nothing is told
+pub no_memory : (e : ReencodeError) (n place detail : ℕ) → e ≡ reencode_error.Memory → IsToldWhy e n place detail
+    → n ≡ 0
+no_memory e n place detail is told =
+    absurd (subst (λ (x : ReencodeError). IsToldWhy x n place detail) is told)
+
+only_breach : (e : ReencodeError) (breach : Breach) (n place detail : ℕ)
+    → (e ≡ reencode_error.Breach breach) ⊎ (e ≡ reencode_error.Memory) → IsToldWhy e n place detail
+    → e ≡ reencode_error.Breach breach
+only_breach e breach n place detail (inl is) told = is
+only_breach e breach n place detail (inr is) told =
+    absurd (subst (λ (x : ReencodeError). IsToldWhy x n place detail) is told)
+
+why_at : (rules : Rules) (b : List ℕ) (e : ReencodeError) (n place detail : ℕ) (lasting_breach : Option Breach)
+    → first_breach (lasting rules) b ≡ lasting_breach
+    → ((breach : Breach) → first_breach (lasting rules) b ≡ Some breach
+    → (e ≡ reencode_error.Breach breach) ⊎ (e ≡ reencode_error.Memory))
+    → (first_breach (lasting rules) b ≡ None → IsFound rules b e)
+    → IsToldWhy e n place detail → IsToldWhyNot rules b n place detail
+why_at rules b e n place detail None is lasts found told = inr (e, inr (is, found is), told)
+why_at rules b e n place detail (Some breach) is lasts found told =
+    inr (e, inl (breach, only_breach e breach n place detail (lasts breach is) told, is), told)
+
+-- what is told of the error of `reencoded` is told of the input
+pub why : (rules : Rules) (b : List ℕ) (e : ReencodeError) (n place detail : ℕ)
+    → ((breach : Breach) → first_breach (lasting rules) b ≡ Some breach
+    → (e ≡ reencode_error.Breach breach) ⊎ (e ≡ reencode_error.Memory))
+    → (first_breach (lasting rules) b ≡ None → IsFound rules b e)
+    → IsToldWhy e n place detail → IsToldWhyNot rules b n place detail
+why rules b e n place detail lasts found told =
+    why_at rules b e n place detail (first_breach (lasting rules) b) refl lasts found told
+
+pub ruleset why_laws = (some_why, no_memory, why)

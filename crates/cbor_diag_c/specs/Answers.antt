@@ -2,7 +2,6 @@
 use Rattle.std.specs.Prelude.{◌≡◌, ◌⊎◌, ⊤, ℕ, ◌+◌, ◌<◌, ℤ, pos, negsuc, List, ◌++◌, length, take, drop, codes}
 use Rattle.cbor_grammar.specs.declared.error.Error.{Error}
 use Rattle.cbor_diag.specs.Refusals.{text_of, number_of}
-use Rattle.cbor_diag_c.specs.Forms.{IsNoForm, IsConversion, IsRefusal}
 
 -- a fact of the length that was returned
 abbrev pub IfLength : ℤ → (ℕ → Type 0) → Type 0
@@ -35,20 +34,17 @@ no_rules = 12
 abbrev pub not_encodable : ℕ
 not_encodable = 13
 
--- A conversion with an output of this length, and the buffer after it.
-abbrev pub IsWhole : ℕ → ℕ → List ℕ → List ℕ → List ℕ → ℕ → Type 0
-IsWhole from to input old new n =
-    (whole : List ℕ) × IsConversion from to input whole × (n ≡ length whole) × (new ≡ written whole old)
+-- what is returned for two keys of a map that become the same in JSON
+abbrev pub same_keys : ℕ
+same_keys = 14
 
--- why there is no conversion, by the error's number, out of memory aside
-abbrev pub IsWhy : ℕ → ℕ → List ℕ → ℕ → Type 0
-IsWhy from to input n =
-    ((e : Error) × (n ≡ number_of e) × IsRefusal from to input e)
-    ⊎ ((n ≡ no_form) × (IsNoForm from ⊎ IsNoForm to))
+-- what is returned for what JSON does not keep
+abbrev pub not_kept : ℕ
+not_kept = 15
 
 -- no error has this number
 abbrev pub IsNoError : ℕ → Type 0
-IsNoError n = (n ≡ 0) ⊎ (not_encodable < n)
+IsNoError n = (n ≡ 0) ⊎ (not_kept < n)
 
 -- what the error of this number says
 abbrev pub IsTextOf : ℕ → List ℕ → Type 0
@@ -57,6 +53,8 @@ IsTextOf n text =
     ⊎ ((n ≡ no_form) × (text ≡ codes "no such form"))
     ⊎ ((n ≡ no_rules) × (text ≡ codes "no such rules"))
     ⊎ ((n ≡ not_encodable) × (text ≡ codes "no encoding of the items keeps the rules"))
+    ⊎ ((n ≡ same_keys) × (text ≡ codes "two keys of a map become the same in JSON"))
+    ⊎ ((n ≡ not_kept) × (text ≡ codes "JSON does not keep all of the item"))
     ⊎ (IsNoError n × (text ≡ codes "no such error"))
 
 -- this number was returned

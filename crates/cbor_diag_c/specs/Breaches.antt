@@ -1,5 +1,5 @@
 -- What is returned for where bytes first break a set of rules.
-use Rattle.std.specs.Prelude.{◌≡◌, ◌⊎◌, ℕ, List, Option, Some, None, IsTrue, codes}
+use Rattle.std.specs.Prelude.{◌≡◌, ◌⊎◌, ℕ, List, Option, Some, None, IsTrue}
 use Rattle.std.specs.Prelude.{◌==◌, if◌then◌else◌}
 use Rattle.cbor_diag.specs.Refusals.{number_of}
 use Rattle.cbor_rules.specs.declared.rules.Rules.{Rules}
@@ -10,6 +10,7 @@ use Rattle.cbor_rules.specs.declared.kind.BreachKind.{BreachKind}
 use Rattle.cbor_rules.specs.declared.kind.BreachKind.TheVariants as kind
 use Rattle.cbor_rules.specs.FirstBreach.{first_breach}
 use Rattle.cbor_rules.specs.Keeps.{KeepsRules}
+use Rattle.cbor_messages.specs.Kinds.{kind_number}
 use Rattle.cbor_diag_c.specs.Places.{no_place}
 
 -- the set of rules with this number
@@ -23,23 +24,6 @@ rules_of number =
     else if number == 5 then Some CTAP2
     else if number == 6 then Some DCBOR
     else None
-
-abbrev pub kind_number : BreachKind → ℕ
-kind_number (kind.NoItem e) = 1
-kind_number kind.LongSimple = 2
-kind_number (kind.LongHead n w) = 3
-kind_number kind.NotNfc = 4
-kind_number (kind.LongFloat float shortest) = 5
-kind_number (kind.IntegerFloat float negative size) = 6
-kind_number (kind.OtherNan float) = 7
-kind_number (kind.OtherSimple n) = 8
-kind_number kind.Indefinite = 9
-kind_number kind.Tag = 10
-kind_number kind.LeadingZero = 11
-kind_number kind.SmallBigNumber = 12
-kind_number kind.TooDeep = 13
-kind_number (kind.KeyOrder previous) = 14
-kind_number (kind.KeyTwice first) = 15
 
 -- what else is told: the number of the error for which there is no item, or the place of the other key
 abbrev pub detail_of : BreachKind → ℕ
@@ -68,23 +52,3 @@ TakesMemory rules = IsTrue rules.nfc ⊎ IsTrue rules.distinct_keys
 
 abbrev pub TakesMemoryBy : ℕ → Type 0
 TakesMemoryBy number = (rules : Rules) × (rules_of number ≡ Some rules) × TakesMemory rules
-
--- what is said of a kind, by its number
-abbrev pub breach_text : ℕ → List ℕ
-breach_text number =
-    if number == 1 then codes "no item"
-    else if number == 2 then codes "a simple value below 32 in two bytes"
-    else if number == 3 then codes "a head that is not the shortest"
-    else if number == 4 then codes "a text that is not in NFC"
-    else if number == 5 then codes "a float that is not the shortest"
-    else if number == 6 then codes "a float that is an integer"
-    else if number == 7 then codes "a NaN other than f97e00"
-    else if number == 8 then codes "a simple value other than false, true and null"
-    else if number == 9 then codes "an indefinite length"
-    else if number == 10 then codes "a tag"
-    else if number == 11 then codes "a big number that begins with a zero byte"
-    else if number == 12 then codes "a big number that fits an integer"
-    else if number == 13 then codes "nested deeper than the rules allow"
-    else if number == 14 then codes "a key that is out of order"
-    else if number == 15 then codes "a key that stands twice"
-    else codes "no such breach"

@@ -1,5 +1,7 @@
 pub mod Forms
 pub mod Answers
+pub mod Outputs
+pub mod Conversions
 pub mod Beginnings
 pub mod Pieces
 pub mod Places

@@ -63,7 +63,7 @@ IsEdnPlace input place =
 
 abbrev pub IsPlace : Form → List ℕ → Error → ℕ → Type 0
 IsPlace (form.Plain f) input e place = IsPlainPlace (read_as f) input e place
-IsPlace (form.Edn pretty) input e place = IsEdnPlace input place
+IsPlace (form.Text t) input e place = IsEdnPlace input place
 
 -- the input is an item in the form of this number
 abbrev pub IsItemIn : ℕ → List ℕ → Type 0

@@ -8,7 +8,9 @@ use Rattle.cbor_reencode.specs.declared.error.ReencodeError.{ReencodeError}
 use Rattle.cbor_reencode.specs.declared.error.ReencodeError.TheVariants as reencode_error
 use Rattle.cbor_reencode.specs.Reencoded.{IsReencoded, IsFound, lasting}
 use Rattle.cbor_diag_c.specs.Answers.{written}
-use Rattle.cbor_diag_c.specs.Breaches.{rules_of}
+use Rattle.cbor_messages.specs.Kinds.{kind_number}
+use Rattle.cbor_diag_c.specs.Breaches.{rules_of, IsTold}
+use Rattle.cbor_diag_c.specs.Places.{no_place}
 
 -- A text of this length, and the buffer after it was written.
 abbrev pub IsWrittenText : List ℕ → List ℕ → List ℕ → ℕ → Type 0
@@ -41,3 +43,31 @@ IsNotEncodable rules input =
 abbrev pub IsNotEncodableBy : ℕ → List ℕ → Type 0
 IsNotEncodableBy number input =
     (rules : Rules) × (rules_of number ≡ Some rules) × IsNotEncodable rules input
+
+-- ---- why there is no encoding
+
+-- The error that the input has: it breaks a rule that no choice keeps, and this is the first place; or else what was
+-- found by encoding it.
+abbrev pub IsWhyNot : Rules → List ℕ → ReencodeError → Type 0
+IsWhyNot rules input e =
+    ((breach : Breach) × (e ≡ reencode_error.Breach breach) × (first_breach (lasting rules) input ≡ Some breach))
+    ⊎ ((first_breach (lasting rules) input ≡ None) × IsFound rules input e)
+
+-- What is told of an error: the number of what is wrong, its place and its detail. What was written is not there.
+abbrev pub IsToldWhy : ReencodeError → ℕ → ℕ → ℕ → Type 0
+IsToldWhy reencode_error.Memory n place detail = ⊥
+IsToldWhy (reencode_error.Breach breach) n place detail = IsTold (Some breach) n place detail
+IsToldWhy (reencode_error.KeyTwice first second) n place detail = (n ≡ 15) × (place ≡ second) × (detail ≡ first)
+IsToldWhy (reencode_error.Written breach) n place detail =
+    (n ≡ kind_number breach.kind) × (place ≡ no_place) × (detail ≡ no_place)
+
+-- 0 is told where there is an encoding, and otherwise of the error that the input has.
+abbrev pub IsToldWhyNot : Rules → List ℕ → ℕ → ℕ → ℕ → Type 0
+IsToldWhyNot rules input n place detail =
+    ((n ≡ 0) × (place ≡ no_place) × (detail ≡ no_place)
+    × (again : List ℕ) × IsReencoded rules input again × KeepsRules rules again)
+    ⊎ ((e : ReencodeError) × IsWhyNot rules input e × IsToldWhy e n place detail)
+
+abbrev pub IsToldWhyNotBy : ℕ → List ℕ → ℕ → ℕ → ℕ → Type 0
+IsToldWhyNotBy number input n place detail =
+    (rules : Rules) × (rules_of number ≡ Some rules) × IsToldWhyNot rules input n place detail

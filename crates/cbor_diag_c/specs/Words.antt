@@ -27,7 +27,7 @@ IsErrorText from input words =
 -- the words for an input in a form, out of memory aside
 abbrev pub IsWordsIn : Form → List ℕ → List ℕ → Type 0
 IsWordsIn (form.Plain f) input words = IsErrorText (form.Plain f) input words
-IsWordsIn (form.Edn pretty) input words = IsEdnWords input words
+IsWordsIn (form.Text t) input words = IsEdnWords input words
 
 -- such words, or those of out of memory
 abbrev pub IsOrMemory : (List ℕ → Type 0) → List ℕ → Type 0

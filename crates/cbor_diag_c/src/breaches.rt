@@ -1,15 +1,18 @@
 //! The calls that report where bytes break rules.
 ghost use Rattle.std.specs.Prelude.{◌≡◌, ◌⊎◌, ◌↔◌, ◌<◌, negsuc, None, length, IfOk, IsErr};
+ghost use Rattle.cbor_messages.specs.Kinds.{kind_text};
 ghost use Rattle.cbor_rules.specs.FirstBreach.{first_breach};
 ghost use Rattle.cbor_rules.specs.Keeps.{KeepsRules};
 ghost use Rattle.cbor_diag_c.specs.Answers.{IfLength, IfError, no_rules, written};
-ghost use Rattle.cbor_diag_c.specs.Breaches.{kind_number, detail_of, breach_text, rules_of};
-ghost use Rattle.cbor_diag_c.specs.Breaches.{IsTold, IsFoundBy, KeepsBy, TakesMemory, TakesMemoryBy};
+ghost use Rattle.cbor_diag_c.specs.Breaches.{detail_of, rules_of};
+ghost use Rattle.cbor_diag_c.specs.Breaches.{IsTold, IsFoundBy, KeepsBy, TakesMemory};
+ghost use Rattle.cbor_diag_c.specs.Breaches.{TakesMemoryBy};
 ghost use Rattle.cbor_diag_c.specs.Places.{no_place};
 
 use crate::answer::{refused, write};
 use crate::faults::NO_PLACE;
 use cbor_diag::Error;
+use cbor_messages::{kind_number, kind_text};
 use cbor_rules::{Breach, BreachKind, Rules, breach, breach_in};
 use std::alloc::{AllocError, Global};
 
@@ -29,29 +32,6 @@ pub(crate) fn rules_of(number: u32) -> Option<Rules>
         5 => Some(Rules::CTAP2),
         6 => Some(Rules::DCBOR),
         _ => None,
-    }
-}
-
-/// The number of a kind.
-fn kind_number(kind: BreachKind) -> u32
-    ensures { result ≡ kind_number kind }
-{
-    match kind {
-        BreachKind::NoItem(_) => 1,
-        BreachKind::LongSimple => 2,
-        BreachKind::LongHead { .. } => 3,
-        BreachKind::NotNfc => 4,
-        BreachKind::LongFloat { .. } => 5,
-        BreachKind::IntegerFloat { .. } => 6,
-        BreachKind::OtherNan { .. } => 7,
-        BreachKind::OtherSimple(_) => 8,
-        BreachKind::Indefinite => 9,
-        BreachKind::Tag => 10,
-        BreachKind::LeadingZero => 11,
-        BreachKind::SmallBigNumber => 12,
-        BreachKind::TooDeep => 13,
-        BreachKind::KeyOrder { .. } => 14,
-        BreachKind::KeyTwice { .. } => 15,
     }
 }
 
@@ -82,7 +62,7 @@ fn first(alloc: Global, bytes: &[u8], rules: Rules) -> Result<Option<Breach>, Al
 }
 
 /// Returns what C is told of the first breach, if there is one, and sets its place and detail.
-fn told(found: Option<Breach>, place: &mut usize, detail: &mut usize) -> i64
+pub(crate) fn told(found: Option<Breach>, place: &mut usize, detail: &mut usize) -> i64
     ensures told { IfLength result (λ n. IsTold found n place.new detail.new) }
     ensures no_error { IfError result (λ n. ⊥) }
 {
@@ -105,9 +85,9 @@ fn told(found: Option<Breach>, place: &mut usize, detail: &mut usize) -> i64
 /// Returns 0 if they are items, none or more, that keep the rules; otherwise the number of the kind
 /// of the first breach, or minus the number of an error: `Memory`, which only `VALID` and `DCBOR`
 /// can have, or 12 for no set of rules. Sets `place` to how many bytes come before the head or the
-/// key that breaks the rule; and `detail` to the place of the other key, if a key is out of order or
-/// stands twice, or to the number of the error, if there is no item. Both are 2^64 - 1 where there
-/// is nothing to be told.
+/// key that breaks the rule; and `detail` to the place of the other key, if a key is out of order
+/// or stands twice, or to the number of the error, if there is no item. Both are 2^64 - 1 where
+/// there is nothing to be told.
 #[unsafe(no_mangle)]
 #[tactic(auto, using(crate::proofs::Told::kept))]
 pub extern "C" fn cbor_diag_breach(
@@ -135,38 +115,14 @@ pub extern "C" fn cbor_diag_breach(
     }
 }
 
-/// The words for the kind of this number.
-fn text(number: u32) -> &'static str
-    ensures { result.now ≡ breach_text number }
-{
-    match number {
-        1 => "no item",
-        2 => "a simple value below 32 in two bytes",
-        3 => "a head that is not the shortest",
-        4 => "a text that is not in NFC",
-        5 => "a float that is not the shortest",
-        6 => "a float that is an integer",
-        7 => "a NaN other than f97e00",
-        8 => "a simple value other than false, true and null",
-        9 => "an indefinite length",
-        10 => "a tag",
-        11 => "a big number that begins with a zero byte",
-        12 => "a big number that fits an integer",
-        13 => "nested deeper than the rules allow",
-        14 => "a key that is out of order",
-        15 => "a key that stands twice",
-        _ => "no such breach",
-    }
-}
-
 /// Writes in words what is wrong by the number of a kind, in ASCII and without a full stop.
 ///
 /// Returns the length of the text, of which as much is written as fits `output`.
 #[unsafe(no_mangle)]
 pub extern "C" fn cbor_diag_breach_text(kind: u32, output: &mut [u8]) -> i64
-    ensures text { IfLength result (λ n. (n ≡ length (breach_text kind))
-        × (output.new ≡ written (breach_text kind) output.old)) }
+    ensures text { IfLength result (λ n. (n ≡ length (kind_text kind))
+        × (output.new ≡ written (kind_text kind) output.old)) }
     ensures no_error { IfError result (λ n. ⊥) }
 {
-    write(text(kind).as_bytes(), output)
+    write(kind_text(kind).as_bytes(), output)
 }

@@ -1,70 +1,95 @@
-//! The call that converts.
-ghost use Rattle.std.specs.Prelude.{◌≡◌, ◌≢◌, ◌⊎◌, ◌<◌, negsuc, Bool, IfOk};
-ghost use Rattle.cbor_diag.specs.Answer.{RefusedSo};
-ghost use Rattle.cbor_diag_c.specs.Forms.{IsNoForm, IsOutputIn, IsRefusedIn};
-ghost use Rattle.cbor_diag_c.specs.Answers.{IfLength, IfError, no_form, IsWhole, IsWhy};
+//! The calls that convert, and that say why an item has no output.
+ghost use Rattle.std.specs.Prelude.{◌≡◌, ◌≢◌, ◌⊎◌, ◌<◌, negsuc, IfOk};
+ghost use Rattle.cbor_diag_c.specs.declared.form.Text.{Text as Texts};
+ghost use Rattle.cbor_diag_c.specs.Forms.{IsNoForm, IsOutputIn};
+ghost use Rattle.cbor_diag_c.specs.Outputs.{RefusedAs, IsNoOutput, error_number, loss_number, IsTold};
+ghost use Rattle.cbor_diag_c.specs.Answers.{IfLength, IfError, IsMinus, no_form};
+ghost use Rattle.cbor_diag_c.specs.Conversions.{IsWhole, IsWhy, IsOutputFault, IsConverted};
+ghost use Rattle.cbor_diag_c.specs.Places.{no_place};
 
 use crate::answer::{refused, write};
-use crate::edn::{edn_line, item_line, read_edn};
-use crate::form::{Form, NO_FORM, read_as};
+use crate::edn::read_edn;
+use crate::faults::NO_PLACE;
+use crate::form::{Form, NO_FORM, Text, read_as};
+use crate::text::{item_line, text_line};
 use cbor_convert::{Source, To, convert, read_item, write_item};
 use cbor_diag::{Error, hex_bytes};
+use cbor_json::{JsonError, LossKind};
 use std::alloc::Global;
 
-/// Returns an input in one of the plain forms in EDN. No item is built of bytes and of hex.
-fn plain_to_edn(alloc: Global, from: To, pretty: bool, input: &[u8]) -> Result<Vec<u8>, Error>
+/// Returns an input in one of the plain forms in EDN or JSON. No item is built of bytes and of hex.
+#[tactic(auto, using(crate::proofs::NoOutput::plain_laws))]
+fn plain_to_text(alloc: Global, from: To, text: Text, input: &[u8]) -> Result<Vec<u8>, JsonError>
     ensures ok { IfOk result (λ output.
-        IsOutputIn (Form.Plain from) (Form.Edn pretty) input.now output.items) }
-    ensures refused { RefusedSo result (IsRefusedIn (Form.Plain from) input.now) }
+        IsOutputIn (Form.Plain from) (Form.Text text) input.now output.items) }
+    ensures refused { RefusedAs result (IsNoOutput (Form.Plain from) (Form.Text text) input.now) }
 {
     match from {
-        To::Bytes => edn_line(alloc, input, pretty),
-        To::Hex => hex_to_edn(alloc, pretty, input),
+        To::Bytes => text_line(alloc, input, text),
+        To::Hex => hex_to_text(alloc, text, input),
         To::Diag | To::Pretty => {
             let item = read_item(alloc, Source::Diag, input)?;
-            item_line(alloc, &item, pretty)
+            item_line(alloc, &item, text)
         }
     }
 }
 
-/// Returns an input in hex in EDN.
-#[tactic(auto, using(crate::proofs::Refusals::hex_refused))]
-fn hex_to_edn(alloc: Global, pretty: bool, input: &[u8]) -> Result<Vec<u8>, Error>
+/// Returns an input in hex in EDN or JSON.
+#[tactic(auto, using(crate::proofs::NoOutput::hex_laws))]
+fn hex_to_text(alloc: Global, text: Text, input: &[u8]) -> Result<Vec<u8>, JsonError>
     ensures ok { IfOk result (λ output.
-        IsOutputIn (Form.Plain To.Hex) (Form.Edn pretty) input.now output.items) }
-    ensures refused { RefusedSo result (IsRefusedIn (Form.Plain To.Hex) input.now) }
+        IsOutputIn (Form.Plain To.Hex) (Form.Text text) input.now output.items) }
+    ensures refused { RefusedAs result (IsNoOutput (Form.Plain To.Hex) (Form.Text text) input.now) }
 {
     let Ok(hex) = str::from_utf8(input) else {
-        return Err(Error::Utf8);
+        return Err(JsonError::Cbor(Error::Utf8));
     };
     let bytes = hex_bytes(alloc, hex)?;
-    edn_line(alloc, &bytes, pretty)
+    text_line(alloc, &bytes, text)
 }
 
 /// Returns an input in EDN in another form, or in EDN as it is written.
-fn edn_to(alloc: Global, to: Form, input: &[u8]) -> Result<Vec<u8>, Error>
-    ensures ok { (pretty : Bool) → IfOk result (λ output.
-        IsOutputIn (Form.Edn pretty) to input.now output.items) }
-    ensures refused { (pretty : Bool) → RefusedSo result (IsRefusedIn (Form.Edn pretty) input.now) }
+#[tactic(auto, using(crate::proofs::NoOutput::edn_laws))]
+fn edn_to(alloc: Global, to: Form, input: &[u8]) -> Result<Vec<u8>, JsonError>
+    ensures ok { (t : Texts) → IfOk result (λ output.
+        IsOutputIn (Form.Text t) to input.now output.items) }
+    ensures refused { (t : Texts) → RefusedAs result (IsNoOutput (Form.Text t) to input.now) }
 {
     let item = read_edn(alloc, input)?;
     match to {
-        Form::Plain(plain) => write_item(alloc, plain, &item, Vec::new(alloc)),
-        Form::Edn { pretty } => item_line(alloc, &item, pretty),
+        Form::Plain(plain) => Ok(write_item(alloc, plain, &item, Vec::new(alloc))?),
+        Form::Text(text) => item_line(alloc, &item, text),
     }
 }
 
 /// Returns the output for an input.
-fn converted(alloc: Global, from: Form, to: Form, input: &[u8]) -> Result<Vec<u8>, Error>
+fn converted(alloc: Global, from: Form, to: Form, input: &[u8]) -> Result<Vec<u8>, JsonError>
     ensures ok { IfOk result (λ output. IsOutputIn from to input.now output.items) }
-    ensures refused { RefusedSo result (IsRefusedIn from input.now) }
+    ensures refused { RefusedAs result (IsNoOutput from to input.now) }
 {
     match from {
         Form::Plain(plain) => match to {
-            Form::Plain(to) => convert(alloc, read_as(plain), to, input),
-            Form::Edn { pretty } => plain_to_edn(alloc, plain, pretty, input),
+            Form::Plain(to) => Ok(convert(alloc, read_as(plain), to, input)?),
+            Form::Text(text) => plain_to_text(alloc, plain, text, input),
         },
-        Form::Edn { .. } => edn_to(alloc, to, input),
+        Form::Text(_) => edn_to(alloc, to, input),
+    }
+}
+
+/// What is returned for two keys of a map that become the same in JSON.
+const SAME_KEYS: i64 = -14;
+
+/// What is returned for what JSON does not keep.
+const NOT_KEPT: i64 = -15;
+
+/// Returns minus the number of the error for which there is no output.
+fn no_output(error: JsonError) -> i64
+    ensures { IsMinus (error_number error) result }
+{
+    match error {
+        JsonError::Cbor(error) => refused(error),
+        JsonError::SameKeys(_) => SAME_KEYS,
+        JsonError::NotKept(_) => NOT_KEPT,
     }
 }
 
@@ -94,6 +119,78 @@ pub extern "C" fn cbor_diag_convert(
     };
     match converted(alloc, from, to, input) {
         Ok(whole) => write(&whole, output),
-        Err(error) => refused(error),
+        Err(error) => no_output(error),
+    }
+}
+
+/// The number of what JSON does not keep.
+fn loss_number(kind: LossKind) -> usize
+    ensures { result ≡ loss_number kind }
+{
+    match kind {
+        LossKind::Tag => 1,
+        LossKind::NotFinite => 2,
+        LossKind::Simple => 3,
+        LossKind::Bytes => 4,
+        LossKind::Key => 5,
+    }
+}
+
+/// Returns minus the number of the error, and sets its place and detail.
+fn told(error: JsonError, place: &mut usize, detail: &mut usize) -> i64
+    ensures error { IfError result (λ n. IsTold error n place.new detail.new) }
+    ensures no_length { IfLength result (λ n. ⊥) }
+{
+    match error {
+        JsonError::Cbor(_) => {
+            *place = NO_PLACE;
+            *detail = NO_PLACE;
+        }
+        JsonError::SameKeys(clash) => {
+            *place = clash.second;
+            *detail = clash.first;
+        }
+        JsonError::NotKept(loss) => {
+            *place = loss.place;
+            *detail = loss_number(loss.kind);
+        }
+    }
+    no_output(error)
+}
+
+/// Reports why `cbor_diag_convert` has no output for an input, and where in the bytes of the item.
+///
+/// Returns 0 if it has one, and otherwise minus the number of its error. Sets `place` and `detail`
+/// for an item that has no JSON: to the places of the second and the first of two keys that become
+/// the same; or to the place of what JSON does not keep and the number of its kind. These places
+/// are in the bytes that an input in bytes or hex has, and for one in notation or EDN in those that
+/// it is encoded to. Otherwise both are 2^64 - 1.
+#[unsafe(no_mangle)]
+#[tactic(auto, using(crate::proofs::FormNumbers::known))]
+pub extern "C" fn cbor_diag_output_fault(
+    alloc: Global,
+    from: u32,
+    to: u32,
+    input: &[u8],
+    place: &mut usize,
+    detail: &mut usize,
+) -> i64
+    ensures none { IfLength result (λ n. (n ≡ 0) × IsConverted from to input.now
+        × (place.new ≡ no_place) × (detail.new ≡ no_place)) }
+    ensures fault { IfError result (λ n. n ≢ 1
+        → IsOutputFault from to input.now n place.new detail.new) }
+    ensures unknown_form { IsNoForm from ⊎ IsNoForm to → result ≡ negsuc 10 }
+{
+    *place = NO_PLACE;
+    *detail = NO_PLACE;
+    let Some(from) = Form::of(from) else {
+        return NO_FORM;
+    };
+    let Some(to) = Form::of(to) else {
+        return NO_FORM;
+    };
+    match converted(alloc, from, to, input) {
+        Ok(_) => 0,
+        Err(error) => told(error, place, detail),
     }
 }

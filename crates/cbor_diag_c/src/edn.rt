@@ -1,4 +1,4 @@
-//! Items from EDN and to it.
+//! EDN, as an input and an output of the calls for C.
 ghost use Rattle.std.specs.Prelude.{◌≡◌, IfOk, IfErr, MatchResult};
 ghost use Rattle.cbor_diag.specs.View.{view};
 ghost use Rattle.cbor_diag.specs.Answer.{RefusedSo};
@@ -7,7 +7,7 @@ ghost use Rattle.cbor_diag.specs.Item.{Item};
 ghost use Rattle.cbor_grammar.specs.Written.{resolve};
 ghost use Rattle.cbor_diag_c.specs.Forms.{IsEdn, IsNoEdn, IsEdnError, IsEdnLine};
 
-use crate::form::style_of;
+use crate::form::edn_style;
 use cbor_diag::{DataItem, Error};
 use cbor_edn::{EdnError, parse_edn, push_bytes_to_edn};
 use std::alloc::Global;
@@ -39,7 +39,7 @@ pub(crate) fn edn_error(alloc: Global, text: &str) -> Option<EdnError>
 }
 
 /// Returns the item that the bytes are in EDN, and a line feed.
-#[tactic(auto, using(crate::proofs::EdnLines::as_read))]
+#[tactic(auto, using(crate::proofs::Lines::edn_as_read))]
 pub(crate) fn edn_line(alloc: Global, bytes: &[u8], pretty: bool) -> Result<Vec<u8>, Error>
     ensures ok { IfOk result (λ line. (i : Item) × IsItem bytes.now i
         × IsEdnLine pretty (resolve i) line.items) }
@@ -48,18 +48,8 @@ pub(crate) fn edn_line(alloc: Global, bytes: &[u8], pretty: bool) -> Result<Vec<
         (λ line. IsEdnLine pretty i line.items) (λ e. e ≡ Error.Memory) }
 {
     let mut text = String::new(alloc);
-    push_bytes_to_edn(alloc, bytes, style_of(pretty), &mut text)?;
+    push_bytes_to_edn(alloc, bytes, edn_style(pretty), &mut text)?;
     let mut line = text.into_bytes();
     line.push(b'\n')?;
     Ok(line)
-}
-
-/// Returns the item in EDN, and a line feed. The only error is `Memory`.
-pub(crate) fn item_line(alloc: Global, item: &DataItem, pretty: bool) -> Result<Vec<u8>, Error>
-    requires { IsWellFormed (view item.now) }
-    ensures ok { IfOk result (λ line. IsEdnLine pretty (resolve (view item.now)) line.items) }
-    ensures memory { IfErr result (λ e. e ≡ Error.Memory) }
-{
-    let bytes = item.to_bytes(alloc)?;
-    edn_line(alloc, &bytes, pretty)
 }

@@ -35,6 +35,8 @@ fn text(number: u32) -> &'static str
         None if number == 11 => "no such form",
         None if number == 12 => "no such rules",
         None if number == 13 => "no encoding of the items keeps the rules",
+        None if number == 14 => "two keys of a map become the same in JSON",
+        None if number == 15 => "JSON does not keep all of the item",
         None => "no such error",
     }
 }

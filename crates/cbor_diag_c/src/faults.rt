@@ -168,7 +168,7 @@ pub(crate) fn fault(alloc: Global, from: Form, input: &[u8]) -> Result<Fault, Er
 {
     match from {
         Form::Plain(plain) => in_plain(alloc, read_as(plain), input),
-        Form::Edn { .. } => in_edn(alloc, input),
+        Form::Text(_) => in_edn(alloc, input),
     }
 }
 

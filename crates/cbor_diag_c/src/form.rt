@@ -1,9 +1,10 @@
 //! The forms of inputs and outputs, and their numbers.
 ghost use Rattle.std.specs.Prelude.{◌≡◌, None, IfSome};
-ghost use Rattle.cbor_diag_c.specs.Forms.{form_number, read_as, style_of, IsNoForm};
+ghost use Rattle.cbor_diag_c.specs.Forms.{form_number, read_as, edn_style, json_style, IsNoForm};
 
 use cbor_convert::{Source, To};
 use cbor_edn::EdnStyle;
+use cbor_json::JsonStyle;
 
 /// What is returned for the number of no form.
 pub(crate) const NO_FORM: i64 = -11;
@@ -13,8 +14,17 @@ pub(crate) const NO_FORM: i64 = -11;
 pub(crate) enum Form {
     /// One that `cbor_convert` has.
     Plain(To),
-    /// EDN: as an output, over several lines where it is long and with notes, or on one line.
+    /// One that is written straight from bytes. An input is read as EDN, of which JSON is a part.
+    Text(Text),
+}
+
+/// What is written straight from bytes.
+#[derive(Clone, Copy)]
+pub(crate) enum Text {
+    /// EDN: over several lines where it is long and with notes, or on one line.
     Edn { pretty: bool },
+    /// JSON on one line: what it does not keep is an error, or is lost.
+    Json { strict: bool },
 }
 
 impl Form {
@@ -28,8 +38,10 @@ impl Form {
             1 => Some(Form::Plain(To::Hex)),
             2 => Some(Form::Plain(To::Diag)),
             3 => Some(Form::Plain(To::Pretty)),
-            4 => Some(Form::Edn { pretty: false }),
-            5 => Some(Form::Edn { pretty: true }),
+            4 => Some(Form::Text(Text::Edn { pretty: false })),
+            5 => Some(Form::Text(Text::Edn { pretty: true })),
+            6 => Some(Form::Text(Text::Json { strict: false })),
+            7 => Some(Form::Text(Text::Json { strict: true })),
             _ => None,
         }
     }
@@ -47,12 +59,23 @@ pub(crate) fn read_as(form: To) -> Source
 }
 
 /// Returns how EDN is written.
-pub(crate) fn style_of(pretty: bool) -> EdnStyle
-    ensures { result ≡ style_of pretty }
+pub(crate) fn edn_style(pretty: bool) -> EdnStyle
+    ensures { result ≡ edn_style pretty }
 {
     if pretty {
         EdnStyle::PRETTY
     } else {
         EdnStyle::LINE
+    }
+}
+
+/// Returns how JSON is written.
+pub(crate) fn json_style(strict: bool) -> JsonStyle
+    ensures { result ≡ json_style strict }
+{
+    if strict {
+        JsonStyle::STRICT
+    } else {
+        JsonStyle::PLAIN
     }
 }

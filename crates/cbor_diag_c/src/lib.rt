@@ -2,8 +2,9 @@
 //! keep to.
 //!
 //! Each returns a length, or minus the number of an error: 1 to 10 as `Error::number` has them, or
-//! 11 for an unknown form, 12 for an unknown set of rules, and 13 for items that have no encoding by
-//! the rules. In C, with the header:
+//! 11 for an unknown form, 12 for an unknown set of rules, 13 for items that have no encoding by
+//! the rules, 14 for two keys of a map that become the same in JSON, and 15 for what JSON does not
+//! keep. In C, with the header:
 //!
 //! ```c
 //! char text[256];
@@ -23,5 +24,6 @@ mod form;
 mod messages;
 mod reencoding;
 mod scanner;
+mod text;
 mod version;
 mod words;

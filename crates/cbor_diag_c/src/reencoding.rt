@@ -1,18 +1,22 @@
-//! The call that encodes items again.
-ghost use Rattle.std.specs.Prelude.{◌≡◌, ◌⊎◌, negsuc, None};
+//! The calls that encode items again, and that say why there is no such encoding.
+ghost use Rattle.std.specs.Prelude.{◌≡◌, ◌≢◌, ◌⊎◌, negsuc, None};
 ghost use Rattle.cbor_rules.specs.Keeps.{KeepsRules};
 ghost use Rattle.cbor_diag_c.specs.Answers.{IfLength, IfError, IfReturned};
 ghost use Rattle.cbor_diag_c.specs.Answers.{no_rules, not_encodable};
 ghost use Rattle.cbor_diag_c.specs.Breaches.{rules_of, KeepsBy};
+ghost use Rattle.cbor_diag_c.specs.Places.{no_place};
 ghost use Rattle.cbor_diag_c.specs.Reencodings.{IsWrittenText, IsAgain, IsAgainBy};
 ghost use Rattle.cbor_diag_c.specs.Reencodings.{Breaks, BreaksBy};
 ghost use Rattle.cbor_diag_c.specs.Reencodings.{IsNotEncodable, IsNotEncodableBy};
+ghost use Rattle.cbor_diag_c.specs.Reencodings.{IsToldWhy, IsToldWhyNot, IsToldWhyNotBy};
 
 use crate::answer::{refused, write};
-use crate::breaches::{NO_RULES, rules_of};
+use crate::breaches::{NO_RULES, rules_of, told};
+use crate::faults::NO_PLACE;
 use cbor_diag::Error;
+use cbor_messages::kind_number;
 use cbor_reencode::{ReencodeError, reencoded};
-use cbor_rules::Rules;
+use cbor_rules::{BreachKind, Rules};
 use std::alloc::Global;
 
 /// What is returned for an input that has no encoding by the rules.
@@ -64,4 +68,74 @@ pub extern "C" fn cbor_diag_reencode(
         return NO_RULES;
     };
     encode(alloc, rules, input, output)
+}
+
+/// Returns the number of what is wrong, and sets its place and detail. Of what was written, which
+/// is not there, it has neither.
+fn told_why(error: ReencodeError, place: &mut usize, detail: &mut usize) -> i64
+    ensures told { IfLength result (λ n. IsToldWhy error n place.new detail.new) }
+    ensures memory { IfError result (λ n. (n ≡ 1) × (error ≡ ReencodeError.Memory)) }
+    ensures no_place { IfError result (λ n. (place.new ≡ no_place) × (detail.new ≡ no_place)) }
+{
+    *place = NO_PLACE;
+    *detail = NO_PLACE;
+    match error {
+        ReencodeError::Memory => refused(Error::Memory),
+        ReencodeError::Breach(breach) => told(Some(breach), place, detail),
+        ReencodeError::KeyTwice { first, second } => {
+            *place = second;
+            *detail = first;
+            i64::from(kind_number(BreachKind::KeyTwice { first }))
+        }
+        ReencodeError::Written(breach) => i64::from(kind_number(breach.kind)),
+    }
+}
+
+/// Tells why the input is not encoded again by the rules; 0 if it is.
+#[tactic(auto, using(crate::proofs::Told::why_laws))]
+fn why_not(alloc: Global, rules: Rules, input: &[u8], place: &mut usize, detail: &mut usize) -> i64
+    ensures told { IfLength result (λ n.
+        IsToldWhyNot rules input.now n place.new detail.new) }
+    ensures kept { KeepsRules rules input.now → IfLength result (λ n. n ≡ 0) }
+    ensures breaks { Breaks rules input.now → IfLength result (λ n. n ≢ 0) }
+    ensures memory { IfError result (λ n. n ≡ 1) }
+    ensures no_place { IfError result (λ n. (place.new ≡ no_place) × (detail.new ≡ no_place)) }
+{
+    match reencoded(alloc, input, rules) {
+        Ok(_) => told(None, place, detail),
+        Err(error) => told_why(error, place, detail),
+    }
+}
+
+/// Reports why `cbor_diag_reencode` has no encoding of an input by a set of rules, and where.
+///
+/// Returns 0 if there is one, and otherwise the number of the kind of breach that no encoding
+/// avoids, or minus the number of an error: `Memory`, or 12 for no set of rules. Sets `place` to
+/// how many bytes of the input come before what is wrong; and `detail` to the place of the other
+/// key, if a key stands twice once the items are encoded again, or to the number of the error, if
+/// there is no item. Both are 2^64 - 1 where there is nothing to be told, and if what breaks the
+/// rules is not in the input but in what it is encoded to.
+#[unsafe(no_mangle)]
+#[tactic(auto, using(crate::proofs::Told::of_rules))]
+pub extern "C" fn cbor_diag_reencode_fault(
+    alloc: Global,
+    rules: u32,
+    input: &[u8],
+    place: &mut usize,
+    detail: &mut usize,
+) -> i64
+    ensures told { IfLength result (λ n.
+        IsToldWhyNotBy rules input.now n place.new detail.new) }
+    ensures kept { KeepsBy rules input.now → IfLength result (λ n. n ≡ 0) }
+    ensures breaks { BreaksBy rules input.now → IfLength result (λ n. n ≢ 0) }
+    ensures error { IfError result (λ n. (n ≡ 1) ⊎ ((n ≡ no_rules) × (rules_of rules ≡ None))) }
+    ensures no_place { IfError result (λ n. (place.new ≡ no_place) × (detail.new ≡ no_place)) }
+    ensures unknown_rules { rules_of rules ≡ None → result ≡ negsuc 11 }
+{
+    *place = NO_PLACE;
+    *detail = NO_PLACE;
+    let Some(rules) = rules_of(rules) else {
+        return NO_RULES;
+    };
+    why_not(alloc, rules, input, place, detail)
 }

@@ -29,7 +29,7 @@ fn edn_words(alloc: Global, input: &[u8]) -> &'static str
 pub(crate) fn words(alloc: Global, from: Form, input: &[u8]) -> &'static str
     ensures { IsOrMemory (IsWordsIn from input.now) result.now }
 {
-    if let Form::Edn { .. } = from {
+    if let Form::Text(_) = from {
         return edn_words(alloc, input);
     }
     match fault(alloc, from, input) {

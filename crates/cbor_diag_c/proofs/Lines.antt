@@ -1,0 +1,20 @@
+-- What is read of bytes is written as it is.
+use Rattle.std.proofs.Common.{ℕ, List, subst, sym}
+use Rattle.cbor_grammar.specs.Item.{Item}
+use Rattle.cbor_grammar.specs.Written.{resolve}
+use Rattle.cbor_grammar.specs.Facts.{IsItem}
+use Rattle.cbor_grammar.proofs.bytes.Resolved.{resolved}
+use Rattle.cbor_edn_writer.specs.declared.style.EdnStyle.{EdnStyle}
+use Rattle.cbor_edn.specs.Written.{IsEdnText}
+use Rattle.cbor_json.specs.declared.style.JsonStyle.{JsonStyle}
+use Rattle.cbor_json.specs.Written.{IsJsonText}
+
+-- all widths of an item that was read are stated
+pub edn_as_read : (style : EdnStyle) (b : List ℕ) (i : Item) (text : List ℕ) → IsItem b i → IsEdnText style i text
+    → IsEdnText style (resolve i) text
+edn_as_read style b i text is written = subst (λ (j : Item). IsEdnText style j text) (sym (resolved 1 b i is)) written
+
+pub json_as_read : (style : JsonStyle) (b : List ℕ) (i : Item) (text : List ℕ) → IsItem b i
+    → IsJsonText style i text → IsJsonText style (resolve i) text
+json_as_read style b i text is written =
+    subst (λ (j : Item). IsJsonText style j text) (sym (resolved 1 b i is)) written
