@@ -156,6 +156,9 @@ def edn_text(chance):
     if kind == 0:
         large = f"{chance.random()}e{chance.randrange(-330, 310)}"
         others = [chance.uniform(-1e5, 1e5), f"{chance.random():.30f}", large]
+        digits = f"{chance.randrange(16 ** chance.choice([1, 13, 14, 15, 16, 40])):x}"
+        point = chance.randrange(len(digits) + 1)
+        others += 2 * [f"0x{digits[:point]}.{digits[point:]}p{chance.choice([0, 1, -1, -1022, -1074, 970])}"]
         text = str(chance.choice(DECIMALS + others)) + chance.choice(["", "", "_1", "_2", "_3", "f", "f16"])
     elif kind == 1:
         value = chance.choice([1 << 64, chance.randrange(1 << 70), chance.randrange(1 << 200), 10 ** 30])

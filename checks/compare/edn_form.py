@@ -75,10 +75,12 @@ def hexadecimal(text, width):
     if not found or not found["whole"] + (found["fraction"] or b""):
         raise Refused("Notation")
     number = int(found["whole"] + (found["fraction"] or b""), 16)
-    exponent = int(found["exponent"]) - 4 * len(found["fraction"] or b"")
-    if number >= 1 << 53 or not -1134 <= exponent <= 1023:
+    exponent = int(found["exponent"])
+    if abs(exponent) >= 1 << 20:
         raise Refused("PastWidth")
-    return float_item(text.startswith(b"-"), number * Fraction(2) ** exponent, width)
+    exponent -= 4 * len(found["fraction"] or b"")
+    double = nearest(number * Fraction(2) ** exponent, 8)
+    return float_item(text.startswith(b"-"), Fraction(value_of(double, 8)), width)
 
 
 def float_item(negative, value, width):

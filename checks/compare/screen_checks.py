@@ -60,7 +60,8 @@ def elided(run, same):
     same("paths are whole", run("--elide=1", "-t", "paths", "-f", "hex", "-x", "a1 6461202061 426162")[0],
          b"0x6  \"a  a\"  h'61...' /2 bytes/\n")
     same("in colours", run("--elide=1", "--color=always", "-f", "hex", "-x", "a1 426162 00")[0],
-         colored(b"{", (KEY, b"h'61...'"), b" ", (NOTE, b"/2 bytes/"), b": ", (NUMBER, b"0"), b"}\n"))
+         colored(b"{", (KEY, b"h'61...'"), b" ", (NOTE, b"/2 bytes/"), b" ", (NOTE, b"/'ab'/"), b": ",
+                 (NUMBER, b"0"), b"}\n"))
     for form in ("hex", "digits", "bytes", "json", "raw"):
         same(f"no --elide of {form}", run("--elide", "-t", form, "-x", "[1]"),
              (b"", "cborcat: --elide cuts strings of pretty, diag and paths alone\n", 2))

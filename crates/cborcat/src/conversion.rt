@@ -1,23 +1,21 @@
 //! The conversion of one input, as its bytes come.
 
 use crate::each::show_each;
-use crate::embedded::push_embedded;
 use crate::encode::Encoding;
 use crate::input::{MORE, block_len, read_into};
-use crate::lost::report_lost;
-use crate::messages::{Place, TWO_BYTES, report_byte, report_end, report_long, say};
+use crate::messages::{Place, report_byte, report_end, report_long, report_lost, say};
 use crate::output::{Target, Written, write};
 use crate::plain::Plain;
-use crate::rules::{Items, first_breach};
 use crate::run::Runner;
 use crate::screen::{Screen, language_of};
 use crate::shown::show_of;
 use crate::status::{Next, Status};
 use crate::words::{Job, View};
 use cbor_diag::Error;
-use cbor_inspect::{End, Form, Stream, two_byte_simple};
+use cbor_inspect::{End, Form, Naming, Stream, two_byte_simple};
+use cbor_messages::{TWO_BYTES, first_breach};
 use cbor_places::{Leaves, Piece, lines_at, partial_text};
-use cbor_screen::Language;
+use cbor_screen::{Language, push_embedded};
 use std::io;
 use std::io::Read;
 
@@ -28,6 +26,8 @@ pub struct Conversion<'a> {
     job: &'a Job<'a>,
     target: &'a mut Target,
     place: &'a Place<'a>,
+    /// The names that are shown.
+    naming: Option<Naming<'a>>,
     /// How it went so far.
     pub status: Status,
     /// The bytes that came, but for those that are skipped or converted.
@@ -66,7 +66,7 @@ fn drop_front(bytes: &mut Vec<u8>, count: usize) {
 impl<'a> Conversion<'a> {
     /// A conversion of an input that begins with these bytes.
     pub fn new(run: &'a mut Runner<'_>, place: &'a Place<'a>, first: Vec<u8>) -> Conversion<'a> {
-        let (rt, job) = (run.rt, run.job);
+        let (rt, job, naming) = (run.rt, run.job, run.naming);
         let came = first.len();
         let mut first = first;
         let skipped = job.offset.min(came);
@@ -76,6 +76,7 @@ impl<'a> Conversion<'a> {
             job,
             target: run.target,
             place,
+            naming,
             status: Status::Fine,
             stream: Stream::new(first),
             came,
@@ -295,7 +296,7 @@ impl<'a> Conversion<'a> {
 
     /// Shows some items, and tells what follows them.
     fn show_some(&mut self) -> End {
-        match show_of(self.rt.alloc(), self.job) {
+        match show_of(self.rt.alloc(), self.job, self.naming) {
             Ok(show) => self.stream.show(&show, &mut self.out),
             Err(_) => End::Memory,
         }
@@ -311,6 +312,7 @@ impl<'a> Conversion<'a> {
             job: self.job,
             place: self.place,
             set,
+            naming: self.naming,
         };
         let asked = (self.came, self.job.show.one);
         let (end, status) = show_each(&encoding, &mut self.stream, asked, &mut self.out);
@@ -359,9 +361,9 @@ impl<'a> Conversion<'a> {
         }
         let begins = self.begins().saturating_sub(passed);
         let bytes = self.stream.passed(passed);
-        let items = Items { bytes, begins };
-        if let Some((at, what)) = first_breach(self.rt.alloc(), set, items)? {
-            report_byte(self.rt, self.place, Piece { begins, bytes }, at, &what)?;
+        let items = Piece { begins, bytes };
+        if let Some(message) = first_breach(self.rt.alloc(), set, items)? {
+            report_byte(self.rt, self.place, items, (message.place, &message.text))?;
             self.broken = true;
             self.ended(Status::Bad);
         }

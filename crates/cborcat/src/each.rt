@@ -1,9 +1,9 @@
 //! Items that are shown one by one, each from its bytes.
 
-use crate::rules::Items;
 use crate::status::Status;
 use cbor_diag::Error;
 use cbor_inspect::{End, Stream};
+use cbor_places::Piece;
 
 /// How many bytes are made before they are written.
 const BLOCK: usize = 64 * 1024;
@@ -11,7 +11,7 @@ const BLOCK: usize = 64 * 1024;
 /// What shows an item.
 pub trait ShowsItem {
     /// Shows an item, or says why it is not shown.
-    fn show_one(&self, item: Items, out: &mut Vec<u8>) -> Result<Status, Error>;
+    fn show_one(&self, item: Piece, out: &mut Vec<u8>) -> Result<Status, Error>;
 }
 
 /// Shows the next items, and tells what follows them, and how it went. The bytes of the stream are
@@ -30,7 +30,7 @@ pub fn show_each<S: ShowsItem>(
         if end != End::Full {
             return (end, status);
         }
-        let items = Items {
+        let items = Piece {
             bytes: stream.passed(before.saturating_sub(stream.rest().len())),
             begins: came.saturating_sub(before),
         };

@@ -1,14 +1,13 @@
 //! Items that are encoded again before they are shown.
 
 use crate::each::ShowsItem;
-use crate::lost::report_lost;
-use crate::messages::{Place, report_byte};
-use crate::rules::{Items, RuleSet, words_of_refusal};
+use crate::messages::{Place, report_byte, report_lost};
 use crate::shown::show_of;
 use crate::status::Status;
 use crate::words::Job;
 use cbor_diag::Error;
-use cbor_inspect::{End, show_items};
+use cbor_inspect::{End, Naming, show_items};
+use cbor_messages::{RuleSet, not_encoded};
 use cbor_places::Piece;
 use cbor_reencode::{ReencodeError, reencoded};
 
@@ -20,16 +19,18 @@ pub struct Encoding<'a> {
     pub place: &'a Place<'a>,
     /// The rules that the items are to keep.
     pub set: RuleSet,
+    /// The names that are shown.
+    pub naming: Option<Naming<'a>>,
 }
 
 impl ShowsItem for Encoding<'_> {
     /// Encodes an item again and shows it.
-    fn show_one(&self, item: Items, out: &mut Vec<u8>) -> Result<Status, Error> {
+    fn show_one(&self, item: Piece, out: &mut Vec<u8>) -> Result<Status, Error> {
         let again = match reencoded(self.rt.alloc(), item.bytes, self.set.rules) {
             Ok(again) => again,
             Err(error) => return self.refuse(item, error),
         };
-        let show = show_of(self.rt.alloc(), self.job)?;
+        let show = show_of(self.rt.alloc(), self.job, self.naming)?;
         match show_items(&show, &again, out).end {
             End::Memory => Err(Error::Memory),
             End::Lost { .. } => Ok(report_lost(self.rt, self.job, self.place, &again)),
@@ -40,13 +41,9 @@ impl ShowsItem for Encoding<'_> {
 
 impl Encoding<'_> {
     /// Says why an item cannot be encoded so that it keeps the rules.
-    fn refuse(self, item: Items, error: ReencodeError) -> Result<Status, Error> {
-        let (at, what) = words_of_refusal(self.rt.alloc(), self.set, item, error)?;
-        let left = Piece {
-            begins: item.begins,
-            bytes: item.bytes,
-        };
-        report_byte(self.rt, self.place, left, at, &what)?;
+    fn refuse(self, item: Piece, error: ReencodeError) -> Result<Status, Error> {
+        let message = not_encoded(self.rt.alloc(), self.set, item, error)?;
+        report_byte(self.rt, self.place, item, (message.place, &message.text))?;
         Ok(Status::Bad)
     }
 }

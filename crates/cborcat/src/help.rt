@@ -16,10 +16,15 @@ Input:
 Output:
   -t, --to=FORM      pretty, diag, hex, digits, bytes, json, raw or paths
                      (default: pretty)
-  -p, --path=PATH    only the part that PATH leads to
+  -p, --path=PATH    only the part that PATH leads to, or each part
   -e, --embedded     show byte strings that hold an array, a map or a
                      tagged item as <<..>>, in a dump as its lines
       --no-notes     no comments in notation
+      --as=TYPE      the type of what is shown, such as COSE_Key, where no tag
+                     says it: its keys and values have their names
+      --names=FILE   the names of FILE beside those of COSE, CWT, EAT, SenML
+                     and CTAP2: tables in TOML
+      --no-names     no names, but the other comments
       --widths       the width of each float and number above 23
       --strict       what JSON does not keep is an error (-t json)
       --elide[=N]    cut strings of more than N bytes (default: 32) in notation,
@@ -62,8 +67,8 @@ encoding; ctap2; dcbor; or valid: no key twice in a map. They include rfc8949,
 the grammar, which -c alone checks. --encode takes them but for valid.
 
 A PATH has steps joined by /: an index of an array, a key of a map in
-notation or as a plain word, or @ for the item inside a byte string.
-Tags need no step.
+notation or as a plain word, @ for the item that a byte string is, @N for
+the item at byte N of one, or * for each member. Tags need no step.
 
 Exit status: 0 all input is CBOR; 1 some is not, or PATH leads nowhere;
 2 wrong arguments, out of memory, or a file cannot be read or written.
@@ -73,6 +78,7 @@ Examples:
   cborcat -t hex -x 'a1 01 26'
   tail -c +1 -f log.cbor | cborcat -t diag
   cborcat -p 2/@ token.hex
+  cborcat --as=COSE_Key key.cbor
   cborcat -c *.cbor
   git config diff.cbor.textconv cborcat
 ";

@@ -1,33 +1,20 @@
 //! Shows CBOR data (RFC 8949) as text, or converts it: `cborcat FILE`.
 //!
 //! Its words are in `words.rt`, and its help is what `cborcat --help` prints. The forms and what is
-//! written of an item are in the crate `cbor_inspect`, and where something is in `cbor_places`; here
-//! are arguments, files and messages.
+//! written of an item are in the crate `cbor_inspect`, where something is in `cbor_places`, and
+//! what is wrong there in `cbor_messages`; here are arguments and files.
 #![tactic(auto)]
 
 mod conversion;
-#[cfg(test)]
-mod doc_examples;
 mod each;
-mod embedded;
 mod encode;
-#[cfg(test)]
-mod encode_tests;
-mod excerpt;
 mod help;
 mod input;
-mod lost;
 mod messages;
+mod naming;
 mod output;
 mod plain;
-#[cfg(test)]
-mod recognition_tests;
 mod recognized;
-#[cfg(test)]
-mod refused_memory;
-mod rules;
-#[cfg(test)]
-mod rules_tests;
 mod run;
 mod screen;
 mod shown;

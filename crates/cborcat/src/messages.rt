@@ -1,13 +1,13 @@
 //! Messages on standard error.
 
-use crate::excerpt;
-use crate::excerpt::{place_of, show_bytes, show_line};
 use crate::status::Status;
+use crate::words::Job;
 use cbor_diag::Error;
 use cbor_inspect::{
     End, HexFault, Input, Pasted, Refusal, Shown, is_shown, looks_like, place_of_digit,
     place_of_fault,
 };
+use cbor_messages::{Excerpt, Position, TWO_BYTES, lost_words, position_of};
 use cbor_places::{Around, Piece, Places, item_with};
 use std::alloc::AllocError;
 use std::fmt::{Display, Write};
@@ -50,13 +50,9 @@ pub fn say_out_of_memory(rt: &HostRuntime, name: &str) -> Status {
 /// Says what is wrong at a byte of a text, by its line and column.
 pub fn say_at<T: Display + Drop>(rt: &HostRuntime, input: (&str, &[u8]), at: usize, what: T) {
     let (name, text) = input;
-    let place = place_of(text, at);
-    let _ = eprintln!(rt;
-        "cborcat: {}:{}:{}: {what}",
-        label(name),
-        place.line,
-        place.column
-    );
+    let name = label(name);
+    let Position { line, column, .. } = position_of(text, at);
+    let _ = eprintln!(rt; "cborcat: {name}:{line}:{column}: {what}");
 }
 
 /// The word of a form.
@@ -108,7 +104,7 @@ impl Places for Place<'_> {
     fn push_byte(&self, out: &mut String, byte: usize) -> Result<(), AllocError> {
         match self.digits(byte) {
             Some(at) => {
-                let excerpt::Place { line, column, .. } = place_of(self.text, at);
+                let Position { line, column, .. } = position_of(self.text, at);
                 write!(out, "{line}:{column}")
             }
             None => write!(out, "byte {byte}"),
@@ -128,7 +124,7 @@ pub fn report_end(rt: &HostRuntime, place: &Place, left: Piece, end: End) -> Sta
         }
         End::Memory => Err(Error::Memory),
         End::TwoByteSimple { at } => {
-            report_byte(rt, place, left, at.saturating_add(1), TWO_BYTES)
+            report_byte(rt, place, left, (at.saturating_add(1), TWO_BYTES))
         }
         End::Full | End::Done | End::Lost { .. } => Ok(()),
     };
@@ -154,17 +150,14 @@ fn report_fault(
     Ok(())
 }
 
-/// What is said of a simple value below 32 in two bytes.
-pub const TWO_BYTES: &str = "a simple value below 32 in two bytes, which RFC 8949 forbids";
-
 /// Says what is wrong at a byte of a whole item, before which there may be others.
 pub fn report_byte(
     rt: &HostRuntime,
     place: &Place,
     left: Piece,
-    at_fault: usize,
-    what: &str,
+    message: (usize, &str),
 ) -> Result<(), Error> {
+    let (at_fault, what) = message;
     let byte = left.number(at_fault);
     let item = item_with(left, byte);
     let around = Around::new(rt.alloc(), item, byte.saturating_sub(item.begins))?;
@@ -188,7 +181,7 @@ fn say_byte(rt: &HostRuntime, place: &Place, left: Piece, at_fault: usize, words
         Some(at) => {
             say_at(rt, (place.name, place.text), at, what);
             say_where(rt, in_item);
-            show_line(rt, place.text, at, "^^");
+            let _ = eprintln!(rt; "{}", Excerpt::of_text(place.text, at, "^^"));
         }
         None => {
             let _ = eprintln!(rt;
@@ -197,7 +190,9 @@ fn say_byte(rt: &HostRuntime, place: &Place, left: Piece, at_fault: usize, words
                 place.within()
             );
             say_where(rt, in_item);
-            show_bytes(rt, left.bytes, at_fault);
+            if let Some(excerpt) = Excerpt::of_bytes(left.bytes, at_fault) {
+                let _ = eprintln!(rt; "{excerpt}");
+            }
         }
     }
 }
@@ -227,6 +222,21 @@ fn report_cut(rt: &HostRuntime, place: &Place, left: Piece) -> Result<(), Error>
         }
     }
     Ok(())
+}
+
+/// Says where the path of an item leads nowhere, and what is there.
+pub fn report_lost(rt: &HostRuntime, job: &Job, place: &Place, bytes: &[u8]) -> Status {
+    let name = label(place.name);
+    match lost_words(rt.alloc(), job.path, &job.show.steps, bytes) {
+        Ok(words) => {
+            let _ = eprintln!(rt; "cborcat: {name}: {words}");
+            Status::Bad
+        }
+        Err(error) => {
+            let _ = eprintln!(rt; "cborcat: {name}: {error}");
+            Status::Trouble
+        }
+    }
 }
 
 /// Says that an item that is not whole is longer than is allowed.
@@ -273,7 +283,7 @@ fn report_character<T: Display + Drop>(
     what: T,
 ) -> Status {
     say_at(rt, input, at, what);
-    show_line(rt, input.1, at, "^");
+    let _ = eprintln!(rt; "{}", Excerpt::of_text(input.1, at, "^"));
     Status::Bad
 }
 

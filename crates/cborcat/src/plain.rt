@@ -1,9 +1,7 @@
 //! Items as JSON, and the content of strings.
 
 use crate::each::ShowsItem;
-use crate::lost::report_lost;
-use crate::messages::{Place, label, report_byte};
-use crate::rules::Items;
+use crate::messages::{Place, label, report_byte, report_lost};
 use crate::shown::show_of;
 use crate::status::Status;
 use crate::words::{Job, View};
@@ -11,11 +9,10 @@ use cbor_diag::{Error, Extent, extent};
 use cbor_grammar::head::ItemHead;
 use cbor_grammar::strings::StringKind;
 use cbor_inspect::{End, RawError, is_shown, raw_content, show_items};
-use cbor_json::{Clash, JsonError, JsonStyle, Loss, LossKind, bytes_to_json};
+use cbor_json::{JsonStyle, bytes_to_json};
+use cbor_messages::not_json;
 use cbor_places::{Around, Piece};
 use cbor_trace::head_at;
-use std::alloc::Global;
-use std::fmt::Write;
 use std::io::IsTerminal;
 
 /// How the items of an input, or their parts, are written as JSON or as their content.
@@ -28,12 +25,12 @@ pub struct Plain<'a> {
 
 impl ShowsItem for Plain<'_> {
     /// Writes an item, or the parts of it that the path leads to.
-    fn show_one(&self, item: Items, out: &mut Vec<u8>) -> Result<Status, Error> {
+    fn show_one(&self, item: Piece, out: &mut Vec<u8>) -> Result<Status, Error> {
         if self.job.show.steps.is_empty() {
             return self.write(item, out);
         }
         let mut parts = Vec::new(self.rt.alloc());
-        let show = show_of(self.rt.alloc(), self.job)?;
+        let show = show_of(self.rt.alloc(), self.job, None)?;
         match show_items(&show, item.bytes, &mut parts).end {
             End::Memory => return Err(Error::Memory),
             End::Lost { .. } => return Ok(report_lost(self.rt, self.job, self.place, item.bytes)),
@@ -53,14 +50,14 @@ impl Plain<'_> {
                 break;
             };
             let (bytes, after) = rest.split_at(len.min(rest.len()));
-            status = status.or(self.write(Items { bytes, begins: 0 }, out)?);
+            status = status.or(self.write(Piece { begins: 0, bytes }, out)?);
             rest = after;
         }
         Ok(status)
     }
 
     /// Writes an item.
-    fn write(self, item: Items, out: &mut Vec<u8>) -> Result<Status, Error> {
+    fn write(self, item: Piece, out: &mut Vec<u8>) -> Result<Status, Error> {
         if self.job.view == View::Raw {
             self.write_raw(item, out)
         } else {
@@ -69,7 +66,7 @@ impl Plain<'_> {
     }
 
     /// Writes an item as JSON, and a line feed.
-    fn write_json(self, item: Items, out: &mut Vec<u8>) -> Result<Status, Error> {
+    fn write_json(self, item: Piece, out: &mut Vec<u8>) -> Result<Status, Error> {
         let style = JsonStyle {
             embedded: self.job.show.style.embedded,
             strict: self.job.strict,
@@ -81,14 +78,14 @@ impl Plain<'_> {
                 Ok(Status::Fine)
             }
             Err(error) => {
-                let (at, what) = item.words_of(self.rt.alloc(), error)?;
-                self.refuse(item, at, &what)
+                let message = not_json(self.rt.alloc(), item, error)?;
+                self.refuse(item, (message.place, &message.text))
             }
         }
     }
 
     /// Writes the content of a string.
-    fn write_raw(self, item: Items, out: &mut Vec<u8>) -> Result<Status, Error> {
+    fn write_raw(self, item: Piece, out: &mut Vec<u8>) -> Result<Status, Error> {
         let head = head_below_tags(item.bytes);
         let content = match raw_content(self.rt.alloc(), item.bytes) {
             Ok(content) => content,
@@ -98,13 +95,13 @@ impl Plain<'_> {
                 let what = format!(in self.rt.alloc();
                     "{noun} has no raw content; a byte or text string has"
                 )?;
-                return self.refuse(item, 0, &what);
+                return self.refuse(item, (0, &what));
             }
         };
         if self.job.output.is_none() && self.rt.stdout().is_terminal() {
             let is_text = matches!(head, Some(ItemHead::String(StringKind::Text, _)));
             if !(is_text && is_shown(true, &content)) {
-                let _ = self.refuse(item, 0, NO_TERMINAL)?;
+                let _ = self.refuse(item, (0, NO_TERMINAL))?;
                 return Ok(Status::Trouble);
             }
         }
@@ -113,16 +110,13 @@ impl Plain<'_> {
     }
 
     /// Says at which byte of an item something keeps it from being written.
-    fn refuse(self, item: Items, at: usize, what: &str) -> Result<Status, Error> {
-        let left = Piece {
-            begins: item.begins,
-            bytes: item.bytes,
-        };
+    fn refuse(self, item: Piece, message: (usize, &str)) -> Result<Status, Error> {
         if self.job.show.steps.is_empty() {
-            report_byte(self.rt, self.place, left, at, what)?;
+            report_byte(self.rt, self.place, item, message)?;
             return Ok(Status::Bad);
         }
-        let around = Around::new(self.rt.alloc(), left, at)?;
+        let (at, what) = message;
+        let around = Around::new(self.rt.alloc(), item, at)?;
         let (name, part) = (label(self.place.name), self.job.path);
         let mut path = String::from_str(self.rt.alloc(), part)?;
         if !around.path.is_empty() {
@@ -162,58 +156,5 @@ fn noun_of(head: Option<ItemHead>) -> &'static str {
         Some(ItemHead::Map(_)) => "a map",
         Some(ItemHead::Float(..)) => "a float",
         _ => "a simple value",
-    }
-}
-
-impl Items<'_> {
-    /// Where an item is not written as JSON, and why.
-    fn words_of(self, alloc: Global, error: JsonError) -> Result<(usize, String), Error> {
-        let mut out = String::new(alloc);
-        match error {
-            JsonError::Cbor(error) => Err(error),
-            JsonError::SameKeys(clash) => {
-                self.push_clash(&mut out, clash)?;
-                Ok((clash.second, out))
-            }
-            JsonError::NotKept(loss) => {
-                self.push_loss(&mut out, loss)?;
-                Ok((loss.place, out))
-            }
-        }
-    }
-
-    /// Writes that two keys become the same.
-    fn push_clash(self, out: &mut String, clash: Clash) -> Result<(), Error> {
-        out.push_str("the key ")?;
-        self.push_key(out, clash.second)?;
-        out.push_str(" is the same in JSON as the key ")?;
-        if self.push_short(out, clash.first)? {
-            let byte = self.begins.saturating_add(clash.first);
-            write!(out, " at byte {byte}")?;
-        } else {
-            self.push_key(out, clash.first)?;
-        }
-        Ok(())
-    }
-
-    /// Writes what JSON does not keep.
-    fn push_loss(self, out: &mut String, loss: Loss) -> Result<(), Error> {
-        out.push_str("JSON does not keep ")?;
-        match loss.kind {
-            LossKind::Tag => match head_at(self.bytes, loss.place) {
-                Some((ItemHead::Tag(tag, _), _)) => write!(out, "the tag {tag}")?,
-                _ => out.push_str("a tag")?,
-            },
-            LossKind::Bytes => out.push_str("a byte string")?,
-            LossKind::Key => {
-                out.push_str("the key ")?;
-                self.push_key(out, loss.place)?;
-                out.push_str(", which is no text")?;
-            }
-            LossKind::NotFinite | LossKind::Simple => {
-                let _ = self.push_short(out, loss.place)?;
-            }
-        }
-        Ok(())
     }
 }

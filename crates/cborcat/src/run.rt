@@ -3,11 +3,12 @@
 use crate::conversion::Conversion;
 use crate::input::{block_len, read_first};
 use crate::messages::{Place, say, say_no_text};
+use crate::naming::{naming_of, tables_of};
 use crate::output::{Target, close, open};
 use crate::recognized::data_of;
 use crate::status::{Next, Status};
 use crate::words::{Job, View};
-use cbor_inspect::{Form, Input};
+use cbor_inspect::{Form, Input, Naming};
 use std::fs::File;
 use std::io;
 use std::io::{IsTerminal, Read};
@@ -25,6 +26,14 @@ pub fn run(rt: &HostRuntime, job: &Job) -> u8 {
         );
         return Status::Trouble.number();
     }
+    let names = match tables_of(rt, job) {
+        Ok(names) => names,
+        Err(status) => return status.number(),
+    };
+    let naming = match naming_of(rt, job, &names) {
+        Ok(naming) => naming,
+        Err(status) => return status.number(),
+    };
     let asked = if job.check { None } else { job.output };
     let Some(mut target) = open(rt, asked) else {
         return Status::Trouble.number();
@@ -33,6 +42,7 @@ pub fn run(rt: &HostRuntime, job: &Job) -> u8 {
         rt,
         job,
         target: &mut target,
+        naming,
         status: Status::Fine,
     };
     run.inputs();
@@ -53,6 +63,8 @@ pub struct Runner<'a> {
     pub job: &'a Job<'a>,
     /// Where the output goes.
     pub target: &'a mut Target,
+    /// The names that are shown.
+    pub naming: Option<Naming<'a>>,
     /// How it went so far.
     pub status: Status,
 }

@@ -2,14 +2,14 @@
 
 use crate::words::Job;
 use cbor_diag::Error;
-use cbor_inspect::{Show, steps_of};
+use cbor_inspect::{Naming, Show, steps_of};
 use std::alloc::Global;
 
-/// What is written of items, by the arguments.
-pub fn show_of<'a>(alloc: Global, job: &'a Job<'a>) -> Result<Show<'a>, Error> {
+/// What is written of items, by the arguments, with these names.
+pub fn show_of<'a>(alloc: Global, job: &Job, names: Option<Naming<'a>>) -> Result<Show<'a>, Error> {
     Ok(Show {
         style: job.show.style,
-        names: None,
+        names,
         steps: steps_of(alloc, job.path)?,
         one: job.show.one,
     })

@@ -1,9 +1,9 @@
 //! The words of the command line.
 
 use crate::help::HELP;
-use crate::rules::{ENCODINGS, RULES, RuleSet, rules_of};
 use crate::screen::{COLORS, Color, color_of};
 use cbor_inspect::{Form, Input, Step, Style, steps_of};
+use cbor_messages::{ENCODINGS, RULES, RuleSet};
 use clap::error::ErrorKind;
 use clap::{Arg, ArgAction, ArgMatches, Command};
 use std::alloc::{AllocError, Global};
@@ -50,6 +50,12 @@ pub struct Job<'a> {
     pub elide: Option<usize>,
     /// What is written of each item.
     pub show: Wanted,
+    /// Whether names are shown where there are notes.
+    pub names: bool,
+    /// The type of what is shown.
+    pub outer: Option<&'a str>,
+    /// The file with further tables of names.
+    pub tables: Option<&'a str>,
     /// The path as it was given.
     pub path: &'a str,
     /// Whether what is there of an item that is not whole is written.
@@ -119,7 +125,7 @@ fn command<'a>(alloc: Global) -> Result<Command<'a>, AllocError> {
         .override_help(HELP)
         .override_usage("cborcat [OPTION]... [FILE]...");
     let command = with_output(alloc, with_input(alloc, command)?)?;
-    with_screen(alloc, with_places(alloc, command)?)
+    with_names(alloc, with_screen(alloc, with_places(alloc, command)?)?)
 }
 
 /// An option that takes a value.
@@ -209,6 +215,17 @@ fn with_screen<'a>(alloc: Global, command: Command<'a>) -> Result<Command<'a>, A
     command.arg(color)?.arg(elide)
 }
 
+/// The command with the arguments on names.
+fn with_names<'a>(alloc: Global, command: Command<'a>) -> Result<Command<'a>, AllocError> {
+    let none = flag(alloc, "no-names")
+        .conflicts_with("as")?
+        .conflicts_with("names")?;
+    command
+        .arg(option(alloc, "as"))?
+        .arg(option(alloc, "names"))?
+        .arg(none)
+}
+
 /// The form of an input that a word names.
 fn input_of(word: &str) -> Option<Input> {
     match word {
@@ -260,7 +277,11 @@ fn view_of(matches: &ArgMatches) -> View {
 fn refusal(job: &Job) -> Option<&'static str> {
     let encoded = job.encode.is_some();
     let is_notation = matches!(job.show.style.form, Form::Pretty | Form::Diag);
+    let has_tables = job.outer.is_some() || job.tables.is_some();
     match job.view {
+        _ if has_tables && !job.has_names() => {
+            Some("--as and --names are for names, which pretty notation with notes has alone")
+        }
         _ if job.elide.is_some() && !is_notation => {
             Some("--elide cuts strings of pretty, diag and paths alone")
         }
@@ -269,7 +290,8 @@ fn refusal(job: &Job) -> Option<&'static str> {
         }
         View::Json | View::Raw if encoded || job.partial => {
             Some(
-                "-t json and -t raw show whole items as they are, and have no --encode or --partial",
+                "-t json and -t raw show whole items as they are, \
+                 and have no --encode or --partial",
             )
         }
         View::Json => None,
@@ -312,13 +334,16 @@ fn job_of<'a>(rt: &HostRuntime, matches: &ArgMatches<'a>) -> Asked<'a> {
         color: color_of(matches.get_str("color")),
         elide: matches.get_one::<usize>("elide"),
         show,
+        names: !matches.get_flag("no-names"),
+        outer: matches.get_str("as"),
+        tables: matches.get_str("names"),
         path,
         partial: matches.get_flag("partial"),
         strict: matches.get_flag("strict"),
         output: matches.get_str("output"),
         check: check.is_some(),
-        rules: check.and_then(rules_of),
-        encode: matches.get_str("encode").and_then(rules_of),
+        rules: check.and_then(RuleSet::named),
+        encode: matches.get_str("encode").and_then(RuleSet::named),
         files,
     };
     if let Some(why) = refusal(&job) {

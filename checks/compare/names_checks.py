@@ -1,0 +1,135 @@
+"""What `checks/cborcat` checks of names. What is expected is written here by hand: from RFC 8392 and RFC 9052, which print
+these names, and the rules of docs/NAMES.md."""
+
+import os
+
+TOKEN = """\
+/COSE_Sign1/ 18([
+    /protected/ <<{/alg/ 1: -7 /ES256/}>>,
+    /unprotected/ {/kid/ 4: h'4173796d6d65747269634543445341323536' /'AsymmetricECDSA256'/},
+    /payload/ <<{
+        /iss/ 1: "coap://as.example.com",
+        /sub/ 2: "erikw",
+        /aud/ 3: "coap://light.example.com",
+        /exp/ 4: 1444064944 /2015-10-05T17:09:04Z/,
+        /nbf/ 5: 1443944944 /2015-10-04T07:49:04Z/,
+        /iat/ 6: 1443944944 /2015-10-04T07:49:04Z/,
+        /cti/ 7: h'0b71',
+    }>>,
+    /signature/ h'5427c1ff28d23fbad1f29c4c7c6a555e601d6fa29f9179bc3d7438bacaca5acd08c8d4d4f96131680c429a01f85951ecee743a52b9b\
+63632c57209120e1c9e30',
+])
+"""
+
+SIGNED = """\
+/COSE_Sign1/ 18([
+    /protected/ <<{/alg/ 1: -7 /ES256/}>>,
+    /unprotected/ {/kid/ 4: h'3131' /'11'/},
+    /payload/ h'546869732069732074686520636f6e74656e742e' /'This is the content.'/,
+    /signature/ h'8eb33e4ca31d1c465ab05aac34cc6b23d58fef5c083106c4d25a91aef0b0117e2af9a291aa32e14ab834dc56ed2a223444547e01f11\
+d3b0916e5a4c345cacb36',
+])
+"""
+
+KEY = """\
+/COSE_Key/ {
+    /kty/ 1: 2 /EC2/,
+    /alg/ 3: -7 /ES256/,
+    /crv/ -1: 1 /P-256/,
+    /x/ -2: h'143329cce7868e416927599cf65a34f3ce2ffda55a7eca69ed8919a394d42f0f',
+    /y/ -3: h'60f7f1a780d8a783bfb7a2dd6b2796e8128dbbcef9d3d168db9529971a36e7b9',
+}
+"""
+
+# Words, and what is written.
+SHOWN = [
+    (["--as=COSE_Key", "-x", "{1: 4, -1: h'00'}"], "/COSE_Key/ {/kty/ 1: 4 /Symmetric/, /k/ -1: h'00'}\n"),
+    (["-x", "{1: 4, -1: h'00'}"], "{1: 4, -1: h'00'}\n"),
+    (["--as=COSE_Key", "-p", "2", "-x", "[0, 1, {1: 4}]"], "/COSE_Key/ {/kty/ 1: 4 /Symmetric/}\n"),
+    (["--as=SenML", "-x", "[{0: 'a', 2: 1.5}]"], "/SenML/ [{/n/ 0: h'61' /'a'/, /v/ 2: 1.5}]\n"),
+    # RFC 9052 C.3.1: the names of the layers of an encrypted message. A line's length is counted without names.
+    (["-x", "96([h'a10101', {5: h'c9cf4df2fe6c632bf7886413'}, h'7a', [[h'a1013818', {4: 'm'}, h'']]])"],
+     "/COSE_Encrypt/ 96([\n"
+     "    /protected/ <<{/alg/ 1: 1 /A128GCM/}>>,\n"
+     "    /unprotected/ {/IV/ 5: h'c9cf4df2fe6c632bf7886413'},\n"
+     "    /ciphertext/ h'7a' /'z'/,\n"
+     "    /recipients/ [[/protected/ <<{/alg/ 1: -25 /ECDH-ES + HKDF-256/}>>, /unprotected/ {/kid/ 4: h'6d' /'m'/}, "
+     "/ciphertext/ h'']],\n"
+     "])\n"),
+    (["--no-names", "-x", "18([h'a10126', {}, h'', h''])"], "18([h'a10126', {}, h'', h''])\n"),
+    (["--no-names", "-e", "-x", "18([h'a10126', {}, h'', h''])"], "18([<<{1: -7}>>, {}, h'', h''])\n"),
+    (["--no-names", "-x", "1(0)"], "1(0 /1970-01-01T00:00:00Z/)\n"),
+    (["--no-notes", "-x", "18([h'a10126', {}, h'', h''])"], "18([h'a10126', {}, h'', h''])\n"),
+    (["-t", "diag", "-x", "18([h'a10126', {}, h'', h''])"], "18([h'a10126', {}, h'', h''])\n"),
+]
+
+FRAME = """\
+[Frame]
+tag = 1000
+array = ["version", { name = "place", is = "Place" }]
+[Place]
+values = { 1 = "hall" }
+"""
+
+# Files of names, and what standard error has of them.
+FAULTS = [
+    ("[T]\ntag = 1\narray = ['a/b']\n", "line 3: a name is printable ASCII without `/` that does not begin with `*`"),
+    ("[T]\narray = [\"a\\nb\"]\n", "line 2: a name is printable ASCII without `/` that does not begin with `*`"),
+    ("[T]\narray = ['\u202e']\n", "line 2: a name is printable ASCII without `/` that does not begin with `*`"),
+    ("[T]\narray = ['*a']\n", "line 2: a name is printable ASCII without `/` that does not begin with `*`"),
+    ("[T]\n\narray = [{ is = 'Q' }]\n", "line 3: no type has this name"),
+    ("[A]\ntag = 7\n[B]\ntag = 7\n", "line 4: another type of the file has this tag"),
+]
+
+
+def examples(run, same, folder):
+    """The messages of examples/, and the same bytes from what is shown."""
+    for name, wanted in (("cwt-signed.hex", TOKEN), ("cose-sign1.hex", SIGNED)):
+        same(f"names in {name}", run(f"{folder}/{name}"), (wanted.encode(), "", 0))
+        item = run("-t", "bytes", f"{folder}/{name}")[0]
+        same(f"{name} is read back", run("-t", "bytes", "-f", "diag", data=wanted.encode()), (item, "", 0))
+        same(f"{name} without names", b"/alg/" in run("--no-names", f"{folder}/{name}")[0], False)
+    item = run("-t", "bytes", f"{folder}/webauthn.hex")[0]
+    same("the key of the attestation object", run("--as=COSE_Key", f"--offset={len(item) - 77}", data=item),
+         (KEY.encode(), "", 0))
+
+
+def words(run, same):
+    """The options of names, and what is wrong with them."""
+    for given, wanted in SHOWN:
+        same(f"names {given}", run(*given), (wanted.encode(), "", 0))
+    out, error, status = run("--as=COSE_Kex", "-x", "1")
+    same("no such type", (out, status, error.startswith("cborcat: there is no type COSE_Kex; the types are COSE_Sign1, ")),
+         (b"", 2, True))
+    same("types are listed", all(name in error for name in ("COSE_Key", "CWT", "SenML", "CTAP2_GetInfo")), True)
+    for given in (["--no-names", "--as=CWT"], ["--as=CWT", "-t", "hex"], ["--as=CWT", "--no-notes"], ["--as=CWT", "-c"],
+                  ["--no-names", "--names=x"]):
+        out, _, status = run(*given, "-x", "1")
+        same(f"refused {given}", (out, status), (b"", 2))
+
+
+def files(run, same, folder):
+    """Files of names."""
+    path = os.path.join(folder, "names.toml")
+    with open(path, "w", encoding="utf-8") as file:
+        file.write(FRAME)
+    same("names of a file", run(f"--names={path}", "-x", "1000([7, 1])"),
+         (b"/Frame/ 1000([/version/ 7, /place/ 1 /hall/])\n", "", 0))
+    same("a type of a file", run(f"--names={path}", "--as=Place", "-x", "1"), (b"/Place/ 1 /hall/\n", "", 0))
+    same("known names beside a file", run(f"--names={path}", "-x", "16([h'', {}, h''])"),
+         (b"/COSE_Encrypt0/ 16([/protected/ h'', /unprotected/ {}, /ciphertext/ h''])\n", "", 0))
+    for text, wanted in FAULTS:
+        with open(path, "w", encoding="utf-8") as file:
+            file.write(text)
+        same(f"a file {text!r}", run(f"--names={path}", "-x", "1"), (b"", f"cborcat: {path}: {wanted}\n", 2))
+    with open(path, "wb") as file:
+        file.write(b"\xff")
+    same("a file that is no text", run(f"--names={path}", "-x", "1")[::2], (b"", 2))
+    same("no file", run("--names=/nowhere/names.toml", "-x", "1")[::2], (b"", 2))
+
+
+def check(run, same, folder, scratch):
+    """All of these; `scratch` is a folder to write in."""
+    examples(run, same, folder)
+    words(run, same)
+    files(run, same, scratch)

@@ -1,0 +1,157 @@
+"""What `checks/cborcat` checks of paths beside its own rows: where the steps lead in items made by a seed, against the
+items of `cases.py`, and what is said where a path leads nowhere."""
+import random
+
+from bytes_form import item_at, to_bytes
+from cases import any_item
+from item import Array, Bytes, Integer, Map, Refused, Tagged
+
+KEY = ("a50102032620012158" "20143329cce7868e416927599cf65a34f3ce2ffda55a7eca69ed8919a394d42f0f"
+       "225820" "60f7f1a780d8a783bfb7a2dd6b2796e8128dbbcef9d3d168db9529971a36e7b9")
+
+
+def check(run, same, examples):
+    """All of it: run runs the program, and same compares."""
+    steps_at(run, same, examples)
+    each_member(run, same)
+    nowhere(run, same)
+    any_paths(run, same)
+
+
+def steps_at(run, same, examples):
+    """The item at a byte of a byte string, whatever follows it."""
+    webauthn = f"{examples}/webauthn.hex"
+    same("a key in authenticator data", run("-p", "authData/@71", "-t", "digits", webauthn),
+         (f"{KEY}\n".encode(), "", 0))
+    same("and in that", run("-p", "authData/@71/-1", "-t", "diag", webauthn), (b"1\n", "", 0))
+    for path, wanted in (("@0", b"1\n"), ("@1", b"[2]\n"), ("@01", b"[2]\n"), ("@2", b"2\n"), ("@1/0", b"2\n")):
+        same(path, run("-p", path, "-t", "diag", "-f", "hex", "-x", "44 01 81 02 ff"), (wanted, "", 0))
+    same("a text of @ and digits", run("-p", '"@1"', "-t", "diag", "-x", '{"@1": 3}'), (b"3\n", "", 0))
+    same("a text that begins with @", run("-p", "@a", "-t", "diag", "-x", '{"@a": 3}'), (b"3\n", "", 0))
+
+
+def each_member(run, same):
+    """Each member, in order."""
+    rows = [
+        ("*", '[1, "a", [2]]', b'1\n"a"\n[2]\n'),
+        ("*", '{"b": 1, 2: h\'03\', "a": {}}', b"1\nh'03'\n{}\n"),
+        ("*", "1([_ 5, 6(7)])", b"5\n6(7)\n"),
+        ("*/*", "[[1, 2], [], [3]]", b"1\n2\n3\n"),
+        ("*/id", '[{"id": 1}, {"x": 2}, 5, {"id": 3}]', b"1\n3\n"),
+        ("m/*/0", '{"m": [[1, 2], [3]]}', b"1\n3\n"),
+        ("*/@1", "[h'ff07', h'ff', h'ff8108']", b"7\n[8]\n"),
+        ('"*"', '{"*": 1, "a": 2}', b"1\n"),
+    ]
+    for path, text, wanted in rows:
+        same(f"{path} of {text}", run("-p", path, "-t", "diag", "-f", "diag", "-x", text), (wanted, "", 0))
+    same("as JSON", run("-p", "*", "-t", "json", "-f", "diag", "-x", "[1, [2]]"), (b"1\n[2]\n", "", 0))
+    same("as contents", run("-p", "*", "-t", "raw", "-f", "diag", "-x", '["a", h\'62\']'), (b"ab", "", 0))
+    same("as bytes", run("-p", "*", "-t", "bytes", "-f", "diag", "-x", '[1, "a"]'), (b"\x01\x61a", "", 0))
+    same("as dumps", run("-p", "*", "-t", "hex", "-f", "diag", "-x", "[1, 2]"),
+         (b"01 # unsigned(1)\n02 # unsigned(2)\n", "", 0))
+    log = b"\x81\xa1\x01\x02\x80\x81\x03"
+    same("of one item after the other", run("-p", "*", "-t", "diag", "-f", "bytes", data=log),
+         (b"{1: 2}\n3\n", "cborcat: standard input: *: the array has no members\n", 1))
+    same("of one item alone", run("-1", "-p", "*", "-t", "diag", "-f", "bytes", data=b"\x82\x01\x02"),
+         (b"1\n2\n", "", 0))
+
+
+def nowhere(run, same):
+    """What is said where a path leads nowhere."""
+    rows = [
+        ("*", "[]", "*: the array has no members"),
+        ("a/*", '{"a": {}}', "a/*: the map at a has no members"),
+        ("*", "5", "*: no array or map is there"),
+        ("0/*", "[5]", "0/*: no array or map is at 0"),
+        ("*/*/x", '[1, [{"y": 1}, {"z": 1}]]', '*/*/x: no such key; the map at */* has "y"'),
+        ("0/@", "[5]", "0/@: no bytes are at 0"),
+        ("@", "5", "@: no bytes are there"),
+        ("@", "h'0102'", "@: the bytes are not one item"),
+        ("@", "(_ h'01')", "@: the bytes are of indefinite length"),
+        ("@0", "(_ h'01')", "@0: the bytes are of indefinite length"),
+        ("@2", "h'0102'", "@2: no item begins at that byte of the 2 bytes"),
+        ("a/@0", '{"a": h\'82\'}', "a/@0: no item begins at that byte of the 1 byte at a"),
+        ("@0", "h'1f'", "@0: no item begins at that byte of the 1 byte"),
+        ("@18446744073709551616", "h'01'", "@18446744073709551616: no item begins at that byte of the 1 byte"),
+        ("1", "5", "1: no array or map is there"),
+        ("3", "[5]", "3: no such index; the array has 1 items"),
+    ]
+    for path, text, said in rows:
+        same(f"{path} of {text}", run("-p", path, "-t", "diag", "-f", "diag", "-x", text),
+             (b"", f"cborcat: -x: {said}\n", 1))
+
+
+def untagged(item):
+    while isinstance(item, Tagged):
+        item = item.value
+    return item
+
+
+def next_items(item, step):
+    """Where one step leads: to one item or none, but for `*`."""
+    item = untagged(item)
+    if step == "*":
+        if isinstance(item, Array):
+            return list(item.members)
+        return [value for _, value in item.pairs] if isinstance(item, Map) else []
+    if step.startswith("@"):
+        return items_inside(item, step[1:])
+    if isinstance(item, Array):
+        return list(item.members[int(step):][:1])
+    values = [value for key, value in item.pairs if isinstance(key, Integer) and key.value == int(step)] \
+        if isinstance(item, Map) else []
+    return values[:1]
+
+
+def items_inside(item, digits):
+    """The item at a byte of a byte string, or with no digits the one that it is."""
+    if not isinstance(item, Bytes) or int(digits or 0) >= len(item.content):
+        return []
+    try:
+        inner, end = item_at(item.content, int(digits or 0), 1)
+    except Refused:
+        return []
+    return [inner] if digits or end == len(item.content) else []
+
+
+def nested(chance, depth):
+    """An item that often holds others where paths lead: in arrays, below small keys, in byte strings."""
+    kind = chance.randrange(4 if depth > 1 else 5) if depth > 0 else 4
+    if kind == 4:
+        return any_item(chance, 4)
+    members = tuple(nested(chance, depth - 1) for _ in range(chance.choice([0, 1, 1, 2, 3])))
+    if kind == 0:
+        return Array(members, chance.choice([None, 0, 2]))
+    if kind == 1:
+        return Map(tuple((Integer(chance.randrange(3), chance.choice([0, 1])), it) for it in members), None)
+    if kind == 2:
+        return Tagged(chance.randrange(1000, 2000), 2, nested(chance, depth - 1))
+    before, after = b"\x00" * chance.randrange(2), b"\x00" * chance.randrange(2)
+    return Bytes(before + b"".join(to_bytes(it) for it in members) + after, 4)
+
+
+def any_step(chance, parts):
+    """A step, mostly one that may lead somewhere from one of these."""
+    steps = ["*", "@", "@0", "@1", "0", "1"]
+    if parts and chance.random() < 0.8:
+        part = untagged(chance.choice(parts))
+        steps = ["@", "@0", "@1"] if isinstance(part, Bytes) else ["*", "*", "0", "1"]
+    return chance.choice(steps)
+
+
+def any_paths(run, same):
+    """Paths in items made by a seed: their parts, one after the other."""
+    chance = random.Random(5)
+    some = 0
+    for _ in range(1000):
+        item = nested(chance, 3)
+        steps, parts = [], [item]
+        for _ in range(chance.randrange(1, 4)):
+            steps.append(any_step(chance, parts))
+            parts = [found for part in parts for found in next_items(part, steps[-1])]
+        wanted = b"".join(to_bytes(part) for part in parts)
+        path = "/".join(steps)
+        out, _, status = run("-f", "bytes", "-t", "bytes", "-p", path, data=to_bytes(item))
+        same(f"{path} in {to_bytes(item).hex()}", (out, status), (wanted, 0 if parts else 1))
+        some += len(parts) > 0
+    same("many lead somewhere", some > 200, True)
