@@ -12,8 +12,8 @@ use Rattle.std.proofs.Common.{le-leb}
 use borrow.Author.Tests.{lt-leb}
 use Rattle.cbor_floats.specs.Value.{half_value, half_of_fields, half_units, width_of, size_of}
 use Rattle.cbor_floats.specs.Nearest.{nearest_half}
-use Rattle.cbor_floats.specs.Preferred.{half_nan, single_nan, double_nan, widened, FitsWidth, IsPreferred, IsPreferredOf}
-use Rattle.cbor_floats.specs.Preferred.{half_candidate, single_candidate, same_or, shorter}
+use Rattle.cbor_floats.specs.Preferred.{half_nan, single_nan, double_nan, widened, FitsWidth, IsPreferred}
+use Rattle.cbor_floats.specs.Preferred.{IsPreferredOf, half_candidate, single_candidate, same_or, shorter}
 use Rattle.cbor_floats.specs.declared.float.EncodedFloat.{EncodedFloat}
 use Rattle.cbor_floats.specs.declared.float.EncodedFloat.TheVariants.{Half, Single, Double}
 use Rattle.cbor_floats.proofs.Values.{round_to_format-own}

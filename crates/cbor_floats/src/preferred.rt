@@ -1,6 +1,7 @@
 //! The width that RFC 8949 prefers for a float (sections 4.1 and 4.2.2).
 ghost use Rattle.std.specs.Prelude.{◌≡◌, ◌<◌, ◌^◌, MatchOption};
-ghost use Rattle.cbor_floats.specs.Preferred.{widened, shorter, double_of, double_nan, half_nan, single_nan};
+ghost use Rattle.cbor_floats.specs.Preferred.{widened, shorter, double_of, double_nan, half_nan};
+ghost use Rattle.cbor_floats.specs.Preferred.{single_nan};
 ghost use Rattle.cbor_floats.specs.Preferred.{half_candidate, single_candidate, same_or};
 ghost use Rattle.cbor_floats.specs.Preferred.{IsPreferred, IsPreferredOf};
 

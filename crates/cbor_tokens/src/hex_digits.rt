@@ -146,8 +146,8 @@ fn read_hex(digits: &[u8], bytes: &mut [u8]) -> bool
     all < 256
 }
 
-/// Returns the bytes of hex digits, two digits of either case for each byte, or `None` if the number
-/// of digits is odd or a byte is not a digit. The only error is out of memory.
+/// Returns the bytes of hex digits, two digits of either case for each byte, or `None` if the
+/// number of digits is odd or a byte is not a digit. The only error is out of memory.
 ///
 /// ```rust
 /// use cbor_notes::decode_hex;

@@ -41,8 +41,8 @@ fn inwards()
         → Fault s.level (drop s.start b) e → Fault (s.level + 1) (drop p.start b) e }
 {}
 
-/// A part of a whole item is the part that the item has there, and the key of a value is the part at
-/// the key's place.
+/// A part of a whole item is the part that the item has there, and the key of a value is the part
+/// at the key's place.
 fn members()
     ensures part { (b : List ℕ) (s : Spot) (at : ℕ) (p : Part) (i : Item)
         → ((k : ℕ) → slice_index b k < 256) → IsPartAt b s at p → IsItemAt b s i

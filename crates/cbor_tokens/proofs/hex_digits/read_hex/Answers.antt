@@ -6,7 +6,8 @@ use Rattle.cbor_tokens.proofs.hex_digits.read_hex.Goals as goal
 
 pub bytes-preserved : goal.bytes-preserved
 bytes-preserved c =
-    read_step c.args.digits.now c.bytes.bytes c.bytes.i c.bytes.all _ (omega arith) (omega arith) c.value_of-value.ensures.value c.bytes.invariant
+    read_step c.args.digits.now c.bytes.bytes c.bytes.i c.bytes.all _ (omega arith) (omega arith)
+    c.value_of-value.ensures.value c.bytes.invariant
 
 pub returns-clause-read : goal.returns-clause-read
 returns-clause-read c = λ t.

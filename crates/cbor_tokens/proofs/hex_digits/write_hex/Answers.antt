@@ -7,7 +7,8 @@ use Rattle.cbor_tokens.proofs.hex_digits.write_hex.Goals as goal
 pub bytes-preserved : goal.bytes-preserved
 bytes-preserved c =
     let byte : ℕ = slice_index c.args.bytes.now c.bytes.i in
-    let pair = pair_of byte c.from-pair.result (omega (arith, c.from-pair.ensures)) (omega (arith, c.from-pair.ensures)) in
+    let pair = pair_of byte c.from-pair.result (omega (arith, c.from-pair.ensures)) (omega (arith, c.from-pair.ensures))
+    in
     encode_step lower_digits c.args.bytes.now c.bytes.digits c.bytes.i _ _ (omega arith) (omega arith) pair.0 pair.1
     c.bytes.invariant
 
