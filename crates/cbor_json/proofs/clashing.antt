@@ -1,2 +1,2 @@
--- That the keys that are found become the same.
+-- That the keys that are found become the same in JSON.
 pub mod Clashes

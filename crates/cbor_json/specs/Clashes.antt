@@ -1,8 +1,9 @@
 -- Which keys of a map become the same: both have one name. JSON has a map in its arrays and in the values of its
 -- objects; a map in a key is a part of that key's name.
-use Rattle.std.specs.Prelude.{◌≡◌, ℕ, suc, ◌+◌, ◌<◌, List, [], ◌++◌, length, false, true, Option, Some, None, Ok, IsTrue}
+use Rattle.std.specs.Prelude.{◌≡◌, ℕ, suc, ◌+◌, ◌<◌, List, [], ◌++◌, length, false, true, Option, Some, None, Ok}
+use Rattle.std.specs.Prelude.{IsTrue}
 use Rattle.cbor_grammar.specs.declared.argument.Argument.{Argument}
-use Rattle.cbor_grammar.specs.declared.argument.Argument.TheVariants.{Number, Indefinite}
+use Rattle.cbor_grammar.specs.declared.argument.Argument.TheVariants.{Number}
 use Rattle.cbor_grammar.specs.declared.head.ItemHead.TheVariants as head
 use Rattle.cbor_grammar.specs.declared.layout.Layout.TheVariants.{Compact}
 use Rattle.cbor_grammar.specs.declared.strings.StringKind.TheVariants as kind
@@ -12,7 +13,7 @@ use Rattle.cbor_grammar.specs.Reading.{read_head, read_item}
 use Rattle.cbor_grammar.specs.WellFormed.{deepest}
 use Rattle.cbor_notation.specs.Dialect.{TextsOf}
 use Rattle.cbor_json.specs.JsonLeaves.{json_leaves, begins_container, wants_bytes}
-use Rattle.cbor_json.specs.Kept.{ReadsItems}
+use Rattle.cbor_json.specs.Kept.{HasMore, ReadsItems}
 use Rattle.cbor_json.specs.declared.error.Clash.{Clash}
 use Rattle.cbor_json.specs.declared.print.place.JsonPlace.{JsonPlace}
 use Rattle.cbor_json.specs.declared.print.place.Spot.TheVariants.{Key}
@@ -35,11 +36,6 @@ pub record IsName (style : JsonStyle) (left : ℕ) (key : Item) (name : List ℕ
 
 -- ---- where keys are
 
--- A container of this length has more members than so many. One of indefinite length has as many as are read.
-abbrev pub HasMore : Argument → ℕ → Type 0
-HasMore (Number n w) held = held < n
-HasMore Indefinite held = Unit {0}
-
 -- The bytes come after the head of a map of this length. In them this key of the map is where `n` bytes are left.
 pub record IsKeyAt (left : ℕ) (len : Argument) (b : List ℕ) (n : ℕ) (key : Item) : Type 0 where
   pub before : Pairs
@@ -53,7 +49,7 @@ pub record IsKeyAt (left : ℕ) (len : Argument) (b : List ℕ) (n : ℕ) (key :
 -- ---- two keys that become the same
 
 -- In the item at the front, right below this tag and with `left` levels left for it, are two keys of a map that have
--- one name: so many bytes are left from the first of them on, and so many from the second.
+-- one name: `first` bytes are left from the first of them on, and `second` from the second.
 pub data BecomeSame (style : JsonStyle) : Option ℕ → ℕ → List ℕ → ℕ → ℕ → Type 0 where
   in_map : {tag : Option ℕ} {left first second : ℕ} {b : List ℕ} (len : Argument) (inner : List ℕ) (k l : Item)
       (name : List ℕ) → read_head b ≡ Ok (head.Map len, inner) → IsKeyAt left len inner first k

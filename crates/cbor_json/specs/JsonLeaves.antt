@@ -21,6 +21,7 @@ use Rattle.cbor_grammar.specs.declared.strings.StringKind.TheVariants as kind
 use Rattle.cbor_grammar.specs.declared.width.FloatWidth.{FloatWidth}
 use Rattle.cbor_grammar.specs.declared.width.FloatWidth.TheVariants as float_width
 use Rattle.cbor_grammar.specs.declared.width.IntegerWidth.TheVariants.{Unknown}
+use Rattle.cbor_grammar.specs.Estimate.{one_line_limit}
 use Rattle.cbor_grammar.specs.Item.{Chunk, Atom, integer, negative, float, simple}
 use Rattle.cbor_grammar.specs.NotationText.{number, float_text, simple_text, quoted, encoded_bytes, encoding_below}
 use Rattle.cbor_notation.specs.Dialect.{Leaves, Texts}
@@ -265,6 +266,7 @@ json_leaves = record {
   At = λ p q. q ≡ p;
   level = λ p. p.level;
   layout = λ p. p.layout;
+  limit = λ p. one_line_limit;
   content = content_at;
   joins = λ p k. joins_at p.spot k;
   inside = λ c layout p. record {

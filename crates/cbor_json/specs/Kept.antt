@@ -1,17 +1,18 @@
 -- What JSON keeps of an item, whatever its widths and its kinds of length, and the first thing that it does not keep.
-use Rattle.std.specs.Prelude.{◌≡◌, ℕ, suc, ◌+◌, List, length, Bool, true, false, Option, Some, None, Ok, IsTrue}
+use Rattle.std.specs.Prelude.{◌≡◌, ℕ, suc, ◌+◌, ◌<◌, List, length, Bool, true, false, Option, Some, None, Ok, IsTrue}
 use Rattle.std.specs.Prelude.{◌==◌, ◌||◌, if◌then◌else◌}
 use Rattle.std.specs.Float.{float_is_finite}
 use Rattle.cbor_floats.specs.Value.{value_of}
 use Rattle.cbor_grammar.specs.declared.head.ItemHead.{ItemHead}
 use Rattle.cbor_grammar.specs.declared.head.ItemHead.TheVariants as head
 use Rattle.cbor_grammar.specs.declared.argument.Argument.{Argument}
+use Rattle.cbor_grammar.specs.declared.argument.Argument.TheVariants.{Number, Indefinite}
 use Rattle.cbor_grammar.specs.declared.strings.StringKind.{StringKind}
 use Rattle.cbor_grammar.specs.declared.strings.StringKind.TheVariants as kind
 use Rattle.cbor_grammar.specs.declared.width.FloatWidth.{FloatWidth}
 use Rattle.cbor_grammar.specs.Item as spec
 use Rattle.cbor_grammar.specs.Item.{Atom, integer, negative, string, chunked_string, float, simple, Item, atom, array}
-use Rattle.cbor_grammar.specs.Item.{tagged, Items, no_items, item, Pairs, no_pairs, pair, parts}
+use Rattle.cbor_grammar.specs.Item.{tagged, Items, no_items, item, item_count, Pairs, no_pairs, pair, pair_count, parts}
 use Rattle.cbor_grammar.specs.Reading.{read_head, read_item}
 use Rattle.cbor_grammar.specs.WellFormed.{deepest}
 use Rattle.cbor_json.specs.JsonLeaves.{encoded_float}
@@ -86,21 +87,28 @@ ReadsItems left b no_items rest = b ≡ rest
 ReadsItems left b (item i is) rest =
     (mid : List ℕ) × (read_item left b ≡ Ok (i, mid)) × ReadsItems left mid is rest
 
+-- A container of this length has more than `held` members. One of indefinite length has as many as are read.
+abbrev pub HasMore : Argument → ℕ → Type 0
+HasMore (Number n w) held = held < n
+HasMore Indefinite held = Unit {0}
+
 -- The first thing that is not kept of the item at the front, with `left` levels left for it: all before it is kept, and
--- so many bytes are left from it on.
+-- `n` bytes are left from it on.
 pub data FirstLoss : ℕ → List ℕ → ℕ → LossKind → Type 0 where
   at_head : {left : ℕ} {b : List ℕ} {kind : LossKind} (h : ItemHead) (rest : List ℕ) → read_head b ≡ Ok (h, rest)
       → head_loss h ≡ Some kind → FirstLoss (suc left) b (length b) kind
   in_member : {left n : ℕ} {b : List ℕ} {kind : LossKind} (a : Argument) (inner mid : List ℕ) (is : Items)
       → read_head b ≡ Ok (head.Array a, inner) → ReadsItems left inner is mid → KeptItems is
-      → FirstLoss left mid n kind → FirstLoss (suc left) b n kind
+      → HasMore a (item_count is) → FirstLoss left mid n kind → FirstLoss (suc left) b n kind
   at_key : {left n : ℕ} {b : List ℕ} (a : Argument) (inner mid : List ℕ) (ps : Pairs) (h : ItemHead) (rest : List ℕ)
       → read_head b ≡ Ok (head.Map a, inner) → ReadsItems left inner (parts ps) mid → KeptPairs ps
-      → read_head mid ≡ Ok (h, rest) → is_text_head h ≡ false → n ≡ length mid → FirstLoss (suc left) b n loss.Key
+      → HasMore a (pair_count ps) → read_head mid ≡ Ok (h, rest) → is_text_head h ≡ false → n ≡ length mid
+      → FirstLoss (suc left) b n loss.Key
   in_value : {left n : ℕ} {b : List ℕ} {kind : LossKind} (a : Argument) (inner mid rest : List ℕ) (ps : Pairs)
       (k : Item)
       → read_head b ≡ Ok (head.Map a, inner) → ReadsItems left inner (parts ps) mid → KeptPairs ps
-      → read_item left mid ≡ Ok (k, rest) → IsText k → FirstLoss left rest n kind → FirstLoss (suc left) b n kind
+      → HasMore a (pair_count ps) → read_item left mid ≡ Ok (k, rest) → IsText k → FirstLoss left rest n kind
+      → FirstLoss (suc left) b n kind
 
 -- the same of the outermost item, by its place
 abbrev pub IsLoss : List ℕ → Loss → Type 0

@@ -1,4 +1,4 @@
-//! Finds two keys of a map that become the same.
+//! Finds two keys of a map that become the same in JSON.
 #![tactic(auto)]
 
 ghost use Rattle.std.specs.Prelude.{◌≡◌, ◌+◌, ◌≤◌, [], IfOk, IfSome, IsTrue, Ok};

@@ -21,7 +21,7 @@ use cbor_grammar::strings::StringKind;
 /// Why reading ends.
 #[derive(Clone, Copy)]
 pub(crate) enum Stop {
-    /// JSON does not keep what is there. So many bytes are left from it on.
+    /// JSON does not keep what is there. `left` bytes are left from it on.
     Lost { left: usize, kind: LossKind },
     /// No item is there.
     NoItem,

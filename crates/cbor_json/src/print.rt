@@ -18,6 +18,7 @@ use crate::print::text::{content_at, push_part, push_string};
 use cbor_grammar::IntegerWidth;
 use cbor_grammar::layout::{ContainerStyle, Content, Layout};
 use cbor_grammar::strings::{StringContent, StringKind};
+use cbor_notation::budget::ONE_LINE_LIMIT;
 use cbor_notation::dialect::Dialect;
 use cbor_notation::parts::{Container, Leaf};
 use std::alloc::{AllocError, Global};
@@ -43,6 +44,12 @@ impl Dialect for Json {
     #[inline(always)]
     fn layout(place: &JsonPlace) -> Layout {
         place.layout
+    }
+
+    /// Any, since JSON has no lines.
+    #[inline(always)]
+    fn limit(_place: &JsonPlace) -> usize {
+        ONE_LINE_LIMIT
     }
 
     #[inline(always)]

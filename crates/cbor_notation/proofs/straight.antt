@@ -1,6 +1,7 @@
 pub mod Ahead
 pub mod StringsAhead
 pub mod SequencesAhead
+pub mod Styles
 pub mod Sequences
 pub mod Texts
 pub mod ChunkTexts

@@ -1,6 +1,6 @@
 -- What a dialect of notation writes: the texts of its leaves, and by them the texts of an item.
 use Rattle.std.specs.Prelude.{◌≡◌, ℕ, zero, suc, List, [], ◌∷◌, ◌++◌, length, Bool, true, false, Option, Some}
-use Rattle.std.specs.Prelude.{None, Result, MatchResult}
+use Rattle.std.specs.Prelude.{None, Result, MatchResult, nat_lt, if◌then◌else◌}
 use Rattle.std.specs.Io.{StartsWith}
 use Rattle.std.specs.List.{flat_map}
 use Rattle.std.specs.String.{string_bytes}
@@ -10,8 +10,9 @@ use Rattle.cbor_grammar.specs.declared.argument.Argument.TheVariants.{Number, In
 use Rattle.cbor_grammar.specs.declared.layout.Content.{Content}
 use Rattle.cbor_grammar.specs.declared.layout.Content.TheVariants as shown
 use Rattle.cbor_grammar.specs.declared.layout.ContainerStyle.{ContainerStyle}
-use Rattle.cbor_grammar.specs.declared.layout.ContainerStyle.TheVariants.{Compact}
+use Rattle.cbor_grammar.specs.declared.layout.ContainerStyle.TheVariants.{Compact, OneLine, MultiLine}
 use Rattle.cbor_grammar.specs.declared.layout.Layout.{Layout}
+use Rattle.cbor_grammar.specs.declared.layout.Layout.TheVariants as layout
 use Rattle.cbor_grammar.specs.declared.strings.StringKind.{StringKind}
 use Rattle.cbor_grammar.specs.declared.strings.StringKind.TheVariants as kind
 use Rattle.cbor_grammar.specs.declared.width.IntegerWidth.{IntegerWidth}
@@ -21,7 +22,7 @@ use Rattle.cbor_grammar.specs.Estimate.{estimated_length}
 use Rattle.cbor_grammar.specs.Item as spec
 use Rattle.cbor_grammar.specs.Item.{Chunk, Atom, string, chunked_string, Item, atom, array, tagged, Items, no_items}
 use Rattle.cbor_grammar.specs.Item.{item, Pairs, no_pairs, pair, item_count, pair_count}
-use Rattle.cbor_grammar.specs.NotationText.{container_style, members_layout, sequence_size}
+use Rattle.cbor_grammar.specs.NotationText.{members_layout, sequence_size}
 use Rattle.cbor_grammar.specs.WellFormed.{levels_left}
 use Rattle.cbor_notation.specs.declared.parts.Container.{Container}
 use Rattle.cbor_notation.specs.declared.parts.Container.TheVariants.{Array, Map, Chunks, Embedded}
@@ -37,10 +38,11 @@ Texts = List ℕ → Type 0
 pub record Leaves (Place : Type 0) : Type 1 where
   -- what the place of an item may become, once it is known how many bytes remain from the item on
   pub At : Place → Place → Type 0
-  -- the level there, the outermost being 1; how containers are laid out; what a byte string of these
-  -- bytes is shown as
+  -- the level there, the outermost being 1; how containers are laid out; the estimated length from which one takes a
+  -- line for each member; what a byte string of these bytes is shown as
   pub level : Place → ℕ
   pub layout : Place → Layout
+  pub limit : Place → ℕ
   pub content : Place → List ℕ → Content
   -- whether the chunks of a string of this kind are joined there, and written as one string
   pub joins : Place → StringKind → Bool
@@ -127,9 +129,18 @@ abbrev pub count_of : Option IntegerWidth → ℕ → Argument
 count_of (Some w) n = Number n w
 count_of None n = Indefinite
 
--- the style of a container there
+-- the style of a container that is estimated as this long: one that is as long as the limit or longer takes a line for
+-- each member
+abbrev pub style_within : ℕ → Layout → ℕ → ContainerStyle
+style_within limit layout.Compact size = Compact
+style_within limit (layout.Pretty indent) size = if nat_lt size limit then OneLine indent else MultiLine indent
+
+-- the style of a container there that is estimated as this long, and of this one
+abbrev pub sized_style : {Place : Type 0} → Leaves Place → Place → ℕ → ContainerStyle
+sized_style d p size = style_within (d.limit p) (d.layout p) size
+
 abbrev pub style_at : {Place : Type 0} → Leaves Place → Place → Item → ContainerStyle
-style_at d p i = container_style (d.layout p) (estimated_length i)
+style_at d p i = sized_style d p (estimated_length i)
 
 abbrev pub ItemsText : {Place : Type 0} → Leaves Place → Writer Place → Place → Container → ContainerStyle → Items
     → Texts
@@ -159,7 +170,7 @@ EmbeddedText d write p b (x ∷ xs) e t = OneText d write p b e t
 -- items one after the other, laid out as an array of them, and the bytes that begin with none
 abbrev pub SequenceText : {Place : Type 0} → Leaves Place → Writer Place → Place → Chunk → Items × List ℕ → Texts
 SequenceText d write p b s t =
-    (u r : List ℕ) × ItemsText d write p (embedding b) (container_style (d.layout p) (sequence_size s)) s.0 u
+    (u r : List ℕ) × ItemsText d write p (embedding b) (sized_style d p (sequence_size s)) s.0 u
     × d.rest p (embedding b) s.1 r × (t ≡ u ++ r)
 
 -- a byte string of definite length, with this many levels left below it

@@ -6,8 +6,8 @@
 //! have a fault. Then it does not matter what is returned: the caller reads the same bytes next,
 //! and finds the error. Strings are skipped by their length, and texts aren't tested for UTF-8.
 //!
-//! Each head takes two characters of the budget or more. So one look reads fewer than 30 heads,
-//! however long or deep the container is.
+//! Each head takes two characters of the budget or more. So one look reads fewer heads than half of
+//! the limit (30 for a limit of 60), however long or deep the container is.
 ghost use Rattle.std.specs.Prelude.{◌≡◌, ℕ, ◌+◌, ◌-◌, ◌<◌, ◌≤◌, List, length, Ok, Option, IfSome};
 ghost use Rattle.cbor_grammar.specs.Embedded.{sequence_at};
 ghost use Rattle.cbor_grammar.specs.Estimate.{estimated_string, estimated_chunks};
@@ -15,14 +15,15 @@ ghost use Rattle.cbor_grammar.specs.Estimate.{estimated_items, estimated_pairs};
 ghost use Rattle.cbor_grammar.specs.Item as spec;
 ghost use Rattle.cbor_grammar.specs.Item.{Chunk, Items, Pairs, atom, array, chunked_string};
 ghost use Rattle.cbor_grammar.specs.declared.layout.Layout.TheVariants as shown;
-ghost use Rattle.cbor_grammar.specs.NotationText.{container_style, indent_of, style_indent};
+ghost use Rattle.cbor_grammar.specs.NotationText.{indent_of, style_indent};
 ghost use Rattle.cbor_grammar.specs.Reading.{read_content};
 ghost use Rattle.cbor_grammar.specs.WellFormed.{deepest, levels_left};
 ghost use Rattle.cbor_grammar.specs.declared.width.IntegerWidth.{IntegerWidth};
+ghost use Rattle.cbor_notation.specs.Dialect.{style_within};
 ghost use Rattle.cbor_notation.specs.mirror.Ahead.{Leaves, Estimates, front_read};
 ghost use Rattle.cbor_grammar.specs.mirror.AtLevel.{body_read};
 
-use crate::budget::{BUDGET, digit_count, float_len, left_after_content, pretty_style};
+use crate::budget::{BRACKETS, digit_count, float_len, left_after_content, pretty_style};
 use cbor_bytes::head::read_head;
 use cbor_bytes::skip::after_front;
 use cbor_bytes::strings::{read_chunk_length, split_at};
@@ -55,70 +56,106 @@ impl<'a> Ahead<'a> {
 }
 
 /// The style of an array with this count of items, whose bytes after its head these are.
-pub fn array_style_ahead(layout: Layout, count: Argument, bytes: &[u8]) -> ContainerStyle
+pub fn array_style_ahead(
+    layout: Layout,
+    limit: usize,
+    count: Argument,
+    bytes: &[u8],
+) -> ContainerStyle
     ensures style { (levels : ℕ) (is : Items) (w : Option IntegerWidth) (rest : List ℕ)
         → body_read (ItemHead.Array count) bytes.now levels
         ≡ Ok (array is w, rest)
-        → result ≡ container_style layout (4 + estimated_items is) }
+        → result ≡ style_within limit layout (4 + estimated_items is) }
     ensures indent { style_indent result ≡ indent_of layout }
 {
     match layout {
         Layout::Compact => ContainerStyle::Compact,
-        Layout::Pretty { indent } => style_of(indent, items_ahead(count, bytes, BUDGET)),
+        Layout::Pretty { indent } => style_of(
+            indent,
+            limit,
+            items_ahead(count, bytes, budget_of(limit)),
+        ),
     }
 }
 
 /// The style of a map with this count of pairs, whose bytes after its head these are.
-pub fn map_style_ahead(layout: Layout, count: Argument, bytes: &[u8]) -> ContainerStyle
+pub fn map_style_ahead(
+    layout: Layout,
+    limit: usize,
+    count: Argument,
+    bytes: &[u8],
+) -> ContainerStyle
     ensures style { (levels : ℕ) (ps : Pairs) (w : Option IntegerWidth) (rest : List ℕ)
         → body_read (ItemHead.Map count) bytes.now levels
         ≡ Ok (spec.map ps w, rest)
-        → result ≡ container_style layout (4 + estimated_pairs ps) }
+        → result ≡ style_within limit layout (4 + estimated_pairs ps) }
     ensures indent { style_indent result ≡ indent_of layout }
 {
     match layout {
         Layout::Compact => ContainerStyle::Compact,
-        Layout::Pretty { indent } => style_of(indent, pairs_ahead(count, bytes, BUDGET)),
+        Layout::Pretty { indent } => style_of(
+            indent,
+            limit,
+            pairs_ahead(count, bytes, budget_of(limit)),
+        ),
     }
 }
 
 /// The style of an indefinite string, whose bytes after its opening byte these are.
-pub fn chunks_style_ahead(layout: Layout, kind: StringKind, bytes: &[u8]) -> ContainerStyle
+pub fn chunks_style_ahead(
+    layout: Layout,
+    limit: usize,
+    kind: StringKind,
+    bytes: &[u8],
+) -> ContainerStyle
     ensures style { (levels : ℕ) (cs : List Chunk) (rest : List ℕ)
         → body_read (ItemHead.String kind Argument.Indefinite) bytes.now levels
         ≡ Ok (atom (chunked_string kind cs), rest)
-        → result ≡ container_style layout (4 + estimated_chunks kind cs) }
+        → result ≡ style_within limit layout (4 + estimated_chunks kind cs) }
     ensures indent { style_indent result ≡ indent_of layout }
 {
     match layout {
         Layout::Compact => ContainerStyle::Compact,
-        Layout::Pretty { indent } => style_of(indent, chunks_ahead(kind, bytes, BUDGET)),
+        Layout::Pretty { indent } => style_of(
+            indent,
+            limit,
+            chunks_ahead(kind, bytes, budget_of(limit)),
+        ),
     }
 }
 
 /// The style of a sequence of the items that can be read from `level` one after the other.
 ///
 /// Unlike the members of a container, these items count only if they can be read. So those that
-/// are looked at are read to their end, 15 at most.
-pub fn sequence_style_ahead(layout: Layout, level: u8, bytes: &[u8]) -> ContainerStyle
+/// are looked at are read to their end, a quarter of the limit at most.
+pub fn sequence_style_ahead(layout: Layout, limit: usize, level: u8, bytes: &[u8]) -> ContainerStyle
     requires from { 1 ≤ level }
     requires to { level ≤ deepest + 1 }
-    ensures style { result ≡ container_style layout
+    ensures style { result ≡ style_within limit layout
         (4 + estimated_items (sequence_at (levels_left level) bytes.now).0) }
     ensures indent { style_indent result ≡ indent_of layout }
 {
     match layout {
         Layout::Compact => ContainerStyle::Compact,
         Layout::Pretty { indent } => {
-            pretty_style(indent, left_after_sequence(level, bytes, BUDGET))
+            pretty_style(indent, left_after_sequence(level, bytes, budget_of(limit)))
         }
     }
 }
 
+/// What the members of a container may take of this limit.
+#[inline(always)]
+fn budget_of(limit: usize) -> usize
+    ensures { result ≡ limit - 4 }
+{
+    limit.saturating_sub(BRACKETS)
+}
+
 /// The style of a container with blanks, by what a look at its members finds.
-fn style_of(indent: usize, members: Option<Ahead<'_>>) -> ContainerStyle
-    ensures style { (size : ℕ) (rest : List ℕ) → Leaves members.entry 60 size rest
-        → result ≡ container_style (shown.Pretty indent) size }
+fn style_of(indent: usize, limit: usize, members: Option<Ahead<'_>>) -> ContainerStyle
+    ensures style { (budget size : ℕ) (rest : List ℕ) → budget ≡ limit - 4
+        → Leaves members.entry (4 + budget) (4 + size) rest
+        → result ≡ style_within limit (shown.Pretty indent) (4 + size) }
     ensures indent { style_indent result ≡ indent }
 {
     let left = match members {

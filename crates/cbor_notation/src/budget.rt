@@ -11,9 +11,15 @@ use cbor_grammar::FloatWidth;
 use cbor_grammar::layout::{ContainerStyle, Layout};
 use cbor_grammar::strings::{DefiniteString, StringKind};
 
-/// The budget for the members of a container, which is long where they take all of it: 60 less
-/// the 4 that are for its brackets.
-pub const BUDGET: usize = 56;
+/// The estimated length from which a container takes a line for each member, in the notation that
+/// `cbor_view` writes.
+pub const ONE_LINE_LIMIT: usize = 60;
+
+/// What a container's brackets take of the limit.
+pub const BRACKETS: usize = 4;
+
+/// The budget for the members of a container, which is long where they take all of it.
+pub const BUDGET: usize = ONE_LINE_LIMIT - BRACKETS;
 
 /// The style of a container with blanks, by what its members leave of the budget.
 pub fn pretty_style(indent: usize, left: usize) -> ContainerStyle

@@ -8,6 +8,7 @@ ghost use Rattle.cbor_tokens.specs.Appends.{AppendsText};
 ghost use Rattle.cbor_notation.specs.mirror.LayoutView.{IsIndented, content_there};
 ghost use Rattle.cbor_notation.specs.mirror.DiagLeaves.{diag_leaves};
 
+use crate::budget::ONE_LINE_LIMIT;
 use crate::context::NotationContext;
 use crate::dialect::Dialect;
 use crate::from_bytes;
@@ -42,6 +43,11 @@ impl Dialect for Diag {
     #[inline(always)]
     fn layout(place: &NotationContext) -> Layout {
         place.layout
+    }
+
+    #[inline(always)]
+    fn limit(_place: &NotationContext) -> usize {
+        ONE_LINE_LIMIT
     }
 
     #[inline(always)]

@@ -44,6 +44,11 @@ pub trait Dialect {
     fn layout(place: &Self::Place) -> Layout
         ensures { result ≡ leaves.layout place.now };
 
+    /// The estimated length from which a container there takes a line for each member, where
+    /// lines may be used.
+    fn limit(place: &Self::Place) -> usize
+        ensures { result ≡ leaves.limit place.now };
+
     /// What the bytes of this byte string there are shown as.
     fn content(place: &Self::Place, bytes: &[u8]) -> Content
         ensures { result ≡ leaves.content place.now bytes.now };

@@ -116,7 +116,7 @@ fn push_array_front<'a, D: Dialect>(
     ensures begun { OnErr result (StartsWith (string_bytes out.new) (string_bytes out.old)) }
 {
     let container = Container::Array(count);
-    let style = array_style_ahead(D::layout(place), count, bytes);
+    let style = array_style_ahead(D::layout(place), D::limit(place), count, bytes);
     let mut inner = D::inside(place, container, style.members_layout());
     D::opening(out, container, style, place)?;
     let mut rest = bytes;
@@ -153,7 +153,7 @@ fn push_map_front<'a, D: Dialect>(
     ensures begun { OnErr result (StartsWith (string_bytes out.new) (string_bytes out.old)) }
 {
     let container = Container::Map(count);
-    let style = map_style_ahead(D::layout(place), count, bytes);
+    let style = map_style_ahead(D::layout(place), D::limit(place), count, bytes);
     let mut inner = D::inside(place, container, style.members_layout());
     D::opening(out, container, style, place)?;
     let mut rest = bytes;
@@ -321,7 +321,12 @@ fn push_sequence<D: Dialect>(
         (chunk width bytes.now)) }
 {
     let container = Container::Embedded(Argument::Number(bytes.len() as u64, width));
-    let style = sequence_style_ahead(D::layout(place), D::level(place) + 1, bytes);
+    let style = sequence_style_ahead(
+        D::layout(place),
+        D::limit(place),
+        D::level(place) + 1,
+        bytes,
+    );
     let mut inner = D::inside(place, container, style.members_layout());
     D::opening(out, container, style, place)?;
     let mut rest = bytes;
@@ -424,7 +429,7 @@ fn push_parts_front<'a, D: Dialect>(
     ensures begun { OnErr result (StartsWith (string_bytes out.new) (string_bytes out.old)) }
 {
     let container = Container::Chunks(kind);
-    let style = chunks_style_ahead(D::layout(place), kind, bytes);
+    let style = chunks_style_ahead(D::layout(place), D::limit(place), kind, bytes);
     let mut rest = bytes;
     let mut held = 0;
     'chunks: loop {

@@ -33,6 +33,7 @@ decimal_leaves = record {
   At = diag_leaves.At;
   level = diag_leaves.level;
   layout = diag_leaves.layout;
+  limit = diag_leaves.limit;
   content = diag_leaves.content;
   joins = diag_leaves.joins;
   inside = diag_leaves.inside;

@@ -53,6 +53,10 @@ impl Dialect for Decimal {
         Diag::layout(place)
     }
 
+    fn limit(place: &NotationContext) -> usize {
+        Diag::limit(place)
+    }
+
     fn content(place: &NotationContext, bytes: &[u8]) -> Content {
         Diag::content(place, bytes)
     }

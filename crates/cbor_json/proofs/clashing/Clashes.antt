@@ -1,7 +1,7 @@
--- From a key to its map, and from an item to the one around it.
+-- Keys that become the same in JSON: from a key to its map, and from an item to the one around it.
 use Rattle.std.proofs.Common.{◌≡◌, ℕ, suc, ◌+◌, ◌-◌, ◌<◌, ◌≤◌, List, ◌++◌, length, true, false}
 use Rattle.std.proofs.Common.{Option, Some, None, Result, Ok, Err, IfOk, inl, inr, refl, sym, ap, subst, ◌∙◌, arith}
-use Rattle.std.proofs.lemmas.Bool.{cases_lt, cases_Bool}
+use Rattle.std.proofs.lemmas.Bool.{cases_Bool}
 use Rattle.std.specs.Cmp.Lexicographic.{bytes_decides}
 use Rattle.std.specs.Map.{update}
 use Rattle.std.specs.Prelude.{IfSome, option_map, is_some, bytes_eq}
@@ -17,25 +17,15 @@ use Rattle.cbor_grammar.specs.WellFormed.{levels_left}
 use Rattle.cbor_grammar.specs.mirror.Lengths.{left_of}
 use Rattle.cbor_grammar.proofs.bytes.Shorter.{item_shorter}
 use Rattle.cbor_bytes.proofs.reading.Readings.{one_more}
-use Rattle.cbor_json.specs.Clashes.{HasMore, IsKeyAt, IsName, BecomeSame, in_map, in_member, in_value, below_tag}
+use Rattle.cbor_json.specs.Clashes.{IsKeyAt, IsName, BecomeSame, in_map, in_member, in_value, below_tag}
 use Rattle.cbor_json.specs.Clashes.{in_bytes}
-use Rattle.cbor_json.specs.Kept.{ReadsItems}
+use Rattle.cbor_json.specs.Kept.{HasMore, ReadsItems}
 use Rattle.cbor_json.specs.declared.clash.SameKeys.{SameKeys}
 use Rattle.cbor_json.specs.declared.clash.Search.{Search}
 use Rattle.cbor_json.specs.mirror.Clashing.{below, AreSame, IsFound, IsFoundBehind, IsShown, IsNamed}
+use Rattle.cbor_json.proofs.losing.Kept.{has_more}
 
 -- ---- a container that goes on
-
-pub has_more : (len : Argument) (held : ℕ) (b : List ℕ) → after_members (left_of len held) b ≡ None → HasMore len held
-has_more (Number n w) held b none =
-    elim (cases_lt held n) [
-      | inl lt ↦ lt
-      | inr le ↦
-          let over : n - held ≡ 0 = omega (arith, le) in
-          let wrong : Some b ≡ None = ap (λ k. after_members (Number k w) b) (sym over) ∙ none in
-          absurd cc
-    ]
-has_more Indefinite held b none = tt
 
 pub none_left : {X : Type 0} (o : Option X) (f : X → List ℕ) (end : Option (List ℕ)) → option_map f o ≡ end
     → is_some o ≡ false → end ≡ None
@@ -115,8 +105,9 @@ module _ (search : Search) (level : ℕ) (le : level ≤ 128) where
 
   -- ---- a map
 
-  module _ (len : Argument) (b rest : List ℕ) (held : ℕ) (before : Pairs) (reads : ReadsItems left b (parts before) rest)
-      (count : held ≡ pair_count before) (none : after_members (left_of len held) rest ≡ None)
+  module _ (len : Argument) (b rest : List ℕ) (held : ℕ) (before : Pairs)
+      (reads : ReadsItems left b (parts before) rest) (count : held ≡ pair_count before)
+      (none : after_members (left_of len held) rest ≡ None)
       (within : length rest ≤ length b) where
     abbrev key_at : (k : Item) (next : List ℕ) → read_item left rest ≡ Ok (k, next) → IsKeyAt left len b (length rest) k
     key_at k next read = record {

@@ -1,6 +1,7 @@
 -- Digits, which stand for themselves in a JSON string.
 use Rattle.std.proofs.Common.{◌≡◌, ℕ, ◌/◌, ◌%◌, ◌^◌, ◌<◌, ◌≤◌, List, [], ◌∷◌, ◌++◌, length, Bool, true, false}
-use Rattle.std.proofs.Common.{if◌then◌else◌, codes, refl, inl, inr, sym, ap, subst, ◌∙◌, arith, slice_index, replicate, zero, suc}
+use Rattle.std.proofs.Common.{if◌then◌else◌, codes, refl, inl, inr, sym, ap, subst, ◌∙◌, arith, slice_index, replicate}
+use Rattle.std.proofs.Common.{zero, suc}
 use Rattle.std.proofs.lemmas.Bool.{agree_below_at}
 use Rattle.std.proofs.lemmas.Bool.Decides.{nat_tests}
 use Rattle.std.proofs.lemmas.Fmt.{decimal_is_IsNumeral_wide}

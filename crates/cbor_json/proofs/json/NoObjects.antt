@@ -1,4 +1,4 @@
--- A text without a brace has no object, so no object of it has a key twice.
+-- A text of JSON without a brace has no object, so no object of it has a key twice.
 use Rattle.std.proofs.Common.{◌≡◌, ℕ, zero, suc, ◌<◌, List, [], ◌∷◌, length, Bool, true, false, Option, Some, None}
 use Rattle.std.proofs.Common.{◌-◌, subst, arith, cond, get_or, ◌==◌, ◌&&◌, nat_eq, take, drop, inl, inr}
 use Rattle.std.proofs.lemmas.Bool.{cases_Bool}
@@ -8,8 +8,10 @@ use Rattle.json.specs.Ascii as ascii
 use Rattle.json.specs.Json.{Json, document, value, value_with, items, members, items_step, if_last, max_depth, Parse}
 use Rattle.json.specs.Json.{parse_map, after_end_array, item, no_items}
 use Rattle.json.specs.Json as json
-use Rattle.json.specs.Lex.{Lexeme, Class, Mode, Place, token, comma, colon, class, operator_lexeme, string_token, lex_byte}
-use Rattle.json.specs.Lex.{lex, tokens, between, in_word, in_string, in_escape, quote, backslash, operator, space, other}
+use Rattle.json.specs.Lex.{Lexeme, Class, Mode, Place, token, comma, colon, class, operator_lexeme, string_token}
+use Rattle.json.specs.Lex.{lex_byte}
+use Rattle.json.specs.Lex.{lex, tokens, between, in_word, in_string, in_escape, quote, backslash, operator, space}
+use Rattle.json.specs.Lex.{other}
 use Rattle.json.specs.Lex.{fresh, after_value, after_comma, after_key, begins_colon, may_begin, may_close, if_allowed}
 use Rattle.json.specs.Lex.{place_token, punctuate}
 use Rattle.json.specs.Strict.{HasUniqueKeys, ItemsHaveUniqueKeys}

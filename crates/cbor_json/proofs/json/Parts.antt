@@ -115,7 +115,8 @@ value_leaf left (integer n w) t well h =
     (number_reads (integer_text n) (integer_number n lt) (integer_fills n (omega (arith, lt))).shows)
 value_leaf left (negative n w) t well h =
     let lt = below_limit n w well in
-    subst (λ y. Reads left y) (sym h) (number_reads (negative_text n) (negative_number n lt) (negative_fills n lt).shows)
+    subst (λ y. Reads left y) (sym h)
+    (number_reads (negative_text n) (negative_number n lt) (negative_fills n lt).shows)
 value_leaf left (float bits w) t well h = float_reads left _ (value_of (encoded_float bits w)) t refl h
 value_leaf left (simple n) t well h = subst (λ y. Reads left y) (sym h) (value_simple left n)
 value_leaf left (string k c) t well h = absurd h

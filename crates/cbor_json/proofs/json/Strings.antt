@@ -68,8 +68,8 @@ unit_of : (a b c d : ℕ) → a < 16 → b < 16 → c < 16 → d < 16
     → code_unit (hex a) (hex b) (hex c) (hex d) ≡ Some (a * 4096 + b * 256 + c * 16 + d)
 unfolding code_unit
 unit_of a b c d la lb lc ld =
-    rw (hex_is a la, hex_is b lb, hex_is c lc, hex_is d ld, hex_value a la, hex_value b lb, hex_value c lc, hex_value d ld)
-    refl
+    rw (hex_is a la, hex_is b lb, hex_is c lc, hex_is d ld)
+    (rw (hex_value a la, hex_value b lb, hex_value c lc, hex_value d ld) refl)
 
 low_of : (c : ℕ) → is_hidden c ≡ true → c < 65536
 low_of c h = elim (cases_lt c 65536) [
@@ -95,8 +95,8 @@ module _ (c : ℕ) (hidden : is_hidden c ≡ true) where
   unit_is =
       let low = low_of c hidden in
       let same : c / 256 / 16 * 4096 + c / 256 % 16 * 256 + c % 256 / 16 * 16 + c % 256 % 16 ≡ c = omega (arith, low) in
-      unit_of (c / 256 / 16) (c / 256 % 16) (c % 256 / 16) (c % 256 % 16) (omega (arith, low)) (omega arith) (omega arith)
-      (omega arith) ∙ ap Some same
+      unit_of (c / 256 / 16) (c / 256 % 16) (c % 256 / 16) (c % 256 % 16) (omega (arith, low)) (omega arith)
+      (omega arith) (omega arith) ∙ ap Some same
 
   unit_read : (r : List ℕ) → content plain (unit_escape c ++ r) ≡ prepend (encode_utf8 c) (content plain r)
   unfolding content encode_with
@@ -111,8 +111,8 @@ module _ (c : ℕ) (hidden : is_hidden c ≡ true) where
         means = encode_utf8 c;
         read = unit_read;
         lexed = λ r. after_u _ digits r;
-        shows = shows_then {a = 92 ∷ 117 ∷ []} (two_bytes 92 117 (omega arith) (omega arith) (omega arith) (omega arith))
-            digits.shows;
+        shows = shows_then {a = 92 ∷ 117 ∷ []}
+            (two_bytes 92 117 (omega arith) (omega arith) (omega arith) (omega arith)) digits.shows;
       }
 
 -- ---- a text

@@ -1,5 +1,6 @@
 -- The texts of an item are JSON, and of what is in a key pieces of a string.
-use Rattle.std.proofs.Common.{◌≡◌, ℕ, zero, suc, ◌+◌, ◌<◌, ◌≤◌, ◌^◌, List, [], ◌∷◌, ◌++◌, Bool, true, false, Option, Some, None}
+use Rattle.std.proofs.Common.{◌≡◌, ℕ, zero, suc, ◌+◌, ◌<◌, ◌≤◌, ◌^◌, List, [], ◌∷◌, ◌++◌, Bool, true, false, Option}
+use Rattle.std.proofs.Common.{Some, None}
 use Rattle.std.proofs.Common.{◌&&◌, not, if◌then◌else◌, codes, refl, sym, ap, subst, ◌∙◌, arith, append-nil}
 use Rattle.std.specs.List.{AllByRecursion, flat_map}
 use Rattle.json.specs.Json as json
@@ -22,7 +23,8 @@ use Rattle.cbor_grammar.proofs.bytes.Laws.{bytes_at}
 use Rattle.cbor_grammar.proofs.bytes.Resolved.{spells_well}
 use Rattle.cbor_grammar.proofs.shared.EmbeddedItems.{embedded_spells}
 use Rattle.cbor_notation.specs.Dialect.{listed, ItemTexts, PairTexts, ItemsText, PairsText}
-use Rattle.cbor_notation.specs.Dialect.{OneText, EmbeddedText, ContentText, AtomText, TagText, TextWith, TextsOf, Writer}
+use Rattle.cbor_notation.specs.Dialect.{OneText, EmbeddedText, ContentText, AtomText, TagText, TextWith, TextsOf}
+use Rattle.cbor_notation.specs.Dialect.{Writer}
 use Rattle.cbor_notation.specs.Dialect.{embedding, count_of, style_at, joined, ChunkedText}
 use Rattle.cbor_notation.specs.declared.parts.Container.TheVariants.{Array, Map}
 use Rattle.cbor_json.specs.JsonLeaves.{json_leaves, integer_text, begins_container, is_value, wants_bytes}
@@ -329,7 +331,8 @@ module _ (level left : ℕ) (levels : level + left ≡ 129) (write : Writer Json
   atom_part : (p : JsonPlace) (a : Atom) (t : List ℕ) → WellFormedAtom a → AtomText json_leaves left write p a t
       → Part p.spot (suc left) t
   atom_part p (string kind.Bytes b) t well h =
-      content_part p (p.style.embedded && (not (wants_bytes p.tag) && (is_value p.spot && begins_container b.bytes))) b t
+      content_part p (p.style.embedded && (not (wants_bytes p.tag) && (is_value p.spot && begins_container b.bytes)))
+      b t
       (and_parts p.style.embedded (not (wants_bytes p.tag)) (is_value p.spot) (begins_container b.bytes)) well h
   atom_part p (string kind.Text s) t well h =
       string_part p (suc left) kind.Text s t well.bytes h

@@ -24,7 +24,7 @@ Takes t ts =
     (p : Place) (r : List ℕ) → may_begin p ≡ true → ends_word r ≡ true → begins_colon (lex between r) ≡ false
     → punctuate p (lex between (t ++ r)) ≡ ts ++ punctuate after_value (lex between r)
 
--- the text is that of a value with so many levels
+-- the text is that of a value with this many levels
 pub record Reads (left : ℕ) (t : List ℕ) : Type 0 where
   pub means : Json
   pub low : depth means ≤ left
@@ -93,7 +93,8 @@ number_reads t h shows = record {
   shows = shows;
 }
 
-lex_true : (r : List ℕ) → ends_word r ≡ true → lex between (codes "true" ++ r) ≡ token (tok.boolean true) ∷ lex between r
+lex_true : (r : List ℕ) → ends_word r ≡ true → lex between (codes "true" ++ r)
+    ≡ token (tok.boolean true) ∷ lex between r
 unfolding lex word
 lex_true r ends = ap₂ (λ b l. token (cond b (tok.boolean true) tok.bad) ∷ l) ends (in_word-ended r ends)
 

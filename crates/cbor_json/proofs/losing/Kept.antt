@@ -1,14 +1,16 @@
--- What is kept of a container, by its parts, and where reading stops.
-use Rattle.std.proofs.Common.{◌≡◌, ℕ, zero, suc, ◌+◌, ◌≤◌, List, length, Bool, true, false, Option, Some, None}
+-- In JSON, what is kept of a container, by its parts, and where reading stops.
+use Rattle.std.proofs.Common.{◌≡◌, ℕ, zero, suc, ◌+◌, ◌-◌, ◌≤◌, List, length, Bool, true, false, Option, Some, None}
 use Rattle.std.proofs.Common.{Result, Ok, Err, IfOk, IfErr, IsTrue, ◌<◌, ◌⊎◌}
 use Rattle.std.proofs.Common.{inl, inr, if◌then◌else◌, refl, sym, ap, subst, ◌∙◌, arith}
+use Rattle.std.proofs.lemmas.Bool.{cases_lt}
 use Rattle.cbor_grammar.specs.declared.argument.Argument.{Argument}
 use Rattle.cbor_grammar.specs.declared.argument.Argument.TheVariants.{Number, Indefinite}
 use Rattle.cbor_grammar.specs.declared.head.ItemHead.{ItemHead}
 use Rattle.cbor_grammar.specs.declared.head.ItemHead.TheVariants as head
 use Rattle.cbor_grammar.specs.declared.strings.StringKind.TheVariants as kind
 use Rattle.cbor_grammar.specs.Item as spec
-use Rattle.cbor_grammar.specs.Item.{Chunk, Item, atom, array, Items, no_items, item, Pairs, no_pairs, pair, parts}
+use Rattle.cbor_grammar.specs.Item.{Chunk, Item, atom, array, Items, no_items, item, item_count, Pairs, no_pairs, pair}
+use Rattle.cbor_grammar.specs.Item.{pair_count, parts}
 use Rattle.cbor_grammar.specs.Reading.{Read, Counted, Frame, items_in, pairs_in, value_of, tag_of, tagged_with, opened}
 use Rattle.cbor_grammar.specs.Reading.{joined, joined_pairs, put, closed}
 use Rattle.cbor_grammar.specs.Reading.{close_or, after_members, after_end, parts_from}
@@ -23,7 +25,7 @@ use Rattle.cbor_grammar.proofs.bytes.Steps.{parts_more, item_shortens}
 use Rattle.cbor_bytes.proofs.reading.Readings.{parts_read, item_after, one_more, float_fits}
 use Rattle.cbor_bytes.proofs.reading.Levels.{head_reads, too_deep}
 use Rattle.cbor_json.specs.Kept.{IsKept, KeptItems, KeptPairs, IsText, head_loss, is_text_head, is_finite}
-use Rattle.cbor_json.specs.Kept.{is_json_simple, ReadsItems, FirstLoss}
+use Rattle.cbor_json.specs.Kept.{is_json_simple, ReadsItems, HasMore, FirstLoss}
 use Rattle.cbor_json.specs.Kept.{at_head, in_member, at_key, in_value}
 use Rattle.cbor_json.specs.declared.error.LossKind.{LossKind}
 use Rattle.cbor_json.specs.declared.error.LossKind.TheVariants as loss
@@ -160,6 +162,17 @@ no_text (suc n) left f b x e text =
     ]
 
 -- ---- a container that goes on
+
+pub has_more : (len : Argument) (held : ℕ) (b : List ℕ) → after_members (left_of len held) b ≡ None → HasMore len held
+has_more (Number n w) held b none =
+    elim (cases_lt held n) [
+      | inl lt ↦ lt
+      | inr le ↦
+          let over : n - held ≡ 0 = omega (arith, le) in
+          let wrong : Some b ≡ None = ap (λ k. after_members (Number k w) b) (sym over) ∙ none in
+          absurd cc
+    ]
+has_more Indefinite held b none = tt
 
 module _ (left : ℕ) (f : Frame) (b : List ℕ) (none : after_end f b ≡ None) where
   next_part : (x : Item × List ℕ) → parts_read left f b ≡ Ok x
@@ -319,26 +332,31 @@ module _ (level : ℕ) (a : Argument) (b rest : List ℕ) (held : ℕ) (le : lev
   -- at a member of an array
   pub member_stops : (is : Items) (s : Stop) → parts_read (left_below level) (items_in is (left_of a held)) rest
       ≡ parts_read (left_below level) (items_in no_items a) b → ReadsItems (left_below level) b is rest → KeptItems is
-      → Stops (level + 1) rest s → StopsAfter level (head.Array a) b s
-  member_stops is (stop.Lost n kind) so_far reads kept here = (
-    λ c e. subst (λ l. FirstLoss l c n kind) (sym (one_more level le)) (in_member a b rest is e reads kept here.0),
+      → held ≡ item_count is → Stops (level + 1) rest s → StopsAfter level (head.Array a) b s
+  member_stops is (stop.Lost n kind) so_far reads kept count here = (
+    λ c e. subst (λ l. FirstLoss l c n kind) (sym (one_more level le))
+        (in_member a b rest is e reads kept (subst (HasMore a) count (has_more a held rest on)) here.0),
     subst NoneKept so_far
         (none_kept (left_below level) (items_in is (left_of a held)) rest on here.1),
     omega (arith, here.2, within),
   )
-  member_stops is stop.NoItem so_far reads kept here =
+  member_stops is stop.NoItem so_far reads kept count here =
       subst NoneRead so_far (none_read (left_below level) (items_in is (left_of a held)) rest on here)
 
   module _ (ps : Pairs)
       (so_far : parts_read (left_below level) (pairs_in ps (left_of a held)) rest
       ≡ parts_read (left_below level) (pairs_in no_pairs a) b)
-      (reads : ReadsItems (left_below level) b (parts ps) rest) (kept : KeptPairs ps) where
+      (reads : ReadsItems (left_below level) b (parts ps) rest) (kept : KeptPairs ps)
+      (count : held ≡ pair_count ps) where
+    more : HasMore a (pair_count ps)
+    more = subst (HasMore a) count (has_more a held rest on)
+
     -- at a key
     pub key_stops : (s : Stop) → StopsAtKey (level + 1) rest s → StopsAfter level (head.Map a) b s
     key_stops (stop.Lost n kind) here = (
       λ c e. subst (λ l. FirstLoss l c n kind) (sym (one_more level le))
           (subst (λ k. FirstLoss (suc (left_below level)) c n k) (sym here.1)
-          (at_key a b rest ps here.2.head here.2.rest e reads kept here.2.read here.2.other here.0)),
+          (at_key a b rest ps here.2.head here.2.rest e reads kept more here.2.read here.2.other here.0)),
       subst NoneKept so_far (none_kept (left_below level) (pairs_in ps (left_of a held)) rest on here.2.none),
       omega (arith, here.0, within),
     )
@@ -350,7 +368,7 @@ module _ (level : ℕ) (a : Argument) (b rest : List ℕ) (held : ℕ) (le : lev
         → IsText k → Stops (level + 1) mid s → StopsAfter level (head.Map a) b s
     value_stops mid k (stop.Lost n kind) key text here = (
       λ c e. subst (λ l. FirstLoss l c n kind) (sym (one_more level le))
-          (in_value a b rest mid ps k e reads kept key text here.0),
+          (in_value a b rest mid ps k e reads kept more key text here.0),
       subst NoneKept so_far
           (none_kept_value (left_below level) ps (left_of a held) rest mid k on key here.1),
       omega (arith, here.2, item_shorter (left_below level) rest k mid key, within),

@@ -1,4 +1,4 @@
--- What calls one after the other append.
+-- What calls that write JSON append, one after the other.
 use Rattle.std.proofs.Common.{◌≡◌, List, ◌++◌, ℕ, Result, Ok, Err, ap, ◌∙◌, is_ok, if◌then◌else◌, take, length}
 use Rattle.std.proofs.Math.Seq.{take-length}
 use Rattle.std.specs.Float.Ieee.{Float}

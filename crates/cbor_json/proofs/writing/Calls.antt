@@ -1,4 +1,4 @@
--- From what reading gives to the clauses of the call that writes the item at the front.
+-- From what reading gives to the clauses of the call that writes JSON of the item at the front.
 use Rattle.std.proofs.Common.{◌≡◌, ◌≢◌, ℕ, ◌-◌, List, length, Ok, Err, refl}
 use Rattle.cbor_grammar.specs.declared.error.Error.{Error}
 use Rattle.cbor_grammar.specs.declared.error.Error.TheVariants as refusal

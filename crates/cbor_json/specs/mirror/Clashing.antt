@@ -1,4 +1,4 @@
--- What `clash.rt` finds.
+-- What `clash.rt` finds: keys that become the same in JSON.
 use Rattle.std.specs.Prelude.{◌≡◌, ℕ, ◌+◌, ◌<◌, ◌≤◌, List, [], length, false, true, Option, Ok, IsTrue}
 use Rattle.cbor_grammar.specs.declared.argument.Argument.{Argument}
 use Rattle.cbor_grammar.specs.declared.head.ItemHead.{ItemHead}

@@ -1,4 +1,4 @@
--- Where `loss.rt` stops.
+-- Where `loss.rt` stops: at the first thing that JSON does not keep.
 use Rattle.std.specs.Prelude.{◌≡◌, ◌≤◌, ℕ, List, length, false, Ok}
 use Rattle.cbor_grammar.specs.declared.head.ItemHead.{ItemHead}
 use Rattle.cbor_grammar.specs.declared.head.ItemHead.TheVariants as head

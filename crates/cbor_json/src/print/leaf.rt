@@ -1,4 +1,4 @@
-//! What holds no item and is no string.
+//! In JSON, what holds no item and is no string.
 #![tactic(auto, using(cbor_grammar::proofs::shared::Appending::appending_steps))]
 
 ghost use Rattle.cbor_tokens.specs.Appends.{AppendsText};

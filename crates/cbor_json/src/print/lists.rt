@@ -1,4 +1,4 @@
-//! What is written round the members of a list, and of a tag.
+//! In JSON, what is written round the members of a list, and of a tag.
 #![tactic(auto, using(cbor_grammar::proofs::shared::Appending::appending_steps))]
 
 ghost use Rattle.cbor_tokens.specs.Appends.{AppendsText};

@@ -1,4 +1,4 @@
-//! Floats.
+//! In JSON, floats.
 #![tactic(auto, using(cbor_grammar::proofs::shared::Appending::appending_steps))]
 
 ghost use Rattle.std.specs.Prelude.{◌≡◌};

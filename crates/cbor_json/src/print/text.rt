@@ -1,4 +1,4 @@
-//! Strings.
+//! In JSON, strings.
 #![tactic(auto, using(cbor_grammar::proofs::shared::Appending::appending_steps))]
 
 ghost use Rattle.std.specs.Prelude.{◌≡◌};

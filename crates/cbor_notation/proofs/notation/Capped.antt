@@ -1,4 +1,4 @@
--- A negative number whose value was capped is the one that the definition reads.
+-- A negative number of notation whose value was capped is the one that the definition reads.
 use Rattle.std.proofs.Common.{◌≡◌, ℕ, suc, zero, ◌-◌, ◌≢◌, Option, Ok}
 use Rattle.std.proofs.Common.{List}
 use Rattle.std.proofs.Common.{ap, subst, ◌∙◌, sym, arith}

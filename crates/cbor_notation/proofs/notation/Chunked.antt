@@ -1,4 +1,4 @@
--- Indefinite strings are read again, chunk by chunk.
+-- The function reads what the grammar of notation has: indefinite strings, chunk by chunk.
 use Rattle.std.proofs.Common.{◌≡◌, ℕ, List, [], ◌∷◌, ◌++◌, codes, Ok, refl, sym, ap, ◌∙◌, subst, inl, inr}
 use Rattle.std.proofs.lemmas.List.{append_assoc}
 use Rattle.cbor_grammar.specs.Item.{Chunk, Item, atom, chunked_string}

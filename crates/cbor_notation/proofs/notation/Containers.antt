@@ -1,4 +1,4 @@
--- Arrays and maps are read again.
+-- The function reads what the grammar of notation has: arrays and maps.
 use Rattle.std.proofs.Common.{◌≡◌, ℕ, List, [], ◌∷◌, ◌++◌, codes, Option, Some, None, Ok, refl, sym, ap, ◌∙◌}
 use Rattle.std.proofs.lemmas.List.{append_assoc}
 use Rattle.cbor_grammar.specs.declared.width.IntegerWidth.{IntegerWidth}

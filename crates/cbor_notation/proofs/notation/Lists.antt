@@ -1,4 +1,4 @@
--- Lists: members that commas separate, up to what closes them, are read again.
+-- The function reads what the grammar of notation has: members that commas separate, up to what closes them.
 use Rattle.std.proofs.Common.{◌≡◌, ℕ, zero, suc, ◌<◌, ◌≤◌, Bool, true, false, not, ◌==◌, nat_lt, cond, List, [], ◌∷◌}
 use Rattle.std.proofs.Common.{◌++◌, length, codes, Option, Some, None, Ok, refl, sym, ap, ◌∙◌, subst, inl, inr, arith}
 use Rattle.std.proofs.Common.{IsTrue}

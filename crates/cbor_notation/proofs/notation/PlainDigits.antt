@@ -1,4 +1,4 @@
--- Hex digits with no blanks between them.
+-- Hex digits of notation with no blanks between them.
 use Rattle.std.proofs.Common.{◌≡◌, ℕ, ◌+◌, ◌<◌, true, List, [], ◌∷◌, ◌++◌, length, get_or, take, drop, IsTrue}
 use Rattle.std.proofs.Common.{Ok, sym, ap, ◌∙◌, arith, Some, ◌-◌}
 use Rattle.std.specs.List.{AllByRecursion, list_all}

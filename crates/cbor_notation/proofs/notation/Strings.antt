@@ -1,4 +1,4 @@
--- Strings of definite length are read again.
+-- The function reads what the grammar of notation has: strings of definite length.
 use Rattle.std.proofs.Common.{◌≡◌, ◌≢◌, ℕ, suc, ◌<◌, true, false, not, ◌==◌, ◌||◌, nat_eq, List, [], ◌∷◌, ◌++◌, length}
 use Rattle.std.proofs.Common.{drop, codes, Some, None, Ok, refl, sym, ap, ◌∙◌, subst, inl, inr, arith, ◌⊎◌}
 use Rattle.std.specs.List.{list_all, starts_with}

@@ -14,6 +14,7 @@ use Rattle.cbor_grammar.specs.declared.layout.Layout.{Layout}
 use Rattle.cbor_grammar.specs.declared.strings.StringKind.{StringKind}
 use Rattle.cbor_grammar.specs.declared.strings.StringKind.TheVariants as kind
 use Rattle.cbor_grammar.specs.Embedded.{embedded_at, sequence_at}
+use Rattle.cbor_grammar.specs.Estimate.{estimated_length}
 use Rattle.cbor_grammar.specs.Item as spec
 use Rattle.cbor_grammar.specs.Item.{Chunk, Atom, integer, negative, string, chunked_string, float, simple, Item, atom}
 use Rattle.cbor_grammar.specs.Item.{array, tagged, Items, no_items, item, Pairs, no_pairs, pair, item_count, pair_count}
@@ -27,10 +28,11 @@ use Rattle.cbor_notation.specs.declared.parts.Container.TheVariants.{Array, Map,
 use Rattle.cbor_notation.specs.Dialect.{Writer, listed, ItemTexts, PairTexts, ChunkTexts, Between, count_of}
 use Rattle.cbor_notation.specs.Dialect.{style_at, ItemsText, PairsText, embedding, OneText, EmbeddedText, SequenceText}
 use Rattle.cbor_notation.specs.Dialect.{ContentText, ChunksText, AtomText, TagText, TextWith, TextsOf}
-use Rattle.cbor_notation.specs.Dialect.{TextsAt, Wrote}
+use Rattle.cbor_notation.specs.Dialect.{TextsAt, Wrote, sized_style}
 use Rattle.cbor_notation.specs.mirror.DiagLeaves.{opening, closing, diag_leaves}
 use Rattle.cbor_notation.specs.mirror.LayoutView.{context_view, before_member, after_member, content_there}
 use Rattle.cbor_notation.specs.mirror.Straight.{Printed, Written, TextsBelow, ContentThere, text_in}
+use Rattle.cbor_notation.proofs.straight.Styles.{one_line_style}
 
 -- ---- members
 
@@ -125,7 +127,7 @@ sequence_so : (write : Writer NotationContext) (so : text.Writer) → Same write
     → t ≡ text.sequence_text so (context_view c) s
 sequence_so write so same c b s t h =
     let k = embedding b in
-    let l = text.container_style c.layout (text.sequence_size s) in
+    let l = sized_style diag_leaves c (text.sequence_size s) in
     let inner = diag_leaves.inside k (text.members_layout l) c in
     let items = h.2 in
     let each = items_so write so same inner s.0 items.0 items.1 in
@@ -134,6 +136,7 @@ sequence_so write so same c b s t h =
     ∙ ap (λ x. opening k l ++ (x ++ closing k l)) (listed_so l items.0 ∙ ap (text.members l) each) in
     h.4 ∙ ap (λ x. x ++ h.1) first
     ∙ ap (λ x. text.items_text so (context_view c) l (codes "<<") s.0 (codes ">>") ++ x) h.3
+    ∙ ap (λ x. text.sequence_listed so (context_view c) x s) (one_line_style c.layout (text.sequence_size s))
 
 one_so : (write : Writer NotationContext) (so : text.Writer) → Same write so → (c : NotationContext) (b : Chunk)
     (e : Option Item) (t : List ℕ) → OneText diag_leaves write c b e t
@@ -175,6 +178,8 @@ atom_so left write so same c (string kind.Bytes b) t h = content_so left write s
 atom_so left write so same c (string kind.Text s) t h = h
 atom_so left write so same c (chunked_string kind cs) t h =
     parts_so c kind (style_at diag_leaves c (atom (chunked_string kind cs))) cs t h
+    ∙ ap (λ l. text.chunks_text kind c.encoding l cs)
+    (one_line_style c.layout (estimated_length (atom (chunked_string kind cs))))
 atom_so left write so same c (float n w) t h = h
 atom_so left write so same c (simple n) t h = h
 
@@ -194,8 +199,12 @@ with_so : (left : ℕ) (write : Writer NotationContext) (so : text.Writer) → S
 with_so left write so same c (atom a) t h = atom_so left write so same c a t h
 with_so left write so same c (array is w) t h =
     array_so write so same c (style_at diag_leaves c (array is w)) is w t h
+    ∙ ap (λ l. text.array_text so (context_view c) l is w)
+    (one_line_style c.layout (estimated_length (array is w)))
 with_so left write so same c (spec.map ps w) t h =
     map_so write so same c (style_at diag_leaves c (spec.map ps w)) ps w t h
+    ∙ ap (λ l. text.map_text so (context_view c) l ps w)
+    (one_line_style c.layout (estimated_length (spec.map ps w)))
 with_so left write so same c (tagged n w i) t h = tag_so write so same c n w i t h
 
 -- the text of an item, with this many levels left

@@ -2,6 +2,7 @@
 use Rattle.std.specs.Prelude.{◌≡◌, ◌+◌, ◌++◌, List, [], ℕ, codes, None, false}
 use Rattle.cbor_grammar.specs.declared.layout.Content.TheVariants as shown
 use Rattle.cbor_grammar.specs.declared.layout.ContainerStyle.{ContainerStyle}
+use Rattle.cbor_grammar.specs.Estimate.{one_line_limit}
 use Rattle.cbor_grammar.specs.Item.{Atom, integer, negative, float, simple}
 use Rattle.cbor_grammar.specs.NotationText.{opened, colon, last_line, number, float_text, simple_text, string_text}
 use Rattle.cbor_grammar.specs.NotationText.{rest_text, encoding_below, content_below}
@@ -37,6 +38,7 @@ diag_leaves = record {
   At = λ p q. q ≡ p;
   level = λ p. p.level;
   layout = λ p. p.layout;
+  limit = λ p. one_line_limit;
   content = λ p b. p.content;
   joins = λ p kind. false;
   inside = λ c layout p. record {

@@ -17,8 +17,9 @@ use Rattle.cbor_json.proofs.clash.+clash.Goals as goal
 
 pub clash_front-returns-in-Tag : goal.clash_front-returns-in-Tag
 clash_front-returns-in-Tag t c =
-    found_below c.args.search c.args.level (omega (arith, c.if-level-gt-DEEPEST.false)) c.args.bytes.now c.in-Ok.inner.now
-    c.in-Tag.tag c.in-Tag.field-1 (rw c.in-Tag.is at c.in-Ok.ensures.gives) (omega (arith, c.in-Ok.ensures.shorter))
+    found_below c.args.search c.args.level (omega (arith, c.if-level-gt-DEEPEST.false)) c.args.bytes.now
+    c.in-Ok.inner.now c.in-Tag.tag c.in-Tag.field-1 (rw c.in-Tag.is at c.in-Ok.ensures.gives)
+    (omega (arith, c.in-Ok.ensures.shorter))
     c.clash_front.result (rw c.below.ensures at c.clash_front.ensures)
 
 pub clash_front-returns-in-String-Bytes-Number : goal.clash_front-returns-in-String-Bytes-Number
@@ -76,7 +77,8 @@ clash_in_bytes-returns-in-Some t c =
     let e = c.split_at.ensures in
     found_in_bytes c.args.search c.args.level (omega (arith, c.requires.to)) c.args.len w c.args.bytes.now
     content c.split_at.result.1.now c.in-Some.keys e.by_index.0 e.front_len (c.is_shown.ensures c.if-not-is_shown.false)
-    (subst (λ s. IsFound s (c.args.level + 1) content c.in-Some.keys) c.below.ensures is) (omega (arith, e.front_len, e.back_len))
+    (subst (λ s. IsFound s (c.args.level + 1) content c.in-Some.keys) c.below.ensures is)
+    (omega (arith, e.front_len, e.back_len))
 
 -- ---- a map
 

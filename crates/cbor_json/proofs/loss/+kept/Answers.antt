@@ -7,6 +7,7 @@ use Rattle.cbor_grammar.specs.Item.{array, no_items, item, no_pairs, pair}
 use Rattle.cbor_grammar.specs.Reading.{items_in, pairs_in, joined, joined_pairs, count_width}
 use Rattle.cbor_grammar.specs.WellFormed.{levels_left}
 use Rattle.cbor_grammar.specs.mirror.Lengths.{left_of}
+use Rattle.cbor_grammar.proofs.bytes.Frames.{count_more, pair_count_more}
 use Rattle.cbor_grammar.proofs.bytes.Shorter.{item_shorter}
 use Rattle.cbor_bytes.proofs.reading.Readings.{parts_read, parts_ended, none_held, member_read, pair_read, no_item}
 use Rattle.cbor_json.proofs.losing.Kept.{kept_joined, kept_joined_pairs, reads_more, reads_pair, member_stops}
@@ -79,6 +80,7 @@ kept_items-items-init t c = record {
       (none_held c.args.count);
   reads = refl;
   kept = tt;
+  count = refl;
   room = omega arith;
 }
 
@@ -99,7 +101,7 @@ kept_items-returns-in_err-rest-clause-stops t c =
     let i = c.items.invariant in
     rw (p.1, p.2) (member_stops c.args.level c.args.count c.args.bytes.now c.items.rest.now c.items.held
     (omega (arith, c.requires.to)) (omega (arith, i.room)) (sym c.in_default.ensures) i.found c.in_err-rest.field-0.0
-    i.so_far i.reads i.kept c.in_err-rest.ensures.stops)
+    i.so_far i.reads i.kept i.count c.in_err-rest.ensures.stops)
 
 pub kept_items-items-smaller : goal.kept_items-items-smaller
 kept_items-items-smaller t c =
@@ -120,6 +122,7 @@ kept_items-items-preserved t c =
           ∙ i.so_far;
       reads = reads_more left c.args.bytes.now rest after i.found p.0 i.reads p.1;
       kept = kept_joined i.found (item p.0 no_items) i.kept (p.2, tt);
+      count = omega (arith, i.count, count_more i.found p.0);
       room = omega (arith, i.room, shorter);
     }
 
@@ -132,6 +135,7 @@ kept_pairs-pairs-init t c = record {
       (none_held c.args.count);
   reads = refl;
   kept = tt;
+  count = refl;
   room = omega arith;
 }
 
@@ -152,7 +156,7 @@ kept_pairs-returns-in_err-value-clause-stops t c =
     let i = c.pairs.invariant in
     rw (p.1, p.2) (key_stops c.args.level c.args.count c.args.bytes.now c.pairs.rest.now c.pairs.held
     (omega (arith, c.requires.to)) (omega (arith, i.room)) (sym c.in_default.ensures) i.found i.so_far i.reads i.kept
-    c.in_err-value.field-0.0 c.in_err-value.ensures.stops)
+    i.count c.in_err-value.field-0.0 c.in_err-value.ensures.stops)
 
 pub kept_pairs-returns-in_err-rest-clause-stops : goal.kept_pairs-returns-in_err-rest-clause-stops
 kept_pairs-returns-in_err-rest-clause-stops t c =
@@ -161,7 +165,7 @@ kept_pairs-returns-in_err-rest-clause-stops t c =
     let k = c.in_ok-value.ensures.key in
     rw (p.1, p.2) (value_stops c.args.level c.args.count c.args.bytes.now c.pairs.rest.now c.pairs.held
     (omega (arith, c.requires.to)) (omega (arith, i.room)) (sym c.in_default.ensures) i.found i.so_far i.reads i.kept
-    c.in_ok-value.value.now k.0 c.in_err-rest.field-0.0 k.1 k.2 c.in_err-rest.ensures.stops)
+    i.count c.in_ok-value.value.now k.0 c.in_err-rest.field-0.0 k.1 k.2 c.in_err-rest.ensures.stops)
 
 pub kept_pairs-pairs-smaller : goal.kept_pairs-pairs-smaller
 kept_pairs-pairs-smaller t c =
@@ -193,5 +197,6 @@ kept_pairs-pairs-preserved t c =
           v.1) ∙ i.so_far;
       reads = reads_pair left c.args.bytes.now rest mid after i.found k.0 v.0 i.reads k.1 v.1;
       kept = kept_joined_pairs i.found (pair k.0 v.0 no_pairs) i.kept (k.2, v.2, tt);
+      count = omega (arith, i.count, pair_count_more i.found k.0 v.0);
       room = omega (arith, i.room, first, second);
     }

@@ -1,6 +1,6 @@
 -- Each level is deeper than the one before, and all that was passed is kept.
 use Rattle.std.proofs.Common.{◌≡◌, ◌+◌, ◌-◌, ◌*◌, ◌≤◌, length}
-use Rattle.cbor_grammar.specs.Item.{Items, no_items, Pairs, no_pairs, parts}
+use Rattle.cbor_grammar.specs.Item.{Items, no_items, item_count, Pairs, no_pairs, pair_count, parts}
 use Rattle.cbor_grammar.specs.Reading.{items_in, pairs_in}
 use Rattle.cbor_grammar.specs.WellFormed.{levels_left}
 use Rattle.cbor_grammar.specs.mirror.Lengths.{left_of}
@@ -32,6 +32,7 @@ invariant-kept_items-items l =
           ≡ parts_read left (items_in no_items l.count) l.bytes;
       reads : ReadsItems left l.bytes found l.rest;
       kept : KeptItems found;
+      count : l.held ≡ item_count found;
       room : l.held + length l.rest ≤ length l.bytes;
     }
 
@@ -45,5 +46,6 @@ invariant-kept_pairs-pairs l =
           ≡ parts_read left (pairs_in no_pairs l.count) l.bytes;
       reads : ReadsItems left l.bytes (parts found) l.rest;
       kept : KeptPairs found;
+      count : l.held ≡ pair_count found;
       room : l.held + length l.rest ≤ length l.bytes;
     }

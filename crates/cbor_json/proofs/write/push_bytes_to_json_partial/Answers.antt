@@ -50,11 +50,13 @@ pub returns-in_err-push_str-in-Text-clause-one_of_three : goal.returns-in_err-pu
 returns-in_err-push_str-in-Text-clause-one_of_three c =
     one_outcome 1 128 c.args.bytes.now refl (λ i. omega (arith, c.type_inv.bytes i))
 
-pub returns-in_err-first_clash-in-SameKeys-clause-one_of_three : goal.returns-in_err-first_clash-in-SameKeys-clause-one_of_three
+pub returns-in_err-first_clash-in-SameKeys-clause-one_of_three :
+    goal.returns-in_err-first_clash-in-SameKeys-clause-one_of_three
 returns-in_err-first_clash-in-SameKeys-clause-one_of_three c =
     one_outcome 1 128 c.args.bytes.now refl (λ i. omega (arith, c.type_inv.bytes i))
 
-pub returns-in_ok-first_clash-in-SameKeys-clause-one_of_three : goal.returns-in_ok-first_clash-in-SameKeys-clause-one_of_three
+pub returns-in_ok-first_clash-in-SameKeys-clause-one_of_three :
+    goal.returns-in_ok-first_clash-in-SameKeys-clause-one_of_three
 returns-in_ok-first_clash-in-SameKeys-clause-one_of_three c =
     one_outcome 1 128 c.args.bytes.now refl (λ i. omega (arith, c.type_inv.bytes i))
 

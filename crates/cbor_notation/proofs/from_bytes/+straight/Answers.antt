@@ -9,7 +9,7 @@ use Rattle.cbor_grammar.specs.Item.{pair}
 use Rattle.cbor_grammar.specs.declared.head.ItemHead.TheVariants as item_head
 use Rattle.cbor_grammar.specs.Embedded.{sequence_at}
 use Rattle.cbor_grammar.specs.Estimate.{estimated_items, estimated_pairs}
-use Rattle.cbor_grammar.specs.NotationText.{container_style, members_layout}
+use Rattle.cbor_grammar.specs.NotationText.{members_layout}
 use Rattle.cbor_grammar.specs.Reading.{Fails, items_in, pairs_in, tag_of, joined, joined_pairs, count_width}
 use Rattle.cbor_grammar.specs.Reading.{read_head, no_level_left}
 use Rattle.cbor_grammar.specs.WellFormed.{levels_left}
@@ -33,6 +33,7 @@ use Rattle.cbor_notation.proofs.straight.Texts.{texts_below, leaf_written, reach
 use Rattle.cbor_notation.proofs.straight.Texts.{no_items_written, one_item_written, array_closed}
 use Rattle.cbor_notation.proofs.straight.Texts.{no_pairs_written, pair_text, one_pair_written, map_closed}
 use Rattle.cbor_notation.proofs.straight.Texts.{front_so, string_written, tag_written, width_left}
+use Rattle.cbor_notation.proofs.straight.Styles.{style_there}
 use Rattle.cbor_notation.proofs.straight.Wrote.{wrote_begins, wrote_last}
 use Rattle.cbor_notation.proofs.from_bytes.+straight.Goals as goal
 
@@ -176,7 +177,7 @@ push_array_front-returns-in-Some-clause-printed g t c =
     let read = sym i.so_far ∙ parts_ended left (items_in i.found (left_of count held)) c.items.rest.now after whole
     (ap (λ x. Some (array i.found x)) (width_left count held)) (sym c.in-Some.ensures) in
     let same = c.array_style_ahead-style.ensures.style left i.found (count_width count) after read
-    ∙ ap (λ x. container_style x (4 + estimated_items i.found)) c.layout.ensures in
+    ∙ style_there d place _ _ (4 + estimated_items i.found) c.layout.ensures c.limit.ensures in
     let text = array_closed d place c.items.inner l count i.found held _ _ _ c.items.rest.now after same
     i.written i.reached c.in-Some.ensures c.in_ok-closing.ensures in
     (whole, read, text.0, text.1, text.2)
@@ -260,7 +261,7 @@ push_map_front-returns-in-Some-clause-printed g t c =
     let read = sym i.so_far ∙ parts_ended left (pairs_in i.found (left_of count held)) c.pairs.rest.now after whole
     (ap (λ x. Some (spec.map i.found x)) (width_left count held)) (sym c.in-Some.ensures) in
     let same = c.map_style_ahead-style.ensures.style left i.found (count_width count) after read
-    ∙ ap (λ x. container_style x (4 + estimated_pairs i.found)) c.layout.ensures in
+    ∙ style_there d place _ _ (4 + estimated_pairs i.found) c.layout.ensures c.limit.ensures in
     let text = map_closed d place c.pairs.inner l count i.found held _ _ _ c.pairs.rest.now after same
     i.written i.reached c.in-Some.ensures c.in_ok-closing.ensures in
     (whole, read, text.0, text.1, text.2)
@@ -508,8 +509,8 @@ push_sequence-returns-in_default g t c =
     let new = string_bytes c.rest.new.out in
     let whole = sequence_ends left i.found rest c.in-Err.error (sequence_at left bytes) c.in_default.not-Memory
     (same_fails c.in-Err.error (d.level c.items.inner) level rest i.level c.in-Err.ensures.refused) i.so_far in
-    let same = sequence_style d place l c.layout.result c.level.result bytes i.found rest
-    c.sequence_style_ahead-style.ensures.style c.layout.ensures c.level.ensures whole in
+    let same = sequence_style d place l c.layout.result c.limit.result c.level.result bytes i.found rest
+    c.sequence_style_ahead-style.ensures.style c.layout.ensures c.limit.ensures c.level.ensures whole in
     let back = c.truncate.ensures.bytes ∙ (cut_back c.items.out c.push_front.new.out c.len-start.result
     c.len-start.ensures (begun_member (string_bytes c.items.out) (string_bytes c.start.new.out)
     (string_bytes c.push_front.new.out) _

@@ -1,13 +1,13 @@
 -- What is appended from bytes is the text of a string in chunks, or reading the chunks fails the same.
-use Rattle.std.proofs.Common.{◌≡◌, ◌+◌, subst, arith}
+use Rattle.std.proofs.Common.{◌+◌, subst, ◌∙◌, arith}
 use Rattle.std.proofs.lemmas.Result.{err_from_is_err_and}
 use Rattle.std.specs.String.{string_bytes}
 use Rattle.cbor_grammar.specs.Item.{atom, chunked_string}
-use Rattle.cbor_grammar.specs.NotationText.{container_style}
 use Rattle.cbor_grammar.specs.Estimate.{estimated_chunks}
 use Rattle.cbor_grammar.specs.mirror.StringView.{borrowed_chunk}
 use Rattle.cbor_grammar.proofs.shared.Appending.{begins_same, begins_after_member}
 use Rattle.cbor_bytes.proofs.reading.Readings.{fails_then, ok_then}
+use Rattle.cbor_notation.proofs.straight.Styles.{style_there}
 use Rattle.cbor_notation.proofs.straight.ChunkTexts.{no_chunks_written, one_chunk_written, chunks_written}
 use Rattle.cbor_bytes.proofs.reading.ChunksRead.{none_read, one_read, all_read, not_read}
 use Rattle.cbor_notation.proofs.from_bytes.push_parts_front.Goals as goal
@@ -40,9 +40,8 @@ returns-in_default-clause-printed g c =
     let whole = all_read kind c.args.bytes.now c.chunks.rest.now after i.read
     (rw c.in_default.is at c.in_ok-chunk.ensures.gives) c.in_ok-chunk.ensures.shorter in
     let read = ok_then _ (cs, after) _ whole in
-    let same = c.chunks_style_ahead-style.ensures.style 0 cs after read in
-    let styled = subst (λ x. c.chunks_style_ahead-style.result ≡ container_style x (4 + estimated_chunks kind cs))
-    c.layout.ensures same in
+    let styled = c.chunks_style_ahead-style.ensures.style 0 cs after read
+    ∙ style_there d place _ _ (4 + estimated_chunks kind cs) c.layout.ensures c.limit.ensures in
     let text = chunks_written d place kind c.chunks_style_ahead-style.result (string_bytes c.args.out.now)
     (string_bytes c.chunks.out) (string_bytes c.push_chunks_end.new.out) cs c.chunks.held
     c.requires.parts styled

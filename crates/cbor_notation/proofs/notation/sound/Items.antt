@@ -1,4 +1,4 @@
--- Items: what is read of a text is what the grammar says it is, and a refusal says what is true of it.
+-- Items of notation: what is read of a text is what the grammar says it is, and a refusal says what is true of it.
 use Rattle.std.proofs.Common.{◌≡◌, ℕ, zero, suc, ◌<◌, true, List, [], ◌∷◌, ◌++◌, length, Option, Some, None, Ok}
 use Rattle.std.proofs.Common.{Err, refl, sym, ap, subst, ◌∙◌, append_assoc, append-nil, length-append, inl, inr, arith}
 use Rattle.cbor_tokens.specs.Token.{Blank, nothing, whitespace, comment}

@@ -1,4 +1,4 @@
--- Strings of one piece or more, and chunks of them.
+-- What the function reads of notation is in the grammar: strings of one piece or more, and chunks of them.
 use Rattle.std.proofs.Common.{◌≡◌, ℕ, zero, suc, Bool, true, false, cond, ◌==◌, ◌&&◌, nat_le, List, [], ◌∷◌, ◌++◌}
 use Rattle.std.proofs.Common.{length, Ok, Err, refl, sym, ap, subst, ◌∙◌, append_assoc, append-nil, ◌⊎◌, inl, inr}
 use Rattle.std.proofs.Common.{arith}

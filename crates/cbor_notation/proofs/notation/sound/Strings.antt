@@ -1,4 +1,4 @@
--- Strings: notations of bytes, pieces, chunks.
+-- What the function reads of notation is in the grammar: notations of bytes, pieces, chunks.
 use Rattle.std.proofs.Common.{◌≡◌, ℕ, Bool, true, false, List, [], ◌∷◌, ◌++◌, codes, Option, Some, None}
 use Rattle.std.proofs.Common.{Ok, refl, sym, ap, ◌∙◌, append_assoc, inl, inr}
 use Rattle.cbor_tokens.specs.Base32 as base32
