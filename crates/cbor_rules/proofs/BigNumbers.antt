@@ -97,7 +97,8 @@ pub bytes_or_not : (i : Item) → ((c : Chunk) × (i ≡ atom (string Bytes c)))
 bytes_or_not (atom (string Bytes c)) = inl (c, refl)
 bytes_or_not i = inr tt
 
-pub other_read : {A : Type 0} (f : Read ItemHead → Option A) → ((h : ItemHead) (r : List ℕ) → IsOther h → f (Ok (h, r)) ≡ None)
+pub other_read : {A : Type 0} (f : Read ItemHead → Option A)
+    → ((h : ItemHead) (r : List ℕ) → IsOther h → f (Ok (h, r)) ≡ None)
     → (i : Item) (level : ℕ) (x c : List ℕ) → Spells strict level x i → IsNoBytes i → f (read_head (x ++ c)) ≡ None
 unfolding head_of
 other_read f none (atom (integer n w)) level x c h other =

@@ -142,7 +142,8 @@ module _ (rules : Rules) (d : IsDeterministic rules) where
       let same_kind : kind ≡ other = cc in
       let same_whole : whole c.bytes ≡ whole f.bytes = cc in
       let bytes : c.bytes ≡ f.bytes = ap (λ (x : Chunk). x.bytes) same_whole in
-      let width = width_once (length c.bytes) (length f.bytes) c.width f.width h k.0 (ap (λ (x : List ℕ). length x) bytes)
+      let width = width_once (length c.bytes) (length f.bytes) c.width f.width h k.0 (ap (λ (x : List ℕ). length x)
+      bytes)
       in
       let chunk = chunk_once c f bytes width in
       cc

@@ -5,7 +5,8 @@ use Rattle.std.proofs.lemmas.Bool.{lt-ltb, le-ltb, eq-eqb, ne_eqb, ltb-false, le
 use Rattle.std.proofs.lemmas.Bool.{cases_lt}
 use Rattle.std.proofs.lemmas.Nat.{div-add-mod', le-div, pow-add}
 use Rattle.std.proofs.Math.Nat.{mul_right_comm, eq_of_mul-eq-mul_right, mul-mod_left, mod-one, div-one}
-use Rattle.std.proofs.Math.Nat.{mod-eq_of_lt, div-le_self, mul_assoc, mul-one, one-mul, mul-pos, mul-le-mul_right, le_trans, le_of_eq}
+use Rattle.std.proofs.Math.Nat.{mod-eq_of_lt, div-le_self, mul_assoc, mul-one, one-mul, mul-pos, mul-le-mul_right}
+use Rattle.std.proofs.Math.Nat.{le_trans, le_of_eq}
 use Rattle.std.proofs.Math.Nat.{lt_of_lt_of_le}
 use Rattle.std.proofs.Math.Pow.{pow_mono, pow_pos, pow-lt, shl_lt}
 use Rattle.std.specs.Float.MulAdd.{units_of_bits}
@@ -152,7 +153,7 @@ read b less =
 abbrev pub digits : ℕ → ℕ
 digits b = 2 ^ 52 + b % 2 ^ 52
 
--- so many powers of two as two exponents give
+-- two powers of two are one, by the sum of their exponents
 joined : (s i j k : ℕ) → i + j ≡ k → (s * 2 ^ i) * 2 ^ j ≡ s * 2 ^ k
 joined s i j k e =
     mul_assoc s (2 ^ i) (2 ^ j) ∙ ap (λ (x : ℕ). s * x) (sym (pow-add 2 i j)) ∙ ap (λ (x : ℕ). s * 2 ^ x) e

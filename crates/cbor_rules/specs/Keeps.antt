@@ -1,7 +1,7 @@
 -- Which items keep the rules, by the item alone (RFC 8949 sections 4.1 and 4.2). The item is as its bytes have it: its
 -- widths are those of its heads.
-use Rattle.std.specs.Prelude.{◌≡◌, ◌≢◌, ℕ, ◌+◌, ◌<◌, ◌≤◌, List, [], length, Option, Some, None, false, IsTrue, slice_index}
-use Rattle.std.specs.Prelude.{◌⊎◌, is_nan, chars}
+use Rattle.std.specs.Prelude.{◌≡◌, ◌≢◌, ℕ, ◌+◌, ◌<◌, ◌≤◌, List, [], length, Option, Some, None, false, IsTrue}
+use Rattle.std.specs.Prelude.{◌⊎◌, is_nan, chars, slice_index}
 use Rattle.std.specs.List.{AllByRecursion}
 use Rattle.std.specs.declared.cmp.Ordering.TheVariants.{Less}
 use Rattle.cbor_grammar.specs.declared.width.IntegerWidth.{IntegerWidth}
@@ -65,7 +65,8 @@ abbrev pub KeepsAtom : Rules → Atom → Type 0
 KeepsAtom rules (integer n w) = KeepsNumber rules n w
 KeepsAtom rules (negative n w) = KeepsNumber rules n w
 KeepsAtom rules (string kind c) = KeepsChunk rules kind c
-KeepsAtom rules (chunked_string kind cs) = (¬ (IsTrue rules.definite_lengths)) × AllByRecursion (KeepsChunk rules kind) cs
+KeepsAtom rules (chunked_string kind cs) =
+    (¬ (IsTrue rules.definite_lengths)) × AllByRecursion (KeepsChunk rules kind) cs
 KeepsAtom rules (float bits w) = KeepsFloat rules (float_of bits w)
 KeepsAtom rules (simple n) = KeepsSimple rules n
 

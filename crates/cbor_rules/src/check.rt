@@ -1,34 +1,38 @@
-//! Finds the first breach, going from head to head. A container is a call of [`Check::after_item`],
-//! at most 128 deep, which keeps how many parts are still to come, where its last key is and, where
-//! no key may stand twice, where each key is.
-ghost use Rattle.std.specs.Prelude.{◌≡◌, ◌≢◌, ℕ, suc, ◌+◌, ◌-◌, ◌<◌, ◌≤◌, length, take, None, IfOk};
-ghost use Rattle.std.specs.Prelude.{IfErr, IsErr, OnOk, IfSome, option_map, true, ◌↔◌};
-ghost use Rattle.std.specs.Result.{result_map_both};
-ghost use Rattle.cbor_grammar.specs.declared.width.IntegerWidth.{IntegerWidth};
-ghost use Rattle.cbor_grammar.specs.StringKind.{IsContent};
-ghost use Rattle.cbor_grammar.specs.WellFormed.{deepest};
-ghost use Rattle.cbor_bytes.specs.mirror.Skipping.{skip_content};
-ghost use Rattle.cbor_rules.specs.FirstBreach.{text_breach, compared, order_breach, key_breach};
-ghost use Rattle.cbor_rules.specs.FirstBreach.{with_key, no_places, place_of, breach_at};
-ghost use Rattle.cbor_rules.specs.FirstBreach.{kept_head, kept_content, kept_chunk, kept_chunks};
-ghost use Rattle.cbor_rules.specs.FirstBreach.{front, after_part, kept_string, kept_atom};
-ghost use Rattle.cbor_rules.specs.FirstBreach.{kept_parts, kept_item, first_breach};
-ghost use Rattle.cbor_rules.specs.Keeps.{KeepsRules, without_memory};
-ghost use Rattle.cbor_rules.specs.mirror.Opened.{open_of, key_of, places_of, is_on, Gives};
-ghost use Rattle.cbor_rules.specs.mirror.Opened.{StopFits, HasMemory};
+//! Finds the first breach, going from head to head. An item without parts is read in the loop of
+//! the container that it is in. An array, a map and a tag are a call each, at most 128 deep. That
+//! of a map keeps where its last key is and, where no key may stand twice, where each key is.
+//!
+//! Each function takes the remaining bytes and returns those after what it reads. Where reading
+//! stops, it returns `None` and writes into `stop` why. So a breach, which takes many bytes, is
+//! not copied at each level, and the calls on the way to it return no more than a slice.
+mod strings;
 
-use crate::container::{Open, one_less};
+ghost use Rattle.std.specs.Prelude.{◌≡◌, ◌≢◌, ℕ, suc, ◌<◌, ◌≤◌, length, Some, None, Ok, Err};
+ghost use Rattle.std.specs.Prelude.{IfOk, IfErr, IsErr, IfSome, IfNone, option_map, true, false};
+ghost use Rattle.std.specs.Prelude.{List, ◌↔◌};
+ghost use Rattle.cbor_grammar.specs.declared.head.ItemHead.{ItemHead};
+ghost use Rattle.cbor_grammar.specs.WellFormed.{deepest};
+ghost use Rattle.cbor_grammar.specs.Reading.{read_head};
+ghost use Rattle.cbor_rules.specs.declared.kind.Breach.{Breach};
+ghost use Rattle.cbor_rules.specs.declared.kind.BreachKind.{BreachKind};
+ghost use Rattle.cbor_rules.specs.FirstBreach.{compared, order_breach, key_breach, with_key};
+ghost use Rattle.cbor_rules.specs.FirstBreach.{no_places, place_of, breach_at, members, pairs};
+ghost use Rattle.cbor_rules.specs.FirstBreach.{front, kept_head, kept_parts, kept_item};
+ghost use Rattle.cbor_rules.specs.FirstBreach.{first_breach};
+ghost use Rattle.cbor_rules.specs.Keeps.{KeepsRules, without_memory};
+ghost use Rattle.cbor_rules.specs.mirror.Opened.{key_of, places_of, is_on, Gives, Reads};
+ghost use Rattle.cbor_rules.specs.mirror.Opened.{StopFits, HasMemory, parts_of, kept_key};
+ghost use Rattle.cbor_rules.specs.mirror.Opened.{then_some};
+
+use crate::container::{Parts, after_members, one_less};
 use crate::keys::{Key, Keys};
 use crate::kind::{Breach, BreachKind};
 use crate::rules::Rules;
-use crate::text::nfc_breach;
 use cbor_bytes::head::{no_level_left, read_head};
-use cbor_bytes::strings::read_chunk_length;
 use cbor_grammar::Error;
 use cbor_grammar::argument::Argument;
 use cbor_grammar::head::ItemHead;
 use cbor_grammar::level::DEEPEST;
-use cbor_grammar::strings::StringKind;
 use std::alloc::{AllocError, Global};
 use std::cmp::Ordering;
 
@@ -50,21 +54,17 @@ enum Stop {
     OutOfMemory,
 }
 
-/// A content of `count` bytes, and the bytes after it.
-fn read_content(kind: StringKind, count: u64, bytes: &[u8]) -> Result<(&[u8], &[u8]), Error>
-    ensures gives { (w : IntegerWidth) → skip_content kind count w bytes.now
-        ≡ result_map_both (λ x. x.1.now) (λ e. e) result }
-    ensures content { IfOk result (λ x. (x.0.now ≡ take count bytes.now) × IsContent kind x.0.now) }
-    ensures shorter { IfOk result (λ x. length x.1.now ≤ length bytes.now) }
-{
-    if (bytes.len() as u64) < count {
-        return Err(Error::CutShort);
-    }
-    let (content, rest) = bytes.split_at(count as usize);
-    if kind.may_hold(content) {
-        Ok((content, rest))
-    } else {
-        Err(Error::Utf8)
+impl Stop {
+    /// The breach, if memory did not run out.
+    fn found(self) -> Result<Option<Breach>, AllocError>
+        ensures breach { IfOk result
+            (λ found. (b : Breach) × (found ≡ Some b) × (self ≡ Stop.Breach b)) }
+        ensures memory { IsErr result → self ≡ Stop.OutOfMemory }
+    {
+        match self {
+            Stop::Breach(breach) => Ok(Some(breach)),
+            Stop::OutOfMemory => Err(AllocError),
+        }
     }
 }
 
@@ -86,8 +86,8 @@ fn compared(order: Ordering, place: usize) -> Option<BreachKind>
     }
 }
 
-/// Bytes that are checked: the rules, how many bytes there are, and an allocator for the rules whose
-/// check takes memory.
+/// Bytes that are checked: the rules, how many bytes there are, and an allocator for the rules
+/// whose check takes memory.
 #[derive(Clone, Copy)]
 struct Check {
     rules: Rules,
@@ -97,166 +97,92 @@ struct Check {
 
 impl Check {
     /// How many bytes come before these last ones.
-    fn place(self, bytes: &[u8]) -> usize
-        ensures { result ≡ place_of self.len bytes.now }
+    fn place(&self, bytes: &[u8]) -> usize
+        ensures { result ≡ place_of self.now.len bytes.now }
     {
         self.len.saturating_sub(bytes.len())
     }
 
-    /// What is wrong with the content of a string.
-    fn text_breach(self, kind: StringKind, content: &[u8]) -> Result<Option<BreachKind>, AllocError>
-        requires memory { HasMemory self.alloc self.rules }
-        requires content { IsContent kind content.now }
-        ensures is { IfOk result (λ found. found ≡ text_breach self.rules kind content.now) }
-        ensures memory { IsErr result → self.alloc ≢ None }
+    /// Stops with a breach of that kind at these bytes.
+    #[inline(never)]
+    fn stop_at(&self, bytes: &[u8], kind: BreachKind, stop: &mut Stop)
+        ensures is { stop.new ≡ Stop.Breach (breach_at self.now.len bytes.now kind) }
+        ensures within { StopFits self.now.alloc self.now.len stop.new }
     {
-        match (kind, self.alloc) {
-            (StringKind::Text, Some(alloc)) if self.rules.nfc => nfc_breach(alloc, content),
-            _ => Ok(None),
+        let place = self.place(bytes);
+        *stop = Stop::Breach(Breach { place, kind });
+    }
+
+    /// Stops because no item begins at these bytes.
+    #[inline(never)]
+    fn stop_at_error(&self, bytes: &[u8], error: Error, stop: &mut Stop)
+        ensures is { stop.new
+            ≡ Stop.Breach (breach_at self.now.len bytes.now (BreachKind.NoItem error)) }
+        ensures within { StopFits self.now.alloc self.now.len stop.new }
+    {
+        self.stop_at(bytes, BreachKind::NoItem(error), stop);
+    }
+
+    /// Whether a head is at these bytes that keeps the rules at this level; and if not, why.
+    #[inline(never)]
+    fn keeps_head(&self, level: u8, bytes: &[u8], stop: &mut Stop) -> bool
+        ensures kept { result ≡ true → (h : ItemHead × List ℕ) → read_head bytes.now ≡ Ok h
+            → kept_head self.now.rules self.now.len level bytes.now ≡ Ok h }
+        ensures stops { result ≡ false
+            → Gives (kept_head self.now.rules self.now.len level bytes.now) (Err stop.new) }
+        ensures within { result ≡ false → StopFits self.now.alloc self.now.len stop.new }
+    {
+        match read_head(bytes) {
+            Err(error) => {
+                self.stop_at_error(bytes, error, stop);
+                false
+            }
+            Ok((head, rest)) => match self.rules.head_breach(level, bytes, head, rest) {
+                None => true,
+                Some(kind) => {
+                    self.stop_at(bytes, kind, stop);
+                    false
+                }
+            },
         }
     }
 
-    /// What is wrong with a key after the one before it.
-    fn order_breach(self, last: Option<Key>, key: &[u8]) -> Option<BreachKind>
-        ensures { result ≡ order_breach self.rules (option_map key_of last.entry) key.now }
-    {
-        let last = last?;
-        let order = self.rules.key_order.compare(last.bytes, key);
-        compared(order, last.place)
-    }
-
-    /// The breach of that kind at these bytes.
-    fn stop_at(self, bytes: &[u8], kind: BreachKind) -> Stop
-        ensures is { result ≡ Stop.Breach (breach_at self.len bytes.now kind) }
-        ensures within { StopFits self.alloc self.len result }
-    {
-        let place = self.place(bytes);
-        Stop::Breach(Breach { place, kind })
-    }
-
-    /// The head of an item at this level, and the bytes after it.
-    fn read_head<'a>(self, level: u8, bytes: &'a [u8]) -> Result<(ItemHead, &'a [u8]), Stop>
-        ensures gives { Gives (kept_head self.rules self.len level bytes.now)
-            (result_map_both (λ x. (x.0, x.1.now)) (λ e. e) result) }
-        ensures shorter { IfOk result (λ x. length x.1.now < length bytes.now) }
-        ensures within { IfErr result (λ s. StopFits self.alloc self.len s) }
+    /// The head of an item at this level, and the bytes after it. Most heads show in few steps that
+    /// they keep the rules.
+    #[inline(always)]
+    fn read_head<'a>(
+        &self,
+        level: u8,
+        bytes: &'a [u8],
+        stop: &mut Stop,
+    ) -> Option<(ItemHead, &'a [u8])>
+        ensures gives { Reads (kept_head self.now.rules self.now.len level bytes.now)
+            (option_map (λ x. (x.0, x.1.now)) result) stop.new }
+        ensures shorter { IfSome result (λ x. length x.1.now < length bytes.now) }
+        ensures within { IfNone result (StopFits self.now.alloc self.now.len stop.new) }
     {
         let (head, rest) = match read_head(bytes) {
             Ok(read) => read,
-            Err(error) => return Err(self.stop_at(bytes, BreachKind::NoItem(error))),
-        };
-        match self.rules.head_breach(level, bytes, head, rest) {
-            None => Ok((head, rest)),
-            Some(kind) => Err(self.stop_at(bytes, kind)),
-        }
-    }
-
-    /// The bytes after a content of `count` bytes, whose head is at `bytes`.
-    fn after_content<'a>(
-        self,
-        bytes: &[u8],
-        kind: StringKind,
-        count: u64,
-        rest: &'a [u8],
-    ) -> Result<&'a [u8], Stop>
-        requires memory { HasMemory self.alloc self.rules }
-        ensures gives { (w : IntegerWidth)
-            → Gives (kept_content self.rules self.len bytes.now kind count w rest.now)
-            (result_map_both (λ x. x.now) (λ e. e) result) }
-        ensures shorter { IfOk result (λ after. length after.now ≤ length rest.now) }
-        ensures within { IfErr result (λ s. StopFits self.alloc self.len s) }
-    {
-        let (content, after) = match read_content(kind, count, rest) {
-            Ok(read) => read,
-            Err(error) => return Err(self.stop_at(bytes, BreachKind::NoItem(error))),
-        };
-        match self.text_breach(kind, content) {
-            Ok(None) => Ok(after),
-            Ok(Some(kind)) => Err(self.stop_at(bytes, kind)),
-            Err(_) => Err(Stop::OutOfMemory),
-        }
-    }
-
-    /// The next chunk of an indefinite string, or its break, and the bytes after it.
-    fn read_chunk<'a>(self, kind: StringKind, bytes: &'a [u8]) -> Result<(Chunk, &'a [u8]), Stop>
-        requires memory { HasMemory self.alloc self.rules }
-        ensures gives { Gives (kept_chunk self.rules self.len kind bytes.now)
-            (result_map_both (λ x. (x.0, x.1.now)) (λ e. e) result) }
-        ensures shorter { IfOk result (λ x. length x.1.now < length bytes.now) }
-        ensures within { IfErr result (λ s. StopFits self.alloc self.len s) }
-    {
-        let (length, rest) = match read_chunk_length(kind.major(), bytes) {
-            Ok(read) => read,
-            Err(error) => return Err(self.stop_at(bytes, BreachKind::NoItem(error))),
-        };
-        let Some((count, width)) = length else {
-            return Ok((Chunk::Break, rest));
-        };
-        if let Some(breach) = self.rules.number_breach(count, width) {
-            return Err(self.stop_at(bytes, breach));
-        }
-        let after = self.after_content(bytes, kind, count, rest)?;
-        Ok((Chunk::Content, after))
-    }
-
-    /// The bytes after the break of an indefinite string.
-    fn after_chunks<'a>(self, kind: StringKind, bytes: &'a [u8]) -> Result<&'a [u8], Stop>
-        requires memory { HasMemory self.alloc self.rules }
-        ensures gives { Gives
-            (kept_chunks (suc (length bytes.now)) self.rules self.len kind bytes.now)
-            (result_map_both (λ x. x.now) (λ e. e) result) }
-        ensures shorter { IfOk result (λ rest. length rest.now ≤ length bytes.now) }
-        ensures within { IfErr result (λ s. StopFits self.alloc self.len s) }
-    {
-        let mut rest = bytes;
-        'chunks: loop {
-            let (chunk, after) = self.read_chunk(kind, rest)?;
-            match chunk {
-                Chunk::Break => return Ok(after),
-                Chunk::Content => rest = after,
+            Err(error) => {
+                self.stop_at_error(bytes, error, stop);
+                return None;
             }
+        };
+        if self.rules.are_clearly_kept(level, bytes, head) {
+            return Some((head, rest));
         }
-    }
-
-    /// The bytes after the content of a string, whose head is at `bytes` and is read already.
-    fn after_string<'a>(
-        self,
-        bytes: &[u8],
-        kind: StringKind,
-        count: Argument,
-        rest: &'a [u8],
-    ) -> Result<&'a [u8], Stop>
-        requires memory { HasMemory self.alloc self.rules }
-        ensures gives { Gives (kept_string self.rules self.len bytes.now kind count rest.now)
-            (result_map_both (λ x. x.now) (λ e. e) result) }
-        ensures shorter { IfOk result (λ after. length after.now ≤ length rest.now) }
-        ensures within { IfErr result (λ s. StopFits self.alloc self.len s) }
-    {
-        match count {
-            Argument::Number(count, _) => self.after_content(bytes, kind, count, rest),
-            Argument::Indefinite => self.after_chunks(kind, rest),
-        }
-    }
-
-    /// The bytes after an item without parts, whose head is at `bytes` and is read already.
-    fn after_atom<'a>(self, bytes: &[u8], head: ItemHead, rest: &'a [u8]) -> Result<&'a [u8], Stop>
-        requires memory { HasMemory self.alloc self.rules }
-        ensures gives { Gives (kept_atom self.rules self.len bytes.now head rest.now)
-            (result_map_both (λ x. x.now) (λ e. e) result) }
-        ensures shorter { IfOk result (λ after. length after.now ≤ length rest.now) }
-        ensures within { IfErr result (λ s. StopFits self.alloc self.len s) }
-    {
-        match head {
-            ItemHead::String(kind, count) => self.after_string(bytes, kind, count, rest),
-            _ => Ok(rest),
+        if self.keeps_head(level, bytes, stop) {
+            Some((head, rest))
+        } else {
+            None
         }
     }
 
     /// No keys yet, which are seen if none may stand twice.
-    fn no_keys<'a>(self) -> Keys<'a>
-        requires memory { HasMemory self.alloc self.rules }
+    fn no_keys<'a>(&self) -> Keys<'a>
+        requires memory { HasMemory self.now.alloc self.now.rules }
         ensures none { places_of result ≡ no_places }
-        ensures on { is_on result ≡ self.rules.distinct_keys }
+        ensures on { is_on result ≡ self.now.rules.distinct_keys }
     {
         if self.rules.distinct_keys {
             Keys::new(self.alloc)
@@ -265,21 +191,31 @@ impl Check {
         }
     }
 
+    /// What is wrong with a key after the one before it.
+    #[inline(always)]
+    fn order_breach(&self, last: Option<Key>, key: &[u8]) -> Option<BreachKind>
+        ensures { result ≡ order_breach self.now.rules (option_map key_of last.entry) key.now }
+    {
+        let last = last?;
+        let order = self.rules.key_order.compare(last.bytes, key);
+        compared(order, last.place)
+    }
+
     /// What is wrong with a key after the one before it and those that were seen, among which it is
     /// then.
     fn key_breach<'a>(
-        self,
+        &self,
         last: Option<Key<'a>>,
         keys: &mut Keys<'a>,
         key: Key<'a>,
     ) -> Result<Option<BreachKind>, AllocError>
-        requires on { is_on keys.old ≡ self.rules.distinct_keys }
-        ensures is { IfOk result (λ found. found
-            ≡ key_breach self.rules (option_map key_of last.entry) (places_of keys.old) key.entry.bytes.now) }
-        ensures seen { IfOk result (λ found. found ≡ None
-            → places_of keys.new ≡ with_key self.rules (key_of key.entry) (places_of keys.old)) }
-        ensures on { is_on keys.new ≡ self.rules.distinct_keys }
-        ensures memory { IsErr result → self.rules.distinct_keys ≡ true }
+        requires on { is_on keys.old ≡ self.now.rules.distinct_keys }
+        ensures is { IfOk result (λ found. found ≡ key_breach self.now.rules
+            (option_map key_of last.entry) (places_of keys.old) key.entry.bytes.now) }
+        ensures seen { IfOk result (λ found. found ≡ None → places_of keys.new
+            ≡ with_key self.now.rules (key_of key.entry) (places_of keys.old)) }
+        ensures on { is_on keys.new ≡ self.now.rules.distinct_keys }
+        ensures memory { IsErr result → self.now.rules.distinct_keys ≡ true }
     {
         if let Some(kind) = self.order_breach(last, key.bytes) {
             return Ok(Some(kind));
@@ -290,107 +226,196 @@ impl Check {
         }
     }
 
-    /// What is still to come in an open container after a part at `bytes`, of which `rest` is left.
-    fn after_part<'a>(
-        self,
-        container: Open<'a>,
+    /// Whether a key keeps the rules after the one before it and those that were seen, among which
+    /// it is then; and if not, what is wrong with it.
+    #[inline(never)]
+    fn see_key<'a>(
+        &self,
+        last: Option<Key<'a>>,
         keys: &mut Keys<'a>,
-        bytes: &'a [u8],
-        rest: &[u8],
-    ) -> Result<Open<'a>, Stop>
-        requires memory { HasMemory self.alloc self.rules }
-        requires on { is_on keys.old ≡ self.rules.distinct_keys }
-        ensures gives { Gives (after_part self.rules self.len
-            (open_of container.entry (places_of keys.old)) bytes.now rest.now)
-            (result_map_both (λ o. open_of o (places_of keys.new)) (λ e. e) result) }
-        ensures on { is_on keys.new ≡ self.rules.distinct_keys }
-        ensures within { IfErr result (λ s. StopFits self.alloc self.len s) }
+        key: Key<'a>,
+        stop: &mut Stop,
+    ) -> bool
+        requires memory { HasMemory self.now.alloc self.now.rules }
+        requires on { is_on keys.old ≡ self.now.rules.distinct_keys }
+        requires place { key.place ≤ self.now.len }
+        ensures gives { Reads (kept_key self.now.rules (option_map key_of last.entry)
+            (places_of keys.old) (key_of key.entry)) (then_some result (places_of keys.new))
+            stop.new }
+        ensures on { is_on keys.new ≡ self.now.rules.distinct_keys }
+        ensures within { result ≡ false → StopFits self.now.alloc self.now.len stop.new }
     {
-        match container {
-            Open::Members(left) => Ok(Open::Members(one_less(left))),
-            Open::Pairs(last, left) => {
-                let place = self.place(bytes);
-                let key = Key {
-                    place,
-                    bytes: front(bytes, rest),
-                };
-                match self.key_breach(last, keys, key) {
-                    Ok(None) => Ok(Open::Value(key, one_less(left))),
-                    Ok(Some(kind)) => Err(self.stop_at(bytes, kind)),
-                    Err(_) => Err(Stop::OutOfMemory),
-                }
+        match self.key_breach(last, keys, key) {
+            Ok(None) => return true,
+            Ok(Some(kind)) => {
+                let place = key.place;
+                *stop = Stop::Breach(Breach { place, kind });
             }
-            Open::Value(key, left) => Ok(Open::Pairs(Some(key), left)),
+            Err(_) => *stop = Stop::OutOfMemory,
+        }
+        false
+    }
+
+    /// The same, in few steps where no key has to be seen.
+    #[inline(always)]
+    fn keeps_key<'a>(
+        &self,
+        last: Option<Key<'a>>,
+        keys: &mut Keys<'a>,
+        key: Key<'a>,
+        stop: &mut Stop,
+    ) -> bool
+        requires memory { HasMemory self.now.alloc self.now.rules }
+        requires on { is_on keys.old ≡ self.now.rules.distinct_keys }
+        requires place { key.place ≤ self.now.len }
+        ensures gives { Reads (kept_key self.now.rules (option_map key_of last.entry)
+            (places_of keys.old) (key_of key.entry)) (then_some result (places_of keys.new))
+            stop.new }
+        ensures on { is_on keys.new ≡ self.now.rules.distinct_keys }
+        ensures within { result ≡ false → StopFits self.now.alloc self.now.len stop.new }
+    {
+        if self.rules.distinct_keys || self.order_breach(last, key.bytes).is_some() {
+            self.see_key(last, keys, key, stop)
+        } else {
+            true
         }
     }
 
     /// The bytes after an item that keeps the rules, with `left` levels left for it and the items
-    /// in it.
+    /// in it. Inlined into the loops over items, members and pairs.
     #[cycle(item)]
-    fn after_item<'a>(self, left: u8, bytes: &'a [u8]) -> Result<&'a [u8], Stop>
+    #[inline(always)]
+    fn after_item<'a>(&self, left: u8, bytes: &'a [u8], stop: &mut Stop) -> Option<&'a [u8]>
         requires level { left ≤ deepest }
-        requires memory { HasMemory self.alloc self.rules }
-        ensures gives { Gives (kept_item left self.rules self.len bytes.now)
-            (result_map_both (λ x. x.now) (λ e. e) result) }
-        ensures shorter { IfOk result (λ rest. length rest.now < length bytes.now) }
-        ensures within { IfErr result (λ s. StopFits self.alloc self.len s) }
+        requires memory { HasMemory self.now.alloc self.now.rules }
+        ensures gives { Reads (kept_item left self.now.rules self.now.len bytes.now)
+            (option_map (λ x. x.now) result) stop.new }
+        ensures shorter { IfSome result (λ rest. length rest.now < length bytes.now) }
+        ensures within { IfNone result (StopFits self.now.alloc self.now.len stop.new) }
     {
         if left == 0 {
             let error = no_level_left(bytes);
-            return Err(self.stop_at(bytes, BreachKind::NoItem(error)));
+            self.stop_at_error(bytes, error, stop);
+            return None;
         }
         let left = left - 1;
-        let (head, rest) = self.read_head(DEEPEST - left, bytes)?;
-        match Open::new(head) {
-            Some(container) => self.after_parts(left, container, rest),
-            None => self.after_atom(bytes, head, rest),
-        }
+        let (head, rest) = self.read_head(DEEPEST - left, bytes, stop)?;
+        let after = match Parts::new(head) {
+            Some(parts) => self.after_parts(left, parts, rest, stop)?,
+            None => self.after_atom(bytes, head, rest, stop)?,
+        };
+        Some(after)
     }
 
     /// The bytes after the parts of an open container, with `left` levels left for each.
     #[cycle(item)]
+    #[inline(always)]
     fn after_parts<'a>(
-        self,
+        &self,
         left: u8,
-        container: Open<'a>,
+        parts: Parts,
         bytes: &'a [u8],
-    ) -> Result<&'a [u8], Stop>
+        stop: &mut Stop,
+    ) -> Option<&'a [u8]>
         requires level { left < deepest }
-        requires memory { HasMemory self.alloc self.rules }
-        ensures gives { Gives (kept_parts (suc (length bytes.now)) self.rules self.len
-            (kept_item left self.rules self.len) (open_of container.entry no_places) bytes.now)
-            (result_map_both (λ x. x.now) (λ e. e) result) }
-        ensures shorter { IfOk result (λ rest. length rest.now ≤ length bytes.now) }
-        ensures within { IfErr result (λ s. StopFits self.alloc self.len s) }
+        requires memory { HasMemory self.now.alloc self.now.rules }
+        ensures gives { Reads (kept_parts (suc (length bytes.now)) self.now.rules self.now.len
+            (kept_item left self.now.rules self.now.len) (parts_of parts) bytes.now)
+            (option_map (λ x. x.now) result) stop.new }
+        ensures shorter { IfSome result (λ rest. length rest.now ≤ length bytes.now) }
+        ensures within { IfNone result (StopFits self.now.alloc self.now.len stop.new) }
+    {
+        match parts {
+            Parts::Members(count) => self.after_members(left, count, bytes, stop),
+            Parts::Pairs(count) => self.after_pairs(left, count, bytes, stop),
+        }
+    }
+
+    /// The bytes after the members of an open array, or after the item of a tag, with `left` levels
+    /// left for each.
+    #[cycle(item)]
+    #[inline(never)]
+    fn after_members<'a>(
+        &self,
+        left: u8,
+        count: Argument,
+        bytes: &'a [u8],
+        stop: &mut Stop,
+    ) -> Option<&'a [u8]>
+        requires level { left < deepest }
+        requires memory { HasMemory self.now.alloc self.now.rules }
+        ensures gives { Reads (kept_parts (suc (length bytes.now)) self.now.rules self.now.len
+            (kept_item left self.now.rules self.now.len) (members count) bytes.now)
+            (option_map (λ x. x.now) result) stop.new }
+        ensures shorter { IfSome result (λ rest. length rest.now ≤ length bytes.now) }
+        ensures within { IfNone result (StopFits self.now.alloc self.now.len stop.new) }
+    {
+        let mut count = count;
+        let mut rest = bytes;
+        'members: loop {
+            if let Some(after) = after_members(count, rest) {
+                return Some(after);
+            }
+            rest = self.after_item(left, rest, stop)?;
+            count = one_less(count);
+        }
+    }
+
+    /// The bytes after the pairs of an open map, with `left` levels left for each key and value.
+    #[cycle(item)]
+    #[inline(never)]
+    fn after_pairs<'a>(
+        &self,
+        left: u8,
+        count: Argument,
+        bytes: &'a [u8],
+        stop: &mut Stop,
+    ) -> Option<&'a [u8]>
+        requires level { left < deepest }
+        requires memory { HasMemory self.now.alloc self.now.rules }
+        ensures gives { Reads (kept_parts (suc (length bytes.now)) self.now.rules self.now.len
+            (kept_item left self.now.rules self.now.len) (pairs None no_places count) bytes.now)
+            (option_map (λ x. x.now) result) stop.new }
+        ensures shorter { IfSome result (λ rest. length rest.now ≤ length bytes.now) }
+        ensures within { IfNone result (StopFits self.now.alloc self.now.len stop.new) }
     {
         let mut keys = self.no_keys();
-        let mut container = container;
+        let mut last = None;
+        let mut count = count;
         let mut rest = bytes;
-        'parts: loop {
-            if let Some(after) = container.after_end(rest) {
-                return Ok(after);
+        'pairs: loop {
+            if let Some(after) = after_members(count, rest) {
+                return Some(after);
             }
-            let after = self.after_item(left, rest)?;
-            container = self.after_part(container, &mut keys, rest, after)?;
-            rest = after;
+            let value = self.after_item(left, rest, stop)?;
+            let key = Key {
+                place: self.place(rest),
+                bytes: front(rest, value),
+            };
+            if !self.keeps_key(last, &mut keys, key, stop) {
+                return None;
+            }
+            rest = self.after_item(left, value, stop)?;
+            last = Some(key);
+            count = one_less(count);
         }
     }
 
     /// The first breach in these bytes.
-    fn first(self, bytes: &[u8]) -> Result<Option<Breach>, AllocError>
-        requires memory { HasMemory self.alloc self.rules }
-        requires len { self.len ≡ length bytes.now }
-        ensures first { IfOk result (λ found. found ≡ first_breach self.rules bytes.now) }
+    fn first(&self, bytes: &[u8]) -> Result<Option<Breach>, AllocError>
+        requires memory { HasMemory self.now.alloc self.now.rules }
+        requires len { self.now.len ≡ length bytes.now }
+        ensures first { IfOk result (λ found. found ≡ first_breach self.now.rules bytes.now) }
         ensures within { IfOk result (λ found. IfSome found (λ b. b.place ≤ length bytes.now)) }
-        ensures memory { IsErr result → self.alloc ≢ None }
+        ensures memory { IsErr result → self.now.alloc ≢ None }
     {
+        let mut stop = Stop::OutOfMemory;
         let mut rest = bytes;
         'items: while !rest.is_empty() {
-            match self.after_item(DEEPEST, rest) {
-                Ok(after) => rest = after,
-                Err(Stop::Breach(breach)) => return Ok(Some(breach)),
-                Err(Stop::OutOfMemory) => return Err(AllocError),
-            }
+            let Some(after) = self.after_item(DEEPEST, rest, &mut stop) else {
+                return stop.found();
+            };
+            rest = after;
         }
         Ok(None)
     }

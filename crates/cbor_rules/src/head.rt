@@ -1,10 +1,11 @@
 //! What is wrong with one head, by its number, its bits or the bytes after it.
-ghost use Rattle.std.specs.Prelude.{◌≡◌};
+ghost use Rattle.std.specs.Prelude.{◌≡◌, ℕ, List, None, true};
 ghost use Rattle.cbor_grammar.specs.Reading.{read_head};
 ghost use Rattle.cbor_grammar.specs.WellFormed.{FitsFloat};
-ghost use Rattle.cbor_rules.specs.FirstBreach.{is_long, two_byte_breach, content_breach, big_breach};
+ghost use Rattle.cbor_rules.specs.FirstBreach.{is_long, two_byte_breach, content_breach};
+ghost use Rattle.cbor_rules.specs.FirstBreach.{big_breach, tag_breach, head_breach};
 ghost use Rattle.cbor_rules.specs.FirstBreach.{number_breach, float_breach, simple_breach};
-ghost use Rattle.cbor_rules.specs.FirstBreach.{argument_breach, container_breach, tag_breach, head_breach};
+ghost use Rattle.cbor_rules.specs.FirstBreach.{argument_breach, container_breach};
 ghost use Rattle.cbor_rules.specs.mirror.Opened.{FloatFits};
 ghost use Rattle.cbor_rules.specs.Keeps.{float_of};
 
@@ -19,6 +20,7 @@ use cbor_grammar::strings::StringKind;
 use cbor_grammar::{FloatWidth, IntegerWidth};
 
 /// Whether a shorter width would hold the number.
+#[inline(always)]
 pub fn is_long(width: IntegerWidth, number: u64) -> bool
     ensures { result ≡ is_long width number }
 {
@@ -44,6 +46,7 @@ pub fn float_of(bits: u64, width: FloatWidth) -> EncodedFloat
 }
 
 /// What is wrong with a simple value at the front, if it takes two bytes and is below 32.
+#[inline(always)]
 pub fn two_byte_breach(bytes: &[u8]) -> Option<BreachKind>
     ensures { result ≡ two_byte_breach bytes.now }
 {
@@ -78,6 +81,7 @@ pub fn big_breach(bytes: &[u8]) -> Option<BreachKind>
 
 impl Rules {
     /// What is wrong with the number of a head.
+    #[inline(always)]
     pub(crate) fn number_breach(self, number: u64, width: IntegerWidth) -> Option<BreachKind>
         ensures { result ≡ number_breach self number width }
     {
@@ -105,6 +109,7 @@ impl Rules {
     }
 
     /// What is wrong with a simple value at the front of these bytes.
+    #[inline(always)]
     pub(crate) fn simple_breach(self, value: u8, bytes: &[u8]) -> Option<BreachKind>
         ensures { result ≡ simple_breach self value bytes.now }
     {
@@ -119,6 +124,7 @@ impl Rules {
     }
 
     /// What is wrong with a length or a count.
+    #[inline(always)]
     pub(crate) fn argument_breach(self, argument: Argument) -> Option<BreachKind>
         ensures { result ≡ argument_breach self argument }
     {
@@ -130,6 +136,7 @@ impl Rules {
     }
 
     /// What is wrong with the head of an array or a map at this level.
+    #[inline(always)]
     pub(crate) fn container_breach(self, level: u8, count: Argument) -> Option<BreachKind>
         ensures { result ≡ container_breach self level count }
     {
@@ -175,6 +182,40 @@ impl Rules {
             },
             ItemHead::Float(bits, width) => self.float_breach(float_of(bits, width)),
             ItemHead::Simple(value) => self.simple_breach(value, bytes),
+        }
+    }
+
+    /// Whether nothing is wrong with these bits of a float. Not inlined, so that what tells the
+    /// same of an integer is short.
+    #[inline(never)]
+    fn allow_float(self, bits: u64, width: FloatWidth) -> bool
+        requires { FitsFloat width bits }
+        ensures { result ≡ true → float_breach self (float_of bits width) ≡ None }
+    {
+        self.float_breach(float_of(bits, width)).is_none()
+    }
+
+    /// Whether it is clear that nothing is wrong with the head at the front of these bytes: of all
+    /// heads but those of big numbers, in few steps. Inlined into the loops over items.
+    #[inline(always)]
+    pub(crate) fn are_clearly_kept(self, level: u8, bytes: &[u8], head: ItemHead) -> bool
+        requires { FloatFits head }
+        ensures { result ≡ true
+            → (rest : List ℕ) → head_breach self level bytes.now head rest ≡ None }
+    {
+        match head {
+            ItemHead::Integer(number, width) | ItemHead::Negative(number, width) => {
+                self.number_breach(number, width).is_none()
+            }
+            ItemHead::String(_, length) => self.argument_breach(length).is_none(),
+            ItemHead::Array(count) | ItemHead::Map(count) => {
+                self.container_breach(level, count).is_none()
+            }
+            ItemHead::Tag(2 | 3, _) => false,
+            ItemHead::Tag(number, width) => self.tags
+                && self.number_breach(number, width).is_none(),
+            ItemHead::Float(bits, width) => self.allow_float(bits, width),
+            ItemHead::Simple(value) => self.simple_breach(value, bytes).is_none(),
         }
     }
 }

@@ -36,8 +36,8 @@ impl<'a> Keys<'a> {
     /// The place of the key, if it was seen before. If keys are seen, it has the new place then.
     pub fn see(&mut self, key: Key<'a>) -> Result<Option<usize>, AllocError>
         ensures first { IfOk result (λ first. first ≡ places_of self.old key.entry.bytes.now) }
-        ensures placed { OnOk result (places_of self.new
-            ≡ (if is_on self.old then placed (key_of key.entry) (places_of self.old) else places_of self.old)) }
+        ensures placed { OnOk result (places_of self.new ≡ (if is_on self.old
+            then placed (key_of key.entry) (places_of self.old) else places_of self.old)) }
         ensures on { is_on self.new ≡ is_on self.old }
         ensures memory { IsErr result → is_on self.old ≡ true }
     {

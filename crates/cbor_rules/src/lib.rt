@@ -1,8 +1,8 @@
 //! Rules that an encoding keeps beyond the grammar of CBOR, such as those of deterministic encoding
 //! (RFC 8949 section 4.2).
 //!
-//! [`breach`] finds the first place at which bytes break one of the rules of a [`Rules`]. It takes no
-//! memory; [`breach_in`] looks at the rules that take some, too.
+//! [`breach`] finds the first place at which bytes break one of the rules of a [`Rules`]. It takes
+//! no memory; [`breach_in`] looks at the rules that take some, too.
 //!
 //! ```rust
 //! use cbor_rules::{Breach, BreachKind, Rules, breach};

@@ -2,7 +2,8 @@
 ghost use Rattle.std.specs.Prelude.{◌≡◌, ◌<◌, ◌^◌, from_bits};
 ghost use Rattle.std.specs.Float.Ieee.{binary64};
 ghost use Rattle.cbor_rules.specs.Reduced.{in_range, integer_of, reduced};
-ghost use Rattle.cbor_rules.specs.FirstBreach.{is_usual_nan, nan_breach, integer_float, reduced_breach};
+ghost use Rattle.cbor_rules.specs.FirstBreach.{is_usual_nan, nan_breach, integer_float};
+ghost use Rattle.cbor_rules.specs.FirstBreach.{reduced_breach};
 ghost use Rattle.cbor_rules.specs.mirror.DoubleSizes.{size_of_bits, signed};
 
 use crate::kind::BreachKind;

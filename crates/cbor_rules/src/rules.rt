@@ -2,6 +2,7 @@
 ghost use Rattle.std.specs.Prelude.{◌≡◌};
 ghost use Rattle.cbor_rules.specs.KeyOrder.{key_cmp, major_type};
 ghost use Rattle.cbor_rules.specs.Keeps.{without_memory};
+ghost use Rattle.cbor_rules.specs.declared.rules.KeyOrder.{KeyOrder};
 
 use cbor_grammar::level::DEEPEST;
 use std::cmp::Ordering;
@@ -30,8 +31,8 @@ pub struct Rules {
     /// Each float is in the shortest width that has it: the number with its sign, and of a NaN the
     /// sign and the payload (RFC 8949 sections 4.1 and 4.2.2).
     pub shortest_floats: bool,
-    /// No float is an integer from -2^63 to 2^64 - 1, which is written as that integer instead, -0.0
-    /// as 0; and no NaN stands but that of the bytes f97e00 (dCBOR).
+    /// No float is an integer from -2^63 to 2^64 - 1, which is written as that integer instead,
+    /// -0.0 as 0; and no NaN stands but that of the bytes f97e00 (dCBOR).
     pub reduced_floats: bool,
     /// There may be simple values other than false, true and null.
     pub other_simple: bool,
@@ -72,8 +73,8 @@ impl Rules {
         deepest: DEEPEST,
     };
 
-    /// Basic validity (RFC 8949 section 5.3.1): no key stands twice in a map, by its bytes. Texts are
-    /// UTF-8 in each set.
+    /// Basic validity (RFC 8949 section 5.3.1): no key stands twice in a map, by its bytes. Texts
+    /// are UTF-8 in each set.
     pub const VALID: Rules = Rules {
         distinct_keys: true,
         ..Rules::RFC_8949
@@ -103,8 +104,8 @@ impl Rules {
         ..Rules::CORE
     };
 
-    /// dCBOR: as core, and no integer is written as a float, the only NaN is f97e00, the only simple
-    /// values are false, true and null, and texts are in NFC.
+    /// dCBOR: as core, and no integer is written as a float, the only NaN is f97e00, the only
+    /// simple values are false, true and null, and texts are in NFC.
     pub const DCBOR: Rules = Rules {
         reduced_floats: true,
         other_simple: false,
@@ -145,20 +146,26 @@ fn major_type(bytes: &[u8]) -> u8
     }
 }
 
+/// How two keys compare by their lengths, and those of one length by their bytes.
+fn compare_by_length(first: &[u8], second: &[u8]) -> Ordering
+    ensures { result ≡ key_cmp KeyOrder.Length first.now second.now }
+{
+    let lengths = first.len().cmp(&second.len());
+    lengths.then(first.cmp(second))
+}
+
 impl KeyOrder {
     /// How two encoded keys compare. Under `Any` the first comes before the second.
     pub fn compare(self, first: &[u8], second: &[u8]) -> Ordering
         ensures { result ≡ key_cmp self first.now second.now }
     {
-        let lengths = first.len().cmp(&second.len());
-        let bytes = first.cmp(second);
         match self {
             KeyOrder::Any => Ordering::Less,
-            KeyOrder::Bytes => bytes,
-            KeyOrder::Length => lengths.then(bytes),
+            KeyOrder::Bytes => first.cmp(second),
+            KeyOrder::Length => compare_by_length(first, second),
             KeyOrder::MajorType => {
                 let major_types = major_type(first).cmp(&major_type(second));
-                major_types.then(lengths.then(bytes))
+                major_types.then(compare_by_length(first, second))
             }
         }
     }

@@ -7,7 +7,7 @@ use Rattle.cbor_rules.specs.Reduced.{in_range}
 unfoldable pub whole_size : ℕ → ℕ → Option ℕ
 whole_size a b = if (a % b == 0) && nat_lt (a / b) (2 ^ 64) then Some (a / b) else None
 
--- A double is so many times 2 ^ -1074.
+-- A double is this many times 2 ^ -1074.
 unfoldable pub size_of_bits : ℕ → Option ℕ
 size_of_bits bits = whole_size (units_of_bits bits) (2 ^ 1074)
 

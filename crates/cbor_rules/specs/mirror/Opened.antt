@@ -1,6 +1,7 @@
--- What the code keeps of an open container, as the definitions have it; and what reading gives where memory may run out.
-use Rattle.std.specs.Prelude.{◌≡◌, ◌≢◌, ◌≤◌, ℕ, List, Bool, false, Option, Some, None, is_some}
-use Rattle.std.specs.Prelude.{Result, Ok, Err, option_map}
+-- What the code keeps of the keys of an open map, as the definitions have it; and what reading gives where memory may
+-- run out.
+use Rattle.std.specs.Prelude.{◌≡◌, ◌≢◌, ◌≤◌, ℕ, List, Bool, false, Option, Some, None, is_some, if◌then◌else◌}
+use Rattle.std.specs.Prelude.{Result, Ok, Err}
 use Rattle.std.specs.BTreeMap.{BTreeMap, get_by}
 use Rattle.std.specs.Cmp.Lexicographic.{slice_cmp}
 use Rattle.std.specs.Ordering.{nat_cmp}
@@ -11,13 +12,17 @@ use Rattle.cbor_grammar.specs.declared.head.ItemHead.{ItemHead}
 use Rattle.cbor_grammar.specs.declared.head.ItemHead.TheVariants as item_head
 use Rattle.cbor_rules.specs.declared.keys.Key.{Key}
 use Rattle.cbor_rules.specs.declared.keys.Keys.{Keys}
-use Rattle.cbor_rules.specs.declared.container.Open.{Open}
-use Rattle.cbor_rules.specs.declared.container.Open.TheVariants as code
-use Rattle.cbor_rules.specs.FirstBreach as spec
-use Rattle.cbor_rules.specs.FirstBreach.{KeyAt, Kept, Places, no_places, members, pairs, value}
+use Rattle.cbor_rules.specs.declared.container.Parts.{Parts}
+use Rattle.cbor_rules.specs.declared.container.Parts.TheVariants as code
+use Rattle.cbor_rules.specs.FirstBreach.{KeyAt, Kept, Places, no_places, key_breach, with_key, breach_at, Open, members}
+use Rattle.cbor_rules.specs.FirstBreach.{pairs}
 use Rattle.cbor_rules.specs.declared.rules.Rules.{Rules}
+use Rattle.cbor_rules.specs.declared.kind.BreachKind.{BreachKind}
+use Rattle.cbor_rules.specs.declared.kind.BreachKind.TheVariants as kind
 use Rattle.cbor_rules.specs.declared.check.Stop.{Stop}
 use Rattle.cbor_rules.specs.declared.check.Stop.TheVariants as stop
+use Rattle.cbor_rules.specs.declared.check.strings.BadContent.{BadContent}
+use Rattle.cbor_rules.specs.declared.check.strings.BadContent.TheVariants as bad
 
 abbrev pub key_of : Key → KeyAt
 key_of k = record { place = k.place; bytes = k.bytes.now }
@@ -37,17 +42,45 @@ places_of keys = places_in keys.places
 abbrev pub is_on : Keys → Bool
 is_on keys = is_some keys.places
 
--- a container with the keys that were seen in it
-abbrev pub open_of : Open → Places → spec.Open
-open_of (code.Members left) seen = members left
-open_of (code.Pairs last left) seen = pairs (option_map key_of last) seen left
-open_of (code.Value key left) seen = value (key_of key) seen left
+-- the parts of a container of which none is read
+abbrev pub parts_of : Parts → Open
+parts_of (code.Members a) = members a
+parts_of (code.Pairs a) = pairs None no_places a
 
 -- what reading gives; nothing is said of it where memory runs out
 abbrev pub Gives : {X : Type 0} → Kept X → Result X Stop → Type 0
 Gives kept (Ok x) = kept ≡ Ok x
 Gives kept (Err (stop.Breach b)) = kept ≡ Err b
 Gives kept (Err stop.OutOfMemory) = Unit {0}
+
+abbrev pub or_stop : {X : Type 0} → Option X → Stop → Result X Stop
+or_stop (Some x) s = Ok x
+or_stop None s = Err s
+
+-- the same of what was read, or of why reading stops
+abbrev pub Reads : {X : Type 0} → Kept X → Option X → Stop → Type 0
+Reads kept read s = Gives kept (or_stop read s)
+
+-- why the content of a string stops reading; its head is at these bytes
+abbrev pub content_stop : ℕ → List ℕ → BadContent → Stop
+content_stop total b (bad.NoItem e) = stop.Breach (breach_at total b (kind.NoItem e))
+content_stop total b bad.NotNfc = stop.Breach (breach_at total b kind.NotNfc)
+content_stop total b bad.OutOfMemory = stop.OutOfMemory
+
+-- of a text that is in NFC, or is not
+abbrev pub if_normal : Bool → Option BreachKind
+if_normal normal = if normal then None else Some kind.NotNfc
+
+abbrev pub kept_found : ℕ → Option BreachKind → Places → Kept Places
+kept_found place None seen = Ok seen
+kept_found place (Some kind) seen = Err (record { place = place; kind = kind })
+
+-- the keys that were seen after one key more, if that keeps the rules
+abbrev pub kept_key : Rules → Option KeyAt → Places → KeyAt → Kept Places
+kept_key rules last seen key = kept_found key.place (key_breach rules last seen key.bytes) (with_key rules key seen)
+
+abbrev pub then_some : {X : Type 0} → Bool → X → Option X
+then_some holds x = if holds then Some x else None
 
 -- A breach is in the bytes, and memory runs out only where there is an allocator.
 abbrev pub StopFits : Option Global → ℕ → Stop → Type 0

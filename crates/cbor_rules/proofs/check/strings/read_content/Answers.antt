@@ -9,7 +9,7 @@ use Rattle.cbor_grammar.specs.StringKind.{IsContent}
 use Rattle.cbor_grammar.proofs.bytes.StringRefusals.{bad_content, content_refuses}
 use Rattle.cbor_bytes.specs.mirror.Skipping.{rest_of, skip_content}
 use Rattle.cbor_bytes.proofs.skipping.Skips.{content_cut, content_goes, goes_at}
-use Rattle.cbor_rules.proofs.check.read_content.Goals as goal
+use Rattle.cbor_rules.proofs.check.strings.read_content.Goals as goal
 
 -- a content that a string of this kind may not have
 content_bad : (kind : StringKind) (n : ℕ) (w : IntegerWidth) (b : List ℕ) → n ≤ length b → ¬ (IsContent kind (take n b))
