@@ -227,7 +227,8 @@ pub number_again : (rules : Rules) (bits : ℕ) (w : FloatWidth) (n : Reduced) (
 number_again rules bits w n b rest old new h is e =
     let a = float_at b rest bits w h in
     let same : float_atom (float_of bits w) ≡ float bits w =
-    ap (λ k. float k (float_width_of (float_of bits w))) a.bits_are ∙ ap (λ (v : FloatWidth). float bits v) a.width_is in
+    ap (λ k. float k (float_width_of (float_of bits w))) a.bits_are
+    ∙ ap (λ (v : FloatWidth). float bits v) a.width_is in
     record {
       atom = float bits w;
       front = a.front;

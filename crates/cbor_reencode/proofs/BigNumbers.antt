@@ -1,19 +1,20 @@
 -- What is written for a tag and its item keeps the rules, and is the same number where it is a big one.
-use Rattle.std.proofs.Common.{◌≡◌, ◌≢◌, ℕ, ◌+◌, ◌*◌, ◌^◌, ◌<◌, ◌≤◌, ◌⊎◌, Bool, true, false, cond, ltb, eqb, List, [], ◌∷◌}
+use Rattle.std.proofs.Common.{◌≡◌, ◌≢◌, ℕ, ◌+◌, ◌*◌, ◌^◌, ◌<◌, ◌≤◌, ◌⊎◌, Bool, true, false, cond, ltb, eqb, List, []}
+use Rattle.std.proofs.Common.{◌∷◌}
 use Rattle.std.proofs.Common.{◌++◌, length, get_or, Option, Some, None, Ok, inl, inr, refl, sym, ap, subst, ◌∙◌, arith}
 use Rattle.std.proofs.lemmas.Bool.{ltb-false, ltb-true, eqb-false, eqb-true}
-use Rattle.std.proofs.lemmas.List.{append-nil, length-append}
+use Rattle.std.proofs.lemmas.List.{append-nil}
 use Rattle.std.proofs.Math.Seq.{drop-append_seam}
 use Rattle.cbor_grammar.specs.declared.width.IntegerWidth.{IntegerWidth}
 use Rattle.cbor_grammar.specs.declared.width.IntegerWidth.TheVariants as width
-use Rattle.cbor_grammar.specs.declared.argument.Argument.TheVariants.{Number, Indefinite}
+use Rattle.cbor_grammar.specs.declared.argument.Argument.TheVariants.{Number}
 use Rattle.cbor_grammar.specs.declared.head.ItemHead.{ItemHead}
 use Rattle.cbor_grammar.specs.declared.head.ItemHead.TheVariants as item_head
 use Rattle.cbor_grammar.specs.declared.strings.StringKind.TheVariants.{Bytes, Text}
 use Rattle.cbor_grammar.specs.Item as spec
 use Rattle.cbor_grammar.specs.Item.{Chunk, Atom, integer, negative, string, chunked_string, float, simple, Item, atom}
 use Rattle.cbor_grammar.specs.Item.{array, tagged}
-use Rattle.cbor_grammar.specs.Head.{FitsStated, HeadThen, head, shortest}
+use Rattle.cbor_grammar.specs.Head.{FitsStated, head, shortest}
 use Rattle.cbor_grammar.specs.WellFormed.{deepest}
 use Rattle.cbor_grammar.specs.Bytes.{strict, Spells}
 use Rattle.cbor_grammar.specs.Written.{encoded_head}
@@ -21,10 +22,10 @@ use Rattle.cbor_grammar.specs.Reading.{Read, read_head}
 use Rattle.cbor_grammar.proofs.bytes.Heads.{IsBytes, IsBytes-drop, IsBytes-rest}
 use Rattle.cbor_rules.specs.declared.rules.Rules.{Rules}
 use Rattle.cbor_rules.specs.FirstBreach.{big_breach, tag_breach}
-use Rattle.cbor_rules.specs.Keeps.{Keeps, KeepsTag, without_memory}
+use Rattle.cbor_rules.specs.Keeps.{Keeps, without_memory}
 use Rattle.cbor_rules.specs.Same.{said, whole, IsSame}
 use Rattle.cbor_rules.proofs.Again.{string_read}
-use Rattle.cbor_rules.proofs.BigNumbers.{IsOther, IsNoBytes, bytes_or_not, other_read, big_found}
+use Rattle.cbor_rules.proofs.BigNumbers.{IsOther, bytes_or_not, other_read, big_found}
 use Rattle.cbor_reencode.specs.Reencoded.{Again}
 use Rattle.cbor_reencode.specs.Reduction.{big_endian, without_zeros, content_of, small_number, big_number, big_or}
 use Rattle.cbor_reencode.specs.Reduction.{is_big, reduced_tag, reduced_item, IsSameNumbered}
@@ -188,7 +189,8 @@ content_is : (rules : Rules) (tag level : ℕ) (y content : List ℕ) (j : Item)
     → big_content rules tag y ≡ Some content → IsContent rules tag j content
 content_is rules tag level y content j h e = by (is_big rules tag) refl e
   where
-    of_item : is_big rules tag ≡ true → content_read (read_head (y ++ [])) ≡ Some content → IsContent rules tag j content
+    of_item : is_big rules tag ≡ true → content_read (read_head (y ++ [])) ≡ Some content
+        → IsContent rules tag j content
     of_item on e =
         elim (bytes_or_not j) [
           | inl is ↦
@@ -330,8 +332,9 @@ module _ (rules : Rules) (level tag : ℕ) (w : IntegerWidth) (i : Item) (le : l
           ),
         );
         keeps = (tags, chosen_keeps rules tag w, λ asked is_one. (many, first), ((λ asked. refl), tt));
-        same = subst (λ (x : Item). IsSame rules.shortest_floats x (reduced_item rules (tagged tag c (atom (string Bytes k)))))
-            (sym given) (subst (λ (x : Item). IsSame rules.shortest_floats form x) (sym written)
+        same = subst (λ (x : Item). IsSame rules.shortest_floats x
+            (reduced_item rules (tagged tag c (atom (string Bytes k))))) (sym given)
+            (subst (λ (x : Item). IsSame rules.shortest_floats form x) (sym written)
             (same_item rules.shortest_floats form));
       }
 

@@ -1,6 +1,6 @@
 -- Keys that become one in a part of an item do so in the item, and in all items.
 use Rattle.std.proofs.Common.{◌≡◌, ℕ, zero, suc, ◌+◌, ◌-◌, ◌<◌, ◌≤◌, ◌⊎◌, List, []}
-use Rattle.std.proofs.Common.{◌∷◌, ◌++◌, length, Option, Some, None}
+use Rattle.std.proofs.Common.{◌∷◌, ◌++◌, length, None}
 use Rattle.std.proofs.Common.{inl, inr, refl, sym, ap, subst, ◌∙◌, append_assoc, arith}
 use Rattle.std.proofs.lemmas.List.{length-append}
 use Rattle.std.proofs.Math.Seq.{drop-append_seam}
@@ -11,9 +11,9 @@ use Rattle.cbor_grammar.specs.declared.argument.Argument.{Argument}
 use Rattle.cbor_grammar.specs.declared.argument.Argument.TheVariants.{Number, Indefinite}
 use Rattle.cbor_grammar.specs.Item as spec
 use Rattle.cbor_grammar.specs.Item.{Item, array, tagged, Items, no_items, item, Pairs, pair, item_count, pair_count}
-use Rattle.cbor_grammar.specs.Head.{opening, head, HeadThen}
+use Rattle.cbor_grammar.specs.Head.{head, HeadThen}
 use Rattle.cbor_grammar.specs.WellFormed.{deepest}
-use Rattle.cbor_grammar.specs.Bytes.{strict, Spells, SpellsItems, SpellsPairs}
+use Rattle.cbor_grammar.specs.Bytes.{strict, SpellsItems, SpellsPairs}
 use Rattle.cbor_grammar.specs.Written.{encoded, encoded_head, encoded_open}
 use Rattle.cbor_grammar.specs.Reading.{after_members, count_width}
 use Rattle.cbor_grammar.specs.mirror.Lengths.{left_of}
@@ -31,7 +31,7 @@ use Rattle.cbor_reencode.specs.declared.pairs.Pair.{Pair}
 use Rattle.cbor_reencode.specs.declared.error.ReencodeError.{ReencodeError}
 use Rattle.cbor_reencode.specs.declared.error.ReencodeError.TheVariants.{Memory, Breach, KeyTwice, Written}
 use Rattle.cbor_reencode.specs.Reencoded.{BecomeOne, HasMap, HasMapItems, HasMapPairs, HasKeyTwice, IsFound}
-use Rattle.cbor_reencode.specs.mirror.Checked.{Checked, checked_rules, PartsLeft, MembersLeft, PairsLeft, ValueLeft}
+use Rattle.cbor_reencode.specs.mirror.Checked.{Checked, checked_rules, PartsLeft, MembersLeft, PairsLeft}
 use Rattle.cbor_reencode.specs.mirror.Rewritten.{Rewritten, RewrittenPairs, CountIs, close, PairsAre, PlacesAre}
 use Rattle.cbor_reencode.specs.mirror.Rewritten.{AreTwice, IsStopped}
 use Rattle.cbor_reencode.specs.mirror.Twice.{TwiceAt, TwiceMembers, TwicePairs, TwiceItems, IsFoundAt}

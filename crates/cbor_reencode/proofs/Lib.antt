@@ -11,3 +11,4 @@ pub mod BigNumbers
 pub mod Containers
 pub mod Twice
 pub mod Inwards
+pub mod Around

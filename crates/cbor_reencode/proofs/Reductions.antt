@@ -1,5 +1,5 @@
 -- What the rules leave of a float is the same number, and keeps them.
-use Rattle.std.proofs.Common.{◌≡◌, ◌≢◌, ℕ, ◌-◌, Bool, true, false, cond, ltb, not, ◌&&◌, List, Option, Some, None}
+use Rattle.std.proofs.Common.{◌≡◌, ◌≢◌, ℕ, ◌-◌, Bool, true, false, cond, ltb, not, ◌&&◌, Option, Some, None}
 use Rattle.std.proofs.Common.{refl, sym, ap, subst, ◌∙◌, arith}
 use lib.Ieee.{is_nan, of_bits}
 use Rattle.std.specs.Prelude.{IsTrue, from_bits}
@@ -8,7 +8,7 @@ use Rattle.cbor_grammar.specs.declared.width.IntegerWidth.TheVariants as width
 use Rattle.cbor_grammar.specs.declared.width.FloatWidth.TheVariants as float_width
 use Rattle.cbor_grammar.specs.Item.{Atom, integer, negative, float}
 use Rattle.cbor_floats.specs.Value.{half_value}
-use Rattle.cbor_floats.specs.Preferred.{widened, FitsWidth, IsShorter, IsPreferred}
+use Rattle.cbor_floats.specs.Preferred.{widened, IsPreferred}
 use Rattle.cbor_floats.specs.declared.float.EncodedFloat.{EncodedFloat}
 use Rattle.cbor_floats.specs.declared.float.EncodedFloat.TheVariants.{Half, Single, Double}
 use Rattle.cbor_rules.specs.declared.rules.Rules.{Rules}
@@ -22,7 +22,7 @@ use Rattle.cbor_reencode.specs.declared.numbers.Reduced.{Reduced}
 use Rattle.cbor_reencode.specs.declared.numbers.Reduced.TheVariants as code
 use Rattle.cbor_reencode.specs.Reduction.{sized, sized_or, reduced_float, reduced_atom}
 use Rattle.cbor_reencode.specs.mirror.Chosen.{IsChosen}
-use Rattle.cbor_reencode.specs.mirror.Numbers.{float_atom, plain, atom_of, FitsNumber, IsNumber}
+use Rattle.cbor_reencode.specs.mirror.Numbers.{float_atom, plain, FitsNumber, IsNumber}
 use Rattle.cbor_reencode.proofs.Atoms.{float_is, said_again, reduced_again}
 
 -- ---- the same number
@@ -77,7 +77,8 @@ chosen_number rules f g is red =
 
 -- ---- an integer
 
-no_float : (s : Bool) (g : EncodedFloat) (m k : ℕ) → float_atom g ≡ cond s (negative m width.Unknown) (integer k width.Unknown) → ⊥
+no_float : (s : Bool) (g : EncodedFloat) (m k : ℕ)
+    → float_atom g ≡ cond s (negative m width.Unknown) (integer k width.Unknown) → ⊥
 no_float true g m k e = absurd cc
 no_float false g m k e = absurd cc
 

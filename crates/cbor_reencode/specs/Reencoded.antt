@@ -49,7 +49,7 @@ pub record Again (rules : Rules) (level : ℕ) (i : Item) (bytes : List ℕ) : T
   pub keeps : Keeps (without_memory rules) level item
   pub same : IsSameNumbered rules i item
 
--- This many bytes come before that key of these pairs, and so many before the first of them.
+-- `place` bytes come before this key of these pairs, and `start` before the first of them.
 abbrev pub IsKeyAt : ℕ → Pairs → ℕ → Item → Type 0
 IsKeyAt start no_pairs place key = ⊥
 IsKeyAt start (pair k v ps) place key =
@@ -67,7 +67,7 @@ pub record BecomeOne (rules : Rules) (first second level start : ℕ) (ps : Pair
   pub other_again : Again rules level other bytes
 
 -- A map in this item has pairs of which this is so: of their level, of how many bytes come before them, and of the
--- pairs. So many bytes come before the item.
+-- pairs. `start` bytes come before the item.
 abbrev mutual
   pub HasMap : (ℕ → ℕ → Pairs → Type 0) → ℕ → ℕ → Item → Type 0
   HasMap Holds level start (atom a) = ⊥

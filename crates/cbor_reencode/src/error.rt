@@ -11,9 +11,9 @@ pub enum ReencodeError {
     /// An allocation failed.
     Memory,
     /// The bytes are no items of RFC 8949, one after the other, or they break a rule that no other
-    /// choice of widths, lengths, order and forms of numbers keeps: a tag, a level that is too deep,
-    /// a simple value other than the rules have, a text that is not in NFC, or, by its bytes, a key
-    /// that stands twice.
+    /// choice of widths, lengths, order and forms of numbers keeps: a tag, a level that is too
+    /// deep, a simple value other than the rules have, a text that is not in NFC, or, by its bytes,
+    /// a key that stands twice.
     Breach(Breach),
     /// Two keys of a map are the same bytes once they are encoded again: how many bytes come before
     /// each of them.

@@ -275,8 +275,8 @@ fn check_written(alloc: Global, written: &[u8], rules: Rules) -> Result<(), Reen
 /// keep the rules are returned as they are.
 ///
 /// Of numbers, those change of which the rules leave one form: by `reduced_floats`, as in dCBOR, a
-/// float that is an integer becomes that integer, and each NaN f97e00; by `big_numbers`, a big number
-/// becomes an integer where one can have it, and else has no zero byte in front.
+/// float that is an integer becomes that integer, and each NaN f97e00; by `big_numbers`, a big
+/// number becomes an integer where one can have it, and else has no zero byte in front.
 pub fn reencoded(alloc: Global, bytes: &[u8], rules: Rules) -> Result<Vec<u8>, ReencodeError>
     ensures is { IfOk result (λ out. IsReencoded rules bytes.now out.items) }
     ensures keeps { IfOk result (λ out. KeepsRules rules out.items) }

@@ -5,7 +5,8 @@ ghost use Rattle.cbor_grammar.specs.Written.{encoded_head};
 ghost use Rattle.cbor_grammar.specs.mirror.MajorNumber.{major_number};
 ghost use Rattle.cbor_floats.specs.Preferred.{FitsWidth};
 ghost use Rattle.cbor_reencode.specs.Reduction.{big_endian, sized, without_zeros};
-ghost use Rattle.cbor_reencode.specs.mirror.Numbers.{big_content, tagged_bytes, plain, AreBytes, FitsNumber};
+ghost use Rattle.cbor_reencode.specs.mirror.Numbers.{big_content, tagged_bytes, plain, AreBytes};
+ghost use Rattle.cbor_reencode.specs.mirror.Numbers.{FitsNumber};
 ghost use Rattle.cbor_reencode.specs.mirror.Numbers.{IsNumber, number_bytes};
 
 use crate::encoder::Encoder;

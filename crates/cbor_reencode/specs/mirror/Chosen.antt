@@ -14,7 +14,7 @@ use Rattle.cbor_rules.specs.declared.rules.Rules.{Rules}
 abbrev pub chosen_width : Rules → ℕ → IntegerWidth → IntegerWidth
 chosen_width rules n w = if rules.shortest_heads then shortest n else w
 
--- of a container that held so many
+-- of a container that held this many
 abbrev pub chosen_count : Rules → Argument → ℕ → Option IntegerWidth
 chosen_count rules (Number n w) held = Some (chosen_width rules held w)
 chosen_count rules Indefinite held = if rules.definite_lengths then Some (shortest held) else None

@@ -1,5 +1,6 @@
 -- What is written for a float, and for a tag and its item.
-use Rattle.std.specs.Prelude.{◌≡◌, ℕ, ◌<◌, ◌^◌, ◌++◌, ◌==◌, nat_lt, if◌then◌else◌, slice_index, List, length, Option, Some, None, Ok}
+use Rattle.std.specs.Prelude.{◌≡◌, ℕ, ◌<◌, ◌^◌, ◌++◌, ◌==◌, nat_lt, if◌then◌else◌, slice_index, List, length, Option}
+use Rattle.std.specs.Prelude.{Some, None, Ok}
 use Rattle.cbor_grammar.specs.declared.width.IntegerWidth.{IntegerWidth}
 use Rattle.cbor_grammar.specs.declared.width.IntegerWidth.TheVariants as width
 use Rattle.cbor_grammar.specs.declared.argument.Argument.TheVariants.{Number}

@@ -74,7 +74,8 @@ pub record RewrittenAtom (rules : Rules) (b rest old new : List ℕ) : Type 0 wh
   pub written : Atom
   pub written_spells : SpellsAtom strict bytes written
   pub keeps : KeepsAtom (without_memory rules) written
-  pub same : said rules.shortest_floats (reduced_atom rules atom) ≡ said rules.shortest_floats (reduced_atom rules written)
+  pub same : said rules.shortest_floats (reduced_atom rules atom)
+      ≡ said rules.shortest_floats (reduced_atom rules written)
 
 -- ---- containers
 
@@ -114,7 +115,7 @@ PairsAre rules level no_pairs [] = Unit {0}
 PairsAre rules level (pair k v ps) (x ∷ xs) = PairIs rules level k v x × PairsAre rules level ps xs
 PairsAre rules level ps xs = ⊥
 
--- so many bytes come before each key, and this many before the first
+-- each key with how many bytes come before it, where this many come before the first
 abbrev pub PlacesAre : ℕ → Pairs → List Pair → Type 0
 PlacesAre start no_pairs [] = Unit {0}
 PlacesAre start (pair k v ps) (x ∷ xs) =

@@ -1,64 +1,42 @@
 -- A container is written after its members.
-use Rattle.std.proofs.Common.{◌≡◌, ℕ, ◌+◌, ◌^◌, ◌<◌, List, [], ◌++◌, length, sym, ap, subst, ◌∙◌, arith, Ok, None, Some}
-use Rattle.std.proofs.Common.{◌∷◌, refl, rules}
+use Rattle.std.proofs.Common.{◌≡◌, ℕ, ◌+◌, ◌^◌, ◌<◌, List, [], ◌∷◌, length, refl, sym, ap, subst, ◌∙◌, rules, arith}
+use Rattle.std.proofs.Common.{None, Some}
 use Rattle.std.proofs.lemmas.List.{length-append}
 use Rattle.std.proofs.lemmas.List.Sorted.{length_permutation}
-use Rattle.cbor_grammar.specs.declared.head.ItemHead.TheVariants as item_head
-use Rattle.cbor_grammar.specs.declared.head.ItemHead.{ItemHead}
-use Rattle.cbor_grammar.specs.Reading.{after_members, read_head}
-use Rattle.cbor_grammar.specs.Written.{encoded_open, encoded_close}
-use Rattle.cbor_grammar.specs.mirror.Lengths.{left_of}
-use Rattle.cbor_grammar.proofs.bytes.Heads.{head_takes, IsBytes}
-use Rattle.cbor_reencode.specs.mirror.Numbers.{tagged_bytes}
-use Rattle.cbor_reencode.specs.declared.pairs.Pair.{Pair}
-use Rattle.cbor_reencode.specs.mirror.Chosen.{chosen_count}
-use Rattle.cbor_reencode.specs.mirror.Rewritten.{Rewritten, RewrittenItems, pair_bytes}
-use Rattle.cbor_reencode.proofs.Containers.{atom_done, items_start, items_step, items_whole, pairs_start, pairs_step}
-use Rattle.cbor_reencode.proofs.Containers.{pairs_whole, pairs_count}
-use Rattle.cbor_reencode.specs.mirror.Checked.{Checked, PairsLeft}
-use Rattle.cbor_reencode.proofs.Checked.{started, opened_at, array_deep, map_deep, tag_kept, members_start}
-use Rattle.cbor_reencode.proofs.Checked.{member_starts}
-use Rattle.cbor_reencode.proofs.Checked.{member_ends, members_end, first_pairs, key_starts, key_ends, value_starts}
-use Rattle.cbor_reencode.proofs.Checked.{value_ends, pairs_end, tag_start, tag_starts, tag_ends, atom_there, no_parts}
-use Rattle.cbor_reencode.proofs.Containers.{held_fits, array_done, map_done, tag_done}
 use Rattle.std.proofs.lemmas.Result.{err_from_is_err_and}
-use Rattle.cbor_reencode.proofs.Inwards.{head_behind, tag_behind, bytes_after, lift, stopped, member_twice}
-use Rattle.cbor_reencode.proofs.Inwards.{members_at_first, members_inwards, array_twice, key_twice, value_twice}
-use Rattle.cbor_reencode.proofs.Inwards.{PairsInwards, pairs_at_first, pairs_inwards, map_twice, keys_twice, tag_twice}
+use Rattle.cbor_grammar.specs.declared.head.ItemHead.TheVariants as item_head
+use Rattle.cbor_grammar.proofs.bytes.Heads.{head_takes}
+use Rattle.cbor_reencode.specs.declared.pairs.Pair.{Pair}
+use Rattle.cbor_reencode.specs.mirror.Checked.{Checked, PairsLeft}
+use Rattle.cbor_reencode.specs.mirror.Rewritten.{Rewritten}
+use Rattle.cbor_reencode.proofs.Around.{item_starts, array_at, array_fits, array_written, member_found, counted, map_at}
+use Rattle.cbor_reencode.proofs.Around.{map_fits, map_written, keys_found, key_found, value_found, tag_at, tag_written}
+use Rattle.cbor_reencode.proofs.Around.{tag_found}
+use Rattle.cbor_reencode.proofs.Checked.{started, opened_at, members_start, member_starts, member_ends, members_end}
+use Rattle.cbor_reencode.proofs.Checked.{first_pairs, key_starts, key_ends, value_starts, value_ends, pairs_end}
+use Rattle.cbor_reencode.proofs.Checked.{tag_starts, tag_ends, atom_there, no_parts}
+use Rattle.cbor_reencode.proofs.Containers.{atom_done, items_start, items_step, pairs_start, pairs_step}
+use Rattle.cbor_reencode.proofs.Inwards.{head_behind, tag_behind, bytes_after, members_at_first, members_inwards}
+use Rattle.cbor_reencode.proofs.Inwards.{PairsInwards, pairs_at_first, pairs_inwards}
 use Rattle.cbor_reencode.proofs.encoder.Encoder.+item.Goals as goal
 
 -- ---- arrays
 
 pub push_array-push_members-requires : goal.push_array-push_members-requires
 push_array-push_members-requires t c =
-    let a = c.args.count in
-    let is = head_takes c.args.bytes.now c.args.members.now (item_head.Array a)
-    (λ i. omega (arith, c.type_inv.bytes i)) c.requires.read in
-    let m = items_whole c.args.self.rules (c.args.level + 1) a c.members.number c.args.members.now c.members.rest.now
-    c.in-Some.after.now c.members.written.items c.members.invariant.more (sym c.in-Some.ensures) in
-    held_fits 4 a c.members.number c.args.bytes.now c.args.members.now is.0 m.count
+    let at = array_at c.args.self.rules c.args.self.len c.args.level c.args.count c.args.bytes.now c.args.members.now
+    c.requires.level c.requires.within (λ i. omega (arith, c.type_inv.bytes i)) c.requires.read c.requires.checked in
+    array_fits at c.members.number c.members.rest.now c.in-Some.after.now c.members.written.items
+    c.members.invariant.more c.in-Some.ensures
 
 pub push_array-returns-in-Some-clause-writes : goal.push_array-returns-in-Some-clause-writes
 push_array-returns-in-Some-clause-writes t c =
-    let a = c.args.count in
-    let n = c.members.number in
-    let rules = c.args.self.rules in
-    let inner = c.deref.result.now in
-    let after = c.in-Some.after.now in
-    let is = head_takes c.args.bytes.now c.args.members.now (item_head.Array a)
-    (λ i. omega (arith, c.type_inv.bytes i)) c.requires.read in
-    let m = items_whole rules (c.args.level + 1) a n c.args.members.now c.members.rest.now after c.members.written.items
-    c.members.invariant.more (sym c.in-Some.ensures) in
-    let its = subst (λ (x : List ℕ). RewrittenItems rules (c.args.level + 1) a c.args.members.now after [] x n)
-    (sym c.deref.ensures.value) m in
-    let v = chosen_count rules a n in
-    let written = c.in_ok-push_members.ensures ∙ ap (λ (x : List ℕ).
-    x ++ (encoded_open 4 n v ++ (inner ++ encoded_close v))) c.members.invariant.untouched in
-    let deep = array_deep rules c.args.self.len c.args.level c.args.bytes.now c.requires.checked.0 a c.args.members.now
-    (opened_at rules c.args.self.len c.args.level c.args.bytes.now c.requires.checked.0 (item_head.Array a)
-    c.args.members.now c.requires.checked.1 c.requires.read) in
-    array_done rules c.args.level a c.args.bytes.now c.args.members.now after inner c.args.out.now.items
-    c.push_members.new.out.items n c.requires.level deep (omega arith) is.0 its written
+    let at = array_at c.args.self.rules c.args.self.len c.args.level c.args.count c.args.bytes.now c.args.members.now
+    c.requires.level c.requires.within (λ i. omega (arith, c.type_inv.bytes i)) c.requires.read c.requires.checked in
+    let i = c.members.invariant in
+    array_written at c.members.number c.members.rest.now c.in-Some.after.now c.members.written.items
+    c.deref.result.now c.args.out.now.items _ c.push_members.new.out.items (omega arith) i.more c.in-Some.ensures
+    c.deref.ensures.value i.untouched c.in_ok-push_members.ensures
 
 pub push_array-members-preserved : goal.push_array-members-preserved
 push_array-members-preserved t c =
@@ -112,18 +90,11 @@ push_array-push_item-requires t c = (
 pub push_array-returns-in_err-rest-clause-found : goal.push_array-returns-in_err-rest-clause-found
 push_array-returns-in_err-rest-clause-found t c =
     let p = err_from_is_err_and c.from_residual-in_err-rest.result c.from_residual-in_err-rest.ensures.1 in
-    let rules = c.args.self.rules in
-    let len = c.args.self.len in
-    let level = c.args.level in
-    let b = c.args.bytes.now in
-    let a = c.args.count in
+    let at = array_at c.args.self.rules c.args.self.len c.args.level c.args.count c.args.bytes.now c.args.members.now
+    c.requires.level c.requires.within (λ i. omega (arith, c.type_inv.bytes i)) c.requires.read c.requires.checked in
     let i = c.members.invariant in
-    let is = head_takes b c.args.members.now (item_head.Array a) (λ i. omega (arith, c.type_inv.bytes i))
-    c.requires.read in
-    rw (p.1, p.2) (lift rules len level b (level + 1) c.members.rest.now c.in_err-rest.field-0.0
-    (λ first second at. array_twice rules len level b a c.args.members.now first second c.requires.level
-    c.requires.within is.0 (i.twice first second (member_twice rules len level b a c.members.number c.members.rest.now
-    first second c.requires.level i.fits i.left (sym c.in_default.ensures) at))) c.in_err-rest.ensures.found)
+    rw (p.1, p.2) (member_found at c.members.number c.members.rest.now c.in_err-rest.field-0.0 i.fits i.left
+    c.in_default.ensures i.twice c.in_err-rest.ensures.found)
 
 pub push_array-returns-in-Some-clause-checked : goal.push_array-returns-in-Some-clause-checked
 push_array-returns-in-Some-clause-checked t c =
@@ -139,62 +110,30 @@ push_item-unreachable-requires t c =
     let wrong = sym s.read ∙ c.in_default.ensures.gives in
     cc
 
-head_is : (b r : List ℕ) (h k : ItemHead) → read_head b ≡ Ok (h, r) → h ≡ k → read_head b ≡ Ok (k, r)
-head_is b r h k e is = e ∙ ap (λ (x : ItemHead). Ok (x, r)) is
-
 pub push_item-push_array-requires : goal.push_item-push_array-requires
-push_item-push_array-requires t c =
-    let s = started c.args.self.rules c.args.self.len c.args.level c.args.bytes.now c.requires.checked.0
-    c.requires.checked.1 in (
-      search rules,
-      (
-        s.le,
-        (
-          c.requires.within,
-          (
-            head_is c.args.bytes.now c.in-Ok.rest.now c.in-Ok.head (item_head.Array c.in-Array.count)
-                c.in-Ok.ensures.gives c.in-Array.is,
-            c.requires.checked,
-          ),
-        ),
-      ),
-    )
+push_item-push_array-requires t c = (
+  search rules,
+  item_starts c.args.self.rules c.args.self.len c.args.level c.args.bytes.now c.in-Ok.head
+      (item_head.Array c.in-Array.count) c.in-Ok.rest.now c.requires.checked c.requires.within c.in-Ok.ensures.gives
+      c.in-Array.is,
+)
 
 pub push_item-push_map-requires : goal.push_item-push_map-requires
-push_item-push_map-requires t c =
-    let s = started c.args.self.rules c.args.self.len c.args.level c.args.bytes.now c.requires.checked.0
-    c.requires.checked.1 in (
-      search rules,
-      (
-        s.le,
-        (
-          c.requires.within,
-          (
-            head_is c.args.bytes.now c.in-Ok.rest.now c.in-Ok.head (item_head.Map c.in-Map.count)
-                c.in-Ok.ensures.gives c.in-Map.is,
-            c.requires.checked,
-          ),
-        ),
-      ),
-    )
+push_item-push_map-requires t c = (
+  search rules,
+  item_starts c.args.self.rules c.args.self.len c.args.level c.args.bytes.now c.in-Ok.head
+      (item_head.Map c.in-Map.count) c.in-Ok.rest.now c.requires.checked c.requires.within c.in-Ok.ensures.gives
+      c.in-Map.is,
+)
 
 pub push_item-push_tagged-requires : goal.push_item-push_tagged-requires
-push_item-push_tagged-requires t c =
-    let s = started c.args.self.rules c.args.self.len c.args.level c.args.bytes.now c.requires.checked.0
-    c.requires.checked.1 in (
-      search rules,
-      (
-        s.le,
-        (
-          c.requires.within,
-          (
-            head_is c.args.bytes.now c.in-Ok.rest.now c.in-Ok.head (item_head.Tag c.in-Tag.tag c.in-Tag.width)
-                c.in-Ok.ensures.gives c.in-Tag.is,
-            c.requires.checked,
-          ),
-        ),
-      ),
-    )
+push_item-push_tagged-requires t c = (
+  search rules,
+  item_starts c.args.self.rules c.args.self.len c.args.level c.args.bytes.now c.in-Ok.head
+      (item_head.Tag c.in-Tag.tag c.in-Tag.width)
+      c.in-Ok.rest.now c.requires.checked c.requires.within c.in-Ok.ensures.gives
+      c.in-Tag.is,
+)
 
 pub push_item-push_atom-requires : goal.push_item-push_atom-requires
 push_item-push_atom-requires t c =
@@ -259,17 +198,16 @@ push_map-pairs-init t c =
 
 pub push_map-push_item-requires : goal.push_map-push_item-requires
 push_map-push_item-requires t c =
-    let xs = c.pairs.pairs.items in
-    let len : c.len.result ≡ length xs = omega (arith, c.len.ensures, c.pairs.pairs.ok.0) in
-    let none = subst (λ k. after_members (left_of c.args.count k) c.pairs.rest.now ≡ None) len
-    (sym c.in_default.ensures) in (
+    let none = counted c.args.count c.len.result c.pairs.pairs.items c.pairs.rest.now None
+    (omega (arith, c.len.ensures, c.pairs.pairs.ok.0)) c.in_default.ensures in
+    let i = c.pairs.invariant in (
       search rules,
       (
         omega arith,
         (
-          c.pairs.invariant.within,
-          key_starts c.args.self.rules c.args.self.len c.args.level c.args.bytes.now c.args.count (length xs)
-              c.pairs.rest.now c.pairs.invariant.left none,
+          i.within,
+          key_starts c.args.self.rules c.args.self.len c.args.level c.args.bytes.now c.args.count
+              (length c.pairs.pairs.items) c.pairs.rest.now i.left none,
         ),
       ),
     )
@@ -278,9 +216,8 @@ pub push_map-push_item-requires-in-pairs : goal.push_map-push_item-requires-in-p
 push_map-push_item-requires-in-pairs t c =
     let xs = c.pairs.pairs.items in
     let middle = c.in_ok-value_bytes.value_bytes.now in
-    let len : c.len.result ≡ length xs = omega (arith, c.len.ensures, c.pairs.pairs.ok.0) in
-    let none = subst (λ k. after_members (left_of c.args.count k) c.pairs.rest.now ≡ None) len
-    (sym c.in_default.ensures) in
+    let none = counted c.args.count c.len.result c.pairs.pairs.items c.pairs.rest.now None
+    (omega (arith, c.len.ensures, c.pairs.pairs.ok.0)) c.in_default.ensures in
     let key_read = key_ends c.args.self.rules c.args.self.len c.args.level c.args.bytes.now c.args.count (length xs)
     c.pairs.rest.now middle c.pairs.invariant.left none c.in_ok-value_bytes.ensures.checked in (
       search rules,
@@ -298,114 +235,66 @@ pub push_map-returns-in_err-value_bytes-clause-found : goal.push_map-returns-in_
 push_map-returns-in_err-value_bytes-clause-found t c =
     let p = err_from_is_err_and c.from_residual-in_err-value_bytes.result
     c.from_residual-in_err-value_bytes.ensures.1 in
-    let rules = c.args.self.rules in
-    let len = c.args.self.len in
-    let level = c.args.level in
-    let b = c.args.bytes.now in
-    let a = c.args.count in
+    let at = map_at c.args.self.rules c.args.self.len c.args.level c.args.count c.args.bytes.now c.args.members.now
+    c.requires.level c.requires.within (λ i. omega (arith, c.type_inv.bytes i)) c.requires.read c.requires.checked in
+    let none = counted c.args.count c.len.result c.pairs.pairs.items c.pairs.rest.now None
+    (omega (arith, c.len.ensures, c.pairs.pairs.ok.0)) c.in_default.ensures in
     let i = c.pairs.invariant in
-    let xs = c.pairs.pairs.items in
-    let held : c.len.result ≡ length xs = omega (arith, c.len.ensures, c.pairs.pairs.ok.0) in
-    let none = subst (λ k. after_members (left_of a k) c.pairs.rest.now ≡ None) held (sym c.in_default.ensures) in
-    let is = head_takes b c.args.members.now (item_head.Map a) (λ i. omega (arith, c.type_inv.bytes i))
-    c.requires.read in
-    rw (p.1, p.2) (lift rules len level b (level + 1) c.pairs.rest.now c.in_err-value_bytes.field-0.0
-    (λ first second at. map_twice rules len level b a c.args.members.now first second c.requires.level
-    c.requires.within is.0 (i.twice first second (key_twice rules len level b a (length xs) c.pairs.rest.now
-    first second c.requires.level i.within i.fits i.left none at))) c.in_err-value_bytes.ensures.found)
+    rw (p.1, p.2) (key_found at c.pairs.pairs.items c.pairs.rest.now i.left i.within i.fits none i.twice
+    c.in_err-value_bytes.field-0.0 c.in_err-value_bytes.ensures.found)
 
 pub push_map-returns-in_err-rest-clause-found : goal.push_map-returns-in_err-rest-clause-found
 push_map-returns-in_err-rest-clause-found t c =
     let p = err_from_is_err_and c.from_residual-in_err-rest.result c.from_residual-in_err-rest.ensures.1 in
-    let rules = c.args.self.rules in
-    let len = c.args.self.len in
-    let level = c.args.level in
-    let b = c.args.bytes.now in
-    let a = c.args.count in
+    let at = map_at c.args.self.rules c.args.self.len c.args.level c.args.count c.args.bytes.now c.args.members.now
+    c.requires.level c.requires.within (λ i. omega (arith, c.type_inv.bytes i)) c.requires.read c.requires.checked in
+    let none = counted c.args.count c.len.result c.pairs.pairs.items c.pairs.rest.now None
+    (omega (arith, c.len.ensures, c.pairs.pairs.ok.0)) c.in_default.ensures in
     let i = c.pairs.invariant in
-    let xs = c.pairs.pairs.items in
-    let middle = c.in_ok-value_bytes.value_bytes.now in
-    let held : c.len.result ≡ length xs = omega (arith, c.len.ensures, c.pairs.pairs.ok.0) in
-    let none = subst (λ k. after_members (left_of a k) c.pairs.rest.now ≡ None) held (sym c.in_default.ensures) in
-    let is = head_takes b c.args.members.now (item_head.Map a) (λ i. omega (arith, c.type_inv.bytes i))
-    c.requires.read in
-    rw (p.1, p.2) (lift rules len level b (level + 1) middle c.in_err-rest.field-0.0
-    (λ first second at. map_twice rules len level b a c.args.members.now first second c.requires.level
-    c.requires.within is.0 (i.twice first second (value_twice rules len level b a (length xs) c.pairs.rest.now middle
-    c.new-key.result.items c.push_item.new.out.items first second c.requires.level i.within i.fits i.left none
-    c.in_ok-value_bytes.ensures.writes c.in_ok-value_bytes.ensures.checked at))) c.in_err-rest.ensures.found)
+    let key = c.in_ok-value_bytes.ensures in
+    rw (p.1, p.2) (value_found at c.pairs.pairs.items c.pairs.rest.now i.left i.within i.fits none i.twice
+    c.in_ok-value_bytes.value_bytes.now c.new-key.result.items c.push_item.new.out.items c.in_err-rest.field-0.0
+    key.writes key.checked c.in_err-rest.ensures.found)
 
 pub push_map-returns-in_err-push_sorted-clause-found : goal.push_map-returns-in_err-push_sorted-clause-found
 push_map-returns-in_err-push_sorted-clause-found t c =
     let p = err_from_is_err_and c.from_residual.result c.from_residual.ensures.1 in
-    let rules = c.args.self.rules in
-    let len = c.args.self.len in
-    let level = c.args.level in
-    let b = c.args.bytes.now in
-    let a = c.args.count in
+    let at = map_at c.args.self.rules c.args.self.len c.args.level c.args.count c.args.bytes.now c.args.members.now
+    c.requires.level c.requires.within (λ i. omega (arith, c.type_inv.bytes i)) c.requires.read c.requires.checked in
+    let end = counted c.args.count c.len.result c.pairs.pairs.items c.pairs.rest.now (Some c.in-Some.after.now)
+    (omega (arith, c.len.ensures, c.pairs.pairs.ok.0)) c.in-Some.ensures in
     let i = c.pairs.invariant in
-    let xs = c.pairs.pairs.items in
-    let after = c.in-Some.after.now in
-    let held : c.len.result ≡ length xs = omega (arith, c.len.ensures, c.pairs.pairs.ok.0) in
-    let end = subst (λ k. after_members (left_of a k) c.pairs.rest.now ≡ Some after) held (sym c.in-Some.ensures) in
-    let is = head_takes b c.args.members.now (item_head.Map a) (λ i. omega (arith, c.type_inv.bytes i))
-    c.requires.read in
-    let m = pairs_whole rules len (level + 1) a c.args.members.now c.pairs.rest.now after xs i.more end in
-    let checked = pairs_end rules len level b a (length xs) c.pairs.rest.now after i.left end in
-    rw (p.1, p.2) (stopped rules len level b c.push_sorted.new.pairs.items c.in_err-push_sorted.field-0.0
-    (λ first second t. keys_twice rules len level b a c.args.members.now after xs c.push_sorted.new.pairs.items first
-    second c.requires.level c.requires.within is.0 checked m c.in_err-push_sorted.ensures.sorts t)
-    c.in_err-push_sorted.ensures.found)
+    let e = c.in_err-push_sorted.ensures in
+    rw (p.1, p.2) (keys_found at c.pairs.pairs.items c.pairs.rest.now i.left c.in-Some.after.now
+    c.push_sorted.new.pairs.items c.in_err-push_sorted.field-0.0 i.more end e.sorts e.found)
 
 pub push_map-returns-in-Some-clause-checked : goal.push_map-returns-in-Some-clause-checked
 push_map-returns-in-Some-clause-checked t c =
-    let xs = c.pairs.pairs.items in
-    let len : c.len.result ≡ length xs = omega (arith, c.len.ensures, c.pairs.pairs.ok.0) in
-    let end = subst (λ k. after_members (left_of c.args.count k) c.pairs.rest.now ≡ Some c.in-Some.after.now) len
-    (sym c.in-Some.ensures) in
-    pairs_end c.args.self.rules c.args.self.len c.args.level c.args.bytes.now c.args.count (length xs) c.pairs.rest.now
-    c.in-Some.after.now c.pairs.invariant.left end
+    let end = counted c.args.count c.len.result c.pairs.pairs.items c.pairs.rest.now (Some c.in-Some.after.now)
+    (omega (arith, c.len.ensures, c.pairs.pairs.ok.0)) c.in-Some.ensures in
+    pairs_end c.args.self.rules c.args.self.len c.args.level c.args.bytes.now c.args.count
+    (length c.pairs.pairs.items) c.pairs.rest.now c.in-Some.after.now c.pairs.invariant.left end
 
 pub push_map-push_sorted-requires : goal.push_map-push_sorted-requires
 push_map-push_sorted-requires t c =
-    let a = c.args.count in
-    let xs = c.pairs.pairs.items in
-    let len : c.len.result ≡ length xs = omega (arith, c.len.ensures, c.pairs.pairs.ok.0) in
-    let end = subst (λ k. after_members (left_of a k) c.pairs.rest.now ≡ Some c.in-Some.after.now) len
-    (sym c.in-Some.ensures) in
-    let is = head_takes c.args.bytes.now c.args.members.now (item_head.Map a)
-    (λ i. omega (arith, c.type_inv.bytes i)) c.requires.read in
-    let m = pairs_whole c.args.self.rules c.args.self.len (c.args.level + 1) a c.args.members.now c.pairs.rest.now
-    c.in-Some.after.now
-    xs c.pairs.invariant.more end in
-    held_fits 5 a (length xs) c.args.bytes.now c.args.members.now is.0
-    (pairs_count c.args.self.rules c.args.self.len (c.args.level + 1) a c.args.members.now c.in-Some.after.now xs m)
+    let at = map_at c.args.self.rules c.args.self.len c.args.level c.args.count c.args.bytes.now c.args.members.now
+    c.requires.level c.requires.within (λ i. omega (arith, c.type_inv.bytes i)) c.requires.read c.requires.checked in
+    let end = counted c.args.count c.len.result c.pairs.pairs.items c.pairs.rest.now (Some c.in-Some.after.now)
+    (omega (arith, c.len.ensures, c.pairs.pairs.ok.0)) c.in-Some.ensures in
+    map_fits at c.pairs.pairs.items c.pairs.rest.now c.in-Some.after.now c.pairs.invariant.more end
 
 pub push_map-returns-in-Some-clause-writes : goal.push_map-returns-in-Some-clause-writes
 push_map-returns-in-Some-clause-writes t c =
-    let a = c.args.count in
-    let rules = c.args.self.rules in
-    let xs = c.pairs.pairs.items in
-    let ys = c.push_sorted.new.pairs.items in
-    let after = c.in-Some.after.now in
-    let len : c.len.result ≡ length xs = omega (arith, c.len.ensures, c.pairs.pairs.ok.0) in
-    let end = subst (λ k. after_members (left_of a k) c.pairs.rest.now ≡ Some after) len (sym c.in-Some.ensures) in
-    let is = head_takes c.args.bytes.now c.args.members.now (item_head.Map a)
-    (λ i. omega (arith, c.type_inv.bytes i)) c.requires.read in
-    let m = pairs_whole rules c.args.self.len (c.args.level + 1) a c.args.members.now c.pairs.rest.now after xs
-    c.pairs.invariant.more
-    end in
+    let at = map_at c.args.self.rules c.args.self.len c.args.level c.args.count c.args.bytes.now c.args.members.now
+    c.requires.level c.requires.within (λ i. omega (arith, c.type_inv.bytes i)) c.requires.read c.requires.checked in
+    let end = counted c.args.count c.len.result c.pairs.pairs.items c.pairs.rest.now (Some c.in-Some.after.now)
+    (omega (arith, c.len.ensures, c.pairs.pairs.ok.0)) c.in-Some.ensures in
+    let i = c.pairs.invariant in
     let s = c.in_ok-push_sorted.ensures in
-    let n = length ys in
-    let v = chosen_count rules a n in
-    let few : n < 2 ^ 64 = omega (arith, length_permutation xs ys s.sorts) in
-    let written = s.writes ∙ ap (λ (x : List ℕ). x ++ (encoded_open 5 n v ++ (pair_bytes ys ++ encoded_close v)))
-    c.pairs.invariant.untouched in
-    let deep = map_deep rules c.args.self.len c.args.level c.args.bytes.now c.requires.checked.0 a c.args.members.now
-    (opened_at rules c.args.self.len c.args.level c.args.bytes.now c.requires.checked.0 (item_head.Map a)
-    c.args.members.now c.requires.checked.1 c.requires.read) in
-    map_done rules c.args.self.len c.args.level a c.args.bytes.now c.args.members.now after c.args.out.now.items
-    c.push_sorted.new.out.items xs ys c.requires.level deep few is.0 m s.sorts s.rises written
+    let few : length c.push_sorted.new.pairs.items < 2 ^ 64 =
+    omega (arith, length_permutation c.pairs.pairs.items c.push_sorted.new.pairs.items s.sorts) in
+    map_written at c.pairs.pairs.items c.pairs.rest.now c.in-Some.after.now c.args.out.now.items _
+    c.push_sorted.new.out.items c.push_sorted.new.pairs.items few i.more end s.sorts s.rises i.untouched s.writes
 
 pub push_map-pairs-preserved : goal.push_map-pairs-preserved
 push_map-pairs-preserved t c =
@@ -414,9 +303,8 @@ push_map-pairs-preserved t c =
     let level = c.args.level + 1 in
     let xs = c.pairs.pairs.items in
     let middle = c.in_ok-value_bytes.value_bytes.now in
-    let len : c.len.result ≡ length xs = omega (arith, c.len.ensures, c.pairs.pairs.ok.0) in
-    let none = subst (λ k. after_members (left_of c.args.count k) c.pairs.rest.now ≡ None) len
-    (sym c.in_default.ensures) in
+    let none = counted c.args.count c.len.result c.pairs.pairs.items c.pairs.rest.now None
+    (omega (arith, c.len.ensures, c.pairs.pairs.ok.0)) c.in_default.ensures in
     let key = subst (λ (x : List ℕ). Rewritten rules level c.pairs.rest.now middle x c.push_item.new.out.items)
     c.new-key.ensures.items c.in_ok-value_bytes.ensures.writes in
     let value = subst (λ (x : List ℕ). Rewritten rules level middle c.in_ok-rest.rest.now x
@@ -464,37 +352,26 @@ push_tagged-push_tagged_item-requires t c =
 
 pub push_tagged-returns-clause-writes : goal.push_tagged-returns-clause-writes
 push_tagged-returns-clause-writes t c =
-    let rules = c.args.self.rules in
-    let y = c.push_item.new.out.items in
-    let h = head_takes c.args.bytes.now c.args.content.now (item_head.Tag c.args.tag c.args.width)
-    (λ i. omega (arith, c.type_inv.bytes i)) c.requires.read in
-    let inner = subst (λ (x : List ℕ). Rewritten rules (c.args.level + 1) c.args.content.now c.in_ok-rest.rest.now x y)
-    c.new-item.ensures.items c.in_ok-rest.ensures.writes in
-    let added = c.in_ok-push_tagged_item.ensures.writes
-    ∙ ap (λ (x : List ℕ). c.args.out.now.items ++ tagged_bytes rules c.args.tag c.args.width x) c.deref.ensures.value in
-    let tagged = tag_kept rules c.args.self.len c.args.level c.args.bytes.now c.requires.checked.0 c.args.tag
-    c.args.width c.args.content.now (opened_at rules c.args.self.len c.args.level c.args.bytes.now c.requires.checked.0
-    (item_head.Tag c.args.tag c.args.width) c.args.content.now c.requires.checked.1 c.requires.read) in
-    tag_done rules c.args.level c.args.tag c.args.width c.args.bytes.now c.args.content.now c.in_ok-rest.rest.now y
-    c.args.out.now.items c.push_tagged_item.new.out.items c.requires.level tagged h.0 inner
-    (subst IsBytes c.deref.ensures.value c.in_ok-push_tagged_item.ensures.bytes) added
+    let at = tag_at c.args.self.rules c.args.self.len c.args.level c.args.tag c.args.width c.args.bytes.now
+    c.args.content.now c.requires.level c.requires.within (λ i. omega (arith, c.type_inv.bytes i)) c.requires.read
+    c.requires.checked in
+    let e = c.in_ok-push_tagged_item.ensures in
+    tag_written at c.in_ok-rest.rest.now c.new-item.result.items c.push_item.new.out.items _ c.args.out.now.items
+    c.push_tagged_item.new.out.items c.in_ok-rest.ensures.writes c.new-item.ensures.items c.deref.ensures.value
+    e.bytes e.writes
 
 pub push_tagged-push_item-requires : goal.push_tagged-push_item-requires
 push_tagged-push_item-requires t c =
-    let is = head_takes c.args.bytes.now c.args.content.now (item_head.Tag c.args.tag c.args.width)
-    (λ i. omega (arith, c.type_inv.bytes i)) c.requires.read in (
+    let at = tag_at c.args.self.rules c.args.self.len c.args.level c.args.tag c.args.width c.args.bytes.now
+    c.args.content.now c.requires.level c.requires.within (λ i. omega (arith, c.type_inv.bytes i)) c.requires.read
+    c.requires.checked in
+    let rest = c.args.content.now in (
       search rules,
       (
         omega arith,
         (
-          omega (
-            arith,
-            tag_behind c.args.tag c.args.width c.args.bytes.now c.args.content.now is.0,
-            c.requires.within,
-          ),
-          tag_starts c.args.self.rules c.args.self.len c.args.level c.args.bytes.now c.args.content.now
-              (tag_start c.args.self.rules c.args.self.len c.args.level c.args.bytes.now c.requires.checked.0 c.args.tag
-              c.args.width c.args.content.now c.requires.checked.1 c.requires.read),
+          omega (arith, tag_behind c.args.tag c.args.width c.args.bytes.now rest at.head, c.requires.within),
+          tag_starts c.args.self.rules c.args.self.len c.args.level c.args.bytes.now rest at.left,
         ),
       ),
     )
@@ -502,21 +379,15 @@ push_tagged-push_item-requires t c =
 pub push_tagged-returns-in_err-rest-clause-found : goal.push_tagged-returns-in_err-rest-clause-found
 push_tagged-returns-in_err-rest-clause-found t c =
     let p = err_from_is_err_and c.from_residual.result c.from_residual.ensures.1 in
-    let rules = c.args.self.rules in
-    let len = c.args.self.len in
-    let level = c.args.level in
-    let b = c.args.bytes.now in
-    let r = c.args.content.now in
-    let is = head_takes b r (item_head.Tag c.args.tag c.args.width) (λ i. omega (arith, c.type_inv.bytes i))
-    c.requires.read in
-    let start = tag_start rules len level b c.requires.checked.0 c.args.tag c.args.width r c.requires.checked.1
-    c.requires.read in
-    rw (p.1, p.2) (lift rules len level b (level + 1) r c.in_err-rest.field-0.0
-    (λ first second at. tag_twice rules len level b c.args.tag c.args.width r first second c.requires.level
-    c.requires.within is.0 start at) c.in_err-rest.ensures.found)
+    let at = tag_at c.args.self.rules c.args.self.len c.args.level c.args.tag c.args.width c.args.bytes.now
+    c.args.content.now c.requires.level c.requires.within (λ i. omega (arith, c.type_inv.bytes i)) c.requires.read
+    c.requires.checked in
+    rw (p.1, p.2) (tag_found at c.in_err-rest.field-0.0 c.in_err-rest.ensures.found)
 
 pub push_tagged-returns-clause-checked : goal.push_tagged-returns-clause-checked
 push_tagged-returns-clause-checked t c =
+    let at = tag_at c.args.self.rules c.args.self.len c.args.level c.args.tag c.args.width c.args.bytes.now
+    c.args.content.now c.requires.level c.requires.within (λ i. omega (arith, c.type_inv.bytes i)) c.requires.read
+    c.requires.checked in
     tag_ends c.args.self.rules c.args.self.len c.args.level c.args.bytes.now c.args.content.now c.in_ok-rest.rest.now
-    (tag_start c.args.self.rules c.args.self.len c.args.level c.args.bytes.now c.requires.checked.0 c.args.tag
-    c.args.width c.args.content.now c.requires.checked.1 c.requires.read) c.in_ok-rest.ensures.checked
+    at.left c.in_ok-rest.ensures.checked

@@ -22,7 +22,8 @@ returns-in-IntegerFloat c =
 pub returns-in_default-kind : goal.returns-in_default-kind
 returns-in_default-kind c =
     let f = c.args.float in
-    let n = found_nan f c.in-Some.kind (sym c.reduced_breach.ensures ∙ c.in-Some.is) c.in_default-kind.not-IntegerFloat in
+    let n = found_nan f c.in-Some.kind (sym c.reduced_breach.ensures ∙ c.in-Some.is)
+    c.in_default-kind.not-IntegerFloat in
     nan_number c.args.self.rules f (is_on c.args.self.rules.reduced_floats c.if-not-self.false) n.0 n.1
 
 pub returns-in_default : goal.returns-in_default
