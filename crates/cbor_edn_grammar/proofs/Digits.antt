@@ -1,4 +1,5 @@
--- Digits as they are written, perhaps after a minus and before a width: the number that they are, which is no float.
+-- In EDN, digits as they are written, perhaps after a minus and before a width: the number that they are, which is no
+-- float.
 use Rattle.std.proofs.Common.{◌≡◌, ℕ, ◌+◌, ◌-◌, ◌^◌, ◌<◌, ◌≤◌, ◌==◌, ◌&&◌, ◌||◌, not, Bool, true, false, List, []}
 use Rattle.std.proofs.Common.{◌∷◌, ◌++◌, length, position, Some, refl, sym, ap, ap₂, subst, ◌∙◌, arith, append-nil}
 use Rattle.std.proofs.Common.{append_assoc, nat_lt, nat_eq, is_some, add-one, None, codes, if◌then◌else◌}

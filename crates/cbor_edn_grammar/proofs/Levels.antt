@@ -1,4 +1,5 @@
--- An item that is well formed at a level is so at each level above that; and what is read with so many levels left.
+-- In EDN, an item that is well formed at a level is so at each level above that; and what is read with so many levels
+-- left.
 use Rattle.std.proofs.Common.{◌≡◌, ℕ, zero, suc, true, false, if◌then◌else◌, ◌+◌, ◌≤◌, List, None}
 use Rattle.std.proofs.Common.{refl, ap, ◌∙◌, arith}
 use Rattle.cbor_grammar.specs.Item as spec
@@ -38,18 +39,21 @@ pub one_left : (left inner : ℕ) (text : List ℕ) → left ≡ inner + 1 → r
     ≡ read_core inner (read_item inner) text
 unfolding read_item
 one_left zero inner text e = absurd (omega arith)
-one_left (suc left) inner text e = let same : left ≡ inner = omega arith in ap (λ n. read_core n (read_item n) text) same
+one_left (suc left) inner text e =
+    let same : left ≡ inner = omega arith in ap (λ n. read_core n (read_item n) text) same
 
 pub core_string : (left inner : ℕ) (text : List ℕ) → left ≡ inner + 1 → begins_string text ≡ true
     → read_item left text ≡ read_string (read_embedded (read_item inner)) text
 unfolding read_core
-core_string left inner text e string = one_left left inner text e
-    ∙ ap (λ b. if b then read_string (read_embedded (read_item inner)) text else other_item inner (read_item inner) text)
-    string
+core_string left inner text e string =
+    let item = read_item inner in
+    one_left left inner text e
+    ∙ ap (λ b. if b then read_string (read_embedded item) text else other_item inner item text) string
 
 pub core_other : (left inner : ℕ) (text : List ℕ) → left ≡ inner + 1 → begins_string text ≡ false
     → read_item left text ≡ other_item inner (read_item inner) text
 unfolding read_core
-core_other left inner text e string = one_left left inner text e
-    ∙ ap (λ b. if b then read_string (read_embedded (read_item inner)) text else other_item inner (read_item inner) text)
-    string
+core_other left inner text e string =
+    let item = read_item inner in
+    one_left left inner text e
+    ∙ ap (λ b. if b then read_string (read_embedded item) text else other_item inner item text) string

@@ -1,4 +1,4 @@
--- Network addresses between apostrophes, and prefixes of them (RFC 9164 sections 3 and 4).
+-- In EDN, network addresses between apostrophes, and prefixes of them (RFC 9164 sections 3 and 4).
 use Rattle.std.specs.Prelude.{ℕ, zero, suc, ◌+◌, ◌-◌, ◌%◌, ◌^◌, List, [], ◌∷◌, length, take, drop, position}
 use Rattle.std.specs.Prelude.{Option, Some, None, Bool, true, ◌==◌, ◌&&◌, if◌then◌else◌, nat_lt, nat_le, slice_index}
 use Rattle.std.specs.List.{list_any}

@@ -1,4 +1,4 @@
--- Digits between apostrophes: base 16, 32 and 64, with blanks between them.
+-- In EDN, digits between apostrophes: base 16, 32 and 64, with blanks between them.
 use Rattle.std.specs.Prelude.{ℕ, ◌+◌, ◌-◌, ◌%◌, List, [], ◌∷◌, ◌++◌, length, take, drop, position, map, replicate}
 use Rattle.std.specs.Prelude.{Option, Some, Bool, true, false, ◌==◌, ◌||◌, if◌then◌else◌}
 use Rattle.std.specs.List.{list_any}

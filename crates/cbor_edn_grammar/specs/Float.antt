@@ -1,4 +1,4 @@
--- Floats: the words that they are, and their bits.
+-- In EDN, floats: the words that they are, and their bits.
 use Rattle.std.specs.Prelude.{ℕ, List, [], length, take, drop, position, codes, Option, Some, None, Bool, true, false}
 use Rattle.std.specs.Prelude.{◌==◌, ◌&&◌, ◌||◌, if◌then◌else◌, nat_lt, bytes_eq, to_bits, unwrap_or, is_some}
 use Rattle.std.specs.Option.{option_or}
@@ -15,7 +15,7 @@ use Rattle.cbor_floats.specs.Decimal.{unsigned, parts_of, decimal_number}
 use Rattle.cbor_floats.specs.Nearest.{nearest_half}
 use Rattle.cbor_floats.specs.Value.{half_value, bits_of}
 use Rattle.cbor_edn_grammar.specs.Reading.{◌>>=◌}
-use Rattle.cbor_edn_grammar.specs.HexFloat.{hex_number, is_hex}
+use Rattle.cbor_edn_grammar.specs.HexFloat.{Dyadic, rounded, hex_number, is_hex}
 
 -- ---- the number of a text
 
@@ -62,7 +62,7 @@ double_of x = Double (to_bits binary64 x)
 unfoldable pub shortest_of : Float → EncodedFloat
 shortest_of x = unwrap_or (option_or (half_of x) (single_of x)) (double_of x)
 
--- the single that is the number x of a text, or else the nearest to what it writes
+-- The single that is nearest to what a text writes. If its nearest double x is a single, then that one is.
 unfoldable pub nearest_single : List ℕ → Float → Option EncodedFloat
 nearest_single text x =
     option_or (single_of x) (finite (decimal_number binary32 text) >>= λ y. Some (Single (to_bits binary32 y)))
@@ -133,16 +133,17 @@ special_word word = special (name_and_width word).0 >>= λ text. width_after (na
 abbrev pub decimal_word : List ℕ → Option Atom
 decimal_word word = width_after (digits_and_width word).1 >>= λ width. float_in width (digits_and_width word).0
 
--- the number x of a text in base 16 in a width: in 32 bits the single that is nearest
-abbrev pub hex_in_width : FloatWidth → Float → Option EncodedFloat
-hex_in_width Unknown x = Some (shortest_of x)
-hex_in_width Sixteen x = half_of x
-hex_in_width ThirtyTwo x = finite (round_to_format binary32 x) >>= λ y. Some (Single (to_bits binary32 y))
-hex_in_width SixtyFour x = Some (double_of x)
+-- The number that a text in base 16 writes, in a width: in 32 bits the single that is nearest to it, and in the others
+-- by the double that is.
+abbrev pub hex_in_width : FloatWidth → Dyadic → Option EncodedFloat
+hex_in_width Unknown number = finite (rounded binary64 number) >>= λ x. Some (shortest_of x)
+hex_in_width Sixteen number = finite (rounded binary64 number) >>= half_of
+hex_in_width ThirtyTwo number = finite (rounded binary32 number) >>= λ x. Some (Single (to_bits binary32 x))
+hex_in_width SixtyFour number = finite (rounded binary64 number) >>= λ x. Some (double_of x)
 
 -- the float that a text in base 16 is in this width
 unfoldable pub hex_in : FloatWidth → List ℕ → Option Atom
-hex_in width text = hex_number text >>= finite >>= hex_in_width width >>= λ f. Some (float_atom f)
+hex_in width text = hex_number text >>= hex_in_width width >>= λ f. Some (float_atom f)
 
 abbrev pub is_hex_word : List ℕ → Bool
 is_hex_word word = is_hex (name_and_width word).0

@@ -1,8 +1,8 @@
--- Numbers in base 16 times a power of 2, as C writes floats: `0x1.8p3` (ISO C, section 6.4.4.2).
+-- In EDN, numbers in base 16 times a power of 2, as C writes floats: `0x1.8p3` (ISO C, section 6.4.4.2).
 use Rattle.std.specs.Prelude.{ℕ, ◌+◌, ◌*◌, ◌^◌, List, [], ◌∷◌, length, take, drop, position, codes, bytes_eq}
 use Rattle.std.specs.Prelude.{Option, Some, None, Bool, ◌==◌, ◌&&◌, ◌||◌, if◌then◌else◌, nat_lt, is_some, false}
 use Rattle.std.specs.Char.{digit_value}
-use Rattle.std.specs.Float.Ieee.{Float, round, binary64}
+use Rattle.std.specs.Float.Ieee.{Float, Format, round}
 use Rattle.cbor_floats.specs.Decimal.{unsigned, is_negative}
 use Rattle.cbor_edn_grammar.specs.Reading.{◌>>=◌, after_bytes}
 
@@ -35,18 +35,29 @@ small_run n (b ∷ digits) = one_more n (digit_value b) >>= λ m. small_run m di
 abbrev pub exponent : List ℕ → Option ℕ
 exponent text = if bytes_eq (unsigned text) [] then None else small_run 0 (unsigned text)
 
--- The float of 64 bits that is nearest to n * 2 ^ up / 2 ^ down, at a tie the one whose last digit is 0: an infinity
--- where the number is too large, and a zero where it is too small.
-unfoldable pub scaled : Bool → ℕ → ℕ → ℕ → Float
-scaled negative n up down = round binary64 negative (n * 2 ^ up) (2 ^ down)
+-- a number: its sign, and its size, which is digits * 2 ^ up / 2 ^ down
+pub record Dyadic : Type 0 where
+  pub negative : Bool
+  pub digits : ℕ
+  pub up : ℕ
+  pub down : ℕ
+
+-- The float of this format that is nearest to a number, as IEEE 754 rounds: at a tie the one whose last digit is 0, an
+-- infinity where the number is too large, and a zero where it is too small.
+unfoldable pub rounded : Format → Dyadic → Float
+rounded f x = round f x.negative (x.digits * 2 ^ x.up) (2 ^ x.down)
 
 -- a number with so many of its digits after the point, times 2 to an exponent of this sign and size
-abbrev pub with_exponent : Bool → ℕ → ℕ → Bool → ℕ → Float
-with_exponent negative n places below size = if below then scaled negative n 0 (4 * places + size)
-    else scaled negative n size (4 * places)
+abbrev pub with_exponent : Bool → ℕ → ℕ → Bool → ℕ → Dyadic
+with_exponent negative n places below size = record {
+  negative = negative;
+  digits = n;
+  up = if below then 0 else size;
+  down = 4 * places + (if below then size else 0);
+}
 
 -- digits with a `p` at this index
-abbrev pub hex_at : Bool → List ℕ → Option ℕ → Option Float
+abbrev pub hex_at : Bool → List ℕ → Option ℕ → Option Dyadic
 hex_at negative digits None = None
 hex_at negative digits (Some at) = hex_digits (take at digits) >>= λ d. exponent (drop (at + 1) digits)
     >>= λ e. Some (with_exponent negative d.0 d.1 (is_negative (drop (at + 1) digits)) e)
@@ -58,8 +69,8 @@ is_p b = (b == 112) || (b == 80)
 abbrev pub after_hex : List ℕ → Option (List ℕ)
 after_hex text = after_bytes (codes "0x") (unsigned text)
 
--- the float of 64 bits that is nearest to the number that a text writes
-unfoldable pub hex_number : List ℕ → Option Float
+-- the number that a text writes
+unfoldable pub hex_number : List ℕ → Option Dyadic
 hex_number text = after_hex text >>= λ digits. hex_at (is_negative text) digits (position is_p digits)
 
 abbrev pub has_p : Option (List ℕ) → Bool

@@ -1,4 +1,4 @@
--- Items: containers, tags, simple values, and which of all of them a text begins with.
+-- In EDN, items: containers, tags, simple values, and which of all of them a text begins with.
 use Rattle.std.specs.Prelude.{ℕ, zero, suc, List, [], ◌∷◌, length, codes, Option, Some, None, Bool, true, false}
 use Rattle.std.specs.Prelude.{◌==◌, ◌&&◌, ◌||◌, ◌+◌, if◌then◌else◌, nat_lt, bytes_eq, take, drop, position, slice_index}
 use Rattle.std.specs.List.{list_any}

@@ -1,4 +1,4 @@
--- Lists: what opens, separates and closes them.
+-- In EDN, lists: what opens, separates and closes them.
 use Rattle.std.specs.Prelude.{ℕ, ◌-◌, List, [], ◌∷◌, codes, length, take, Option, Some, None, Bool, true, false}
 use Rattle.std.specs.Prelude.{◌==◌, ◌&&◌, ◌||◌, if◌then◌else◌, is_some, not, nat_eq}
 use Rattle.std.specs.List.{list_any}

@@ -1,4 +1,4 @@
--- What is between quotes: text with JSON's escapes.
+-- In EDN, what is between quotes: text with JSON's escapes.
 use Rattle.std.specs.Prelude.{ℕ, ◌+◌, ◌-◌, ◌*◌, List, [], ◌∷◌, Option, Some, None, Bool, true, false}
 use Rattle.std.specs.Prelude.{◌==◌, ◌&&◌, ◌||◌, if◌then◌else◌, nat_lt, nat_le, encode_utf8, codes}
 use Rattle.std.specs.List.{position_or_len}

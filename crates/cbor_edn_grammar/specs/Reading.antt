@@ -1,4 +1,4 @@
--- What reading gives: a value and the text after it, or nothing. A text is the list of its bytes in UTF-8.
+-- What reading EDN gives: a value and the text after it, or nothing. A text is the list of its bytes in UTF-8.
 use Rattle.std.specs.Prelude.{◌≡◌, ℕ, zero, suc, List, [], ◌∷◌, ◌++◌, length, drop, Option, Some, None, Result, Ok}
 use Rattle.std.specs.Prelude.{Err}
 use Rattle.std.specs.Prelude.{Bool, true, false, nat_eq, ◌==◌, if◌then◌else◌}

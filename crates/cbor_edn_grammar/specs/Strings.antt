@@ -1,4 +1,4 @@
--- Strings: their pieces, the `+` between these, and the width that is stated after the last.
+-- In EDN, strings: their pieces, the `+` between these, and the width that is stated after the last.
 use Rattle.std.specs.Prelude.{ℕ, List, [], ◌∷◌, length, codes, Option, Some, None, Bool, true, false}
 use Rattle.std.specs.Prelude.{◌==◌, ◌&&◌, ◌||◌, if◌then◌else◌, is_some, not, bytes_eq}
 use Rattle.std.specs.Str.{is_utf8}

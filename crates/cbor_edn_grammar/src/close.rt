@@ -1,4 +1,4 @@
-//! What closes a list.
+//! In EDN, what closes a list.
 ghost use Rattle.std.specs.Prelude.{◌≡◌};
 ghost use Rattle.cbor_edn_grammar.specs.Expectations.{missing};
 

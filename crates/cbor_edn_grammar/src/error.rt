@@ -107,8 +107,8 @@ pub enum Expected {
 }
 
 impl Expected {
-    /// Returns what is wrong, in a few words without a full stop. `Display` adds the values that the
-    /// error has.
+    /// Returns what is wrong, in a few words without a full stop. `Display` adds the values that
+    /// the error has.
     pub fn text(&self) -> &'static str
         ensures { result.now ≡ text_of self.now }
     {

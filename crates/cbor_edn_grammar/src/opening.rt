@@ -1,4 +1,4 @@
-//! What a piece of a string begins with.
+//! In EDN, what a piece of a string begins with.
 ghost use Rattle.std.specs.Prelude.{◌≡◌};
 ghost use Rattle.cbor_edn_grammar.specs.Strings.{kind_of};
 ghost use Rattle.cbor_edn_grammar.specs.Digits.{slashes_in};

@@ -1,4 +1,4 @@
-//! Words, and the widths that they state.
+//! In EDN, words, and the widths that they state.
 ghost use Rattle.std.specs.Prelude.{◌≡◌, ◌≤◌, length, true, option_map};
 ghost use Rattle.std.specs.List.{list_all};
 ghost use Rattle.std.specs.Str.Parse.{IsNumeral};

@@ -1,4 +1,4 @@
--- The bytes of addresses are those of std's parser, and a prefix cut off a zero at a time.
+-- The bytes of addresses in EDN are those of std's parser, and a prefix cut off a zero at a time.
 use Rattle.std.proofs.Common.{◌≡◌, ℕ, zero, suc, List, [], ◌∷◌, ◌++◌, length, Some, None, refl, sym, ap, subst}
 use Rattle.std.proofs.Common.{◌+◌, ◌<◌, ◌==◌, if◌then◌else◌, take, drop, position}
 use Rattle.std.proofs.Common.{◌∙◌, append-nil, lit≤, ne_eqb, arith}

@@ -1,18 +1,21 @@
--- Rounding by the digits at the front of a number.
+-- In EDN, rounding by the digits at the front of a number.
 use Rattle.std.proofs.Common.{◌≡◌, ◌⊎◌, inl, inr, ℕ, zero, suc, ◌+◌, ◌-◌, ◌*◌, ◌/◌, ◌%◌, ◌^◌, ◌<◌, ◌≤◌, min}
 use Rattle.std.proofs.Common.{true≢false, Bool, true, false, cond, T, ltb, refl, sym, ap, ap₂, ◌∙◌, subst, arith}
 use Rattle.std.proofs.Common.{lit<, lit≤, mul_assoc, mul_right_comm, mul-one, mul-pos}
 use Rattle.std.proofs.Common.{mul-le-mul_right, mul-lt-mul_of_pos_right, div-lt_iff_lt-mul, not-le_of_lt, mul_comm}
+use Rattle.std.proofs.Math.Nat.{pow-suc, two-pow-succ}
+use Rattle.std.proofs.Math.Pow.{pow-lt}
 use Rattle.std.proofs.Common.{le_trans, le_of_eq, lt_of_lt_of_le, lt_of_le_of_lt, lt_of_not-le}
 use Rattle.std.proofs.Common.{le-div_iff_mul-le, pow-add, pow_pos, pow_mono, ltb-true, ltb-false}
 use Rattle.std.proofs.Common.{mod-eq_of_lt, mul-div_cancel, le-ltb}
 use Rattle.std.proofs.lemmas.Bool.{cases_Bool}
 use Rattle.std.proofs.lemmas.Nat.{div-mul-add, div-add-mod', mod_below}
-use Rattle.std.proofs.Math.Nat.{div-eq_of_lt, add-mul}
+use Rattle.std.proofs.Math.Nat.{div-eq_of_lt, add-mul, lt_of_mul-lt-mul_right, le_of_mul-le-mul_right}
 use Prim.Native.Nat.{compare}
 use lib.Ieee.{odd, up, down}
 use lib.Ieee.Fits.{odd-fits}
-use lib.Ieee.{nearest, Float, nan, inf, fin, binary64, fits, to_bits, of_bits, size, units, round}
+use lib.Ieee.{nearest, Float, Format, nan, inf, fin, binary32, binary64, fits, to_bits, of_bits, size, units, round}
+use lib.Ieee.{prec, low, emax, hid, ones}
 use lib.Ieee.Bits.{of_bits-to_bits}
 use lib.Ieee.Digits.{size-lt, size-le, size_reaches}
 use lib.Ieee.Exact.{HasValue, units_val}
@@ -130,6 +133,10 @@ size_at u n a b =
     (lt_of_lt_of_le (size-lt u) (pow_mono {i = size u} {j = n} g)) a) in
     omega (arith, size-le u (suc n) b)
 
+pub digits_of : (f : ℕ) → 2 ^ 56 ≤ f → 57 ≤ size f
+digits_of f low = lt_of_not-le (λ (g : size f ≤ 56). not-le_of_lt
+    (lt_of_lt_of_le (size-lt f) (pow_mono {i = size f} {j = 56} g)) low)
+
 -- with less than 2 ^ c behind it
 size_front : (f c t : ℕ) → 0 < f → t < 2 ^ c → size (f * 2 ^ c + t) ≡ size f + c
 size_front f c t some less = at (size f) refl
@@ -179,202 +186,254 @@ size_shift x d = at (size x) refl
 
 -- ---- the float, in units of the least one above 0
 
-round_units : (num down k : ℕ) → k ≡ size (num * 2 ^ 1074) - (down + 53)
-    → round binary64 false num (2 ^ down) ≡ units binary64 false (closest (num * 2 ^ 1074) (2 ^ down * 2 ^ k)) k
-round_units num down k e =
-    let s : size (num * 2 ^ 1074 / 2 ^ down) - 53 ≡ k =
-    ap (λ z. z - 53) (size_shift (num * 2 ^ 1074) down) ∙ omega (arith, e) in
-    round_is binary64 false num (2 ^ down)
-    ∙ ap (λ z. units binary64 false (closest (num * 2 ^ 1074) (2 ^ down * 2 ^ z)) z) s
+round_units : (f : Format) (num down k : ℕ) → k ≡ size (num * 2 ^ low f) - (down + prec f)
+    → round f false num (2 ^ down) ≡ units f false (closest (num * 2 ^ low f) (2 ^ down * 2 ^ k)) k
+round_units f num down k e =
+    let s : size (num * 2 ^ low f / 2 ^ down) - prec f ≡ k =
+    ap (λ z. z - prec f) (size_shift (num * 2 ^ low f) down) ∙ omega (arith, e) in
+    round_is f false num (2 ^ down)
+    ∙ ap (λ z. units f false (closest (num * 2 ^ low f) (2 ^ down * 2 ^ z)) z) s
 
 -- the fraction is the same over the front and what is behind it
-same_closest : (n up down k cut b : ℕ) → up + 1074 + cut + b ≡ down + k
-    → closest (n * 2 ^ up * 2 ^ 1074) (2 ^ down * 2 ^ k) ≡ closest n (2 ^ cut * 2 ^ b)
-same_closest n up down k cut b e =
-    closest_same (n * 2 ^ up * 2 ^ 1074) (2 ^ down * 2 ^ k) n (2 ^ cut * 2 ^ b)
+same_closest : (l n up down k cut b : ℕ) → up + l + cut + b ≡ down + k
+    → closest (n * 2 ^ up * 2 ^ l) (2 ^ down * 2 ^ k) ≡ closest n (2 ^ cut * 2 ^ b)
+same_closest l n up down k cut b e =
+    closest_same (n * 2 ^ up * 2 ^ l) (2 ^ down * 2 ^ k) n (2 ^ cut * 2 ^ b)
     (mul-pos (pow_pos down) (pow_pos k)) (mul-pos (pow_pos cut) (pow_pos b))
-    (ap (λ z. z * (2 ^ cut * 2 ^ b)) (mul_assoc n (2 ^ up) (2 ^ 1074))
-    ∙ mul_assoc n (2 ^ up * 2 ^ 1074) (2 ^ cut * 2 ^ b)
-    ∙ ap (λ z. n * z) (ap₂ (λ y z. y * z) (sym (pow-add 2 up 1074)) (sym (pow-add 2 cut b))
-    ∙ sym (pow-add 2 (up + 1074) (cut + b))
-    ∙ ap (λ z. 2 ^ z) {x = up + 1074 + (cut + b)} {y = down + k} (omega (arith, e))
+    (ap (λ z. z * (2 ^ cut * 2 ^ b)) (mul_assoc n (2 ^ up) (2 ^ l))
+    ∙ mul_assoc n (2 ^ up * 2 ^ l) (2 ^ cut * 2 ^ b)
+    ∙ ap (λ z. n * z) (ap₂ (λ y z. y * z) (sym (pow-add 2 up l)) (sym (pow-add 2 cut b))
+    ∙ sym (pow-add 2 (up + l) (cut + b))
+    ∙ ap (λ z. 2 ^ z) {x = up + l + (cut + b)} {y = down + k} (omega (arith, e))
     ∙ pow-add 2 down k))
 
--- how many digits of the front are cut off, where it has at least 57
-pub cut_is : (size lift down : ℕ) → 57 ≤ size → lift + 4 ≤ down + (lift + size - (down + 53))
-cut_is size lift down h = omega arith
+-- some digits of the front are cut off
+pub cut_is : (p size lift down : ℕ) → p < size → lift + 1 ≤ down + (lift + size - (down + p))
+cut_is p size lift down h = omega arith
 
-pub nearest_is : (f b t n up down size_f lift scale : ℕ) → 2 ^ 56 ≤ f → f < 2 ^ 60 → t < 2 ^ b → n ≡ f * 2 ^ b + t
-    → size_f ≡ size f → lift ≡ up + b + 1074 → scale ≡ lift + size_f - (down + 53)
-    → round binary64 false (n * 2 ^ up) (2 ^ down)
-    ≡ units binary64 false (closest (f * 2 ^ b + t) (2 ^ min (down + scale - lift) 62 * 2 ^ b)) scale
-nearest_is f b t n up down size_f lift scale low high less is size_is lift_is scale_is =
-    let some : 0 < f = omega (arith, low) in
-    let digits : 56 < size f = lt_of_not-le (λ (g : size f ≤ 56). not-le_of_lt
-    (lt_of_lt_of_le (size-lt f) (pow_mono {i = size f} {j = 56} g)) low) in
-    let n_some : 0 < n = positive n f b t some is in
-    let size_n : size n ≡ size f + b = ap size is ∙ size_front f b t some less in
+-- a front of 57 digits has more of them than a float
+pub more_digits : (f : Format) (size : ℕ) → 57 ≤ size → prec f < size
+more_digits binary32 size h = omega arith
+more_digits binary64 size h = omega arith
+
+pub some_digits : (f : Format) → 0 < prec f
+some_digits binary32 = lit< tt
+some_digits binary64 = lit< tt
+
+pub nearest_is : (f : Format) (d b t n up down size_d lift scale : ℕ) → 2 ^ 56 ≤ d → d < 2 ^ 60 → t < 2 ^ b
+    → n ≡ d * 2 ^ b + t → size_d ≡ size d → lift ≡ up + b + low f → scale ≡ lift + size_d - (down + prec f)
+    → round f false (n * 2 ^ up) (2 ^ down)
+    ≡ units f false (closest (d * 2 ^ b + t) (2 ^ min (down + scale - lift) 62 * 2 ^ b)) scale
+nearest_is f d b t n up down size_d lift scale least high less is size_is lift_is scale_is =
+    let some : 0 < d = omega (arith, least) in
+    let n_some : 0 < n = positive n d b t some is in
+    let size_n : size n ≡ size d + b = ap size is ∙ size_front d b t some less in
     let up_some : 0 < n * 2 ^ up = mul-pos n_some (pow_pos up) in
-    let size_x : size (n * 2 ^ up * 2 ^ 1074) ≡ size f + b + up + 1074 =
-    size_times (n * 2 ^ up) 1074 up_some ∙ ap (λ z. z + 1074) (size_times n up n_some ∙ ap (λ z. z + up) size_n) in
-    let k : scale ≡ size (n * 2 ^ up * 2 ^ 1074) - (down + 53) = omega (arith, scale_is, size_x, size_is, lift_is) in
+    let size_x : size (n * 2 ^ up * 2 ^ low f) ≡ size d + b + up + low f =
+    size_times (n * 2 ^ up) (low f) up_some
+    ∙ ap (λ z. z + low f) (size_times n up n_some ∙ ap (λ z. z + up) size_n) in
+    let k : scale ≡ size (n * 2 ^ up * 2 ^ low f) - (down + prec f) =
+    omega (arith, scale_is, size_x, size_is, lift_is) in
     let cut = down + scale - lift in
-    let room = cut_is size_f lift down (omega (arith, size_is, digits)) in
-    let e : up + 1074 + cut + b ≡ down + scale = omega (arith, lift_is, scale_is, room) in
-    round_units (n * 2 ^ up) down scale k
-    ∙ ap (λ z. units binary64 false z scale) (same_closest n up down scale cut b e
-    ∙ ap (λ z. closest z (2 ^ cut * 2 ^ b)) is ∙ sym (capped f cut (2 ^ b) t high less))
+    let room = cut_is (prec f) size_d lift down (subst (λ z. prec f < z) (sym size_is)
+    (more_digits f (size d) (digits_of d least))) in
+    let e : up + low f + cut + b ≡ down + scale = omega (arith, lift_is, scale_is, room) in
+    round_units f (n * 2 ^ up) down scale k
+    ∙ ap (λ z. units f false z scale) (same_closest (low f) n up down scale cut b e
+    ∙ ap (λ z. closest z (2 ^ cut * 2 ^ b)) is ∙ sym (capped d cut (2 ^ b) t high less))
   where
-    positive : (n f b t : ℕ) → 0 < f → n ≡ f * 2 ^ b + t → 0 < n
-    positive n f b t some is = let m = mul-pos some (pow_pos b) in omega (arith, m, is)
+    positive : (n d b t : ℕ) → 0 < d → n ≡ d * 2 ^ b + t → 0 < n
+    positive n d b t some is = let m = mul-pos some (pow_pos b) in omega (arith, m, is)
 
 -- ---- the float of so many units, by its bits
 
-bits_of_value : (x : Float) (a : ℕ) → HasValue x false a (2 ^ 1074)
-    → to_bits binary64 x ≡ 0 + (size a - 53) * 2 ^ 52 + a / 2 ^ (size a - 53)
+bits_of_value : (f : Format) (x : Float) (a : ℕ) → HasValue x false a (2 ^ low f)
+    → to_bits f x ≡ 0 + (size a - prec f) * hid f + a / 2 ^ (size a - prec f)
 unfolding to_bits
-bits_of_value nan a v = absurd v
-bits_of_value (inf t) a v = absurd v
-bits_of_value (fin true m e) a v = absurd (true≢false v.0)
-bits_of_value (fin false m e) a v =
-    let n : m * up e * 2 ^ 1074 / down e ≡ a = ap (λ k. k / down e) v.1 ∙ mul-div_cancel a (down_pos e) in
-    ap (λ k. 0 + (size k - 53) * 2 ^ 52 + k / 2 ^ (size k - 53)) n
+bits_of_value f nan a v = absurd v
+bits_of_value f (inf t) a v = absurd v
+bits_of_value f (fin true m e) a v = absurd (true≢false v.0)
+bits_of_value f (fin false m e) a v =
+    let n : m * up e * 2 ^ low f / down e ≡ a = ap (λ k. k / down e) v.1 ∙ mul-div_cancel a (down_pos e) in
+    ap (λ k. 0 + (size k - prec f) * hid f + k / 2 ^ (size k - prec f)) n
 
-twice : (k : ℕ) → 2 ^ 53 * 2 ^ k ≡ 2 ^ 52 * 2 ^ (1 + k)
-twice k = omega (arith, pow-add 2 1 k)
+-- one digit more than h
+twice : (h k : ℕ) → 2 ^ suc h * 2 ^ k ≡ 2 ^ h * 2 ^ (1 + k)
+twice h k = ap (λ z. z * 2 ^ k) (pow-suc 2 h) ∙ mul_assoc (2 ^ h) 2 (2 ^ k)
+    ∙ ap (λ z. 2 ^ h * z) (sym (pow-add 2 1 k))
+
+-- a number q of suc h digits, where k is not 0: its leading digit is there
+abbrev pub Normal : ℕ → ℕ → ℕ → Type 0
+Normal h q k = (k ≡ 0) ⊎ (2 ^ h ≤ q)
 
 -- q * 2 ^ k in units: its digits but for the last k
-kept_bits : (q k : ℕ) → q ≤ 2 ^ 53 → (k ≡ 0) ⊎ (2 ^ 52 ≤ q)
-    → (size (q * 2 ^ k) - 53) * 2 ^ 52 + q * 2 ^ k / 2 ^ (size (q * 2 ^ k) - 53) ≡ k * 2 ^ 52 + q
-kept_bits q k most normal = elim (cases_Bool (ltb q (2 ^ 53))) [
-  | inl h ↦ less (ltb-true q (2 ^ 53) h) normal
-  | inr h ↦ top (omega (arith, ltb-false q (2 ^ 53) h))
+kept_bits : (h q k : ℕ) → q ≤ 2 ^ suc h → Normal h q k
+    → (size (q * 2 ^ k) - suc h) * 2 ^ h + q * 2 ^ k / 2 ^ (size (q * 2 ^ k) - suc h) ≡ k * 2 ^ h + q
+kept_bits h q k most normal = elim (cases_Bool (ltb q (2 ^ suc h))) [
+  | inl e ↦ less (ltb-true q (2 ^ suc h) e) normal
+  | inr e ↦ top (omega (arith, ltb-false q (2 ^ suc h) e))
 ]
   where
-    from : (s : ℕ) → size (q * 2 ^ k) - 53 ≡ s
-        → (size (q * 2 ^ k) - 53) * 2 ^ 52 + q * 2 ^ k / 2 ^ (size (q * 2 ^ k) - 53) ≡ s * 2 ^ 52 + q * 2 ^ k / 2 ^ s
-    from s e = ap (λ z. z * 2 ^ 52 + q * 2 ^ k / 2 ^ z) e
+    from : (s : ℕ) → size (q * 2 ^ k) - suc h ≡ s
+        → (size (q * 2 ^ k) - suc h) * 2 ^ h + q * 2 ^ k / 2 ^ (size (q * 2 ^ k) - suc h)
+        ≡ s * 2 ^ h + q * 2 ^ k / 2 ^ s
+    from s e = ap (λ z. z * 2 ^ h + q * 2 ^ k / 2 ^ z) e
 
-    at : (s : ℕ) → size (q * 2 ^ k) - 53 ≡ k
-        → (size (q * 2 ^ k) - 53) * 2 ^ 52 + q * 2 ^ k / 2 ^ (size (q * 2 ^ k) - 53) ≡ k * 2 ^ 52 + q
-    at s e = from k e ∙ ap (λ z. k * 2 ^ 52 + z) (mul-div_cancel q (pow_pos k))
+    at : size (q * 2 ^ k) - suc h ≡ k
+        → (size (q * 2 ^ k) - suc h) * 2 ^ h + q * 2 ^ k / 2 ^ (size (q * 2 ^ k) - suc h) ≡ k * 2 ^ h + q
+    at e = from k e ∙ ap (λ z. k * 2 ^ h + z) (mul-div_cancel q (pow_pos k))
 
-    less : q < 2 ^ 53 → (k ≡ 0) ⊎ (2 ^ 52 ≤ q)
-        → (size (q * 2 ^ k) - 53) * 2 ^ 52 + q * 2 ^ k / 2 ^ (size (q * 2 ^ k) - 53) ≡ k * 2 ^ 52 + q
-    less h (inl e) =
+    less : q < 2 ^ suc h → Normal h q k
+        → (size (q * 2 ^ k) - suc h) * 2 ^ h + q * 2 ^ k / 2 ^ (size (q * 2 ^ k) - suc h) ≡ k * 2 ^ h + q
+    less lt (inl e) =
         let n : q * 2 ^ k ≡ q = ap (λ z. q * 2 ^ z) e ∙ mul-one q in
-        at 0 (omega (arith, ap size n, size-le q 53 h, e))
-    less h (inr g) =
-        let some : 0 < q = omega (arith, g) in
-        let s : size q ≡ 53 = size_at q 52 g h in
-        at 0 (omega (arith, size_times q k some, s))
+        at (omega (arith, ap size n, size-le q (suc h) lt, e))
+    less lt (inr g) =
+        let some : 0 < q = lt_of_lt_of_le (pow_pos h) g in
+        let s : size q ≡ suc h = size_at q h g lt in
+        at (omega (arith, size_times q k some, s))
 
-    top : q ≡ 2 ^ 53 → (size (q * 2 ^ k) - 53) * 2 ^ 52 + q * 2 ^ k / 2 ^ (size (q * 2 ^ k) - 53) ≡ k * 2 ^ 52 + q
+    top : q ≡ 2 ^ suc h
+        → (size (q * 2 ^ k) - suc h) * 2 ^ h + q * 2 ^ k / 2 ^ (size (q * 2 ^ k) - suc h) ≡ k * 2 ^ h + q
     top e =
-        let some : 0 < q = omega (arith, e) in
-        let s : size q ≡ 54 = size_at q 53 (omega (arith, e)) (omega (arith, e)) in
-        let n : q * 2 ^ k ≡ 2 ^ 52 * 2 ^ (1 + k) = ap (λ z. z * 2 ^ k) e ∙ twice k in
+        let some : 0 < q = subst (λ z. 0 < z) (sym e) (pow_pos (suc h)) in
+        let s : size q ≡ suc (suc h) = size_at q (suc h) (le_of_eq (sym e))
+        (subst (λ z. z < 2 ^ suc (suc h)) (sym e) (pow-lt (omega arith))) in
+        let n : q * 2 ^ k ≡ 2 ^ h * 2 ^ (1 + k) = ap (λ z. z * 2 ^ k) e ∙ twice h k in
         from (1 + k) (omega (arith, size_times q k some, s))
-        ∙ ap (λ z. (1 + k) * 2 ^ 52 + z / 2 ^ (1 + k)) n
-        ∙ ap (λ z. (1 + k) * 2 ^ 52 + z) (mul-div_cancel (2 ^ 52) (pow_pos (1 + k)))
-        ∙ omega (arith, e)
+        ∙ ap (λ z. (1 + k) * 2 ^ h + z / 2 ^ (1 + k)) n
+        ∙ ap (λ z. (1 + k) * 2 ^ h + z) (mul-div_cancel (2 ^ h) (pow_pos (1 + k)))
+        ∙ omega (arith, add-mul 1 k (2 ^ h), two-pow-succ h, e)
 
--- units that are below 2 ^ 2098, by what they are times
-below_top : (q k : ℕ) → q ≤ 2 ^ 53 → (k ≡ 0) ⊎ (2 ^ 52 ≤ q) → k * 2 ^ 52 + q < 2047 * 2 ^ 52 → q * 2 ^ k < 2 ^ 2098
-below_top q k most (inl none) h =
-    lt_of_le_of_lt (le_trans (le_of_eq (ap (λ z. q * 2 ^ z) none ∙ mul-one q)) most) (lit< tt)
-below_top q k most (inr g) h = elim (cases_Bool (ltb k 2045)) [
+-- Units are below 2 ^ (j + suc h), where the infinity is, exactly if the bits are below its bits, (j + 2) * 2 ^ h.
+below_top : (j h q k : ℕ) → 0 < j → q ≤ 2 ^ suc h → Normal h q k → k * 2 ^ h + q < (j + 2) * 2 ^ h
+    → q * 2 ^ k < 2 ^ (j + suc h)
+below_top j h q k some most (inl none) lt =
+    lt_of_le_of_lt (le_trans (le_of_eq (ap (λ z. q * 2 ^ z) none ∙ mul-one q)) most)
+    (pow-lt {i = suc h} {j = j + suc h} (omega (arith, some)))
+below_top j h q k some most (inr g) lt = elim (cases_Bool (ltb k j)) [
   | inl e ↦
-      let lt = ltb-true k 2045 e in
-      let a : q * 2 ^ k ≤ 2 ^ 53 * 2 ^ k = mul-le-mul_right (2 ^ k) most in
-      let b : 2 ^ 53 * 2 ^ k ≡ 2 ^ (53 + k) = sym (pow-add 2 53 k) in
-      let c : 2 ^ (53 + k) ≤ 2 ^ 2097 = pow_mono {i = 53 + k} {j = 2097} (omega (arith, lt)) in
-      lt_of_le_of_lt (le_trans a (le_trans (le_of_eq b) c)) (lit< tt)
+      let a : q * 2 ^ k ≤ 2 ^ suc h * 2 ^ k = mul-le-mul_right (2 ^ k) most in
+      let c : 2 ^ (suc h + k) < 2 ^ (j + suc h) =
+      pow-lt {i = suc h + k} {j = j + suc h} (omega (arith, ltb-true k j e)) in
+      lt_of_le_of_lt (le_trans a (le_of_eq (sym (pow-add 2 (suc h) k)))) c
   | inr e ↦
-      let ge = ltb-false k 2045 e in
-      let same : k ≡ 2045 = omega (arith, ge, g, h) in
-      let less : q < 2 ^ 53 = omega (arith, same, h) in
-      lt_of_lt_of_le (mul-lt-mul_of_pos_right less (pow_pos k)) (le_of_eq (sym (pow-add 2 53 k)
-      ∙ ap (λ z. 2 ^ (53 + z)) same))
+      let high : (k + 1) * 2 ^ h < (j + 2) * 2 ^ h = lt_of_le_of_lt (omega (arith, add-mul k 1 (2 ^ h), g)) lt in
+      let k_less : k + 1 < j + 2 = lt_of_mul-lt-mul_right (2 ^ h) high in
+      let same : k ≡ j = omega (arith, ltb-false k j e, k_less) in
+      let at_j : j * 2 ^ h + q < (j + 2) * 2 ^ h = subst (λ z. z * 2 ^ h + q < (j + 2) * 2 ^ h) same lt in
+      let less : q < 2 ^ suc h = omega (arith, at_j, add-mul j 2 (2 ^ h), two-pow-succ h) in
+      lt_of_lt_of_le (mul-lt-mul_of_pos_right less (pow_pos k)) (le_of_eq (sym (pow-add 2 (suc h) k)
+      ∙ ap (λ z. 2 ^ z) {x = suc h + k} {y = j + suc h} (omega (arith, same))))
 ]
 
-from_top : (q k : ℕ) → (k ≡ 0) ⊎ (2 ^ 52 ≤ q) → q ≤ 2 ^ 53 → 2047 * 2 ^ 52 ≤ k * 2 ^ 52 + q → 2 ^ 2098 ≤ q * 2 ^ k
-from_top q k (inl e) most h = absurd (omega (arith, e, most, h))
-from_top q k (inr g) most h = elim (cases_Bool (ltb k 2046)) [
+from_top : (j h q k : ℕ) → 0 < j → q ≤ 2 ^ suc h → Normal h q k → (j + 2) * 2 ^ h ≤ k * 2 ^ h + q
+    → 2 ^ (j + suc h) ≤ q * 2 ^ k
+from_top j h q k some most (inl e) le =
+    let a : 1 * 2 ^ h ≤ j * 2 ^ h = mul-le-mul_right (2 ^ h) some in
+    let z : k * 2 ^ h ≡ 0 = ap (λ z. z * 2 ^ h) e ∙ omega arith in
+    absurd (omega (arith, a, z, most, le, add-mul j 2 (2 ^ h), two-pow-succ h, pow_pos h))
+from_top j h q k some most (inr g) le = elim (cases_Bool (ltb j k)) [
   | inl e ↦
-      let lt = ltb-true k 2046 e in
-      let same : k ≡ 2045 = omega (arith, lt, most, h) in
-      let top : q ≡ 2 ^ 53 = omega (arith, same, most, h) in
-      le_of_eq (sym (ap₂ (λ y z. y * 2 ^ z) top same ∙ sym (pow-add 2 53 2045)))
+      let a : 2 ^ h * 2 ^ k ≤ q * 2 ^ k = mul-le-mul_right (2 ^ k) g in
+      let c : 2 ^ (j + suc h) ≤ 2 ^ (h + k) =
+      pow_mono {i = j + suc h} {j = h + k} (omega (arith, ltb-true j k e)) in
+      le_trans c (le_trans (le_of_eq (pow-add 2 h k)) a)
   | inr e ↦
-      let ge = ltb-false k 2046 e in
-      let a : 2 ^ 52 * 2 ^ k ≤ q * 2 ^ k = mul-le-mul_right (2 ^ k) g in
-      let b : 2 ^ 52 * 2 ^ k ≡ 2 ^ (52 + k) = sym (pow-add 2 52 k) in
-      let c : 2 ^ 2098 ≤ 2 ^ (52 + k) = pow_mono {i = 2098} {j = 52 + k} (omega (arith, ge)) in
-      le_trans c (le_trans (le_of_eq (sym b)) a)
+      let low : k * 2 ^ h ≤ j * 2 ^ h = mul-le-mul_right (2 ^ h) (ltb-false j k e) in
+      let top : 2 ^ suc h ≤ q = omega (arith, low, le, add-mul j 2 (2 ^ h), two-pow-succ h) in
+      let high : j * 2 ^ h ≤ k * 2 ^ h = omega (arith, most, le, add-mul j 2 (2 ^ h), two-pow-succ h) in
+      let same : j ≤ k = le_of_mul-le-mul_right high (pow_pos h) in
+      le_trans (pow_mono {i = j + suc h} {j = suc h + k} (omega (arith, same)))
+      (le_trans (le_of_eq (pow-add 2 (suc h) k)) (mul-le-mul_right (2 ^ k) top))
 ]
 
-units_inf : (q k : ℕ) → 2 ^ 2098 ≤ q * 2 ^ k → units binary64 false q k ≡ inf false
+units_inf : (f : Format) (q k : ℕ) → 2 ^ (low f + suc (emax f)) ≤ q * 2 ^ k → units f false q k ≡ inf false
 unfolding units
-units_inf q k h = ap (λ b. cond b (odd 54 false q k 1074) (inf false)) (le-ltb (q * 2 ^ k) (2 ^ 2098) h)
+units_inf f q k h =
+    ap (λ b. cond b (odd (suc (prec f)) false q k (low f)) (inf false))
+    (le-ltb (q * 2 ^ k) (2 ^ (low f + suc (emax f))) h)
 
-top_bits : of_bits binary64 (2047 * 2 ^ 52) ≡ inf false
+top_bits : (f : Format) → of_bits f (ones f * hid f) ≡ inf false
 unfolding of_bits
-top_bits = refl
+top_bits binary32 = refl
+top_bits binary64 = refl
 
-units_fits : (q k : ℕ) → q ≤ 2 ^ 53 → T (fits binary64 (units binary64 false q k))
+units_fits : (f : Format) (q k : ℕ) → q ≤ 2 ^ prec f → T (fits f (units f false q k))
 unfolding units fits
-units_fits q k a = go (ltb (q * 2 ^ k) (2 ^ 2098)) (λ t. ltb-true (q * 2 ^ k) (2 ^ 2098) t)
+units_fits f q k a =
+    go (ltb (q * 2 ^ k) (2 ^ (low f + suc (emax f)))) (λ t. ltb-true (q * 2 ^ k) (2 ^ (low f + suc (emax f))) t)
   where
-    go : (b : Bool) → (b ≡ true → q * 2 ^ k < 2 ^ 2098) → T (fits binary64 (cond b (odd 54 false q k 1074) (inf false)))
-    go true h = odd-fits binary64 54 false q k (lt_of_le_of_lt a (lit< tt)) a (h refl)
+    go : (b : Bool) → (b ≡ true → q * 2 ^ k < 2 ^ (low f + suc (emax f)))
+        → T (fits f (cond b (odd (suc (prec f)) false q k (low f)) (inf false)))
+    go true h = odd-fits f (suc (prec f)) false q k (lt_of_le_of_lt a (pow-lt (omega arith))) a (h refl)
     go false h = tt
 
-pub units_bits : (q k : ℕ) → q ≤ 2 ^ 53 → (k ≡ 0) ⊎ (2 ^ 52 ≤ q)
-    → of_bits binary64 (min (k * 2 ^ 52 + q) (2047 * 2 ^ 52)) ≡ units binary64 false q k
-units_bits q k most normal = elim (cases_Bool (ltb (k * 2 ^ 52 + q) (2047 * 2 ^ 52))) [
-  | inl e ↦
-      let lt = ltb-true (k * 2 ^ 52 + q) (2047 * 2 ^ 52) e in
-      let m : min (k * 2 ^ 52 + q) (2047 * 2 ^ 52) ≡ k * 2 ^ 52 + q = omega (arith, lt) in
-      let v = units_val binary64 false q k (below_top q k most normal lt) in
-      let b = bits_of_value (units binary64 false q k) (q * 2 ^ k) v in
-      ap (of_bits binary64) {x = min (k * 2 ^ 52 + q) (2047 * 2 ^ 52)} {y = to_bits binary64 (units binary64 false q k)}
-      (omega (arith, m, b, kept_bits q k most normal))
-      ∙ of_bits-to_bits binary64 (units binary64 false q k) (units_fits q k most)
-  | inr e ↦
-      let ge = ltb-false (k * 2 ^ 52 + q) (2047 * 2 ^ 52) e in
-      let m : min (k * 2 ^ 52 + q) (2047 * 2 ^ 52) ≡ 2047 * 2 ^ 52 = omega (arith, ge) in
-      ap (of_bits binary64) m ∙ top_bits ∙ sym (units_inf q k (from_top q k normal most ge))
-]
+-- what a format is in the numbers above: the digits after the leading one, and the exponent of the infinity
+pub record Shape (f : Format) (j h : ℕ) : Type 0 where
+  pub some : 0 < j
+  pub digits : prec f ≡ suc h
+  pub infinity : ones f ≡ j + 2
+  pub exponent : low f + suc (emax f) ≡ j + suc h
+
+shape : (f : Format) → Shape f (ones f - 2) (prec f - 1)
+shape binary32 = record { some = lit< tt; digits = refl; infinity = refl; exponent = refl }
+shape binary64 = record { some = lit< tt; digits = refl; infinity = refl; exponent = refl }
+
+pub units_bits : (f : Format) (q k : ℕ) → q ≤ 2 ^ prec f → (k ≡ 0) ⊎ (hid f ≤ q)
+    → of_bits f (min (k * hid f + q) (ones f * hid f)) ≡ units f false q k
+units_bits f q k most normal =
+    let j = ones f - 2 in
+    let h = prec f - 1 in
+    let s = shape f in
+    let most' : q ≤ 2 ^ suc h = subst (λ z. q ≤ 2 ^ z) s.digits most in
+    elim (cases_Bool (ltb (k * hid f + q) (ones f * hid f))) [
+      | inl e ↦
+          let lt = ltb-true (k * hid f + q) (ones f * hid f) e in
+          let m : min (k * hid f + q) (ones f * hid f) ≡ k * hid f + q = omega (arith, lt) in
+          let below : q * 2 ^ k < 2 ^ (low f + suc (emax f)) = subst (λ z. q * 2 ^ k < 2 ^ z) (sym s.exponent)
+          (below_top j h q k s.some most' normal (subst (λ z. k * hid f + q < z * hid f) s.infinity lt)) in
+          let b = bits_of_value f (units f false q k) (q * 2 ^ k) (units_val f false q k below) in
+          let n = q * 2 ^ k in
+          let kept = subst (λ p. (size n - p) * hid f + n / 2 ^ (size n - p) ≡ k * hid f + q) (sym s.digits)
+          (kept_bits h q k most' normal) in
+          ap (of_bits f) {x = min (k * hid f + q) (ones f * hid f)} {y = to_bits f (units f false q k)}
+          (omega (arith, m, b, kept)) ∙ of_bits-to_bits f (units f false q k) (units_fits f q k most)
+      | inr e ↦
+          let ge = ltb-false (k * hid f + q) (ones f * hid f) e in
+          let m : min (k * hid f + q) (ones f * hid f) ≡ ones f * hid f = omega (arith, ge) in
+          let above : 2 ^ (low f + suc (emax f)) ≤ q * 2 ^ k = subst (λ z. 2 ^ z ≤ q * 2 ^ k) (sym s.exponent)
+          (from_top j h q k s.some most' normal (subst (λ z. z * hid f ≤ k * hid f + q) s.infinity ge)) in
+          ap (of_bits f) m ∙ top_bits f ∙ sym (units_inf f q k above)
+    ]
 
 -- ---- bounds of what is kept
 
-pub kept_most : (f lift size_f down scale cut q : ℕ) → f < 2 ^ 60 → size_f ≡ size f → 57 ≤ size f
-    → scale ≡ lift + size_f - (down + 53) → cut ≡ min (down + scale - lift) 62 → q ≤ f / 2 ^ cut + 1 → q ≤ 2 ^ 53
-kept_most f lift size_f down scale cut q high size_is digits scale_is cut_is le =
-    let far : size f ≤ cut + 53 = omega (arith, size_is, digits, scale_is, cut_is, size-le f 60 high) in
-    let a : f < 2 ^ (cut + 53) = lt_of_lt_of_le (size-lt f) (pow_mono {i = size f} {j = cut + 53} far) in
-    let b : 2 ^ 53 * 2 ^ cut ≡ 2 ^ (cut + 53) = mul_comm (2 ^ 53) (2 ^ cut) ∙ sym (pow-add 2 cut 53) in
-    let c : f / 2 ^ cut < 2 ^ 53 = (div-lt_iff_lt-mul (pow_pos cut)).1 (lt_of_lt_of_le a (le_of_eq (sym b))) in
+pub kept_most : (p d lift size_d down scale cut q : ℕ) → d < 2 ^ 60 → size_d ≡ size d
+    → scale ≡ lift + size_d - (down + p) → cut ≡ min (down + scale - lift) 62 → q ≤ d / 2 ^ cut + 1 → q ≤ 2 ^ p
+kept_most p d lift size_d down scale cut q high size_is scale_is cut_is le =
+    let far : size d ≤ cut + p = omega (arith, size_is, scale_is, cut_is, size-le d 60 high) in
+    let a : d < 2 ^ (cut + p) = lt_of_lt_of_le (size-lt d) (pow_mono {i = size d} {j = cut + p} far) in
+    let b : 2 ^ p * 2 ^ cut ≡ 2 ^ (cut + p) = mul_comm (2 ^ p) (2 ^ cut) ∙ sym (pow-add 2 cut p) in
+    let c : d / 2 ^ cut < 2 ^ p = (div-lt_iff_lt-mul (pow_pos cut)).1 (lt_of_lt_of_le a (le_of_eq (sym b))) in
     omega (arith, c, le)
 
-pub kept_normal : (f lift size_f down scale cut q : ℕ) → f < 2 ^ 60 → size_f ≡ size f → 57 ≤ size f
-    → scale ≡ lift + size_f - (down + 53) → cut ≡ min (down + scale - lift) 62 → f / 2 ^ cut ≤ q
-    → (scale ≡ 0) ⊎ (2 ^ 52 ≤ q)
-kept_normal f lift size_f down scale cut q high size_is digits scale_is cut_is le = elim (cases_Bool (ltb 0 scale)) [
-  | inr e ↦ inl (omega (arith, ltb-false 0 scale e))
-  | inl e ↦
-      let some = ltb-true 0 scale e in
-      let s : size f ≡ cut + 53 = omega (arith, some, size_is, digits, scale_is, cut_is, size-le f 60 high) in
-      let a : 2 ^ (cut + 52) ≤ f = size_reaches f (cut + 52) (omega (arith, s)) in
-      let b : 2 ^ 52 * 2 ^ cut ≡ 2 ^ (cut + 52) = mul_comm (2 ^ 52) (2 ^ cut) ∙ sym (pow-add 2 cut 52) in
-      let c : 2 ^ 52 ≤ f / 2 ^ cut = (le-div_iff_mul-le (pow_pos cut)).1 (le_trans (le_of_eq b) a) in
-      inr (omega (arith, c, le))
-]
-
-pub digits_of : (f : ℕ) → 2 ^ 56 ≤ f → 57 ≤ size f
-digits_of f low = lt_of_not-le (λ (g : size f ≤ 56). not-le_of_lt
-    (lt_of_lt_of_le (size-lt f) (pow_mono {i = size f} {j = 56} g)) low)
+pub kept_normal : (p d lift size_d down scale cut q : ℕ) → d < 2 ^ 60 → size_d ≡ size d → 0 < p → p < size d
+    → scale ≡ lift + size_d - (down + p) → cut ≡ min (down + scale - lift) 62 → d / 2 ^ cut ≤ q
+    → Normal (p - 1) q scale
+kept_normal p d lift size_d down scale cut q high size_is some digits scale_is cut_is le =
+    elim (cases_Bool (ltb 0 scale)) [
+      | inr e ↦ inl (omega (arith, ltb-false 0 scale e))
+      | inl e ↦
+          let more = ltb-true 0 scale e in
+          let h = p - 1 in
+          let s : size d ≡ suc (cut + h) =
+          omega (arith, more, size_is, some, digits, scale_is, cut_is, size-le d 60 high) in
+          let a : 2 ^ (cut + h) ≤ d = size_reaches d (cut + h) (omega (arith, s)) in
+          let b : 2 ^ h * 2 ^ cut ≡ 2 ^ (cut + h) = mul_comm (2 ^ h) (2 ^ cut) ∙ sym (pow-add 2 cut h) in
+          let c : 2 ^ h ≤ d / 2 ^ cut = (le-div_iff_mul-le (pow_pos cut)).1 (le_trans (le_of_eq b) a) in
+          inr (le_trans c le)
+    ]
 
 -- ---- zeros behind a short front
 
@@ -399,20 +458,21 @@ widened_high f spare e high =
     lt_of_lt_of_le (mul-lt-mul_of_pos_right (size-lt f) (pow_pos spare))
     (le_of_eq (sym (pow-add 2 (size f) spare) ∙ ap (λ z. 2 ^ z) {x = size f + spare} {y = 60} (omega (arith, e, s))))
 
-pub widened_same : (n up down spare : ℕ) → round binary64 false (n * 2 ^ spare * 2 ^ up) (2 ^ (down + spare))
-    ≡ round binary64 false (n * 2 ^ up) (2 ^ down)
-widened_same n up down spare =
-    round_same binary64 false (n * 2 ^ spare * 2 ^ up) (2 ^ (down + spare)) (n * 2 ^ up) (2 ^ down)
+pub widened_same : (f : Format) (n up down spare : ℕ)
+    → round f false (n * 2 ^ spare * 2 ^ up) (2 ^ (down + spare)) ≡ round f false (n * 2 ^ up) (2 ^ down)
+widened_same f n up down spare =
+    round_same f false (n * 2 ^ spare * 2 ^ up) (2 ^ (down + spare)) (n * 2 ^ up) (2 ^ down)
     (pow_pos (down + spare)) (pow_pos down)
     (ap (λ z. z * 2 ^ down) (mul_right_comm n (2 ^ spare) (2 ^ up))
     ∙ mul_assoc (n * 2 ^ up) (2 ^ spare) (2 ^ down)
     ∙ ap (λ z. n * 2 ^ up * z) (mul_comm (2 ^ spare) (2 ^ down) ∙ sym (pow-add 2 down spare)))
 
-zero_bits : of_bits binary64 0 ≡ round binary64 false 0 1
+zero_bits : (f : Format) → of_bits f 0 ≡ round f false 0 1
 unfolding of_bits round
-zero_bits = refl
+zero_bits binary32 = refl
+zero_bits binary64 = refl
 
-pub round_zero : (n up down : ℕ) → n ≡ 0 → of_bits binary64 0 ≡ round binary64 false (n * 2 ^ up) (2 ^ down)
-round_zero n up down e =
-    zero_bits ∙ round_same binary64 false 0 1 (n * 2 ^ up) (2 ^ down) (lit< tt) (pow_pos down)
+pub round_zero : (f : Format) (n up down : ℕ) → n ≡ 0 → of_bits f 0 ≡ round f false (n * 2 ^ up) (2 ^ down)
+round_zero f n up down e =
+    zero_bits f ∙ round_same f false 0 1 (n * 2 ^ up) (2 ^ down) (lit< tt) (pow_pos down)
     (sym (mul-one (n * 2 ^ up) ∙ ap (λ z. z * 2 ^ up) e ∙ omega arith))

@@ -1,4 +1,4 @@
-//! Floats: the words that they are, and their bits.
+//! In EDN, floats: the words that they are, and their bits.
 ghost use Rattle.std.specs.Prelude.{◌≡◌, ◌<◌, ◌≤◌, ◌==◌, ◌||◌, true, false, length, position};
 ghost use Rattle.std.specs.Prelude.{option_map, IfOk, IfSome};
 ghost use Rattle.cbor_grammar.specs.Item.{float};
@@ -13,16 +13,19 @@ ghost use Rattle.cbor_edn_grammar.specs.Float.{is_special, decimal_word, float_w
 ghost use Rattle.cbor_edn_grammar.specs.Float.{is_decimal, is_float, float_of_bytes};
 ghost use Rattle.cbor_edn_grammar.specs.Float.{finite, hex_in_width, hex_in, is_hex_word, hex_word};
 ghost use Rattle.std.specs.Option.{option_or};
+ghost use Rattle.std.specs.Float.Ieee.{binary64};
 ghost use Rattle.cbor_grammar.specs.declared.width.FloatWidth.TheVariants.{ThirtyTwo};
+ghost use Rattle.cbor_edn_grammar.specs.HexFloat.{Dyadic, rounded};
+ghost use Rattle.cbor_edn_tokens.specs.mirror.Front.{IsNumber, FitsNumber};
 
 use crate::cursor::after_byte;
-use crate::hex_float::{hex_number, is_hex, unsigned};
+use crate::hex_float::{HexNumber, hex_number, is_hex, unsigned};
 use cbor_edn_grammar::error::{Expected, Stop};
 use cbor_edn_grammar::word::is_numeral;
 use cbor_floats::{EncodedFloat, NumberError, Width, parse_in_width, parse_number};
 use cbor_grammar::FloatWidth;
 use fast_float::Numeral;
-use std::num::{f32_to_bits_with_nan, nearest_f64_to_f32_with_nan};
+use std::num::f32_to_bits_with_nan;
 
 /// The number that a text writes, which has no indicator.
 fn number_of(text: &[u8]) -> Result<f64, Stop>
@@ -255,26 +258,45 @@ fn decimal_word(word: &[u8]) -> Result<(u64, FloatWidth), Stop>
     float_in(digits, width)
 }
 
-/// The number, if it is finite.
-fn finite(x: f64) -> Result<f64, Stop>
-    ensures { Gives (λ x. x) result (finite x) }
+/// The double that is nearest to a number in base 16.
+fn nearest_double(number: HexNumber) -> Result<f64, Stop>
+    requires { FitsNumber number }
+    ensures { (exact : Dyadic) → IsNumber number exact
+        → Gives (λ x. x) result (finite (rounded binary64 exact)) }
 {
-    if x.is_finite() {
-        Ok(x)
+    let nearest = number.to_f64();
+    if nearest.is_finite() {
+        Ok(nearest)
     } else {
         Err(Stop::At(Expected::LargestDouble))
     }
 }
 
-/// The single that is nearest to a number.
-fn nearest_single(x: f64) -> Result<EncodedFloat, Stop>
-    ensures { Gives (λ f. f) result (hex_in_width ThirtyTwo x) }
+/// The single that is nearest to a number in base 16.
+fn nearest_single(number: HexNumber) -> Result<EncodedFloat, Stop>
+    requires { FitsNumber number }
+    ensures { (exact : Dyadic) → IsNumber number exact
+        → Gives (λ f. f) result (hex_in_width ThirtyTwo exact) }
 {
-    let nearest = nearest_f64_to_f32_with_nan(x);
+    let nearest = number.to_f32();
     if nearest.is_finite() {
         Ok(EncodedFloat::Single(f32_to_bits_with_nan(nearest)))
     } else {
         Err(Stop::At(Expected::LargestSingle))
+    }
+}
+
+/// A number in base 16, in this width.
+fn hex_in_width(number: HexNumber, width: FloatWidth) -> Result<EncodedFloat, Stop>
+    requires { FitsNumber number }
+    ensures { (exact : Dyadic) → IsNumber number exact
+        → Gives (λ f. f) result (hex_in_width width exact) }
+{
+    match width {
+        FloatWidth::Unknown => Ok(shortest_of(nearest_double(number)?)),
+        FloatWidth::Sixteen => half_of(nearest_double(number)?),
+        FloatWidth::ThirtyTwo => nearest_single(number),
+        FloatWidth::SixtyFour => Ok(double_of(nearest_double(number)?)),
     }
 }
 
@@ -285,13 +307,7 @@ fn hex_in(text: &[u8], width: FloatWidth) -> Result<(u64, FloatWidth), Stop>
     ensures fits { IfOk result (λ x. FitsFloat x.1 x.0) }
 {
     let number = hex_number(text)?;
-    let x = finite(number)?;
-    let found = match width {
-        FloatWidth::Unknown => shortest_of(x),
-        FloatWidth::Sixteen => half_of(x)?,
-        FloatWidth::ThirtyTwo => nearest_single(x)?,
-        FloatWidth::SixtyFour => double_of(x),
-    };
+    let found = hex_in_width(number, width)?;
     Ok(bits_and_width(found))
 }
 

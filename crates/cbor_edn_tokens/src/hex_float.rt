@@ -1,4 +1,4 @@
-//! Numbers in base 16 times a power of 2, as C writes floats: `0x1.8p3`.
+//! In EDN, numbers in base 16 times a power of 2, as C writes floats: `0x1.8p3`.
 mod nearest;
 
 ghost use Rattle.std.specs.Prelude.{◌≡◌, ◌==◌, ◌||◌, ℕ, ◌+◌, ◌^◌, ◌<◌, ◌≤◌, length, position};
@@ -6,14 +6,49 @@ ghost use Rattle.std.specs.Prelude.{option_map, IfOk, IfSome};
 ghost use Rattle.cbor_floats.specs.Decimal.{unsigned as unsigned_of};
 ghost use Rattle.cbor_floats.specs.Decimal.{is_negative as begins_with_minus};
 ghost use Rattle.cbor_edn_grammar.specs.Reading.{Gives};
-ghost use Rattle.cbor_edn_grammar.specs.HexFloat.{hex_run, hex_digits, small_run, exponent, scaled};
-ghost use Rattle.cbor_edn_grammar.specs.HexFloat.{with_exponent, after_hex, is_p, hex_number};
+ghost use Rattle.std.specs.Float.Ieee.{binary32, binary64};
+ghost use Rattle.cbor_edn_grammar.specs.HexFloat.{Dyadic, hex_run, hex_digits, small_run, exponent};
+ghost use Rattle.cbor_edn_grammar.specs.HexFloat.{rounded, with_exponent, after_hex, is_p};
+ghost use Rattle.cbor_edn_grammar.specs.HexFloat.{hex_number};
 ghost use Rattle.cbor_edn_grammar.specs.HexFloat.{is_hex};
 ghost use Rattle.cbor_edn_tokens.specs.mirror.Front.{IsFront, FitsFront, Finds, FindsDigits};
+ghost use Rattle.cbor_edn_tokens.specs.mirror.Front.{IsNumber, FitsNumber, FindsNumber};
 
 use crate::cursor::after_bytes;
-use crate::hex_float::nearest::{Front, nearest};
+use crate::hex_float::nearest::{Format, Front, nearest};
 use cbor_edn_grammar::error::{Expected, Stop};
+use std::num::{f32_from_bits_with_nan, f64_from_bits_with_nan};
+
+/// A number in base 16: its sign, and its size, which is the digits times 2^up / 2^down.
+#[derive(Clone, Copy)]
+pub struct HexNumber {
+    negative: bool,
+    digits: Front,
+    up: u128,
+    down: u128,
+}
+
+impl HexNumber {
+    /// The nearest float of 64 bits.
+    pub fn to_f64(self) -> f64
+        requires { FitsNumber self }
+        ensures { (number : Dyadic) → IsNumber self number → result ≡ rounded binary64 number }
+    {
+        let bits = nearest(self.digits, self.up, self.down, Format::Double);
+        let size = f64_from_bits_with_nan(bits);
+        if self.negative { -size } else { size }
+    }
+
+    /// The nearest float of 32 bits.
+    pub fn to_f32(self) -> f32
+        requires { FitsNumber self }
+        ensures { (number : Dyadic) → IsNumber self number → result ≡ rounded binary32 number }
+    {
+        let bits = nearest(self.digits, self.up, self.down, Format::Single);
+        let size = f32_from_bits_with_nan(bits as u32);
+        if self.negative { -size } else { size }
+    }
+}
 
 /// What digits in base 16 are after those of a number.
 fn hex_run(digits: &[u8], start: Front) -> Result<Front, Stop>
@@ -111,30 +146,23 @@ fn exponent(text: &[u8]) -> Result<u64, Stop>
     small_run(digits)
 }
 
-/// The float that is nearest to a number times a power of 2 over another.
-fn scaled(negative: bool, number: Front, up: u128, down: u128) -> f64
-    requires fits { FitsFront number }
-    requires up { up < 2 ^ 67 }
-    requires down { down < 2 ^ 67 }
-    ensures { (n : ℕ) → IsFront number n → result ≡ scaled negative n up down }
-{
-    let size = nearest(number, up, down);
-    if negative { -size } else { size }
-}
-
 /// A number with so many of its digits after the point, times 2 to an exponent of this sign and
 /// size.
-fn with_exponent(negative: bool, digits: (Front, usize), below: bool, size: u64) -> f64
+fn with_exponent(negative: bool, digits: (Front, usize), below: bool, size: u64) -> HexNumber
     requires fits { FitsFront digits.0 }
     requires size { size < 2 ^ 20 }
-    ensures { (n : ℕ) → IsFront digits.0 n → result ≡ with_exponent negative n digits.1 below size }
+    ensures is { (n : ℕ) → IsFront digits.0 n
+        → IsNumber result (with_exponent negative n digits.1 below size) }
+    ensures fits { FitsNumber result }
 {
-    let (number, places) = digits;
-    let down = 4 * places as u128;
-    if below {
-        scaled(negative, number, 0, down + size as u128)
-    } else {
-        scaled(negative, number, size as u128, down)
+    let (digits, places) = digits;
+    let size = size as u128;
+    let (up, down) = if below { (0, size) } else { (size, 0) };
+    HexNumber {
+        negative,
+        digits,
+        up,
+        down: 4 * places as u128 + down,
     }
 }
 
@@ -155,10 +183,11 @@ fn find_p(digits: &[u8]) -> Option<usize>
         .position(|byte| *byte == b'p' || *byte == b'P')
 }
 
-/// The float that is nearest to the number that a text writes, which has no indicator.
+/// The number that a text writes, which has no indicator.
 #[tactic(auto, unfolding(cbor_edn_grammar::specs::HexFloat::hex_number))]
-pub fn hex_number(text: &[u8]) -> Result<f64, Stop>
-    ensures { Gives (λ x. x) result (hex_number text.now) }
+pub fn hex_number(text: &[u8]) -> Result<HexNumber, Stop>
+    ensures finds { FindsNumber result (hex_number text.now) }
+    ensures fits { IfOk result FitsNumber }
 {
     let Some(digits) = after_hex(text) else {
         return Err(Stop::At(Expected::Number));

@@ -1,8 +1,18 @@
--- Numbers in base 16 by the digits at their front.
+-- Numbers of EDN in base 16 by the digits at their front.
 use Rattle.std.specs.Prelude.{◌≡◌, ℕ, ◌+◌, ◌*◌, ◌^◌, ◌<◌, ◌≤◌, true, false, Option, Some, Result, Ok, Err}
+use Rattle.std.specs.Float.Ieee as ieee
+use Rattle.cbor_edn_grammar.specs.HexFloat.{Dyadic}
 use Rattle.cbor_edn_grammar.specs.declared.error.Stop.{Stop}
 use Rattle.cbor_edn_grammar.specs.Reading.{Refuses}
+use Rattle.cbor_edn_tokens.specs.declared.hex_float.HexNumber.{HexNumber}
+use Rattle.cbor_edn_tokens.specs.declared.hex_float.nearest.Format.{Format}
+use Rattle.cbor_edn_tokens.specs.declared.hex_float.nearest.Format.TheVariants.{Single, Double}
 use Rattle.cbor_edn_tokens.specs.declared.hex_float.nearest.Front.{Front}
+
+-- the format by its name in IEEE 754
+abbrev pub format_of : Format → ieee.Format
+format_of Single = ieee.binary32
+format_of Double = ieee.binary64
 
 -- what the digits behind the front are: below 16 to their count, and zero only if each of them is
 pub record Behind (front : Front) (tail : ℕ) : Type 0 where
@@ -30,3 +40,20 @@ Finds (Err e) number = Refuses e number
 abbrev pub FindsDigits : Result (Front × ℕ) Stop → Option (ℕ × ℕ) → Type 0
 FindsDigits (Ok x) number = (n : ℕ) × (number ≡ Some (n, x.1)) × IsFront x.0 n
 FindsDigits (Err e) number = Refuses e number
+
+-- a number by the front of its digits
+pub record IsNumber (x : HexNumber) (number : Dyadic) : Type 0 where
+  pub negative : x.negative ≡ number.negative
+  pub digits : IsFront x.digits number.digits
+  pub up : x.up ≡ number.up
+  pub down : x.down ≡ number.down
+
+pub record FitsNumber (x : HexNumber) : Type 0 where
+  pub digits : FitsFront x.digits
+  pub up : x.up < 2 ^ 67
+  pub down : x.down < 2 ^ 67
+
+-- what was found is the number that there is
+abbrev pub FindsNumber : Result HexNumber Stop → Option Dyadic → Type 0
+FindsNumber (Ok x) number = (d : Dyadic) × (number ≡ Some d) × IsNumber x d
+FindsNumber (Err e) number = Refuses e number

@@ -1,17 +1,60 @@
-//! The float of 64 bits that is nearest to a number in base 16, by the digits at its front.
+//! In EDN, the float that is nearest to a number in base 16, by the digits at its front.
 ghost use Rattle.std.specs.Prelude.{◌≡◌, ◌⊎◌, ℕ, ◌+◌, ◌*◌, ◌/◌, ◌^◌, ◌<◌, ◌≤◌, ◌||◌, nat_lt, false};
-ghost use Rattle.std.specs.Float.Ieee.{round, units, binary64};
+ghost use Rattle.std.specs.Prelude.{from_bits};
+ghost use Rattle.std.specs.Float.Ieee.{round, units, prec, low, hid, ones};
 ghost use Rattle.std.specs.Float.Ieee.Nearest.{closest};
-ghost use Rattle.cbor_edn_tokens.specs.mirror.Front.{IsFront, FitsFront, Behind};
+ghost use Rattle.cbor_edn_tokens.specs.mirror.Front.{IsFront, FitsFront, Behind, format_of};
 
-use std::num::f64_from_bits_with_nan;
+/// A format of IEEE 754 that a number is rounded to.
+#[derive(Clone, Copy)]
+pub(super) enum Format {
+    /// binary32.
+    Single,
+    /// binary64.
+    Double,
+}
 
-/// The weight of the exponent in the bits of a float of 64 bits, and of the leading digit, which
-/// they leave out.
-const HIDDEN: u128 = 1 << 52;
+impl Format {
+    /// How many binary digits a number has, the leading one counted.
+    fn precision(self) -> u128
+        ensures { result ≡ prec (format_of self) }
+    {
+        match self {
+            Format::Single => 24,
+            Format::Double => 53,
+        }
+    }
 
-/// The bits of the infinity.
-const INFINITY: u128 = 2047 * HIDDEN;
+    /// The exponent of the least number above 0, without its minus.
+    fn least(self) -> u128
+        ensures { result ≡ low (format_of self) }
+    {
+        match self {
+            Format::Single => 149,
+            Format::Double => 1074,
+        }
+    }
+
+    /// The weight of the exponent in the bits, and of the leading digit, which they leave out.
+    fn hidden(self) -> u128
+        ensures { result ≡ hid (format_of self) }
+    {
+        match self {
+            Format::Single => 1 << 23,
+            Format::Double => 1 << 52,
+        }
+    }
+
+    /// The bits of the infinity.
+    fn infinity(self) -> u128
+        ensures { result ≡ ones (format_of self) * hid (format_of self) }
+    {
+        match self {
+            Format::Single => 255 << 23,
+            Format::Double => 2047 << 52,
+        }
+    }
+}
 
 /// A number by the digits at its front.
 #[derive(Clone, Copy)]
@@ -94,47 +137,55 @@ fn power_of_two(exponent: u32) -> u64
     1 << exponent
 }
 
-/// So many times 2^scale times the least float above 0; an infinity where that is too large.
-fn float_of_units(kept: u64, scale: u128) -> f64
-    requires kept { kept ≤ 2 ^ 53 }
+/// The bits of so many times 2^scale times the least float above 0; those of an infinity where that
+/// is too large.
+fn bits_of_units(kept: u64, scale: u128, format: Format) -> u64
+    requires kept { kept ≤ 2 ^ prec (format_of format) }
     requires scale { scale < 2 ^ 71 }
-    requires normal { (scale ≡ 0) ⊎ (2 ^ 52 ≤ kept) }
-    ensures { result ≡ units binary64 false kept scale }
+    requires normal { (scale ≡ 0) ⊎ (hid (format_of format) ≤ kept) }
+    ensures bits { from_bits (format_of format) result
+        ≡ units (format_of format) false kept scale }
+    ensures most { result ≤ ones (format_of format) * hid (format_of format) }
 {
-    let bits = (scale * HIDDEN + kept as u128).min(INFINITY);
-    f64_from_bits_with_nan(bits as u64)
+    let bits = scale * format.hidden() + kept as u128;
+    bits.min(format.infinity()) as u64
 }
 
-/// The float that is nearest to a number with so many digits at its front that some are cut off.
-fn nearest_long(front: Front, up: u128, down: u128) -> f64
+/// The bits of the float that is nearest to a number with so many digits at its front that some are
+/// cut off.
+fn nearest_long(front: Front, up: u128, down: u128, format: Format) -> u64
     requires low { 2 ^ 56 ≤ front.digits }
     requires high { front.digits < 2 ^ 60 }
     requires up { up < 2 ^ 68 }
     requires down { down < 2 ^ 68 }
-    ensures { (n : ℕ) → IsFront front n → result ≡ round binary64 false (n * 2 ^ up) (2 ^ down) }
+    ensures bits { (n : ℕ) → IsFront front n → from_bits (format_of format) result
+        ≡ round (format_of format) false (n * 2 ^ up) (2 ^ down) }
+    ensures most { result ≤ ones (format_of format) * hid (format_of format) }
 {
     let size = 64 - front.digits.leading_zeros();
-    let lift = up + 4 * front.behind as u128 + 1074;
-    let scale = (lift + size as u128).saturating_sub(down + 53);
+    let lift = up + 4 * front.behind as u128 + format.least();
+    let scale = (lift + size as u128).saturating_sub(down + format.precision());
     let cut = (down + scale - lift).min(62);
     let kept = rounded(front, cut as u32);
-    float_of_units(kept, scale)
+    bits_of_units(kept, scale, format)
 }
 
-/// The float that is nearest to the number times 2^up / 2^down.
-pub(super) fn nearest(front: Front, up: u128, down: u128) -> f64
+/// The bits of the float that is nearest to the number times 2^up / 2^down.
+pub(super) fn nearest(front: Front, up: u128, down: u128, format: Format) -> u64
     requires fits { FitsFront front }
     requires up { up < 2 ^ 67 }
     requires down { down < 2 ^ 67 }
-    ensures { (n : ℕ) → IsFront front n → result ≡ round binary64 false (n * 2 ^ up) (2 ^ down) }
+    ensures bits { (n : ℕ) → IsFront front n → from_bits (format_of format) result
+        ≡ round (format_of format) false (n * 2 ^ up) (2 ^ down) }
+    ensures most { result ≤ ones (format_of format) * hid (format_of format) }
 {
     if front.digits == 0 {
-        return 0.0;
+        return 0;
     }
     if front.behind > 0 {
-        return nearest_long(front, up, down);
+        return nearest_long(front, up, down, format);
     }
     let spare = front.digits.leading_zeros() - 4;
     let digits = front.digits << spare;
-    nearest_long(Front { digits, ..front }, up, down + spare as u128)
+    nearest_long(Front { digits, ..front }, up, down + spare as u128, format)
 }

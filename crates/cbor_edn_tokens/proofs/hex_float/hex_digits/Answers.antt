@@ -1,11 +1,10 @@
-use Rattle.std.proofs.Common.{◌≡◌, ℕ, ◌+◌, ◌-◌, ◌==◌, ◌||◌, List, [], length, take, drop, position, codes, bytes_eq}
+use Rattle.std.proofs.Common.{◌≡◌, ℕ, ◌+◌, ◌==◌, ◌||◌, List, [], length, take, drop, position, codes, bytes_eq}
 use Rattle.std.proofs.Common.{Option, Some, None, false, if◌then◌else◌, refl, sym, ap, ◌∙◌}
 use Rattle.std.proofs.Common.{rules, lit<}
-use Rattle.std.proofs.Math.Seq.{take-length}
-use Rattle.std.proofs.lemmas.List.{length-drop}
 use Rattle.cbor_edn_grammar.specs.HexFloat.{hex_run, hex_digits, digits_at}
 use Rattle.cbor_edn_grammar.specs.Reading.{◌>>=◌}
 use Rattle.cbor_edn_tokens.specs.mirror.Front.{IsFront}
+use Rattle.cbor_edn_tokens.proofs.HexFloats.{rest_is}
 use Rattle.cbor_edn_tokens.proofs.hex_float.hex_digits.Goals as goal
 
 -- some digits, or a point and some
@@ -31,10 +30,6 @@ zero_front = record {
   behind = record { less = lit< tt; some = λ e. absurd cc; none = λ e. refl };
   number = refl;
 }
-
-rest_is : (digits : List ℕ) (from : ℕ) → take (length digits - from) (drop from digits) ≡ drop from digits
-rest_is digits from =
-    ap (λ k. take k (drop from digits)) (sym (length-drop from digits)) ∙ take-length (drop from digits)
 
 pub returns-in_default-clause-finds : goal.returns-in_default-clause-finds
 returns-in_default-clause-finds c =

@@ -4,6 +4,7 @@ use lib.Count.{count_leading_zeros, leading_le}
 use lib.Ieee.{size}
 use Rattle.cbor_floats.proofs.Rounding.{size_is}
 use Rattle.cbor_edn_tokens.proofs.Nearest.{spare_bits, widened_low, widened_high, widened_same, round_zero}
+use Rattle.cbor_edn_tokens.specs.mirror.Front.{format_of}
 use Rattle.cbor_edn_tokens.proofs.hex_float.nearest.nearest.Goals as goal
 
 -- the bits before a short front
@@ -26,10 +27,11 @@ alone : (f behind tail n : ℕ) → behind ≡ 0 → tail < 2 ^ (4 * behind) →
 alone f zero tail n e less is = (omega (arith, less, is), omega (arith, less), refl)
 alone f (suc b) tail n e less is = absurd (omega (arith, e))
 
-pub returns-then-front-eq0 : goal.returns-then-front-eq0
-returns-then-front-eq0 c = λ n is.
-    round_zero n c.args.up c.args.down (nothing c.args.front.digits c.args.front.behind is.tail n c.if-front-eq0.true
-    c.requires.fits.long is.behind.less is.number)
+pub returns-then-front-eq0-clause-bits : goal.returns-then-front-eq0-clause-bits
+returns-then-front-eq0-clause-bits c = λ n is.
+    round_zero (format_of c.args.format) n c.args.up c.args.down
+    (nothing c.args.front.digits c.args.front.behind is.tail n c.if-front-eq0.true c.requires.fits.long is.behind.less
+    is.number)
 
 pub overflow_sub-spare : goal.overflow_sub-spare
 overflow_sub-spare c = (spare c.args.front.digits c.requires.fits.digits).0
@@ -47,13 +49,13 @@ nearest_long-requires-2-clause-high c =
     subst (λ z. z < 2 ^ 60) (sym (shifted f c.requires.fits.digits))
     (widened_high f _ (spare f c.requires.fits.digits).1 c.requires.fits.digits)
 
-pub returns : goal.returns
-returns c = λ n is.
+pub returns-clause-bits : goal.returns-clause-bits
+returns-clause-bits c = λ n is.
     let f = c.args.front.digits in
     let k = count_leading_zeros 64 f - 4 in
     let a = alone f c.args.front.behind is.tail n (omega (arith, c.if-front-gt0.false)) is.behind.less is.number in
     let s = shifted f c.requires.fits.digits in
-    c.nearest_long-2.ensures (n * 2 ^ k) (record {
+    c.nearest_long-2.ensures.bits (n * 2 ^ k) (record {
       tail = 0;
       behind = record {
         less = pow_pos (4 * c.args.front.behind);
@@ -62,4 +64,4 @@ returns c = λ n is.
       };
       number = ap (λ z. z * 2 ^ k) a.0 ∙ sym s
           ∙ omega (arith, ap (λ z. (f * 2 ^ k) % 2 ^ 64 * z) a.2);
-    }) ∙ widened_same n c.args.up c.args.down k
+    }) ∙ widened_same (format_of c.args.format) n c.args.up c.args.down k
