@@ -57,8 +57,8 @@ impl Names {
         Ok(())
     }
 
-    /// Defines a type with its parts.
-    pub(crate) fn add(
+    /// Defines a type with its parts, as [`define`](Names::define) and [`push`](Names::push) do.
+    pub fn add(
         &mut self,
         definition: Definition<'_>,
         parts: &[Part<'_>],

@@ -1,25 +1,24 @@
-//! Names for what is in CBOR data: of members, keys, tags and values, by tables, such as those of
-//! COSE and CWT. docs/NAMES.md has the rules.
+//! Names for what is in CBOR data: of members, keys, tags and values, by tables. `cbor_known_names`
+//! has those of COSE, CWT and their like. docs/NAMES.md has the rules.
 //!
 //! [`notes`] gives the names and meanings of the items in an item, each with its place:
 //!
 //! ```rust
-//! use cbor_names::{Names, notes};
+//! use cbor_names::{Definition, Key, Names, Part, Shape, notes};
 //!
-//! // 18([<<{1: -7}>>, {}, h'', h''])
-//! let bytes = b"\xd2\x84\x43\xa1\x01\x26\xa0\x40\x40";
-//! let names = Names::known(alloc)?;
-//! let notes = notes(alloc, bytes, &names, None)?;
+//! let mut names = Names::new(alloc);
+//! let reading = Definition::new("Reading", Shape::Map).tagged(1001);
+//! names.add(reading, &[Part::new(Key::Integer(1), "sensor")])?;
+//! // 1001({1: 7})
+//! let notes = notes(alloc, b"\xd9\x03\xe9\xa1\x01\x07", &names, None)?;
 //! let list = notes.list(alloc)?;
-//! assert_eq!(rt; list.len(), 7);
-//! assert_eq!(rt; list[0].before, "COSE_Sign1");
-//! assert_eq!(rt; (list[1].before, list[1].encoded), ("protected", true));
-//! assert_eq!(rt; (list[2].before, list[3].after), ("alg", "ES256"));
+//! assert_eq!(rt; list.len(), 2);
+//! assert_eq!(rt; (list[0].at, list[0].before), (6, "Reading"));
+//! assert_eq!(rt; (list[1].at, list[1].before), (2, "sensor"));
 //! ```
 #![tactic(auto)]
 
 mod define;
-mod known;
 mod note;
 mod pairs;
 mod part;

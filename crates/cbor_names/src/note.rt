@@ -160,16 +160,6 @@ impl<'a> Notes<'a> {
         Ok(Found { after, ..found })
     }
 
-    /// The note with a text in single quotes as its meaning.
-    pub(crate) fn quoted(&mut self, found: Found<'a>, text: &str) -> Result<Found<'a>, AllocError> {
-        let start = self.made.len();
-        self.made.push('\'')?;
-        self.made.push_str(text)?;
-        self.made.push('\'')?;
-        let after = After::Made(start, self.made.len());
-        Ok(Found { after, ..found })
-    }
-
     /// The text of a meaning.
     fn text(&self, after: After<'a>) -> &str {
         match after {

@@ -85,7 +85,7 @@ impl<'b> Pairs<'b> {
 impl Names {
     /// Whether the bytes are a map with the signs of maps of this type: each value of a key that
     /// has a sign is of its kind, and there are at least two.
-    pub(crate) fn has_signs(&self, found: Type, bytes: &[u8]) -> bool {
+    pub(crate) fn has_signs(&self, found: &Type, bytes: &[u8]) -> bool {
         let Inside::Keys(parts, _) = self.inside_of(found) else {
             return false;
         };

@@ -76,6 +76,19 @@ pub enum Kind {
     Bytes,
 }
 
+impl<'a> Part<'a> {
+    /// A part of this name of which nothing else is known.
+    pub fn new(key: Key<'a>, name: &'a str) -> Part<'a> {
+        Part {
+            key,
+            name,
+            what: What::Any,
+            when: None,
+            sign: None,
+        }
+    }
+}
+
 impl<'a> Definition<'a> {
     /// A type without a tag.
     pub fn new(name: &'a str, shape: Shape<'a>) -> Definition<'a> {

@@ -46,19 +46,19 @@ impl Names {
     }
 
     /// What is said of the key at the front, or of the value there.
-    pub(crate) fn part_at(
+    pub(crate) fn part_at<'p>(
         &self,
-        parts: &[PartRow],
+        parts: &'p [PartRow],
         chosen: Option<Scalar<'_>>,
         bytes: &[u8],
-    ) -> Option<PartRow> {
+    ) -> Option<&'p PartRow> {
         if parts.is_empty() {
             return None;
         }
         let key = scalar_at(bytes)?;
         for part in parts {
             if self.fits(part, key, chosen) {
-                return Some(*part);
+                return Some(part);
             }
         }
         None

@@ -8,7 +8,7 @@ use std::alloc::{AllocError, Global};
 
 /// Tables of names: types, and how their parts and values are called.
 ///
-/// [`Names::known`] has those that come with this crate, and [`Names::define`] adds further ones.
+/// [`Names::new`] has none, and [`Names::add`] adds a type.
 #[derive(Drop)]
 pub struct Names {
     /// All texts, one after the other.
@@ -122,11 +122,12 @@ impl Names {
     /// The type of this name.
     ///
     /// ```rust
-    /// use cbor_names::Names;
+    /// use cbor_names::{Definition, Names, Shape};
     ///
-    /// let names = Names::known(alloc)?;
-    /// assert!(rt; names.of("COSE_Key").is_some());
-    /// assert!(rt; names.of("COSE").is_none());
+    /// let mut names = Names::new(alloc);
+    /// names.define(Definition::new("Reading", Shape::Map))?;
+    /// assert!(rt; names.of("Reading").is_some());
+    /// assert!(rt; names.of("Read").is_none());
     /// ```
     pub fn of(&self, name: &str) -> Option<Type>
         ensures { IfSome result (λ found. text_of self.now found.name ≡ name.now) }
@@ -141,9 +142,19 @@ impl Names {
     pub fn tagged(&self, tag: u64) -> Option<Type>
         ensures { IfSome result (λ found. found.tag ≡ Some tag) }
     {
+        match self.type_of(tag) {
+            Some(found) => Some(*found),
+            None => None,
+        }
+    }
+
+    /// The same, where it is in the tables.
+    pub(crate) fn type_of(&self, tag: u64) -> Option<&Type>
+        ensures { IfSome result (λ found. found.now.tag ≡ Some tag) }
+    {
         for found in &self.types {
             if found.tag == Some(tag) {
-                return Some(*found);
+                return Some(found);
             }
         }
         None
@@ -178,7 +189,7 @@ impl Names {
     pub(crate) fn inside(&self, what: WhatRow) -> Inside<'_> {
         match what {
             WhatRow::Of(index) => match self.types.get(index) {
-                Some(found) => self.inside_of(*found),
+                Some(found) => self.inside_of(found),
                 None => Inside::Nothing,
             },
             WhatRow::Each(index) => Inside::Each(index),
@@ -187,7 +198,7 @@ impl Names {
     }
 
     /// What is known of the items in an item of this type.
-    pub(crate) fn inside_of(&self, found: Type) -> Inside<'_> {
+    pub(crate) fn inside_of(&self, found: &Type) -> Inside<'_> {
         let parts = self.parts.get(found.start..found.end).unwrap_or(&[]);
         match found.shape {
             ShapeRow::Undefined => Inside::Nothing,

@@ -34,15 +34,6 @@ impl From<AllocError> for Stop {
 /// The tag whose item may be one of any type.
 const SELF_DESCRIBED: u64 = 55_799;
 
-/// How many bytes a byte string has at most that is noted as a text.
-const LONGEST: usize = 64;
-
-/// Whether a byte is a character of ASCII that prints, and that a quoted text in a comment can
-/// have.
-fn is_plain(byte: &u8) -> bool {
-    (b' '..=b'~').contains(byte) && !matches!(*byte, b'/' | b'\'' | b'\\')
-}
-
 /// What is known of an item before it is read.
 #[derive(Clone, Copy)]
 struct Place<'a> {
@@ -52,8 +43,6 @@ struct Place<'a> {
     behind: usize,
     /// Its name; empty for none.
     name: &'a str,
-    /// Whether it or its key has a name.
-    named: bool,
     what: WhatRow,
     /// The tag before it.
     tag: Option<u64>,
@@ -91,7 +80,7 @@ impl Names {
         match what {
             WhatRow::Encoded(index) if !content.is_empty() => Some(WhatRow::Of(index)),
             WhatRow::Payload(index) => {
-                let held = *self.types.get(index)?;
+                let held = self.types.get(index)?;
                 let below = held.tag.is_some() && held.tag == around;
                 if below || self.has_signs(held, content) {
                     Some(WhatRow::Of(index))
@@ -106,24 +95,26 @@ impl Names {
 
 impl<'a> Place<'a> {
     /// That of an item in this one, of which nothing is known.
-    fn unknown(self) -> Place<'a>
-        ensures left { result.left ≡ self.entry.left }
-        ensures behind { result.behind ≡ self.entry.behind }
+    fn unknown(&self) -> Place<'a>
+        requires { 0 < self.now.left }
+        ensures left { result.left + 1 ≡ self.now.left }
+        ensures behind { result.behind ≡ self.now.behind }
     {
         Place {
+            left: self.left - 1,
+            behind: self.behind,
             name: "",
-            named: false,
             what: WhatRow::Any,
             tag: None,
             around: None,
-            ..self
         }
     }
 
     /// That of the member at this index.
-    fn member(self, names: &'a Names, inside: Inside<'_>, index: usize) -> Place<'a>
-        ensures left { result.left ≡ self.entry.left }
-        ensures behind { result.behind ≡ self.entry.behind }
+    fn member(&self, names: &'a Names, inside: Inside<'_>, index: usize) -> Place<'a>
+        requires { 0 < self.now.left }
+        ensures left { result.left + 1 ≡ self.now.left }
+        ensures behind { result.behind ≡ self.now.behind }
     {
         let (name, what) = match inside {
             Inside::Members(parts) => match parts.get(index) {
@@ -135,39 +126,41 @@ impl<'a> Place<'a> {
         };
         Place {
             name,
-            named: !name.is_empty(),
             what,
-            tag: None,
-            ..self
+            around: self.around,
+            ..self.unknown()
         }
     }
 
     /// That of a key of a map.
-    fn key(self, names: &'a Names, part: Option<PartRow>) -> Place<'a>
-        ensures left { result.left ≡ self.entry.left }
-        ensures behind { result.behind ≡ self.entry.behind }
+    fn key(&self, names: &'a Names, part: Option<&PartRow>) -> Place<'a>
+        requires { 0 < self.now.left }
+        ensures left { result.left + 1 ≡ self.now.left }
+        ensures behind { result.behind ≡ self.now.behind }
     {
-        match part {
-            Some(part) => Place {
-                name: names.text(part.name),
-                ..self.unknown()
-            },
-            None => self.unknown(),
+        let name = match part {
+            Some(part) => names.text(part.name),
+            None => "",
+        };
+        Place {
+            name,
+            ..self.unknown()
         }
     }
 
     /// That of the value of a key.
-    fn value(self, part: Option<PartRow>) -> Place<'a>
-        ensures left { result.left ≡ self.entry.left }
-        ensures behind { result.behind ≡ self.entry.behind }
+    fn value(&self, part: Option<&PartRow>) -> Place<'a>
+        requires { 0 < self.now.left }
+        ensures left { result.left + 1 ≡ self.now.left }
+        ensures behind { result.behind ≡ self.now.behind }
     {
-        match part {
-            Some(part) => Place {
-                named: part.name.start < part.name.end,
-                what: part.what,
-                ..self.unknown()
-            },
-            None => self.unknown(),
+        let what = match part {
+            Some(part) => part.what,
+            None => WhatRow::Any,
+        };
+        Place {
+            what,
+            ..self.unknown()
         }
     }
 }
@@ -213,49 +206,29 @@ struct Pass<'a> {
 }
 
 impl<'a> Pass<'a> {
-    /// The note with the meaning of the item at the front.
-    fn explained(
-        &mut self,
-        note: Found<'a>,
-        what: WhatRow,
-        bytes: &[u8],
-    ) -> Result<Found<'a>, AllocError> {
-        match what {
-            WhatRow::Of(_) => Ok(self.meant(note, what, bytes)),
+    /// Notes the name of an item that has no parts, and the meaning of what is at the front.
+    fn note_leaf(&mut self, place: &Place<'a>, note: Found<'a>, bytes: &[u8]) -> Result<(), Stop> {
+        let note = match place.what {
+            WhatRow::Of(index) => self.meant(note, index, bytes),
             WhatRow::Date => match scalar_at(bytes) {
-                Some(Scalar::Integer(seconds)) => self.dated(note, seconds),
-                _ => Ok(note),
+                Some(Scalar::Integer(seconds)) => self.dated(note, seconds)?,
+                _ => note,
             },
-            _ => Ok(note),
-        }
+            _ => note,
+        };
+        self.notes.push(note)?;
+        Ok(())
     }
 
-    /// The note with what the value at the front means.
-    fn meant(&self, note: Found<'a>, what: WhatRow, bytes: &[u8]) -> Found<'a> {
+    /// The note with what the value at the front means, by this type.
+    fn meant(&self, note: Found<'a>, index: usize, bytes: &[u8]) -> Found<'a> {
         let names = self.names;
-        match names.inside(what) {
+        match names.inside(WhatRow::Of(index)) {
             Inside::Values(values) => match names.part_at(values, None, bytes) {
                 Some(value) => note.meaning(names.text(value.name)),
                 None => note,
             },
             _ => note,
-        }
-    }
-
-    /// The note of a byte string of this content. If the string or its key has a name and is a
-    /// short text, the text is its meaning.
-    fn quoted(
-        &mut self,
-        note: Found<'a>,
-        named: bool,
-        content: &[u8],
-    ) -> Result<Found<'a>, AllocError> {
-        if !named || content.is_empty() || content.len() > LONGEST {
-            return Ok(note);
-        }
-        match str::from_utf8(content) {
-            Ok(text) if content.iter().all(is_plain) => self.notes.quoted(note, text),
-            _ => Ok(note),
         }
     }
 
@@ -269,8 +242,8 @@ impl<'a> Pass<'a> {
 
     /// The bytes after an item.
     #[cycle(item)]
-    fn item<'b>(&mut self, place: Place<'a>, bytes: &'b [u8]) -> Result<&'b [u8], Stop>
-        requires total { length bytes.now + place.behind < 2 ^ 64 }
+    fn item<'b>(&mut self, place: &Place<'a>, bytes: &'b [u8]) -> Result<&'b [u8], Stop>
+        requires total { length bytes.now + place.now.behind < 2 ^ 64 }
         ensures shorter { IfOk result (λ rest. length rest.now < length bytes.now) }
     {
         if place.left == 0 {
@@ -279,34 +252,28 @@ impl<'a> Pass<'a> {
         let Ok((head, rest)) = read_head(bytes) else {
             return Err(Stop::NoItem);
         };
-        let inside = Place {
-            left: place.left - 1,
-            ..place
-        };
         let at = bytes.len() + place.behind;
-        let index = self.notes.len();
         let note = Found::new(at, place.name);
+        let index = self.notes.len();
         let after = match head {
-            ItemHead::Tag(tag, _) => self.tagged(inside, note, tag, rest)?,
+            ItemHead::Tag(tag, _) => self.tagged(place, note, tag, rest)?,
             ItemHead::Array(count) => {
                 self.notes.push(note)?;
-                self.members(inside, count, rest)?
+                self.members(place, count, rest)?
             }
             ItemHead::Map(count) => {
                 self.notes.push(note)?;
-                self.pairs(inside, count, rest)?
+                self.pairs(place, count, rest)?
             }
             ItemHead::String(StringKind::Bytes, Argument::Number(len, _)) => {
-                self.bytes(inside, note, len, rest)?
+                self.bytes(place, note, len, rest)?
             }
             ItemHead::String(kind, count) => {
-                let note = self.explained(note, place.what, bytes)?;
-                self.notes.push(note)?;
+                self.note_leaf(place, note, bytes)?;
                 after_string(kind, count, rest)?
             }
             _ => {
-                let note = self.explained(note, place.what, bytes)?;
-                self.notes.push(note)?;
+                self.note_leaf(place, note, bytes)?;
                 rest
             }
         };
@@ -318,43 +285,44 @@ impl<'a> Pass<'a> {
     #[cycle(item)]
     fn tagged<'b>(
         &mut self,
-        place: Place<'a>,
+        place: &Place<'a>,
         note: Found<'a>,
         tag: u64,
         bytes: &'b [u8],
     ) -> Result<&'b [u8], Stop>
-        requires total { length bytes.now + place.behind < 2 ^ 64 }
+        requires left { 0 < place.now.left }
+        requires total { length bytes.now + place.now.behind < 2 ^ 64 }
         ensures shorter { IfOk result (λ rest. length rest.now < length bytes.now) }
     {
-        let (note, what) = match self.names.tagged(tag) {
-            Some(found) => {
-                let name = self.names.text(found.name);
-                (note.or_name(name), WhatRow::Of(found.index))
-            }
+        let names = self.names;
+        let (note, what) = match names.type_of(tag) {
+            Some(found) => (
+                note.or_name(names.text(found.name)),
+                WhatRow::Of(found.index),
+            ),
             None if tag == SELF_DESCRIBED => (note, place.what),
             None => (note, WhatRow::Any),
         };
         self.notes.push(note)?;
         let inside = Place {
-            name: "",
-            named: false,
             what,
             tag: Some(tag),
             around: place.tag,
-            ..place
+            ..place.unknown()
         };
-        self.item(inside, bytes)
+        self.item(&inside, bytes)
     }
 
     /// The bytes after the members of an array.
     #[cycle(item)]
     fn members<'b>(
         &mut self,
-        place: Place<'a>,
+        place: &Place<'a>,
         count: Argument,
         bytes: &'b [u8],
     ) -> Result<&'b [u8], Stop>
-        requires total { length bytes.now + place.behind < 2 ^ 64 }
+        requires left { 0 < place.now.left }
+        requires total { length bytes.now + place.now.behind < 2 ^ 64 }
         ensures shorter { IfOk result (λ rest. length rest.now ≤ length bytes.now) }
     {
         let names = self.names;
@@ -365,7 +333,8 @@ impl<'a> Pass<'a> {
             if let Some(after) = count.after_end(index, rest) {
                 return Ok(after);
             }
-            rest = self.item(place.member(names, inside, index), rest)?;
+            let member = place.member(names, inside, index);
+            rest = self.item(&member, rest)?;
             index += 1;
         }
     }
@@ -374,11 +343,12 @@ impl<'a> Pass<'a> {
     #[cycle(item)]
     fn pairs<'b>(
         &mut self,
-        place: Place<'a>,
+        place: &Place<'a>,
         count: Argument,
         bytes: &'b [u8],
     ) -> Result<&'b [u8], Stop>
-        requires total { length bytes.now + place.behind < 2 ^ 64 }
+        requires left { 0 < place.now.left }
+        requires total { length bytes.now + place.now.behind < 2 ^ 64 }
         ensures shorter { IfOk result (λ rest. length rest.now ≤ length bytes.now) }
     {
         let names = self.names;
@@ -392,8 +362,9 @@ impl<'a> Pass<'a> {
             let part = names.part_at(keys.parts, keys.chosen, rest);
             let at = rest.len() + place.behind;
             let noted = self.notes.len();
-            let value = self.item(place.key(names, part), rest)?;
-            rest = self.item(place.value(part), value)?;
+            let key = place.key(names, part);
+            let value = self.item(&key, rest)?;
+            rest = self.item(&place.value(part), value)?;
             self.notes.end(noted, at, rest.len() + place.behind);
             index += 1;
         }
@@ -403,12 +374,13 @@ impl<'a> Pass<'a> {
     #[cycle(item)]
     fn bytes<'b>(
         &mut self,
-        place: Place<'a>,
+        place: &Place<'a>,
         note: Found<'a>,
         len: u64,
         bytes: &'b [u8],
     ) -> Result<&'b [u8], Stop>
-        requires total { length bytes.now + place.behind < 2 ^ 64 }
+        requires left { 0 < place.now.left }
+        requires total { length bytes.now + place.now.behind < 2 ^ 64 }
         ensures shorter { IfOk result (λ rest. length rest.now ≤ length bytes.now) }
     {
         let Ok((content, rest)) = split_at(bytes, len) else {
@@ -416,7 +388,6 @@ impl<'a> Pass<'a> {
             return Err(Stop::NoItem);
         };
         let Some(what) = self.names.held(place.what, place.around, content) else {
-            let note = self.quoted(note, place.named, content)?;
             self.notes.push(note)?;
             return Ok(rest);
         };
@@ -426,7 +397,7 @@ impl<'a> Pass<'a> {
             behind: place.behind + rest.len(),
             ..place.unknown()
         };
-        match self.item(inside, content) {
+        match self.item(&inside, content) {
             Err(Stop::OutOfMemory) => Err(Stop::OutOfMemory),
             _ => Ok(rest),
         }
@@ -438,24 +409,26 @@ impl<'a> Pass<'a> {
 ///
 /// An item has a name if it is a member of an array or a key of a map that the tables name, or if
 /// it has the tag of a type; and the outermost item has that of its type. A member or a value has a
-/// meaning if the tables have one of it, or if it is a date; and a byte string that has a name, or
-/// whose key has one, if it is a text of at most 64 characters of ASCII that print, without `/`,
-/// `'` and `\`: that text in single quotes.
+/// meaning if the tables have one of it, or if it is a date.
 ///
 /// Of bytes that are no item, the notes end where they cease to be one. The only error is out of
 /// memory.
 ///
 /// ```rust
-/// use cbor_names::{Names, notes};
+/// use cbor_names::{Definition, Key, Names, Part, Shape, notes};
 ///
-/// // {1: 4, -1: h'00'}
-/// let bytes = b"\xa2\x01\x04\x20\x41\x00";
-/// let names = Names::known(alloc)?;
-/// let key = notes(alloc, bytes, &names, names.of("COSE_Key"))?;
-/// let list = key.list(alloc)?;
-/// assert_eq!(rt; list.len(), 4);
-/// assert_eq!(rt; (list[1].before, list[2].after), ("kty", "Symmetric"));
-/// assert_eq!(rt; (list[3].at, list[3].before), (3, "k"));
+/// let mut names = Names::new(alloc);
+/// let parts = [
+///     Part::new(Key::Integer(1), "sensor"),
+///     Part::new(Key::Integer(-1), "value"),
+/// ];
+/// names.add(Definition::new("Reading", Shape::Map), &parts)?;
+/// // {1: 7, -1: 21}
+/// let found = notes(alloc, b"\xa2\x01\x07\x20\x15", &names, names.of("Reading"))?;
+/// let list = found.list(alloc)?;
+/// assert_eq!(rt; list.len(), 3);
+/// assert_eq!(rt; (list[0].at, list[0].before), (5, "Reading"));
+/// assert_eq!(rt; (list[1].before, list[2].before), ("sensor", "value"));
 /// ```
 pub fn notes<'a>(
     alloc: Global,
@@ -473,7 +446,6 @@ pub fn notes<'a>(
         left: DEEPEST,
         behind: 0,
         name,
-        named: false,
         what,
         tag: None,
         around: None,
@@ -483,7 +455,7 @@ pub fn notes<'a>(
         names,
         notes: Notes::new(alloc),
     };
-    match pass.item(outermost, bytes) {
+    match pass.item(&outermost, bytes) {
         Err(Stop::OutOfMemory) => Err(AllocError),
         _ => Ok(pass.notes.within(bytes.len())),
     }

@@ -1,9 +1,10 @@
 //! Files of names, and the lines of what is wrong in them.
 
 use crate::fault::{Fault, FileError};
+use crate::statements::statement_ends;
 use crate::types::add_types;
 use cbor_names::Names;
-use std::alloc::Global;
+use std::alloc::{AllocError, Global};
 use toml::{Table, table_from_str};
 
 /// How many lines a text has before the byte `at`, and the one that it is in.
@@ -30,31 +31,38 @@ fn fault_of(alloc: Global, table: &Table, names: Option<&Names>) -> Option<Fault
     }
 }
 
-/// The same of the first bytes of a text, if these are TOML.
-fn fault_before(alloc: Global, text: &str, end: usize, names: Option<&Names>) -> Option<Fault> {
-    let front = text.get(..end)?;
+/// The same of a text up to a line end, if that is TOML.
+fn fault_to(alloc: Global, text: &str, line_end: usize, names: Option<&Names>) -> Option<Fault> {
+    let front = text.get(..line_end.saturating_add(1))?;
     match table_from_str(alloc, front) {
         Ok(table) => fault_of(alloc, &table, names),
+        Err(error) if error.is_memory() => Some(Fault::OutOfMemory),
         Err(_) => None,
     }
 }
 
-/// What is wrong with a text, with its line: the first one to whose end the text has a fault.
+/// What is wrong with a text, with its line: the first one to whose end the text has a fault. With
+/// more lines it keeps that fault, so the line is searched for by halves.
 fn placed(alloc: Global, text: &str, fault: Fault, names: Option<&Names>) -> FileError {
-    let mut line = 1usize;
-    for (at, byte) in text.as_bytes().iter().enumerate() {
-        if *byte != b'\n' {
-            continue;
-        }
-        match fault_before(alloc, text, at, names) {
-            Some(Fault::OutOfMemory) => {
-                let fault = Fault::OutOfMemory;
-                return FileError { line: 0, fault };
+    let Ok(ends) = statement_ends(alloc, text) else {
+        return FileError::from(AllocError);
+    };
+    let (mut low, mut high) = (0usize, ends.len());
+    let mut first = (text.len(), fault);
+    'halves: while low < high {
+        let middle = low + (high - low) / 2;
+        let end = ends[middle];
+        match fault_to(alloc, text, end, names) {
+            Some(Fault::OutOfMemory) => return FileError::from(AllocError),
+            Some(fault) => {
+                first = (end, fault);
+                high = middle;
             }
-            Some(fault) => return FileError { line, fault },
-            None => line = line.saturating_add(1),
+            None => low = middle + 1,
         }
     }
+    let (end, fault) = first;
+    let line = line_at(text, end);
     FileError { line, fault }
 }
 
@@ -74,10 +82,7 @@ fn table_of(alloc: Global, text: &str) -> Result<Table, FileError> {
                 line: line_at(text, span.start),
                 fault: Fault::Toml(error),
             },
-            None => FileError {
-                line: 0,
-                fault: Fault::OutOfMemory,
-            },
+            None => FileError::from(AllocError),
         }),
     }
 }
@@ -93,10 +98,7 @@ pub fn with_file(alloc: Global, names: Names, text: &str) -> Result<Names, FileE
     let mut names = names;
     match add_types(alloc, &table, &mut names) {
         Ok(()) => {}
-        Err(Fault::OutOfMemory) => {
-            let fault = Fault::OutOfMemory;
-            return Err(FileError { line: 0, fault });
-        }
+        Err(Fault::OutOfMemory) => return Err(FileError::from(AllocError)),
         Err(fault) => return Err(placed(alloc, text, fault, None)),
     }
     if names.lacks(&names) {

@@ -80,13 +80,7 @@ fn what<'t>(word: &str, value: &'t Value) -> Result<What<'t>, Fault> {
 
 /// A key or a member with what its table says.
 fn part_of<'t>(key: Key<'t>, fields: &'t Table) -> Result<Part<'t>, Fault> {
-    let mut part = Part {
-        key,
-        name: "",
-        what: What::Any,
-        when: None,
-        sign: None,
-    };
+    let mut part = Part::new(key, "");
     for (word, value) in fields.iter() {
         match word.as_str() {
             "name" => part.name = name(text(value)?)?,
@@ -106,13 +100,7 @@ fn part_of<'t>(key: Key<'t>, fields: &'t Table) -> Result<Part<'t>, Fault> {
 /// A key with its name, or with its table.
 pub(crate) fn part<'t>(key: Key<'t>, value: &'t Value) -> Result<Part<'t>, Fault> {
     match value {
-        Value::String(text) => Ok(Part {
-            key,
-            name: name(text.as_str())?,
-            what: What::Any,
-            when: None,
-            sign: None,
-        }),
+        Value::String(text) => Ok(Part::new(key, name(text.as_str())?)),
         Value::Table(fields) => part_of(key, fields),
         _ => Err(Fault::Member),
     }

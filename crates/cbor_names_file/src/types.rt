@@ -2,7 +2,7 @@
 
 use crate::fault::Fault;
 use crate::read::{by, key, member, name, part, tag, text};
-use cbor_names::{Definition, Key, Names, Part, Shape, What};
+use cbor_names::{Definition, Key, Names, Part, Shape};
 use std::alloc::{AllocError, Global};
 use toml::Table;
 
@@ -140,13 +140,7 @@ fn push_values(names: &mut Names, value: &toml::Value) -> Result<(), Fault> {
     };
     for (word, value) in values.iter() {
         let meaning = name(text(value)?)?;
-        names.push(Part {
-            key: key(word.as_str()),
-            name: meaning,
-            what: What::Any,
-            when: None,
-            sign: None,
-        })?;
+        names.push(Part::new(key(word.as_str()), meaning))?;
     }
     Ok(())
 }

@@ -1,9 +1,10 @@
 //! Files of names: what is named by them, and what is wrong in them, with its line.
 
 use crate::rows::note_at;
-use cbor_names::{Names, notes};
+use cbor_known_names::known_names;
+use cbor_names::notes;
 use cbor_names_file::with_file;
-use std::alloc::AllocError;
+use std::alloc::{AllocError, Global};
 use std::process::Abort;
 use std::test::Fail;
 
@@ -84,7 +85,7 @@ const NAMED: &[(&str, &[u8], usize, (&str, &str))] = &[
 fn named(rt: HostRuntime) -> Result<(), Fail> {
     let alloc = rt.alloc();
     for (text, bytes, at, said) in NAMED {
-        let names = with_file(alloc, Names::known(alloc)?, text)?;
+        let names = with_file(alloc, known_names(alloc)?, text)?;
         let found = notes(alloc, bytes, &names, None)?;
         let list = found.list(alloc)?;
         let note = note_at(&list, *at);
@@ -173,9 +174,13 @@ const FAULTS: &[(&str, &str)] = &[
 
 #[test]
 fn faults(rt: HostRuntime) -> Result<(), AllocError> {
-    let alloc = rt.alloc();
-    for (text, wanted) in FAULTS {
-        match with_file(alloc, Names::known(alloc)?, text) {
+    check_faults(&rt, rt.alloc(), FAULTS)
+}
+
+/// Checks what is said of each of these files.
+fn check_faults(rt: &impl Abort, alloc: Global, rows: &[(&str, &str)]) -> Result<(), AllocError> {
+    for (text, wanted) in rows {
+        match with_file(alloc, known_names(alloc)?, text) {
             Ok(_) => assert!(rt; false, "{text}"),
             Err(error) => {
                 let said = format!(in alloc; "{error}")?;
@@ -186,11 +191,51 @@ fn faults(rt: HostRuntime) -> Result<(), AllocError> {
     Ok(())
 }
 
+/// Statements of several lines, in whose texts and comments quotes, brackets and number signs end
+/// nothing. The line of a fault is the last one of its statement.
+const LINES: &[(&str, &str)] = &[
+    (
+        "[T]\narray = [\n  'a', # [\n  'b',\n]\n[U]\ntag = -1\n[V]\n",
+        "line 7: a tag is an integer",
+    ),
+    (
+        "[T]\narray = [\n  'a',\n  1,\n]\n[U]\n",
+        "line 5: a member or a key",
+    ),
+    (
+        "[T]\narray = ['[', \"]\\\"[\", '#']\ntag = -1\n[U]\n",
+        "line 3: a tag is an integer",
+    ),
+    (
+        "[T]\nmap.1 = \"\"\"\\\n  a\\\n  [\"\"\"\nmap.2 = '/'\n[U]\n",
+        "line 5: a name is printable ASCII",
+    ),
+    (
+        "[T]\nmap.1 = \"\"\"'a\"\"\"\"\nmap.2 = '''\n[\"'''\ntag = -1\n[U]\n",
+        "line 5: a tag is an integer",
+    ),
+    // An empty text, and a comment behind it.
+    (
+        "[T]\nmap.1 = '' # \"[\n[U]\n",
+        "line 2: a name is printable ASCII",
+    ),
+    // Lines that end with two bytes.
+    (
+        "[T]\r\nmap.1 = 'a'\r\ntag = -1\r\n[U]\r\n",
+        "line 3: a tag is an integer",
+    ),
+];
+
+#[test]
+fn lines(rt: HostRuntime) -> Result<(), AllocError> {
+    check_faults(&rt, rt.alloc(), LINES)
+}
+
 /// The line of a text that is no TOML, and of one that is too long.
 #[test]
 fn no_files(rt: HostRuntime) -> Result<(), AllocError> {
     let alloc = rt.alloc();
-    match with_file(alloc, Names::known(alloc)?, "[T]\ntag = \n") {
+    match with_file(alloc, known_names(alloc)?, "[T]\ntag = \n") {
         Ok(_) => assert!(rt; false),
         Err(error) => assert_eq!(rt; error.line, 2),
     }
@@ -198,7 +243,7 @@ fn no_files(rt: HostRuntime) -> Result<(), AllocError> {
     for _ in 0..8193 {
         long.push_str("# names\n")?;
     }
-    match with_file(alloc, Names::known(alloc)?, &long) {
+    match with_file(alloc, known_names(alloc)?, &long) {
         Ok(_) => assert!(rt; false),
         Err(error) => {
             let said = format!(in alloc; "{error}")?;

@@ -1,7 +1,7 @@
 //! Names of keys, once each, in items of their types.
 
 use crate::rows::{Context, Said, check_rows};
-use cbor_names::Names;
+use cbor_known_names::known_names;
 use std::alloc::AllocError;
 
 /// COSE headers: RFC 9052, 9360, 9596, 9597 and the registry.
@@ -86,7 +86,7 @@ const KEYS: &[(&str, &[u8], &[u8], &str)] = &[
 
 #[test]
 fn of_keys(rt: HostRuntime) -> Result<(), AllocError> {
-    let names = Names::known(rt.alloc())?;
+    let names = known_names(rt.alloc())?;
     for (outer, before, after, rows) in KEYS {
         let context = Context {
             alloc: rt.alloc(),

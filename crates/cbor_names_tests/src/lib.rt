@@ -1,5 +1,5 @@
-//! Tests of `cbor_names` and `cbor_names_file`: each name of the tables once, examples of RFC 9052
-//! and RFC 8392, and files of names. `rt test` runs them.
+//! Tests of `cbor_names`, `cbor_known_names` and `cbor_names_file`: each name of the tables once,
+//! examples of RFC 9052 and RFC 8392, and files of names. `rt test` runs them.
 #![tactic(auto)]
 
 #[cfg(test)]
@@ -10,6 +10,8 @@ mod files;
 mod keys;
 #[cfg(test)]
 mod messages;
+#[cfg(test)]
+mod rfcs;
 #[cfg(test)]
 mod rows;
 #[cfg(test)]

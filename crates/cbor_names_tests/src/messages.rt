@@ -2,6 +2,7 @@
 //! which byte, and that nothing else has one.
 
 use crate::rows::note_at;
+use cbor_known_names::known_names;
 use cbor_names::{Names, notes};
 use std::alloc::{AllocError, Global};
 use std::process::Abort;
@@ -89,14 +90,14 @@ const ITEMS: &[(&[u8], &str)] = &[
 
 #[test]
 fn names_by_byte(rt: HostRuntime) -> Result<(), AllocError> {
-    let names = Names::known(rt.alloc())?;
+    let names = known_names(rt.alloc())?;
     for (bytes, rows) in ITEMS {
         check(&rt, rt.alloc(), &names, (bytes, rows))?;
     }
     Ok(())
 }
 
-fn check(
+pub fn check(
     rt: &impl Abort,
     alloc: Global,
     names: &Names,
@@ -137,7 +138,7 @@ const DATES: &[(&[u8], &str)] = &[
 #[test]
 fn dates(rt: HostRuntime) -> Result<(), AllocError> {
     let alloc = rt.alloc();
-    let names = Names::known(alloc)?;
+    let names = known_names(alloc)?;
     for (bytes, date) in DATES {
         let found = notes(alloc, bytes, &names, names.of("CWT"))?;
         let list = found.list(alloc)?;
@@ -149,7 +150,7 @@ fn dates(rt: HostRuntime) -> Result<(), AllocError> {
 #[test]
 fn encoded_items(rt: HostRuntime) -> Result<(), AllocError> {
     let alloc = rt.alloc();
-    let names = Names::known(alloc)?;
+    let names = known_names(alloc)?;
     // 18([<<{1: -7}>>, {}, h'00', h'']): the first is a header, and the payload is nothing known.
     let bytes = b"\xd2\x84\x43\xa1\x01\x26\xa0\x41\x00\x40";
     let found = notes(alloc, bytes, &names, None)?;

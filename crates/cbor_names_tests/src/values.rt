@@ -1,7 +1,7 @@
 //! Meanings of values, once each, in items of their types.
 
 use crate::rows::{Context, Said, check_rows};
-use cbor_names::Names;
+use cbor_known_names::known_names;
 use std::alloc::AllocError;
 
 /// Algorithms of COSE: the registry.
@@ -52,7 +52,7 @@ const VALUES: &[(&str, &[u8], &[u8], &str)] = &[
 
 #[test]
 fn of_values(rt: HostRuntime) -> Result<(), AllocError> {
-    let names = Names::known(rt.alloc())?;
+    let names = known_names(rt.alloc())?;
     for (outer, before, after, rows) in VALUES {
         let context = Context {
             alloc: rt.alloc(),

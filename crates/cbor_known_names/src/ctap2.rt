@@ -1,8 +1,7 @@
 //! CTAP 2.1: what authenticators answer.
 
-use crate::known::entry;
-use crate::part::{Definition, Key, Part, Shape, What};
-use crate::table::Names;
+use crate::rows::entry;
+use cbor_names::{Definition, Key, Names, Part, Shape, What};
 use std::alloc::AllocError;
 
 const MAKE_CREDENTIAL: &[Part<'static>] = &[

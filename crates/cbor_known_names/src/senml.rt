@@ -1,8 +1,7 @@
 //! SenML (RFC 8428 section 6).
 
-use crate::known::entry;
-use crate::part::{Definition, Key, Part, Shape, What};
-use crate::table::Names;
+use crate::rows::entry;
+use cbor_names::{Definition, Key, Names, Part, Shape, What};
 use std::alloc::AllocError;
 
 const RECORD: &[Part<'static>] = &[

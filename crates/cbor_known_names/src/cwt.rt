@@ -1,8 +1,7 @@
 //! CWT (RFC 8392), what it is bound to (RFC 8747), and EAT (RFC 9711).
 
-use crate::known::entry;
-use crate::part::{Definition, Key, Kind, Part, Shape, What};
-use crate::table::Names;
+use crate::rows::entry;
+use cbor_names::{Definition, Key, Kind, Names, Part, Shape, What};
 use std::alloc::AllocError;
 
 /// A token's claims, which are below its tag in a COSE message. The first seven are its signs.

@@ -1,9 +1,8 @@
 //! COSE's algorithms (RFC 9053, RFC 9054 and those after them). A note cannot have a `/`, so a `-`
 //! stands for it, as in `HMAC 256-64`.
 
-use crate::known::value;
-use crate::part::{Definition, Key, Part, Shape, What};
-use crate::table::Names;
+use crate::rows::value;
+use cbor_names::{Definition, Key, Names, Part, Shape, What};
 use std::alloc::AllocError;
 
 const ALGORITHM: &[Part<'static>] = &[

@@ -1,14 +1,4 @@
-//! The tables that come with this crate. A name is one line; the files below have the tables of a
-//! standard each.
-
-mod algorithms;
-mod cose;
-mod ctap2;
-mod cwt;
-mod senml;
-
-use crate::table::Names;
-use std::alloc::{AllocError, Global};
+//! Rows of tables: a member, a key or a value is one line.
 
 /// A member of an array.
 macro_rules! member {
@@ -68,17 +58,3 @@ macro_rules! value {
 pub(crate) use entry;
 pub(crate) use member;
 pub(crate) use value;
-
-impl Names {
-    /// The names of COSE (RFC 9052 to 9054, 9360, 9597), CWT and EAT (RFC 8392, 8747, 9711), SenML
-    /// (RFC 8428) and CTAP 2.1.
-    pub fn known(alloc: Global) -> Result<Names, AllocError> {
-        let mut names = Names::new(alloc);
-        cose::add(&mut names)?;
-        algorithms::add(&mut names)?;
-        cwt::add(&mut names)?;
-        senml::add(&mut names)?;
-        ctap2::add(&mut names)?;
-        Ok(names)
-    }
-}

@@ -1,8 +1,7 @@
 //! COSE (RFC 9052): messages, their headers, and keys.
 
-use crate::known::{entry, member, value};
-use crate::part::{Definition, Key, Part, Shape, What};
-use crate::table::Names;
+use crate::rows::{entry, member, value};
+use cbor_names::{Definition, Key, Names, Part, Shape, What};
 use std::alloc::AllocError;
 
 const PROTECTED: Part<'static> = member!("protected", What::Encoded("COSE_Header"));
