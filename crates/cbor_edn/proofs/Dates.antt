@@ -1,4 +1,4 @@
--- Dates: whether their content is a text, and the levels that they take.
+-- In EDN, dates: whether their content is a text, and the levels that they take.
 use Rattle.std.proofs.Common.{◌≡◌, ℕ, zero, suc, List, Some, None, inl, inr, refl, ap, arith}
 use Rattle.std.specs.Str.{is_utf8, IsUtf8}
 use Rattle.std.proofs.lemmas.Bool.{cases_Bool}

@@ -1,4 +1,4 @@
-//! Dates with a time, as seconds from 1970-01-01T00:00:00Z.
+//! In EDN, dates with a time, as seconds from 1970-01-01T00:00:00Z.
 ghost use Rattle.std.specs.Prelude.{◌≡◌, ◌==◌, ◌-◌, ◌<◌, ◌≤◌, ℕ, length, option_map, slice_index};
 ghost use Rattle.std.specs.Prelude.{◌+◌, IfOk, IfErr};
 ghost use Rattle.std.specs.List.{list_any};

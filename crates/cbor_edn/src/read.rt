@@ -1,4 +1,4 @@
-//! Reads items, by recursion over the levels of nesting.
+//! Reads items of EDN, by recursion over the levels of nesting.
 //!
 //! Each private function reads at a cursor. It returns a value and leaves the cursor behind it, or
 //! it stops, and then the cursor is at the place of the error, from which the text cannot go on.
@@ -368,7 +368,7 @@ fn read_item(alloc: Global, text: &mut Cursor<'_>, level: u8) -> Result<DataItem
     }
 }
 
-/// The error for this text, where reading stopped with so many bytes left.
+/// The error for this text, where reading stopped with `left` bytes left.
 fn error_at(stop: Stop, text: &str, left: usize) -> EdnError
     requires { left ≤ length text.now }
     ensures { IsErrorAt stop (length text.now - left) result }

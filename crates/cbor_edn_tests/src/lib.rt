@@ -11,6 +11,8 @@ mod written;
 #[cfg(test)]
 mod written_back;
 #[cfg(test)]
+mod written_lines;
+#[cfg(test)]
 mod written_notes;
 #[cfg(test)]
 mod written_styles;

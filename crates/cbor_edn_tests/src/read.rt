@@ -253,6 +253,51 @@ const MANY_DIGITS: &[(&str, &str)] = &[
     ("0x1p-1135, -0x1p-1048575", "f90000f98000"),
 ];
 
+/// Numbers that are no single, in 32 bits: the nearest single, as worked out by fractions.
+const SINGLES: &[(&str, &str)] = &[
+    // between singles, and at ties the one whose last digit is 0; doubles that are such a tie come
+    // from numbers on both sides of it
+    (
+        "0x1.000001p0_2, 0x1.0000010000000000001p0_2, 0x1.000000fffffffffffffp0_2",
+        "fa3f800000fa3f800001fa3f800000",
+    ),
+    (
+        "0x1.000003p0_2, 0x1.0000030000000000001p0_2, 0x1.000002fffffffffffffp0_2",
+        "fa3f800002fa3f800002fa3f800001",
+    ),
+    (
+        "-0x1.0000010000000000001p0_2, 0x1000001p0_2, 0x1000001.0000000000000000000001p0_2",
+        "fabf800001fa4b800000fa4b800001",
+    ),
+    // below the least single with all digits, and below the least
+    (
+        "0x1p-149_2, 0x1p-150_2, 0x1.0000000000000000001p-150_2, -0x1p-1000_2",
+        "fa00000001fa00000000fa00000001fa80000000",
+    ),
+    (
+        "0x1.8p-149_2, 0x1.7fffffffffffffffffp-149_2, 0x1.4000000000000000001p-148_2",
+        "fa00000002fa00000001fa00000003",
+    ),
+    (
+        "0x0.fffffep-126_2, 0x0.ffffffp-126_2, 0x0.fffffefffffffffffffp-126_2",
+        "fa007ffffffa00800000fa007fffff",
+    ),
+    // the largest, from both sides
+    (
+        "0x1.fffffep127_2, 0x1.fffffefffffffffffffp127_2, -0x1.fffffefffffffffffffp127_2",
+        "fa7f7ffffffa7f7ffffffaff7fffff",
+    ),
+    // decimal numbers around the same ties
+    (
+        "1.000000059604644775390625_2, 1.000000059604644775390625000000000000001_2",
+        "fa3f800000fa3f800001",
+    ),
+    (
+        "1.000000059604644775390624999999999999999_2, 1.000000178813934326171874999999999999999_2",
+        "fa3f800000fa3f800001",
+    ),
+];
+
 /// The bytes of a text, or its error, as a text.
 fn bytes(alloc: Global, text: &str) -> Result<String, EdnError> {
     match edn_to_bytes(alloc, text) {
@@ -294,6 +339,13 @@ fn texts_have_these_bytes(rt: HostRuntime) {
 #[test]
 fn numbers_with_many_digits_are_read(rt: HostRuntime) {
     for (text, expected) in MANY_DIGITS {
+        check(&rt, bytes(rt.alloc(), text), expected, text);
+    }
+}
+
+#[test]
+fn a_single_is_the_nearest(rt: HostRuntime) {
+    for (text, expected) in SINGLES {
         check(&rt, bytes(rt.alloc(), text), expected, text);
     }
 }

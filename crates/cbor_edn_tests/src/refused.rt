@@ -60,6 +60,8 @@ const REFUSED: &[(&str, usize, Expected)] = &[
     ("0x1.00000000000000000000gp0", 0, Expected::Number),
     ("0x1.fffffffffffffp1024", 0, Expected::LargestDouble),
     ("0x1p128_2", 0, Expected::LargestSingle),
+    ("0x1.ffffffp127_2", 0, Expected::LargestSingle),
+    ("0x1p1024_2", 0, Expected::LargestSingle),
     ("0x1p16_1", 0, Expected::LargestHalf),
     ("0x1.001p0_1", 0, Expected::Half { nearest: 0x3c00 }),
     // dates

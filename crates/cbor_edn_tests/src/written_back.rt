@@ -53,6 +53,7 @@ const STYLES: &[EdnStyle] = &[
         notes: true,
         embedded: true,
         widths: true,
+        columns: 30,
     },
 ];
 

@@ -219,20 +219,21 @@ const NOTED: &[Noted<'_>] = &[
         encoded: &[],
         text: "[\"ab\", null]",
     },
-    // another order
+    // another order: only the first note that is not before an item is looked at, so two are lost
     Noted {
         digits: "83010203",
         notes: &[(1, "c", ""), (2, "b", ""), (3, "a", "")],
         encoded: &[],
-        text: "[1, 2, 3]",
+        text: "[1, 2, /c/ 3]",
     },
     // lines
     Noted {
-        digits: "82581d000000000000000000000000000000000000000000000000000000000001",
-        notes: &[(33, "list", ""), (32, "zeros", "none set"), (1, "one", "")],
+        digits: "82582100000000000000000000000000000000000000000000000000000000000000000001",
+        notes: &[(37, "list", ""), (36, "zeros", "none set"), (1, "one", "")],
         encoded: &[],
         text: "/list/ [\n    /zeros/ \
-               h'0000000000000000000000000000000000000000000000000000000000' /none set/,\n    \
+               h'000000000000000000000000000000000000000000000000000000000000000000' \
+               /none set/,\n    \
                /one/ 1,\n]",
     },
 ];

@@ -1,4 +1,4 @@
--- Where line feeds are in a text that is written.
+-- In EDN, where line feeds are in a text that is written.
 use Rattle.std.specs.Prelude.{◌≡◌, ℕ, ◌==◌, List, [], ◌∷◌, if◌then◌else◌}
 
 -- what a character of a text is within: neither quotes nor a comment, or one of these; a text or bytes also right

@@ -1,6 +1,6 @@
 -- EDN as a dialect of notation: what is written of numbers, strings and what is round members.
 use Rattle.std.specs.Prelude.{◌≡◌, ◌⊎◌, ◌+◌, ◌-◌, ℕ, ◌^◌, List, [], ◌∷◌, ◌++◌, length, codes, Bool, true, false}
-use Rattle.std.specs.Prelude.{Option, Some, None, ◌&&◌, ◌||◌, if◌then◌else◌, nat_lt, nat_le, ◌==◌, not}
+use Rattle.std.specs.Prelude.{Option, Some, None, ◌&&◌, ◌||◌, if◌then◌else◌, nat_lt, nat_le, ◌==◌, not, max}
 use Rattle.std.specs.Borrow.{Bor}
 use Rattle.std.specs.List.{list_any}
 use Rattle.hex.specs.Hex.{encode_lower}
@@ -23,7 +23,7 @@ use Rattle.cbor_grammar.specs.declared.width.FloatWidth.TheVariants as float_wid
 use Rattle.cbor_grammar.specs.declared.width.IntegerWidth.{IntegerWidth}
 use Rattle.cbor_grammar.specs.declared.width.IntegerWidth.TheVariants as width
 use Rattle.cbor_grammar.specs.Item.{Chunk, Atom, integer, negative, float, simple}
-use Rattle.cbor_grammar.specs.NotationText.{number, indicator, float_text, simple_text, last_line}
+use Rattle.cbor_grammar.specs.NotationText.{number, indicator, float_text, simple_text, last_line, indent_of}
 use Rattle.cbor_grammar.specs.StringKind.{no_chunks}
 use Rattle.cbor_notation.specs.Dialect.{Leaves, Texts}
 use Rattle.cbor_notation.specs.declared.parts.Container.{Container}
@@ -119,9 +119,10 @@ Beside p texts t = texts t ⊎ ((core : List ℕ) × texts core × (t ≡ note_b
 abbrev pub After : EdnPlace → Texts → Texts
 After p texts t = texts t ⊎ ((core : List ℕ) × texts core × (t ≡ note_before p ++ core))
 
--- the same place with a note that was found for the item there, if any
+-- the same place with a note that was found for the item there, if any, and how many notes are on items before it
 abbrev pub FoundAt : EdnPlace → ℕ → EdnPlace → Type 0
-FoundAt p here q = (found : Option (Bor Note)) × (q ≡ record p { found = found; here = here })
+FoundAt p here q =
+    (found : Option (Bor Note)) × (passed : ℕ) × (q ≡ record p { found = found; here = here; passed = passed })
 
 -- what the place of an item becomes; without notes it is the same
 abbrev pub SameButNote : EdnPlace → EdnPlace → Type 0
@@ -253,11 +254,20 @@ content_under embedded level (Some tag) b = content_below embedded level tag b
 abbrev pub layout_of : Bool → Layout
 layout_of lines = if lines then Pretty 0 else Compact
 
+-- the columns that a container may take on one line, however far it is indented
+abbrev pub least_columns : ℕ
+least_columns = 20
+
+-- the estimated length from which a container takes a line for each member: the columns that its indentation leaves
+abbrev pub limit_within : ℕ → ℕ → ℕ
+limit_within columns indent = max (columns - indent) least_columns
+
 abbrev pub edn_leaves : Leaves EdnPlace
 edn_leaves = record {
   At = SameButNote;
   level = λ p. p.level;
   layout = λ p. p.layout;
+  limit = λ p. limit_within p.style.columns (indent_of p.layout);
   content = λ p b. content_under (p.style.embedded || is_encoded p.found) p.level p.tag b;
   joins = λ p kind. false;
   inside = λ c layout p. record {
@@ -269,6 +279,7 @@ edn_leaves = record {
     notes = p.notes;
     behind = behind_in c p;
     here = p.here;
+    passed = p.passed;
     found = None;
   };
   next = λ p. p;
@@ -282,6 +293,7 @@ edn_leaves = record {
     notes = p.notes;
     behind = p.behind;
     here = p.here;
+    passed = p.passed;
     found = None;
   };
   leaf = λ p a. Beside p (EdnLeaf p a);

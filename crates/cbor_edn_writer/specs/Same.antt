@@ -1,5 +1,5 @@
--- Bytes that give the same bytes again when the items in them are written: no simple value in them takes a byte too
--- many.
+-- In EDN, bytes that give the same bytes again when the items in them are written: no simple value in them takes a byte
+-- too many.
 use Rattle.std.specs.Prelude.{ℕ, zero, suc, ◌+◌, List, [], ◌∷◌, length, drop, Option, Some, None, Ok, Err, Bool}
 use Rattle.std.specs.Prelude.{true, false, ◌==◌, ◌&&◌, if◌then◌else◌, nat_lt, nat_le}
 use Rattle.cbor_grammar.specs.declared.argument.Argument.TheVariants.{Number}

@@ -14,12 +14,12 @@ use Rattle.cbor_edn_grammar.specs.Edn.{bytes_of_edn}
 use Rattle.cbor_edn_writer.specs.EdnLeaves.{edn_leaves, layout_of}
 use Rattle.cbor_escapes.specs.Hidden.{IsShown}
 
--- on one line without notes, and over several lines with notes
+-- on one line without notes, and over several lines of 80 columns with notes
 abbrev pub line_style : EdnStyle
-line_style = record { lines = false; notes = false; embedded = false; widths = false }
+line_style = record { lines = false; notes = false; embedded = false; widths = false; columns = 80 }
 
 abbrev pub pretty_style : EdnStyle
-pretty_style = record { lines = true; notes = true; embedded = false; widths = false }
+pretty_style = record { lines = true; notes = true; embedded = false; widths = false; columns = 80 }
 
 -- the place of the outermost item of a text in this style, with these notes
 pub record IsOutermost (style : EdnStyle) (notes : List Note) (place : EdnPlace) : Type 0 where
@@ -30,9 +30,9 @@ pub record IsOutermost (style : EdnStyle) (notes : List Note) (place : EdnPlace)
   pub notes_are : place.notes.now ≡ notes
   pub found : place.found ≡ None
 
--- The text is one that EDN has for the item, where these are the notes on it and on items in it: each part of it is what
--- `edn_leaves` says. It is read back as the bytes of the item, all widths included. No character in it is hidden. Where
--- it has lines, line feeds are in no quotes and in no comment.
+-- The text is one that EDN has for the item, where these are the notes on it and on items in it: each part of it is
+-- what `edn_leaves` says. It is read back as the bytes of the item, all widths included. No character in it is hidden.
+-- Where it has lines, line feeds are in no quotes and in no comment.
 pub record IsNotedText (style : EdnStyle) (notes : List Note) (i : Item) (text : List ℕ) : Type 0 where
   pub place : EdnPlace
   pub outermost : IsOutermost style notes place

@@ -1,4 +1,4 @@
-//! Notes that a caller has on items, by the place of each item.
+//! Notes in EDN that a caller has on items, by the place of each item.
 
 /// What to write at an item of the bytes that are shown.
 ///
@@ -6,8 +6,8 @@
 /// with a slash, a control character or a character beyond ASCII.
 #[derive(Clone, Copy)]
 pub struct Note<'a> {
-    /// How many bytes there are from the first byte of the item on. Of an item in a byte string that
-    /// is shown as `<<..>>` it is counted to the end of the outermost bytes, too.
+    /// How many bytes there are from the first byte of the item on. Of an item in a byte string
+    /// that is shown as `<<..>>` it is counted to the end of the outermost bytes, too.
     pub at: usize,
     /// What to write before the item; nothing if it is empty.
     pub before: &'a str,

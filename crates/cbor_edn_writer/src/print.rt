@@ -56,6 +56,11 @@ impl<'a> Dialect for Edn<'a> {
     }
 
     #[inline(always)]
+    fn limit(place: &EdnPlace<'a>) -> usize {
+        place.limit()
+    }
+
+    #[inline(always)]
     fn content(place: &EdnPlace<'a>, bytes: &[u8]) -> Content {
         content_under(place.shows_items(), place.level, place.tag, bytes)
     }

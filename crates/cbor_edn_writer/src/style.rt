@@ -26,23 +26,33 @@ pub struct EdnStyle {
     pub embedded: bool,
     /// Each float, and each number above 23, has its width beside it, also the shortest.
     pub widths: bool,
+    /// The columns of a line, where there are lines: a container is on one line if its estimate is
+    /// below those that its indentation leaves, of which it always has [`LEAST_COLUMNS`].
+    ///
+    /// [`LEAST_COLUMNS`]: EdnStyle::LEAST_COLUMNS
+    pub columns: u16,
 }
 
 impl EdnStyle {
+    /// The columns that a container may take on one line, however far it is indented.
+    pub const LEAST_COLUMNS: u16 = 20;
+
     /// On one line, without notes.
     pub const LINE: EdnStyle = EdnStyle {
         lines: false,
         notes: false,
         embedded: false,
         widths: false,
+        columns: 80,
     };
 
-    /// Over several lines, with notes.
+    /// Over several lines of 80 columns, with notes.
     pub const PRETTY: EdnStyle = EdnStyle {
         lines: true,
         notes: true,
         embedded: false,
         widths: false,
+        columns: 80,
     };
 }
 

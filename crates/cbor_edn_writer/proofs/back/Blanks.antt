@@ -1,4 +1,4 @@
--- Blanks that are written: spaces, line ends and notes are passed when the text is read.
+-- In EDN, blanks that are written: spaces, line ends and notes are passed when the text is read.
 use Rattle.std.proofs.Common.{◌≡◌, ◌⊎◌, inl, inr, ℕ, zero, suc, ◌≤◌, List, [], ◌∷◌, ◌++◌, length, codes, replicate}
 use Rattle.std.proofs.Common.{Bool, true, false, Option, Some, None, ◌==◌, ◌&&◌, ◌||◌, if◌then◌else◌, not}
 use Rattle.std.proofs.Common.{refl, sym, ap, subst, ◌∙◌, append_assoc, append-nil, arith}
@@ -14,12 +14,13 @@ use Rattle.cbor_edn_grammar.specs.Blank.{after_spaces}
 use Rattle.cbor_edn_grammar.specs.Blank.{skip_blank}
 use Rattle.cbor_edn_writer.specs.declared.note.Note.{Note}
 use Rattle.cbor_edn_writer.specs.declared.print.place.EdnPlace.{EdnPlace}
-use Rattle.cbor_edn_writer.specs.EdnLeaves.{ends_note, IsNote, begins_note, AnyNote, is_note, comment_before, comment_after}
+use Rattle.cbor_edn_writer.specs.EdnLeaves.{ends_note, IsNote, begins_note, AnyNote, is_note, comment_before}
+use Rattle.cbor_edn_writer.specs.EdnLeaves.{comment_after}
 use Rattle.cbor_edn_writer.specs.EdnLeaves.{text_before, text_after, note_before, note_after, Beside, After}
 use Rattle.cbor_edn_grammar.specs.Strings.{is_sign_of, joins}
 use Rattle.cbor_grammar.specs.Item.{Item}
-use Rattle.cbor_edn_writer.proofs.back.Reads.{ends_item, is_ended, Follows, begins_item, IsBegun, ReadsAs, AreNotes, IsStarted}
-use Rattle.cbor_edn_writer.proofs.back.Reads.{ReadsNoted}
+use Rattle.cbor_edn_writer.proofs.back.Reads.{ends_item, is_ended, Follows, begins_item, IsBegun, ReadsAs, AreNotes}
+use Rattle.cbor_edn_writer.proofs.back.Reads.{IsStarted, ReadsNoted}
 use Rattle.cbor_edn_grammar.proofs.Words.{skip_none}
 
 -- ---- a blank, however its end is looked for
@@ -305,44 +306,45 @@ pub started_append : (a b : List ℕ) → IsStarted a → IsStarted (a ++ b)
 started_append [] b h = absurd h
 started_append (c ∷ a) b h = h
 
-module _ (left : ℕ) (i : Item) (before m after t : List ℕ) (r : ReadsAs left i m) (is : t ≡ before ++ (m ++ after)) where
-  -- the text of an item and a note after it, as it stands before a rest
-  noted_parts : (rest : List ℕ) → t ++ rest ≡ before ++ (r.core ++ ((r.note ++ after) ++ rest))
-  noted_parts rest =
-      ap (λ x. x ++ rest) is ∙ append_assoc before (m ++ after) rest
-      ∙ ap (λ x. before ++ x) (append_assoc m after rest ∙ ap (λ x. x ++ (after ++ rest)) r.parts
-      ∙ append_assoc r.core r.note (after ++ rest) ∙ ap (λ x. r.core ++ x) (sym (append_assoc r.note after rest)))
+module _ (left : ℕ) (i : Item) (before m after t : List ℕ) (r : ReadsAs left i m) (is : t ≡ before ++ (m ++ after))
+  where
+    -- the text of an item and a note after it, as it stands before a rest
+    noted_parts : (rest : List ℕ) → t ++ rest ≡ before ++ (r.core ++ ((r.note ++ after) ++ rest))
+    noted_parts rest =
+        ap (λ x. x ++ rest) is ∙ append_assoc before (m ++ after) rest
+        ∙ ap (λ x. before ++ x) (append_assoc m after rest ∙ ap (λ x. x ++ (after ++ rest)) r.parts
+        ∙ append_assoc r.core r.note (after ++ rest) ∙ ap (λ x. r.core ++ x) (sym (append_assoc r.note after rest)))
 
-  skip_before : (rest : List ℕ) → IsBefore before → skip_blank (t ++ rest) ≡ r.core ++ ((r.note ++ after) ++ rest)
-  skip_before rest h =
-      ap skip_blank (noted_parts rest) ∙ passed h ∙ skip_begun r.core ((r.note ++ after) ++ rest) r.begun
-    where
-      passed : IsBefore before → skip_blank (before ++ (r.core ++ ((r.note ++ after) ++ rest)))
-          ≡ skip_blank (r.core ++ ((r.note ++ after) ++ rest))
-      passed (inl none) = ap (λ b. skip_blank (b ++ (r.core ++ ((r.note ++ after) ++ rest)))) none
-      passed (inr some) = some.0 (r.core ++ ((r.note ++ after) ++ rest))
+    skip_before : (rest : List ℕ) → IsBefore before → skip_blank (t ++ rest) ≡ r.core ++ ((r.note ++ after) ++ rest)
+    skip_before rest h =
+        ap skip_blank (noted_parts rest) ∙ passed h ∙ skip_begun r.core ((r.note ++ after) ++ rest) r.begun
+      where
+        passed : IsBefore before → skip_blank (before ++ (r.core ++ ((r.note ++ after) ++ rest)))
+            ≡ skip_blank (r.core ++ ((r.note ++ after) ++ rest))
+        passed (inl none) = ap (λ b. skip_blank (b ++ (r.core ++ ((r.note ++ after) ++ rest)))) none
+        passed (inr some) = some.0 (r.core ++ ((r.note ++ after) ++ rest))
 
-  noted_started : IsBefore before → IsStarted t
-  noted_started (inl none) =
-      subst IsStarted (sym (is ∙ ap (λ b. b ++ (m ++ after)) none ∙ ap (λ x. x ++ after) r.parts
-      ∙ append_assoc r.core r.note after))
-      (started_append r.core (r.note ++ after) (begun_started r.core r.begun))
-  noted_started (inr some) = subst IsStarted (sym is) (started_append before (m ++ after) some.1)
+    noted_started : IsBefore before → IsStarted t
+    noted_started (inl none) =
+        subst IsStarted (sym (is ∙ ap (λ b. b ++ (m ++ after)) none ∙ ap (λ x. x ++ after) r.parts
+        ∙ append_assoc r.core r.note after))
+        (started_append r.core (r.note ++ after) (begun_started r.core r.begun))
+    noted_started (inr some) = subst IsStarted (sym is) (started_append before (m ++ after) some.1)
 
-  reads_noted : IsBefore before → AnyNote after → ReadsNoted left i t
-  reads_noted h note = record {
-    item = r.item;
-    before = before;
-    core = r.core;
-    notes = r.note ++ after;
-    parts = is ∙ ap (λ x. before ++ x) (ap (λ x. x ++ after) r.parts ∙ append_assoc r.core r.note after);
-    are_notes = (r.note, after, r.is_note, note, refl);
-    started = noted_started h;
-    skips = λ rest. skip_before rest h;
-    begun = r.begun;
-    read = r.read;
-    same = r.same;
-  }
+    reads_noted : IsBefore before → AnyNote after → ReadsNoted left i t
+    reads_noted h note = record {
+      item = r.item;
+      before = before;
+      core = r.core;
+      notes = r.note ++ after;
+      parts = is ∙ ap (λ x. before ++ x) (ap (λ x. x ++ after) r.parts ∙ append_assoc r.core r.note after);
+      are_notes = (r.note, after, r.is_note, note, refl);
+      started = noted_started h;
+      skips = λ rest. skip_before rest h;
+      begun = r.begun;
+      read = r.read;
+      same = r.same;
+    }
 
 -- a text between the notes of the place is read as without them
 pub beside_reads : (left : ℕ) (p : EdnPlace) (i : Item) (texts : List ℕ → Type 0) (t : List ℕ)

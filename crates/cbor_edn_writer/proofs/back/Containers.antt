@@ -1,4 +1,4 @@
--- Arrays, maps and strings in chunks are read back, where what is in them is.
+-- In EDN, arrays, maps and strings in chunks are read back, where what is in them is.
 use Rattle.std.proofs.Common.{◌≡◌, inl, inr, ℕ, suc, List, [], ◌∷◌, ◌++◌, length, codes, Option, Some, None}
 use Rattle.std.proofs.Common.{true, if◌then◌else◌, refl, sym, ap, subst, ◌∙◌, append_assoc}
 use Rattle.std.proofs.Common.{append-nil}
@@ -26,7 +26,8 @@ use Rattle.cbor_edn_writer.specs.declared.print.place.EdnPlace.{EdnPlace}
 use Rattle.cbor_edn_grammar.specs.Blank.{skip_blank}
 use Rattle.cbor_edn_writer.specs.EdnLeaves.{edn_leaves, longer, spaced, count_mark, with_gap, gap, edn_opening}
 use Rattle.cbor_edn_writer.specs.EdnLeaves.{edn_closing, quoted_string, note_before}
-use Rattle.cbor_edn_grammar.specs.Items.{is_string, item_turn, pair_turn, chunk_turn, read_embedded, chunk_from, kind_from}
+use Rattle.cbor_edn_grammar.specs.Items.{is_string, item_turn, pair_turn, chunk_turn, read_embedded, chunk_from}
+use Rattle.cbor_edn_grammar.specs.Items.{kind_from}
 use Rattle.cbor_edn_grammar.specs.Items.{first_kind, chunks_after, fits_count, array_of, map_of, read_array, read_map}
 use Rattle.cbor_edn_grammar.specs.Items.{read_chunks, read_core, read_item}
 use Rattle.cbor_edn_grammar.specs.Lists.{separated, read_members}

@@ -1,4 +1,5 @@
--- The bytes of a decimal number as it is written: digits, points and signs. They are one word, and mark no width.
+-- In EDN, the bytes of a decimal number as it is written: digits, points and signs. They are one word, and mark no
+-- width.
 use Rattle.std.proofs.Common.{◌≡◌, ℕ, ◌+◌, ◌<◌, ◌==◌, ◌||◌, ◌&&◌, Bool, true, false, if◌then◌else◌}
 use Rattle.std.proofs.Common.{List, [], ◌∷◌, ◌++◌, length, position}
 use Rattle.std.proofs.Common.{refl, sym, ap, ap₂, subst, ◌∙◌, arith}

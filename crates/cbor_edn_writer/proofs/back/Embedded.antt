@@ -1,4 +1,4 @@
--- Items between `<<` and `>>` are read back as the bytes that they are shown for.
+-- In EDN, items between `<<` and `>>` are read back as the bytes that they are shown for.
 use Rattle.std.proofs.Common.{◌≡◌, inl, ℕ, suc, List, [], ◌∷◌, ◌++◌, length, codes, Some}
 use Rattle.std.proofs.Common.{refl, sym, ap, subst, ◌∙◌, append-nil}
 use Rattle.cbor_grammar.specs.declared.layout.ContainerStyle.{ContainerStyle}

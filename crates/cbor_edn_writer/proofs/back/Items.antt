@@ -1,6 +1,7 @@
 -- The law of EDN: a text that is written for an item is read back as an item of the same encoding.
 use Rattle.std.proofs.Common.{◌≡◌, inl, inr, ℕ, zero, suc, ◌+◌, List, [], ◌∷◌, ◌++◌, length, codes, Option, Some, None}
-use Rattle.std.proofs.Common.{Bool, true, false, ◌==◌, ◌&&◌, ◌||◌, if◌then◌else◌, not, refl, sym, ap, subst, ◌∙◌, append-nil}
+use Rattle.std.proofs.Common.{Bool, true, false, ◌==◌, ◌&&◌, ◌||◌, if◌then◌else◌, not, refl, sym, ap, subst, ◌∙◌}
+use Rattle.std.proofs.Common.{append-nil}
 use Rattle.std.proofs.Common.{append_assoc, arith}
 use Rattle.std.proofs.lemmas.Bool.{and_parts}
 use Rattle.std.specs.List.{AllByRecursion}
@@ -17,7 +18,7 @@ use Rattle.cbor_grammar.specs.Item as spec
 use Rattle.cbor_grammar.specs.Item.{Chunk, Atom, integer, negative, string, chunked_string, float, simple, Item, atom}
 use Rattle.cbor_grammar.specs.Item.{array, tagged, Items, no_items, item, Pairs, no_pairs, pair, item_count, pair_count}
 use Rattle.cbor_grammar.specs.Item.{items_of}
-use Rattle.cbor_grammar.specs.NotationText.{container_style, number, sequence_size}
+use Rattle.cbor_grammar.specs.NotationText.{number, sequence_size}
 use Rattle.cbor_grammar.specs.StringKind.{no_chunks}
 use Rattle.cbor_grammar.specs.WellFormed.{IsChunk, WellFormedAtom, WellFormed, WellFormedItems, WellFormedPairs}
 use Rattle.cbor_grammar.specs.WellFormed.{levels_left}
@@ -28,7 +29,7 @@ use Rattle.cbor_grammar.proofs.shared.EmbeddedItems.{embedded_spells, sequence_s
 use Rattle.cbor_bytes.proofs.bytes.WellFormed.{items_well}
 use Rattle.cbor_notation.specs.Dialect.{ItemTexts, PairTexts, ChunksText, OneText, EmbeddedText}
 use Rattle.cbor_notation.specs.Dialect.{SequenceText, ContentText, AtomText, TagText, TextWith, TextsOf, TextsAt}
-use Rattle.cbor_notation.specs.Dialect.{Writer, count_of, embedding, listed, style_at}
+use Rattle.cbor_notation.specs.Dialect.{Writer, count_of, embedding, listed, sized_style, style_at}
 use Rattle.cbor_notation.specs.declared.parts.Container.TheVariants.{Array, Map, Chunks}
 use Rattle.cbor_notation.specs.mirror.LayoutView.{before_member, after_member}
 use Rattle.cbor_edn_grammar.specs.declared.close.Close.{Close}
@@ -37,7 +38,8 @@ use Rattle.cbor_edn_writer.specs.declared.print.place.EdnPlace.{EdnPlace}
 use Rattle.cbor_edn_grammar.specs.Blank.{skip_blank}
 use Rattle.cbor_edn_grammar.specs.Edn.{bytes_of_edn}
 use Rattle.cbor_edn_writer.specs.EdnLeaves.{edn_leaves, marked, begins_container, is_noted, item_if, content_below}
-use Rattle.cbor_edn_writer.specs.EdnLeaves.{content_under, is_encoded, note_before, After, EdnLeaf, Noted, quoted_string, spaced}
+use Rattle.cbor_edn_writer.specs.EdnLeaves.{content_under, is_encoded, note_before, After, EdnLeaf, Noted}
+use Rattle.cbor_edn_writer.specs.EdnLeaves.{quoted_string, spaced}
 use Rattle.cbor_edn_grammar.specs.Items.{item_turn, read_item}
 use Rattle.cbor_edn_grammar.specs.Reading.{◌>>=◌, after_byte}
 use Rattle.cbor_edn_writer.specs.Same.{is_empty, is_strict, is_sequence}
@@ -111,7 +113,8 @@ edn_list l ms = listed (λ first. before_member (spaced l) first) (after_member 
 -- ---- tags
 
 tag_text : (left n : ℕ) (w : IntegerWidth) (all : Bool) (i : Item) (m t : List ℕ) → FitsWidth w n
-    → ReadsNoted left i m → t ≡ (number n (marked all n w) ++ codes "(") ++ (m ++ codes ")") → ReadsAs (suc left) (tagged n w i) t
+    → ReadsNoted left i m → t ≡ (number n (marked all n w) ++ codes "(") ++ (m ++ codes ")")
+    → ReadsAs (suc left) (tagged n w i) t
 tag_text left n w all i m t fits r e =
     let front = number n (marked all n w) ++ codes "(" in
     let width = read_width (marked all n w) in
@@ -193,7 +196,7 @@ module _ (level left : ℕ) (levels : level + left ≡ 129) (write : Writer EdnP
       let here : left ≡ levels_left (p.level + 1) = omega (arith, at, levels) in
       let bytes : encoded_items found.0 ≡ b.bytes =
       ap (λ n. encoded_items (sequence_at n b.bytes).0) here ∙ sequence_same p.level b.bytes well.bytes is strict in
-      let l = container_style p.layout (sequence_size found) in
+      let l = sized_style edn_leaves p (sequence_size found) in
       let rs = item_texts Angles _ found.0 ms at items_are.0 texts in
       subst (ReadsNoted (suc left) (atom (string kind.Bytes b))) (sym (e ∙ ap (λ r. u ++ r) rest ∙ append-nil u))
       (enclosed_reads (suc left) p (atom (string kind.Bytes b)) (embedding b) l (edn_list l ms) u
@@ -280,7 +283,7 @@ reads_back level zero levels p at i t well h = absurd h
 reads_back level (suc left) levels p at i t well h =
     with_text (level + 1) left (omega (arith, levels)) (TextsOf edn_leaves left)
     (λ p i t at. reads_back (level + 1) left (omega (arith, levels)) p at i t) h.0 i t level refl
-    (ap (λ q. q.level) h.1.0.1.1 ∙ at) well h.2
+    (ap (λ q. q.level) h.1.0.1.2 ∙ at) well h.2
 
 -- a whole text is read back as the encoding of the item that it was written for
 pub edn_back : (p : EdnPlace) (i : Item) (t : List ℕ) → p.level ≡ 1 → WellFormed 1 i → TextsAt edn_leaves p i t

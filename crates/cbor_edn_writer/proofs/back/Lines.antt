@@ -1,4 +1,4 @@
--- The texts of items, each with a line feed after it, are read back as these items, one after the other.
+-- In EDN, the texts of items, each with a line feed after it, are read back as these items, one after the other.
 use Rattle.std.proofs.Common.{◌≡◌, inl, inr, ℕ, zero, suc, ◌-◌, ◌<◌, ◌≤◌, List, [], ◌∷◌, ◌++◌, length, take, Option}
 use Rattle.std.proofs.Common.{Some, None, Bool, true, false, ◌&&◌, ◌||◌, if◌then◌else◌, not, nat_eq}
 use Rattle.std.proofs.Common.{refl, sym, ap, subst, ◌∙◌, append_assoc, length-append, arith}

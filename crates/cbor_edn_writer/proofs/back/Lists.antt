@@ -1,4 +1,4 @@
--- Members that are written one after the other are read back, one after the other.
+-- In EDN, members that are written one after the other are read back, one after the other.
 use Rattle.std.proofs.Common.{◌≡◌, ◌⊎◌, inl, inr, ℕ, zero, suc, ◌+◌, ◌<◌, ◌≤◌, List, [], ◌∷◌, ◌++◌, length, codes}
 use Rattle.std.proofs.Common.{Bool, true, false, Option, Some, None, ◌==◌, ◌||◌, if◌then◌else◌, not, nat_eq, nat_lt}
 use Rattle.std.proofs.Common.{drop}

@@ -1,4 +1,4 @@
--- What is written of integers, simple values and the numbers of tags is read back.
+-- In EDN, what is written of integers, simple values and the numbers of tags is read back.
 use Rattle.std.proofs.Common.{◌≡◌, ◌⊎◌, inl, inr, ℕ, suc, ◌+◌, ◌^◌, ◌<◌, ◌≤◌, ◌==◌, not, Bool, true, false, List, []}
 use Rattle.std.proofs.Common.{◌∷◌, ◌++◌, length, codes, Some, refl, sym, ap, ap₂, subst, ◌∙◌, arith, append-nil}
 use Rattle.std.proofs.Common.{append_assoc, length-append, nat_lt, is_none, Option, None, bytes_eq}

@@ -1,4 +1,4 @@
--- A text between quotes is read back: its content, by the escape or the bytes of each character.
+-- In EDN, a text between quotes is read back: its content, by the escape or the bytes of each character.
 use Rattle.std.proofs.Common.{◌≡◌, inl, inr, ℕ, ◌+◌, ◌*◌, ◌/◌, ◌%◌, ◌<◌, ◌≤◌, List, [], ◌∷◌, ◌++◌, codes}
 use Rattle.std.proofs.Common.{Some, None, Bool, true, false, ◌==◌, ◌&&◌, if◌then◌else◌, refl, sym, ap, subst, ◌∙◌}
 use Rattle.std.proofs.Common.{arith, slice_index}

@@ -1,4 +1,4 @@
--- A text that is read back: as an item of the same encoding, whatever follows it.
+-- In EDN, a text that is read back: as an item of the same encoding, whatever follows it.
 use Rattle.std.proofs.Common.{◌≡◌, ℕ, List, [], ◌∷◌, ◌++◌, true, Some, ◌==◌, ◌||◌}
 pub use Rattle.cbor_edn_grammar.proofs.Ends.{ends_item, is_ended, Follows, begins_item, IsBegun}
 use Rattle.cbor_grammar.specs.Item.{Item}

@@ -1,4 +1,4 @@
--- A string is read back: its content, and the width of its length.
+-- In EDN, a string is read back: its content, and the width of its length.
 use Rattle.std.proofs.Common.{◌≡◌, inl, inr, ℕ, suc, ◌^◌, ◌==◌, ◌&&◌, List, [], ◌∷◌, ◌++◌, length, codes, not}
 use Rattle.std.proofs.Common.{Option, Some, None, is_some, Bool, true, false, if◌then◌else◌, refl, sym, ap, ◌∙◌}
 use Rattle.std.proofs.Common.{append_assoc, append-nil, arith}

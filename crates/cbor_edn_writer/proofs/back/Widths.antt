@@ -1,4 +1,5 @@
--- The width that is written beside a number, and what is read of it: the number fits it, and its head is the same.
+-- In EDN, the width that is written beside a number, and what is read of it: the number fits it, and its head is the
+-- same.
 use Rattle.std.proofs.Common.{◌≡◌, ℕ, ◌^◌, if◌then◌else◌, Bool, true, false, refl, ap, ◌∙◌, arith, nat_lt}
 use Rattle.std.proofs.lemmas.Bool.{lt-ltb, le-ltb, ltb-false}
 use Rattle.cbor_grammar.specs.declared.width.IntegerWidth.{IntegerWidth}

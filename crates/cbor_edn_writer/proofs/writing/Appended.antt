@@ -1,4 +1,4 @@
--- What calls one after the other append.
+-- What calls that write EDN append, one after the other.
 use Rattle.std.proofs.Common.{◌≡◌, ◌≢◌, List, ◌++◌, ℕ, Bool, Result, Ok, Err, ap, subst, refl, ◌∙◌, inl}
 use Rattle.std.proofs.Common.{append_assoc, is_ok, if◌then◌else◌, take, length}
 use Rattle.std.proofs.Common.{inr}

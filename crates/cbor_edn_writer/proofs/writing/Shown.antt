@@ -1,4 +1,4 @@
--- No character of what is written is hidden, and line feeds are outside of quotes and comments.
+-- In EDN, no character of what is written is hidden, and line feeds are outside of quotes and comments.
 use Rattle.std.proofs.Common.{◌≡◌, inl, inr, ℕ, ◌/◌, ◌%◌, ◌^◌, ◌<◌, ◌≤◌, List, [], ◌∷◌, ◌++◌, length}
 use Rattle.std.proofs.Common.{Bool, true, false, Option, Some, None, ◌==◌, ◌||◌, if◌then◌else◌, codes}
 use Rattle.std.proofs.Common.{refl, sym, ap, subst, ◌∙◌, arith, slice_index}
@@ -38,8 +38,8 @@ use Rattle.cbor_edn_writer.specs.EdnLeaves.{FloatText, float_indicator, quoted_s
 use Rattle.cbor_edn_writer.specs.declared.note.Note.{Note}
 use Rattle.cbor_edn_writer.specs.declared.print.place.EdnPlace.{EdnPlace}
 use Rattle.cbor_edn_writer.proofs.back.Blanks.{by_note, after_note}
-use Rattle.cbor_edn_writer.proofs.writing.Runs.{Runs, runs_nothing, runs_then, runs_byte, scanned, is_steady, Steady, ends}
-use Rattle.cbor_edn_writer.proofs.writing.Runs.{steady, steady_append}
+use Rattle.cbor_edn_writer.proofs.writing.Runs.{Runs, runs_nothing, runs_then, runs_byte, scanned, is_steady, Steady}
+use Rattle.cbor_edn_writer.proofs.writing.Runs.{ends, steady, steady_append}
 
 -- ---- digits
 

@@ -1,4 +1,4 @@
--- The texts of an item: no character in them is hidden, and line feeds are outside of quotes and comments.
+-- In EDN, the texts of an item: no character in them is hidden, and line feeds are outside of quotes and comments.
 use Rattle.std.proofs.Common.{◌≡◌, ℕ, zero, suc, ◌+◌, ◌<◌, ◌≤◌, List, [], ◌∷◌, ◌++◌, length, codes}
 use Rattle.std.proofs.Common.{Bool, true, false, Option, Some, None, if◌then◌else◌, refl, sym, subst, arith, ◌^◌}
 use Rattle.std.specs.Prelude.{nat_lt}
@@ -22,7 +22,7 @@ use Rattle.cbor_grammar.specs.Head.{FitsWidth}
 use Rattle.cbor_grammar.specs.Item as spec
 use Rattle.cbor_grammar.specs.Item.{Chunk, Atom, integer, negative, string, chunked_string, float, simple, Item, atom}
 use Rattle.cbor_grammar.specs.Item.{array, tagged, Items, no_items, item, Pairs, no_pairs, pair, item_count, pair_count}
-use Rattle.cbor_grammar.specs.NotationText.{container_style, members_layout, last_line, number}
+use Rattle.cbor_grammar.specs.NotationText.{members_layout, last_line, number}
 use Rattle.cbor_grammar.specs.StringKind.{no_chunks}
 use Rattle.cbor_grammar.specs.WellFormed.{IsChunk, WellFormedAtom, WellFormed, WellFormedItems, WellFormedPairs}
 use Rattle.cbor_grammar.proofs.bytes.Laws.{bytes_at}
@@ -34,7 +34,7 @@ use Rattle.cbor_notation.specs.declared.parts.Container.TheVariants.{Array, Map,
 use Rattle.cbor_notation.specs.mirror.LayoutView.{before_member, after_member}
 use Rattle.cbor_notation.specs.Dialect.{listed, ItemTexts, PairTexts, ChunkTexts, Between, ItemsText, PairsText}
 use Rattle.cbor_notation.specs.Dialect.{OneText, EmbeddedText, SequenceText, ContentText, ChunksText, AtomText, TagText}
-use Rattle.cbor_notation.specs.Dialect.{TextWith, TextsOf, Writer, embedding, count_of, style_at}
+use Rattle.cbor_notation.specs.Dialect.{TextWith, TextsOf, Writer, embedding, count_of, style_at, style_within}
 use Rattle.cbor_edn_writer.specs.Breaks.{Nothing}
 use Rattle.cbor_edn_writer.specs.EdnLeaves.{edn_leaves, EdnLeaf, longer, marked, spaced, count_mark, with_gap, gap}
 use Rattle.cbor_edn_writer.specs.EdnLeaves.{edn_opening, edn_closing, embedded_mark, Noted, quoted_string}
@@ -58,9 +58,10 @@ abbrev pub AllowsLayout : Bool → Layout → Type 0
 AllowsLayout lines layout.Compact = Unit {0}
 AllowsLayout lines (layout.Pretty indent) = lines ≡ true
 
-style_allowed : (lines : Bool) (l : Layout) (size : ℕ) → AllowsLayout lines l → Allows lines (container_style l size)
-style_allowed lines layout.Compact size h = tt
-style_allowed lines (layout.Pretty indent) size h = either (nat_lt size 60) h
+style_allowed : (lines : Bool) (limit : ℕ) (l : Layout) (size : ℕ) → AllowsLayout lines l
+    → Allows lines (style_within limit l size)
+style_allowed lines limit layout.Compact size h = tt
+style_allowed lines limit (layout.Pretty indent) size h = either (nat_lt size limit) h
   where
     either : (test : Bool) → lines ≡ true
         → Allows lines (if test then style.OneLine indent else style.MultiLine indent)
@@ -267,7 +268,8 @@ module _ (lines : Bool) (level left : ℕ) (levels : level + left ≡ 129) (writ
       let items_are = items_well level (sequence_at left b.bytes).0 b.bytes (sequence_at left b.bytes).1 well.bytes
       s.spelled_so in
       subst (Apart lines) (sym is) (runs_then
-      (items_apart p (embedding b) _ (sequence_at left b.bytes).0 u (style_allowed lines p.layout _ allows) items_are.0
+      (items_apart p (embedding b) _ (sequence_at left b.bytes).0 u (style_allowed lines _ p.layout _ allows)
+      items_are.0
       items) (subst (Apart lines) (sym rest) runs_nothing))
 
   content_apart : (p : EdnPlace) (content : Content) (b : Chunk) (t : List ℕ) → AllowsLayout lines p.layout
@@ -281,7 +283,7 @@ module _ (lines : Bool) (level left : ℕ) (levels : level + left ≡ 129) (writ
   atom_apart p (string kind.Bytes b) t allows well h = content_apart p _ b t allows well h
   atom_apart p (string kind.Text s) t allows well h = string_apart lines p kind.Text s t well h
   atom_apart p (chunked_string kind cs) t allows well h =
-      chunks_apart lines p kind _ cs t (style_allowed lines p.layout _ allows) well h
+      chunks_apart lines p kind _ cs t (style_allowed lines _ p.layout _ allows) well h
   atom_apart p (integer n w) t allows well h = leaf_text_apart lines p (integer n w) t well h
   atom_apart p (negative n w) t allows well h = leaf_text_apart lines p (negative n w) t well h
   atom_apart p (float bits w) t allows well h = leaf_text_apart lines p (float bits w) t well h
@@ -304,11 +306,11 @@ module _ (lines : Bool) (level left : ℕ) (levels : level + left ≡ 129) (writ
   with_apart p (atom a) t here e allows well h = atom_apart p a t allows well.1 h
   with_apart p (array is w) t here e allows well h =
       items_apart p (Array (count_of w (item_count is))) (style_at edn_leaves p (array is w)) is t
-      (style_allowed lines p.layout _ allows)
+      (style_allowed lines _ p.layout _ allows)
       (subst (λ l. WellFormedItems l is) (sym e) well.2) h
   with_apart p (spec.map ps w) t here e allows well h =
       pairs_apart p (Map (count_of w (pair_count ps))) (style_at edn_leaves p (spec.map ps w)) ps t
-      (style_allowed lines p.layout _ allows)
+      (style_allowed lines _ p.layout _ allows)
       (subst (λ l. WellFormedPairs l ps) (sym e) well.2) h
   with_apart p (tagged n w i) t here e allows well h =
       tag_apart p n w i t allows well.1 (subst (λ l. WellFormed l i) (sym e) well.2) h
@@ -320,4 +322,4 @@ texts_apart lines level zero levels p i t allows well h = absurd h
 texts_apart lines level (suc left) levels p i t allows well h =
     with_apart lines (level + 1) left (omega (arith, levels)) (TextsOf edn_leaves left)
     (λ p i t. texts_apart lines (level + 1) left (omega (arith, levels)) p i t) h.0 i t level refl
-    (subst (λ q. AllowsLayout lines q.layout) (sym h.1.0.1.1) allows) well h.2
+    (subst (λ q. AllowsLayout lines q.layout) (sym h.1.0.1.2) allows) well h.2

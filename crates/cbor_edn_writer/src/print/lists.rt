@@ -1,4 +1,4 @@
-//! What is written round the members of a list.
+//! In EDN, what is written round the members of a list.
 #![tactic(auto, using(cbor_grammar::proofs::shared::Appending::appending_steps))]
 
 ghost use Rattle.std.specs.Prelude.{◌≡◌, ◌∷◌, [], ◌++◌, ◌<◌, codes};

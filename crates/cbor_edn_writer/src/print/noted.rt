@@ -21,8 +21,8 @@ use cbor_notation::dialect::Dialect;
 use cbor_notation::parts::{Container, Leaf};
 use std::alloc::{AllocError, Global};
 
-/// EDN, in which a note is looked for at each item. It is apart from [`Edn`], since a place that may
-/// change takes instructions at each item.
+/// EDN, in which a note is looked for at each item. It is apart from [`Edn`], since a place that
+/// may change takes instructions at each item.
 pub(crate) struct NotedEdn<'a> {
     notes: &'a [Note<'a>],
 }
@@ -45,6 +45,11 @@ impl<'a> Dialect for NotedEdn<'a> {
     #[inline(always)]
     fn layout(place: &EdnPlace<'a>) -> Layout {
         Edn::layout(place)
+    }
+
+    #[inline(always)]
+    fn limit(place: &EdnPlace<'a>) -> usize {
+        Edn::limit(place)
     }
 
     #[inline(always)]

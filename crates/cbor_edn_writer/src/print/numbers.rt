@@ -1,4 +1,4 @@
-//! Widths beside numbers, and floats.
+//! In EDN, widths beside numbers, and floats.
 #![tactic(auto, using(cbor_grammar::proofs::shared::Appending::appending_steps))]
 
 ghost use Rattle.std.specs.Prelude.{◌≡◌};

@@ -2,7 +2,7 @@
 ghost use Rattle.std.specs.Prelude.{◌≡◌, ◌≤◌, ◌||◌, unwrap_or};
 ghost use Rattle.cbor_grammar.specs.WellFormed.{deepest};
 ghost use Rattle.cbor_grammar.specs.NotationText.{indent_of};
-ghost use Rattle.cbor_edn_writer.specs.EdnLeaves.{edn_leaves, is_encoded};
+ghost use Rattle.cbor_edn_writer.specs.EdnLeaves.{edn_leaves, is_encoded, limit_within};
 ghost use Rattle.cbor_edn_writer.specs.EdnLeaves.{FoundAt, SameButNote};
 ghost use Rattle.cbor_edn_writer.specs.EdnLeaves.{argument_bytes as bytes_of_width};
 ghost use Rattle.cbor_edn_writer.specs.EdnLeaves.{after_string as behind_string};
@@ -36,6 +36,8 @@ pub(crate) struct EdnPlace<'a> {
     pub(crate) behind: u64,
     /// How many of the outermost bytes there are from the item on.
     pub(crate) here: u64,
+    /// How many of the notes are on items before the item, as far as it was looked for.
+    pub(crate) passed: usize,
     /// The note on the item.
     pub(crate) found: Option<&'a Note<'a>>,
 }
@@ -59,6 +61,7 @@ impl<'a> EdnPlace<'a> {
             notes,
             behind: 0,
             here: 0,
+            passed: 0,
             found: None,
         }
     }
@@ -80,11 +83,30 @@ impl<'a> EdnPlace<'a> {
     fn with_note(&self, here: u64) -> EdnPlace<'a>
         ensures { FoundAt self.now here result }
     {
+        let passed = notes_before(self.notes, self.passed, here);
         EdnPlace {
             here,
-            found: note_at(self.notes, here),
+            passed,
+            found: match self.notes.get(passed) {
+                Some(note) if note.at as u64 == here => Some(note),
+                _ => None,
+            },
             ..*self
         }
+    }
+
+    /// The estimated length from which a container takes a line for each member: the columns that
+    /// its indentation leaves.
+    #[inline(always)]
+    pub(crate) fn limit(&self) -> usize
+        ensures { result ≡ limit_within self.now.style.columns (indent_of self.now.layout) }
+    {
+        let indent = match self.layout {
+            Layout::Compact => 0,
+            Layout::Pretty { indent } => indent,
+        };
+        let left = usize::from(self.style.columns).saturating_sub(indent);
+        left.max(usize::from(EdnStyle::LEAST_COLUMNS))
     }
 
     /// Whether a byte string is shown as the items in it, where it is not by its tag.
@@ -164,11 +186,20 @@ fn argument_bytes(width: IntegerWidth) -> u64
     }
 }
 
-/// The note on the item from which on there are so many bytes.
+/// How many notes are looked at one after the other before the others are searched.
+const NEAR: usize = 16;
+
+/// How many notes are on items before the one from which on there are so many bytes. The first
+/// `passed` notes are; the others come in the order of the items, so the wanted one is mostly near.
 #[inline(never)]
-fn note_at<'a>(notes: &'a [Note<'a>], here: u64) -> Option<&'a Note<'a>> {
-    let index = notes
-        .binary_search_by(|note| here.cmp(&(note.at as u64)))
-        .ok()?;
-    notes.get(index)
+fn notes_before(notes: &[Note<'_>], passed: usize, here: u64) -> usize {
+    let behind = notes.get(passed..).unwrap_or(&[]);
+    let mut near = behind.iter().take(NEAR);
+    let more = match near.position(|note| note.at as u64 <= here) {
+        Some(index) => index,
+        None => match behind.binary_search_by(|note| here.cmp(&(note.at as u64))) {
+            Ok(index) | Err(index) => index,
+        },
+    };
+    passed.saturating_add(more)
 }

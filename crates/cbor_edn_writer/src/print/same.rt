@@ -1,4 +1,5 @@
-//! Which byte strings are shown as the items in them: only where the same bytes are read back.
+//! In EDN, which byte strings are shown as the items in them: only where the same bytes are read
+//! back.
 ghost use Rattle.std.specs.Prelude.{◌≡◌, ◌<◌, ◌≤◌, length, Option, IfSome, MatchOption, None, Some};
 ghost use Rattle.cbor_edn_writer.specs.EdnLeaves.{content_under as content_there};
 ghost use Rattle.cbor_edn_writer.specs.EdnLeaves.{content_below as content_right_below};

@@ -16,7 +16,8 @@ pub returns-in_err-item-clause-gives : goal.returns-in_err-item-clause-gives
 returns-in_err-item-clause-gives c =
     let p = err_from_is_err_and c.from_residual.result c.from_residual.ensures.1 in
     let is = tagged_left (129 - c.args.inner) (129 - (c.args.inner + 1)) c.args.content.now (omega arith) in
-    rw (p.1, p.2, is) (refused_step c.in_err-item.field-0.0 _ (λ i. Some (tagged 1 Unknown i)) c.in_err-item.ensures.gives)
+    rw (p.1, p.2, is) (refused_step c.in_err-item.field-0.0 _ (λ i. Some (tagged 1 Unknown i))
+    c.in_err-item.ensures.gives)
 
 pub returns-clause-gives : goal.returns-clause-gives
 returns-clause-gives c =
