@@ -76,7 +76,7 @@ fn push_text(alloc: Global, to: To, bytes: &[u8], text: &mut String) -> Result<O
     }
 }
 
-/// Ends the line of an item that takes so many bytes, if there is one.
+/// Ends the line of an item that takes `used` bytes, if there is one.
 fn end_line(used: Option<usize>, text: &mut String) -> Result<Option<usize>, Error>
     ensures used { IfOk result (λ o. o ≡ used) }
     ensures line { IfOk result (λ o. IfSome o (λ n.

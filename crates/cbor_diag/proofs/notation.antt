@@ -1,4 +1,5 @@
 pub mod ChunkLoops
+pub mod Errors
 pub mod Loops
 pub mod Cores
 pub mod PublicReader
@@ -14,3 +15,4 @@ pub mod GrownItems
 pub mod DeadItems
 pub mod DeadCores
 pub mod Stops
+pub mod SoFar

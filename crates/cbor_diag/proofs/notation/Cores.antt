@@ -11,14 +11,18 @@ use Rattle.cbor_grammar.specs.declared.error.Error.{Error}
 use Rattle.cbor_grammar.specs.declared.error.Error.TheVariants as refusal
 use Rattle.cbor_notation.specs.declared.start.Start.{Start}
 use Rattle.cbor_notation.specs.declared.start.Start.TheVariants as start
-use Rattle.cbor_grammar.specs.Item.{Chunk, chunked_string, Item, atom, item_count, pair_count}
+use Rattle.cbor_grammar.specs.Item as spec
+use Rattle.cbor_grammar.specs.Item.{Chunk, chunked_string, Item, array, atom, item_count, pair_count}
+use Rattle.cbor_grammar.specs.Item.{items_of, negative, pairs_of}
 use Rattle.cbor_diag.specs.View.{view, items_view, pairs_view}
 use Rattle.cbor_grammar.specs.WellFormed.{IsChunk, WellFormed, WellFormedItems, WellFormedPairs, FitsCount}
 use Rattle.cbor_grammar.specs.declared.strings.StringKind.{StringKind}
-use Rattle.cbor_grammar.specs.declared.strings.StringKind.TheVariants.{Bytes}
+use Rattle.cbor_grammar.specs.declared.strings.StringKind.TheVariants.{Bytes, Text}
 use Rattle.cbor_grammar.specs.Reading.{Read, ◌>>=◌, Fails}
 use Rattle.cbor_notation.specs.mirror.NotationReading.{or_refused, after_byte, skip_blank, read_pair, first_start}
-use Rattle.cbor_notation.specs.mirror.NotationReading.{rest_of}
+use Rattle.cbor_notation.specs.mirror.NotationReading.{rest_of, read_integer}
+use Rattle.cbor_notation.specs.mirror.NotationReading.{read_negative_number}
+use Rattle.cbor_notation.specs.mirror.NotationReading.{read_word}
 use Rattle.cbor_notation.specs.mirror.NotationReading.{core_of, read_core, read_item, piece_of, read_piece}
 use Rattle.cbor_notation.specs.mirror.NotationReading.{begins_piece}
 use Rattle.cbor_notation.specs.mirror.NotationReading.{begins_string, read_pieces, content_of, read_content, kind_from}
@@ -45,17 +49,81 @@ module _ {X : Type 0} (member : List ℕ → Read X) (close : ℕ) (make : List 
     (behind : List ℕ) {opened : List ℕ} {core : Read Item}
     (is : core ≡ (read_members member close (read_length behind).1
     >>= λ xs. Ok (make xs.0 (read_length behind).0, xs.1))) (opens : opened ≡ (read_length behind).1) where
-  pub list_fails : (e : Error) → Fails e (read_members member close opened) → Fails e core
-  list_fails e h = subst (λ r. Fails e r) (sym is) (Fails-bind e (read_members member close (read_length behind).1)
+  container_fails : (e : Error) → Fails e (read_members member close opened) → Fails e core
+  container_fails e h =
+      subst (λ r. Fails e r) (sym is) (Fails-bind e (read_members member close (read_length behind).1)
       (λ xs. Ok (make xs.0 (read_length behind).0, xs.1))
       (subst (λ b. Fails e (read_members member close b)) opens h))
 
-  pub list_read : {xs : List X} {after : List ℕ} {i : Item} (w : Option IntegerWidth) → w ≡ (read_length behind).0
-      → read_members member close opened ≡ Ok (xs, after) → i ≡ make xs w → core ≡ Ok (i, after)
-  list_read {xs} {after} w width found made =
+  container_read : {xs : List X} {after : List ℕ} {i : Item} {w : Option IntegerWidth}
+      → w ≡ (read_length behind).0 → read_members member close opened ≡ Ok (xs, after) → i ≡ make xs w
+      → core ≡ Ok (i, after)
+  container_read {xs} {after} width found made =
       is ∙ ap (λ r. r >>= λ xs. Ok (make xs.0 (read_length behind).0, xs.1))
       (ap (read_members member close) (sym opens) ∙ found)
       ∙ ap (λ w. Ok (make xs w, after)) (sym width) ∙ ap (λ i. Ok (i, after)) (sym made)
+
+-- an array and a map, which these bytes begin
+module _ (read : List ℕ → Read Item) (text : List ℕ) {s : Start} {behind opened : List ℕ}
+    (begins : s ≡ first_start text) (rest : behind ≡ rest_of text) (opens : opened ≡ (read_length behind).1) where
+  pub array_fails : (e : Error) → s ≡ start.Bracket → Fails e (read_members read 93 opened)
+      → Fails e (read_core read text)
+  array_fails e is =
+      container_fails read 93 (λ is w. array (items_of is) w) behind (core_at read text is begins rest) opens e
+
+  pub array_read : {is : List Item} {after : List ℕ} {i : Item} {w : Option IntegerWidth} → s ≡ start.Bracket
+      → w ≡ (read_length behind).0 → read_members read 93 opened ≡ Ok (is, after) → i ≡ array (items_of is) w
+      → read_core read text ≡ Ok (i, after)
+  array_read is =
+      container_read read 93 (λ is w. array (items_of is) w) behind (core_at read text is begins rest) opens
+
+  pub map_fails : (e : Error) → s ≡ start.Brace → Fails e (read_members (read_pair read) 125 opened)
+      → Fails e (read_core read text)
+  map_fails e is =
+      container_fails (read_pair read) 125 (λ ps w. spec.map (pairs_of ps) w) behind
+      (core_at read text is begins rest) opens e
+
+  pub map_read : {ps : List (Item × Item)} {after : List ℕ} {i : Item} {w : Option IntegerWidth} → s ≡ start.Brace
+      → w ≡ (read_length behind).0 → read_members (read_pair read) 125 opened ≡ Ok (ps, after)
+      → i ≡ spec.map (pairs_of ps) w → read_core read text ≡ Ok (i, after)
+  map_read is =
+      container_read (read_pair read) 125 (λ ps w. spec.map (pairs_of ps) w) behind
+      (core_at read text is begins rest) opens
+
+-- a negative integer
+module _ (read : List ℕ → Read Item) (text : List ℕ) {s : Start} {behind : List ℕ} (begins : s ≡ first_start text)
+    (rest : behind ≡ rest_of text) (is : s ≡ start.Minus) where
+  pub minus_fails : (e : Error) → Fails e (read_negative_number behind) → Fails e (read_core read text)
+  minus_fails e h =
+      subst (λ r. Fails e r) (sym (core_at read text is begins rest)) (Fails-bind e (read_negative_number behind)
+      (λ n. Ok (atom (negative n.0.0 n.0.1), n.1)) h)
+
+  pub minus_read : {n : ℕ × IntegerWidth} {after : List ℕ} {i : Item} → read_negative_number behind ≡ Ok (n, after)
+      → i ≡ atom (negative n.0 n.1) → read_core read text ≡ Ok (i, after)
+  minus_read {n} {after} found made =
+      core_at read text is begins rest
+      ∙ ap (λ r. r >>= λ n. Ok (atom (negative n.0.0 n.0.1), n.1)) found ∙ ap (λ i. Ok (i, after)) (sym made)
+
+-- what is read by the first byte alone
+
+pub core_digit : (read : List ℕ → Read Item) (text : List ℕ) → first_start text ≡ start.Digit
+    → read_core read text ≡ read_integer read text
+core_digit read text is = core_at read text refl (sym is) refl
+
+pub core_chunks : (read : List ℕ → Read Item) (text : List ℕ) → first_start text ≡ start.Parenthesis
+    → read_core read text ≡ read_chunks read (rest_of text)
+core_chunks read text is = core_at read text refl (sym is) refl
+
+pub core_text : (read : List ℕ → Read Item) (text : List ℕ) → first_start text ≡ start.Quote
+    → read_core read text ≡ read_string_item read Text text
+core_text read text is = core_at read text refl (sym is) refl
+
+pub core_word : (read : List ℕ → Read Item) (text : List ℕ) → first_start text ≡ start.Other
+    → read_core read text ≡ read_word text
+core_word read text is = core_at read text refl (sym is) refl
+
+-- these, for a proof that looks at the first byte
+pub ruleset core_by_start = (core_digit, core_chunks, core_text, core_word)
 
 -- what bytes begin with
 pub bytes_core : (read : List ℕ → Read Item) (text rest : List ℕ) (s : Start)
@@ -65,6 +133,12 @@ bytes_core read text rest s (inl e) = rw e refl
 bytes_core read text rest s (inr (inl e)) = rw e refl
 bytes_core read text rest s (inr (inr (inl e))) = rw e refl
 bytes_core read text rest s (inr (inr (inr e))) = rw e refl
+
+pub core_bytes : (read : List ℕ → Read Item) (text : List ℕ) {s : Start}
+    → (s ≡ start.Apostrophe) ⊎ ((s ≡ start.Angle) ⊎ ((s ≡ start.LetterB) ⊎ (s ≡ start.LetterH)))
+    → s ≡ first_start text → read_core read text ≡ read_string_item read Bytes text
+core_bytes read text {s} which begins =
+    core_by read text (rest_of text) s begins refl ∙ bytes_core read text (rest_of text) s which
 
 pub piece_by : (read : List ℕ → Read Item) (text rest : List ℕ) (s : Start) → s ≡ first_start text → rest ≡ rest_of text
     → read_piece read text ≡ piece_of read s rest
@@ -144,10 +218,24 @@ pub item_none : (n : ℕ) (text : List ℕ) → n ≡ 0 → read_item n text ≡
 unfolding read_item
 item_none n text e = ap (λ k. read_item k text) e
 
-pub item_some : (n m : ℕ) (text : List ℕ) → n ≡ suc m
+item_some : (n m : ℕ) (text : List ℕ) → n ≡ suc m
     → read_item n text ≡ (read_core (read_item m) (skip_blank text) >>= λ i. Ok (i.0, skip_blank i.1))
 unfolding read_item
 item_some n m text e = ap (λ k. read_item k text) e
+
+-- an item from what is behind the blank before it
+module _ (n m : ℕ) (text : List ℕ) {core : List ℕ} (is : n ≡ suc m) (blank : core ≡ skip_blank text) where
+  pub item_fails : (e : Error) → Fails e (read_core (read_item m) core) → Fails e (read_item n text)
+  item_fails e h =
+      subst (λ r. Fails e r) (sym (item_some n m text is)) (Fails-bind e (read_core (read_item m) (skip_blank text))
+      (λ i. Ok (i.0, skip_blank i.1)) (subst (λ b. Fails e (read_core (read_item m) b)) blank h))
+
+  pub item_read : {i : Item} {rest end : List ℕ} → read_core (read_item m) core ≡ Ok (i, rest) → end ≡ skip_blank rest
+      → read_item n text ≡ Ok (i, end)
+  item_read {i} found ends =
+      item_some n m text is
+      ∙ ap (λ r. r >>= λ i. Ok (i.0, skip_blank i.1)) (ap (read_core (read_item m)) (sym blank) ∙ found)
+      ∙ ap (λ b. Ok (i, b)) (sym ends)
 
 -- ---- the pieces of a string
 
@@ -255,10 +343,10 @@ open_fits : (w : Option IntegerWidth) (n : ℕ) → n < 2 ^ 64 → (w ≡ None) 
 open_fits w n fits (inl e) = subst (λ x. FitsCount x n) (sym e) tt
 open_fits w n fits (inr e) = subst (λ x. FitsCount x n) (sym e) fits
 
-pub array_well : (inner : ℕ) (v : Vec DataItem Global) (w : Option IntegerWidth) → 1 ≤ inner → inner ≤ 129
+pub array_well : (inner : ℕ) (v : Vec DataItem Global) {w : Option IntegerWidth} → 1 ≤ inner → inner ≤ 129
     → (w ≡ None) ⊎ (w ≡ Some Unknown) → WellFormedItems inner (items_view v.items)
     → WellFormed (inner - 1) (view (Array v w))
-array_well inner v w low high length_is held =
+array_well inner v {w} low high length_is held =
     let level : inner - 1 + 1 ≡ inner = omega arith in
     let count : item_count (items_view v.items) < 2 ^ 64 = omega (arith, item_count_view v.items, v.ok.0) in
     subst (λ i. WellFormed (inner - 1) i) (sym (view-Array v w)) (
@@ -267,10 +355,10 @@ array_well inner v w low high length_is held =
       subst (λ l. WellFormedItems l (items_view v.items)) (sym level) held,
     )
 
-pub map_well : (inner : ℕ) (v : Vec (DataItem × DataItem) Global) (w : Option IntegerWidth) → 1 ≤ inner → inner ≤ 129
+pub map_well : (inner : ℕ) (v : Vec (DataItem × DataItem) Global) {w : Option IntegerWidth} → 1 ≤ inner → inner ≤ 129
     → (w ≡ None) ⊎ (w ≡ Some Unknown) → WellFormedPairs inner (pairs_view v.items)
     → WellFormed (inner - 1) (view (Map v w))
-map_well inner v w low high length_is held =
+map_well inner v {w} low high length_is held =
     let level : inner - 1 + 1 ≡ inner = omega arith in
     let count : pair_count (pairs_view v.items) < 2 ^ 64 = omega (arith, pair_count_view v.items, v.ok.0) in
     subst (λ i. WellFormed (inner - 1) i) (sym (view-Map v w)) (

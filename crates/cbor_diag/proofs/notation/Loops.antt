@@ -12,11 +12,11 @@ use Rattle.cbor_diag.proofs.notation.ChunkLoops.{Fails-bind, onto, onto_fails}
 -- ---- the members of a list
 
 -- a list that is closed before any member
-pub members_closed : {X : Type 0} (read : List ℕ → Read X) (close : ℕ) (text rest after : List ℕ) (front : List X)
-    → front ≡ [] → rest ≡ skip_blank text → after_end close rest ≡ Some after
+pub members_closed : {X : Type 0} (read : List ℕ → Read X) (close : ℕ) (text : List ℕ) {rest after : List ℕ}
+    {front : List X} → front ≡ [] → rest ≡ skip_blank text → after_end close rest ≡ Some after
     → read_members read close text ≡ Ok (front, after)
 unfolding read_members
-members_closed read close text rest after front none blank e =
+members_closed read close text {rest} {after} none blank e =
     ap (λ b. members_or_end read close b (after_end close b)) (sym blank) ∙ ap (members_or_end read close rest) e
     ∙ ap (λ f. Ok (f, after)) (sym none)
 
@@ -26,6 +26,12 @@ pub members_first : {X : Type 0} (read : List ℕ → Read X) (close : ℕ) (tex
 unfolding read_members
 members_first read close text rest blank e =
     ap (λ b. members_or_end read close b (after_end close b)) (sym blank) ∙ ap (members_or_end read close rest) e
+
+-- the same by the text alone
+pub members_opened : {X : Type 0} (read : List ℕ → Read X) (close : ℕ) (text : List ℕ)
+    → after_end close (skip_blank text) ≡ None
+    → read_members read close text ≡ members_from read close (suc (length (skip_blank text))) (skip_blank text)
+members_opened read close text e = members_first read close text (skip_blank text) refl e
 
 -- before the first member
 pub members_begin : {X : Type 0} (read : List ℕ → Read X) (close : ℕ) (text : List ℕ) (front : List X) → front ≡ []

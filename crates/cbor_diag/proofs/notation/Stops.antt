@@ -9,34 +9,33 @@ use Rattle.cbor_grammar.specs.Item.{Chunk, Item}
 use Rattle.cbor_grammar.specs.declared.strings.StringKind.{StringKind}
 use Rattle.cbor_grammar.specs.declared.strings.StringKind.TheVariants.{Bytes, Text}
 use Rattle.cbor_grammar.specs.Reading.{Read, ◌>>=◌, Fails}
+use Rattle.cbor_grammar.specs.StringKind.{no_chunks}
 use Rattle.cbor_notation.specs.declared.start.Start.{Start}
 use Rattle.cbor_notation.specs.declared.start.Start.TheVariants as start
 use Rattle.cbor_notation.specs.mirror.NotationReading.{or_refused, skip_blank, after_byte, after_space, after_end}
 use Rattle.cbor_notation.specs.mirror.NotationReading.{read_members, read_item, read_core, core_of, read_integer}
 use Rattle.cbor_notation.specs.mirror.NotationReading.{read_unsigned_number, read_tagged, first_start, rest_of}
-use Rattle.cbor_notation.specs.mirror.NotationReading.{start_of}
+use Rattle.cbor_notation.specs.mirror.NotationReading.{start_of, after_word, read_word, read_chunks, read_embedded}
+use Rattle.cbor_notation.specs.mirror.NotationReading.{kind_from, read_length, read_negative_number}
 use Rattle.cbor_notation.specs.mirror.NotationReading.{read_string_item, begins_piece, begins_string, checked}
 use Rattle.cbor_notation.specs.mirror.NotationReading.{read_content, content_of, read_chunk, read_string, read_pair}
-use Rattle.cbor_diag.specs.mirror.DeadEnds.{NotRead, NeverReads, NeverBegins, NeverListed, Stuck, Open}
-use Rattle.cbor_diag.specs.mirror.DeadEnds.{ends_blank, is_firm}
+use Rattle.cbor_diag.specs.mirror.DeadEnds.{NotRead, NeverReads, NeverBegins, NeverListed, Open}
+use Rattle.cbor_diag.specs.mirror.DeadEnds.{ends_blank, is_firm, NeverPieces}
 use Rattle.cbor_notation.proofs.notation.Ends.{passed_twice}
 use Rattle.cbor_notation.proofs.notation.sound.Steps.{a_test, after_byte_is}
 use Rattle.cbor_diag.proofs.notation.GrownTokens.{no_byte_grown}
-use Rattle.cbor_diag.proofs.notation.DeadTokens.{not_by, failed}
+use Rattle.cbor_diag.proofs.notation.DeadTokens.{not_by, not_bind, failed}
 use Rattle.cbor_diag.proofs.notation.GrownReads.{Grows, Begins, of_some, firm_blank, begin_blank}
 use Rattle.cbor_diag.proofs.notation.GrownLists.{comma_grown, firm_comma}
 use Rattle.cbor_diag.proofs.notation.GrownItems.{item_grows, item_begins, no_byte_firm}
 use Rattle.cbor_diag.proofs.notation.DeadItems.{list_begun, member_wrong, member_next, core_dead, item_dead, too_deep}
-use Rattle.cbor_diag.proofs.notation.DeadItems.{tag_grown, chunk_dead, member_dead, pair_key_dead}
+use Rattle.cbor_diag.proofs.notation.DeadItems.{tag_grown, chunk_dead, member_dead, pair_key_dead, string_dead}
+use Rattle.cbor_diag.proofs.notation.DeadItems.{string_item_dead, string_content_dead, content_pieces_dead}
+use Rattle.cbor_diag.proofs.notation.DeadItems.{embedded_close_dead, chunks_list_dead, array_dead, map_dead}
 use Rattle.cbor_diag.proofs.notation.DeadItems.{pair_colon_dead, pair_value_dead}
 use Rattle.cbor_diag.proofs.notation.DeadCores.{bytes_dead}
 
--- what a callee's answer says, said of what it is part of
-pub stuck_from : {X P Q : Type 0} (r : Result X Error) (rest : List ℕ) → (P → Q) → Stuck r rest P → Stuck r rest Q
-stuck_from (Ok x) rest f h = tt
-stuck_from (Err e) rest f h = λ real some. f (h real some)
-
-pub some_blank : (text : List ℕ) → ends_blank text ≡ true → 0 < length text
+some_blank : (text : List ℕ) → ends_blank text ≡ true → 0 < length text
 some_blank [] ends = absurd (false≢true ends)
 some_blank (b ∷ text) ends = omega arith
 
@@ -115,15 +114,34 @@ start_ends s (b ∷ text) is some =
       | inr other ↦ rw other refl
     ]
 
+pub piece_ends : (kind : StringKind) (text : List ℕ) → begins_piece kind (first_start text) ≡ true
+    → ends_blank text ≡ true
+piece_ends kind text begins = start_ends (first_start text) text refl
+    (λ o. absurd (no_piece kind (subst (λ (s : Start). begins_piece kind s ≡ true) o begins)))
+  where
+    no_piece : (k : StringKind) → begins_piece k start.Other ≡ true → ⊥
+    no_piece Bytes e = false≢true e
+    no_piece Text e = false≢true e
+
+pub string_ends : (kind : StringKind) (text : List ℕ) → begins_string kind (first_start text) ≡ true
+    → ends_blank text ≡ true
+string_ends kind text begins = start_ends (first_start text) text refl
+    (λ o. absurd (no_string kind (subst (λ (s : Start). begins_string kind s ≡ true) o begins)))
+  where
+    no_string : (k : StringKind) → begins_string k start.Other ≡ true → ⊥
+    no_string Bytes e = false≢true e
+    no_string Text e = false≢true e
+
 firm_colon : (text : List ℕ) → is_firm (58 ∷ text) ≡ true
 firm_colon [] = refl
 firm_colon (b ∷ text) = refl
 
 module _ (left : ℕ) where
-  pub core_stuck : {at s : Start} (text rest : List ℕ) → s ≡ at → s ≡ first_start text → (at ≡ start.Other → ⊥)
-      → rest ≡ rest_of text → ((more : List ℕ) → NotRead (core_of (read_item left) at (text ++ more) (rest ++ more)))
+  pub core_stuck : {at s : Start} (text : List ℕ) {rest : List ℕ} → s ≡ at → s ≡ first_start text
+      → (at ≡ start.Other → ⊥) → rest ≡ rest_of text
+      → ((more : List ℕ) → NotRead (core_of (read_item left) at (text ++ more) (rest ++ more)))
       → (ends_blank text ≡ true) × NeverReads (read_core (read_item left)) text
-  core_stuck {at} text rest is begins some behind never =
+  core_stuck {at} text {rest} is begins some behind never =
       let starts = sym is ∙ begins in
       let ends = start_ends at text starts some in
       (ends, core_dead left at text rest starts behind (some_blank text ends) never)
@@ -142,6 +160,38 @@ module _ (left : ℕ) where
       no_other (inr (inl e)) o = cc
       no_other (inr (inr (inl e))) o = cc
       no_other (inr (inr (inr e))) o = cc
+
+  -- an array, a map and a negative integer
+  module _ {s : Start} (text : List ℕ) {behind : List ℕ} (begins : s ≡ first_start text)
+      (rest : behind ≡ rest_of text) where
+    pub array_stuck : {opened : List ℕ} → opened ≡ (read_length behind).1 → s ≡ start.Bracket
+        → NeverReads (read_members (read_item left) 93) opened
+        → (ends_blank text ≡ true) × NeverReads (read_core (read_item left)) text
+    array_stuck opens is never =
+        core_stuck text is begins (λ e. absurd cc) rest (array_dead left behind
+        (subst (λ (t : List ℕ). NeverReads (read_members (read_item left) 93) t) opens never))
+
+    pub map_stuck : {opened : List ℕ} → opened ≡ (read_length behind).1 → s ≡ start.Brace
+        → NeverReads (read_members (read_pair (read_item left)) 125) opened
+        → (ends_blank text ≡ true) × NeverReads (read_core (read_item left)) text
+    map_stuck opens is never =
+        core_stuck text is begins (λ e. absurd cc) rest (map_dead left behind
+        (subst (λ (t : List ℕ). NeverReads (read_members (read_pair (read_item left)) 125) t) opens never))
+
+    pub minus_stuck : s ≡ start.Minus → NeverReads read_negative_number behind
+        → (ends_blank text ≡ true) × NeverReads (read_core (read_item left)) text
+    minus_stuck is never =
+        core_stuck text is begins (λ e. absurd cc) rest
+        (λ more. not_bind (read_negative_number (behind ++ more)) _ (never more))
+
+  -- a word
+  pub word_stuck : {s : Start} (text : List ℕ) → s ≡ start.Other → s ≡ first_start text
+      → (ends_blank text ≡ true) × NeverReads read_word text
+      → (ends_blank text ≡ true) × NeverReads (read_core (read_item left)) text
+  word_stuck text is begins never = (
+    never.0,
+    core_dead left start.Other text (rest_of text) (sym is ∙ begins) refl (some_blank text never.0) never.1,
+  )
 
   pub tag_stuck : (text : List ℕ) {n : ℕ × IntegerWidth} {after inner : List ℕ}
       → read_unsigned_number text ≡ Ok (n, after) → after_byte 40 after ≡ Some inner
@@ -188,6 +238,49 @@ module _ (left : ℕ) where
 
   -- ---- strings
 
+  -- a string item, whose content is that of `front`
+  pub string_stuck : (kind : StringKind) {front text : List ℕ} → front ≡ text
+      → ((more : List ℕ) → after_word (no_chunks kind) (front ++ more) ≡ None)
+      × NeverReads (read_content (read_item left) kind) front → NeverReads (read_string_item (read_item left) kind) text
+  string_stuck kind {front} same never =
+      subst (λ (t : List ℕ). NeverReads (read_string_item (read_item left) kind) t) same
+      (string_item_dead left kind front never.0 (string_dead left kind front never.1))
+
+  -- pieces that are none
+  pub content_stuck : (kind : StringKind) (text : List ℕ) → begins_string kind (first_start text) ≡ true
+      → NeverPieces (read_item left) kind text
+      → (ends_blank text ≡ true) × NeverReads (read_content (read_item left) kind) text
+  content_stuck kind text begins never =
+      (string_ends kind text begins, content_pieces_dead left kind text begins never)
+
+  -- items that are not closed, in a byte string
+  pub embedded_stuck : (text : List ℕ) {first : List ℕ} {is : List Item} {rest : List ℕ}
+      → or_refused (after_byte 60 text) ≡ Ok first → read_members (read_item left) 62 first ≡ Ok (is, rest)
+      → (0 < length rest) × (after_byte 62 rest ≡ None) → NeverReads (read_embedded (read_item left)) text
+  embedded_stuck text {first} {is} {rest} opens found at =
+      embedded_close_dead left text first is rest (of_some (after_byte 60 text) first opens) found at.0 at.1
+
+  -- chunks that are none
+  pub chunks_stuck : (text : List ℕ) {opened first : List ℕ} {kind : StringKind}
+      → or_refused (after_byte 95 text) ≡ Ok opened → first ≡ skip_blank opened → kind ≡ kind_from (first_start first)
+      → NeverBegins (read_members (read_chunk (read_item left) kind) 41) first
+      → NeverReads (read_chunks (read_item left)) text
+  chunks_stuck text {opened} {first} {kind} opens blank begins never =
+      chunks_list_dead left text opened first kind (of_some (after_byte 95 text) opened opens) blank
+      (blank_of opened first blank never.0) begins never.1
+
+  -- a text string of this content, which is no UTF-8
+  pub text_stuck : {front text old rest content : List ℕ} → front ≡ text → old ≡ text
+      → read_content (read_item left) Text front ≡ Ok (content, rest)
+      → NotRead (checked Text content) × (ends_blank (skip_blank rest) ≡ true)
+      × ((more : List ℕ) → after_word (no_chunks Text) (old ++ more) ≡ None)
+      → NeverReads (read_string_item (read_item left) Text) text
+  text_stuck {front} {text} {old} {rest} {content} same was found never =
+      subst (λ (t : List ℕ). NeverReads (read_string_item (read_item left) Text) t) same
+      (string_item_dead left Text front
+      (λ more. ap (λ (t : List ℕ). after_word (no_chunks Text) (t ++ more)) (same ∙ sym was) ∙ never.2 more)
+      (string_content_dead left Text front content rest found never.1 never.0))
+
   pub chunk_stuck : (kind : StringKind) (text core : List ℕ) → core ≡ skip_blank text → ends_blank core ≡ true
       → NeverReads (read_string (read_item left) kind) core → NeverBegins (read_chunk (read_item left) kind) text
   chunk_stuck kind text core is ends never = (
@@ -195,25 +288,7 @@ module _ (left : ℕ) where
     chunk_dead left kind text core is ends never,
   )
 
-pub piece_ends : (kind : StringKind) (text : List ℕ) → begins_piece kind (first_start text) ≡ true
-    → ends_blank text ≡ true
-piece_ends kind text begins = start_ends (first_start text) text refl
-    (λ o. absurd (no_piece kind (subst (λ (s : Start). begins_piece kind s ≡ true) o begins)))
-  where
-    no_piece : (k : StringKind) → begins_piece k start.Other ≡ true → ⊥
-    no_piece Bytes e = false≢true e
-    no_piece Text e = false≢true e
-
-pub string_ends : (kind : StringKind) (text : List ℕ) → begins_string kind (first_start text) ≡ true
-    → ends_blank text ≡ true
-string_ends kind text begins = start_ends (first_start text) text refl
-    (λ o. absurd (no_string kind (subst (λ (s : Start). begins_string kind s ≡ true) o begins)))
-  where
-    no_string : (k : StringKind) → begins_string k start.Other ≡ true → ⊥
-    no_string Bytes e = false≢true e
-    no_string Text e = false≢true e
-
-pub content_ends : (read : List ℕ → Read Item) (kind : StringKind) (text : List ℕ) (y : List ℕ × List ℕ)
+content_ends : (read : List ℕ → Read Item) (kind : StringKind) (text : List ℕ) (y : List ℕ × List ℕ)
     → read_content read kind text ≡ Ok y → ends_blank text ≡ true
 content_ends read kind text y e =
     elim (a_test (begins_string kind (first_start text))) [
@@ -225,7 +300,7 @@ content_ends read kind text y e =
     ]
 
 -- a chunk that could not be added
-pub no_push : (held kind : StringKind) (cs : List Chunk) (content : List ℕ) (e : Error) → held ≡ kind
+no_push : (held kind : StringKind) (cs : List Chunk) (content : List ℕ) (e : Error) → held ≡ kind
     → Fails e (checked held content >>= λ c. Ok (cs ++ c ∷ [])) → e ≢ refusal.Memory → NotRead (checked kind content)
 no_push held kind cs content e same fails real =
     subst (λ (k : StringKind). NotRead (checked k content)) same
@@ -234,3 +309,12 @@ no_push held kind cs content e same fails real =
     unbound : (made : Result Chunk Error) → NotRead (made >>= λ c. Ok (cs ++ c ∷ [])) → NotRead made
     unbound (Ok c) h = h
     unbound (Err d) h = tt
+
+pub chunk_refused : (left : ℕ) (kind : StringKind) (text : List ℕ) {core content rest : List ℕ} {held : StringKind}
+    (cs : List Chunk) (e : Error) → core ≡ skip_blank text
+    → read_content (read_item left) kind core ≡ Ok (content, rest) → held ≡ kind
+    → Fails e (checked held content >>= λ c. Ok (cs ++ c ∷ [])) → e ≢ refusal.Memory
+    → ends_blank (skip_blank rest) ≡ true → NeverBegins (read_chunk (read_item left) kind) text
+chunk_refused left kind text {core} {content} {rest} {held} cs e blank found same fails real ends =
+    chunk_stuck left kind text core blank (content_ends (read_item left) kind core (content, rest) found)
+    (string_content_dead left kind core content rest found ends (no_push held kind cs content e same fails real))

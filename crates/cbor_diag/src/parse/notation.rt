@@ -3,9 +3,10 @@
 //!
 //! Each private function reads at a cursor over the text, as bytes of UTF-8. It returns a value and
 //! leaves the cursor behind it, or returns the first error from the left; then it leaves the cursor
-//! where `stop` says, which is what `diag_fault` asks for. The first byte decides what comes next, except for `''_` and `""_`, and for
-//! a list's last comma, after which whitespace and the closing byte are looked for. The text is
-//! read once, and a string's first piece once more if the fast path of `strings` does not apply.
+//! where `stop` says, which is what `diag_fault` asks for. The first byte decides what comes next,
+//! except for `''_` and `""_`, and for a list's last comma, after which whitespace and the closing
+//! byte are looked for. The text is read once, and a string's first piece once more if the fast
+//! path of `strings` does not apply.
 //! What is between `read_core` and the list that keeps its item is inlined, and a map's loop reads
 //! key and value itself, so that an item is not moved from one to the other.
 mod fault;
@@ -75,6 +76,7 @@ fn read_item(alloc: Global, text: &mut Cursor<'_>, level: u8) -> Result<DataItem
 /// 129.
 #[cycle(diag)]
 #[inline(never)]
+#[tactic(auto, using(crate::proofs::notation::Cores::core_by_start))]
 fn read_core(alloc: Global, text: &mut Cursor<'_>, inner: u8) -> Result<DataItem>
     requires low { 1 ≤ inner }
     requires high { inner ≤ 129 }
@@ -168,6 +170,7 @@ fn read_tagged(
 
 /// The items of a list after its opening byte, up to its closing byte.
 #[cycle(diag)]
+#[tactic(auto, using(crate::proofs::notation::Loops::members_opened))]
 fn read_items(alloc: Global, close: u8, text: &mut Cursor<'_>, level: u8) -> Result<Vec<DataItem>>
     requires { level ≤ 129 }
     ensures gives { Gives (λ x. (map view x.items, text.new)) result
@@ -195,6 +198,7 @@ fn read_items(alloc: Global, close: u8, text: &mut Cursor<'_>, level: u8) -> Res
 /// at first, since many lists are no longer.
 #[cycle(diag)]
 #[inline(always)]
+#[tactic(auto, using(crate::proofs::shared::Views::items_push))]
 fn some_items(alloc: Global, close: u8, text: &mut Cursor<'_>, level: u8) -> Result<Vec<DataItem>>
     requires { level ≤ 129 }
     ensures gives { Gives (λ x. (map view x.items, text.new)) result
@@ -217,6 +221,7 @@ fn some_items(alloc: Global, close: u8, text: &mut Cursor<'_>, level: u8) -> Res
 
 /// The pairs of a map after its opening byte, up to its closing byte.
 #[cycle(diag)]
+#[tactic(auto, using(crate::proofs::notation::Loops::members_opened))]
 fn read_pairs(alloc: Global, text: &mut Cursor<'_>, level: u8) -> Result<Vec<(DataItem, DataItem)>>
     requires { level ≤ 129 }
     ensures gives { Gives (λ x. (map (λ p. (view p.0, view p.1)) x.items, text.new)) result
@@ -244,6 +249,7 @@ fn read_pairs(alloc: Global, text: &mut Cursor<'_>, level: u8) -> Result<Vec<(Da
 /// first.
 #[cycle(diag)]
 #[inline(always)]
+#[tactic(auto, using(crate::proofs::notation::Cores::pairs_push))]
 fn some_pairs(alloc: Global, text: &mut Cursor<'_>, level: u8) -> Result<Vec<(DataItem, DataItem)>>
     requires { level ≤ 129 }
     ensures gives { Gives (λ x. (map (λ p. (view p.0, view p.1)) x.items, text.new)) result

@@ -3,8 +3,8 @@
 //! The cursor is left before the first byte with which the text cannot go on, or at the end of the
 //! text. If it is left before a byte, the text is not read, whatever follows it. That is what the
 //! clauses `stuck` say; the place itself is a guess that `diag_fault` tries.
-ghost use Rattle.std.specs.Prelude.{◌≡◌, ◌≢◌, ◌<◌, ◌≤◌, ◌⊎◌, ◌++◌, List, ℕ, length, None, true, false};
-ghost use Rattle.std.specs.Prelude.{Err, IfOk};
+ghost use Rattle.std.specs.Prelude.{◌≡◌, ◌≢◌, ◌<◌, ◌≤◌, ◌⊎◌, ◌++◌, List, ℕ, length, None, true};
+ghost use Rattle.std.specs.Prelude.{false, Err, IfOk};
 ghost use Rattle.std.specs.Prelude.{IsTrue, IfErr};
 ghost use Rattle.cbor_diag.specs.View.{view};
 ghost use Rattle.cbor_grammar.specs.Head.{FitsWidth};

@@ -367,6 +367,7 @@ pub(super) fn read_text_item(
 
 /// The chunks of an indefinite string of this kind after its opening, up to its closing byte.
 #[cycle(diag)]
+#[tactic(auto, using(crate::proofs::notation::Loops::members_opened))]
 fn read_chunk_list(
     alloc: Global,
     kind: StringKind,
