@@ -1,4 +1,7 @@
 //! What `--at` writes: the path, the head and the place of the item that a byte belongs to.
+ghost use Rattle.std.specs.Prelude.{◌≡◌, ◌∷◌, ◌++◌, [], ℕ, List, OnOk};
+ghost use Rattle.std.specs.String.{string_bytes};
+ghost use Rattle.cbor_places.specs.Heads.{counted, head_digits, kind_word, IsHeadWords, head_line};
 
 use crate::around::{Around, item_with};
 use crate::piece::Piece;
@@ -7,6 +10,7 @@ use cbor_edn::bytes_to_edn;
 use cbor_grammar::argument::Argument;
 use cbor_grammar::head::ItemHead;
 use cbor_grammar::strings::StringKind;
+use cbor_tokens::push_hex;
 use cbor_trace::{end_at, head_at};
 use std::alloc::{AllocError, Global};
 use std::fmt::Write;
@@ -54,15 +58,34 @@ fn push_head(out: &mut String, bytes: &[u8], start: usize) -> Result<(), Error> 
 }
 
 /// Appends the digits of a head, and what it is, as a line of a dump.
-pub(crate) fn push_head_words(
-    out: &mut String,
-    digits: &[u8],
-    head: ItemHead,
-) -> Result<(), Error> {
-    for byte in digits {
-        write!(out, "{byte:02x} ")?;
-    }
+pub(crate) fn push_head_words(out: &mut String, digits: &[u8], head: ItemHead) -> Result<(), Error>
+    ensures { OnOk result ((words : List ℕ) × IsHeadWords digits.now head words
+        × (string_bytes out.new ≡ string_bytes out.old ++ head_line digits.now words)) }
+{
+    push_digits(out, digits)?;
     out.push_str("# ")?;
+    push_words(out, digits, head)?;
+    out.push('\n')?;
+    Ok(())
+}
+
+/// Appends each of these bytes in hex, and a blank after it.
+fn push_digits(out: &mut String, digits: &[u8]) -> Result<(), AllocError>
+    ensures { OnOk result (string_bytes out.new ≡ string_bytes out.old
+        ++ head_digits digits.now) }
+{
+    'digits: for byte in digits {
+        push_hex(out, &[*byte])?;
+        out.push(' ')?;
+    }
+    Ok(())
+}
+
+/// Appends what a head is.
+fn push_words(out: &mut String, digits: &[u8], head: ItemHead) -> Result<(), Error>
+    ensures { OnOk result ((words : List ℕ) × IsHeadWords digits.now head words
+        × (string_bytes out.new ≡ string_bytes out.old ++ words)) }
+{
     match head {
         ItemHead::String(kind, length) => push_count(out, word_of_kind(kind), length)?,
         ItemHead::Array(count) => push_count(out, "array", count)?,
@@ -73,12 +96,13 @@ pub(crate) fn push_head_words(
             out.push_str(&edn)?;
         }
     }
-    out.push('\n')?;
     Ok(())
 }
 
 /// The word of a dump for a string.
-fn word_of_kind(kind: StringKind) -> &'static str {
+fn word_of_kind(kind: StringKind) -> &'static str
+    ensures { result.now ≡ kind_word kind }
+{
     match kind {
         StringKind::Bytes => "bytes",
         StringKind::Text => "text",
@@ -86,7 +110,10 @@ fn word_of_kind(kind: StringKind) -> &'static str {
 }
 
 /// Appends what a head is that has a count, as a dump does.
-fn push_count(out: &mut String, word: &str, count: Argument) -> Result<(), AllocError> {
+fn push_count(out: &mut String, word: &str, count: Argument) -> Result<(), AllocError>
+    ensures { OnOk result (string_bytes out.new ≡ string_bytes out.old
+        ++ counted word.now count) }
+{
     match count {
         Argument::Number(count, _) => write!(out, "{word}({count})"),
         Argument::Indefinite => write!(out, "{word}(*)"),

@@ -26,6 +26,7 @@ mod around;
 mod at;
 mod cut;
 mod fault;
+mod laws;
 mod leaves;
 mod nouns;
 mod partial;

@@ -1,281 +1,128 @@
 //! What `--partial` shows of an item that is cut or has a fault.
+ghost use Rattle.std.specs.Prelude.{◌≡◌, ◌≢◌, ℕ, ◌+◌, ◌-◌, ◌^◌, ◌<◌, ◌≤◌, [], ◌∷◌, ◌++◌, List};
+ghost use Rattle.std.specs.Prelude.{take, length, IfOk, IfSome, IfNone, Ok, Err};
+ghost use Rattle.std.specs.String.{string_bytes};
+ghost use Rattle.cbor_grammar.specs.declared.error.Error.{Error};
+ghost use Rattle.cbor_grammar.specs.Facts.{IsItem};
+ghost use Rattle.cbor_grammar.specs.Item.{Item};
+ghost use Rattle.cbor_grammar.specs.Reading.{read_item};
+ghost use Rattle.cbor_grammar.specs.WellFormed.{deepest, levels_left};
+ghost use Rattle.cbor_inspect.specs.declared.form.Form.TheVariants as form;
+ghost use Rattle.cbor_inspect.specs.Forms.{edn_style};
+ghost use Rattle.cbor_trace.specs.Around.{outermost, parts_before as parts_of};
+ghost use Rattle.cbor_places.specs.Partial.{IsPartialEdn};
+ghost use Rattle.cbor_places.specs.PartialDump.{IsPartialDump};
 
-use crate::at::push_head_words;
-use cbor_diag::{Error, Extent, extent, push_bytes_to_hex};
-use cbor_edn::{EdnStyle, push_bytes_to_edn};
-use cbor_grammar::IntegerWidth;
-use cbor_grammar::argument::Argument;
+mod dump;
+mod edn;
+mod lines;
+
+use cbor_bytes::skip::after_front;
+use cbor_diag::Error;
+use cbor_edn::EdnStyle;
 use cbor_inspect::{Form, Style};
-use cbor_trace::{Open, Part, Spot, head_at, part_at};
-use std::alloc::{AllocError, Global};
-use std::fmt::Write;
+use cbor_trace::{Open, Spot};
+use dump::PartialDump;
+use edn::PartialEdn;
+use std::alloc::Global;
 
 /// How many of the bytes that remain are shown.
 const MOST: usize = 64;
 
-/// An item that is not whole, as far as it is shown.
-#[derive(Drop)]
-struct Partial<'a> {
-    style: Style,
-    bytes: &'a [u8],
-    out: String,
-    /// How many containers are open.
-    depth: usize,
-    /// What closes them, the innermost last.
-    closers: Vec<char>,
-}
-
 /// What is shown of the item that is not whole, at the front of these bytes: its whole parts, and
 /// then, with what is said of them, the bytes that remain.
-pub fn partial_text(
-    alloc: Global,
-    style: Style,
-    bytes: &[u8],
-    said: &str,
-) -> Result<String, Error> {
-    let mut partial = Partial {
-        style,
-        bytes,
-        out: String::new(alloc),
-        depth: 0,
-        closers: Vec::new(alloc),
+pub fn partial_text(alloc: Global, style: Style, bytes: &[u8], said: &str) -> Result<String, Error>
+    // EDN has each container that goes on to the end of the bytes, with its whole parts. Each of
+    // these is the text of exactly the item that is read there, whatever bytes follow. In the place
+    // of the next part is what remains.
+    ensures edn { (more : List ℕ) → style.form ≢ form.Hex → IfOk result (λ s. (text : List ℕ)
+        × IsPartialEdn (edn_style style) bytes.now (bytes.now ++ more) said.now 0 outermost text
+        × (string_bytes s ≡ text ++ 10 ∷ [])) }
+
+    // A dump has the same, in lines.
+    ensures dump { (more : List ℕ) → style.form ≡ form.Hex → IfOk result (λ s.
+        IsPartialDump bytes.now (bytes.now ++ more) said.now 0 outermost (string_bytes s)) }
+{
+    match style.form {
+        Form::Hex => partial_dump(alloc, bytes, said),
+        _ => partial_edn(alloc, edn_of(style), bytes, said),
+    }
+}
+
+/// What is shown in EDN.
+fn partial_edn(alloc: Global, style: EdnStyle, bytes: &[u8], said: &str) -> Result<String, Error>
+    ensures { (more : List ℕ) → IfOk result (λ s. (text : List ℕ)
+        × IsPartialEdn style bytes.now (bytes.now ++ more) said.now 0 outermost text
+        × (string_bytes s ≡ text ++ 10 ∷ [])) }
+{
+    let mut out = String::new(alloc);
+    let edn = PartialEdn { bytes, said, style };
+    edn.push_item(&mut out, Spot::outermost(), 0)?;
+    out.push('\n')?;
+    Ok(out)
+}
+
+/// What is shown in a dump.
+fn partial_dump(alloc: Global, bytes: &[u8], said: &str) -> Result<String, Error>
+    ensures { (more : List ℕ) → IfOk result (λ s.
+        IsPartialDump bytes.now (bytes.now ++ more) said.now 0 outermost (string_bytes s)) }
+{
+    let mut out = String::new(alloc);
+    let dump = PartialDump { bytes, said };
+    dump.push_item(&mut out, Spot::outermost(), 0)?;
+    Ok(out)
+}
+
+/// How EDN is written in this style: only pretty text has lines and notes.
+fn edn_of(style: Style) -> EdnStyle
+    ensures { result ≡ edn_style style }
+{
+    let lines = style.form == Form::Pretty;
+    EdnStyle {
+        lines,
+        notes: lines && style.notes,
+        embedded: style.embedded,
+        widths: style.widths,
+        columns: style.columns,
+    }
+}
+
+/// The first of the bytes that remain, and how many more there are.
+fn shown_of(rest: &[u8]) -> (&[u8], usize)
+    ensures first { result.0.now ≡ take MOST rest.now }
+    ensures more { result.1 ≡ length rest.now - MOST }
+{
+    let (shown, unshown) = rest.split_at(MOST.min(rest.len()));
+    (shown, unshown.len())
+}
+
+/// The bytes of the item at the front, which is read from `level`, and those after it; `None` where
+/// none is read.
+fn split_item(bytes: &[u8], level: u8) -> Option<(&[u8], &[u8])>
+    requires from { 1 ≤ level }
+    requires to { level ≤ deepest + 1 }
+    ensures some { IfSome result (λ x. (i : Item)
+        × (read_item (levels_left level) bytes.now ≡ Ok (i, x.1.now))
+        × IsItem x.0.now i × ((j : Item) → IsItem x.0.now j → j ≡ i)) }
+    ensures none { IfNone result ((e : Error)
+        × (read_item (levels_left level) bytes.now ≡ Err e)) }
+{
+    let Some(rest) = after_front(bytes, level) else {
+        return None;
     };
-    let mut spot = Spot::outermost();
-    for _ in 0..=u8::MAX {
-        let Some(part) = part_at(bytes, spot, bytes.len()) else {
-            break;
-        };
-        partial.open(spot, part)?;
-        spot = Spot {
-            start: part.start,
-            level: spot.level.saturating_add(1),
-        };
-    }
-    partial.push_rest(bytes.get(spot.start..).unwrap_or(b""), said)?;
-    Ok(partial.out)
+    let (item, _) = bytes.split_at(bytes.len() - rest.len());
+    Some((item, rest))
 }
 
-impl Partial<'_> {
-    /// Whether the text is a dump.
-    fn is_dump(&self) -> bool {
-        self.style.form == Form::Hex
+/// How many parts of a container are before the next.
+fn parts_before(container: Open) -> usize
+    requires { parts_of container < 2 ^ 64 }
+    ensures { result ≡ parts_of container }
+{
+    match container {
+        Open::Array { index, .. } => index,
+        Open::Key { index, .. } => 2 * index,
+        Open::Value { index, .. } => 2 * index + 1,
+        Open::Tag { .. } => 0,
     }
-
-    /// Whether members have lines of their own.
-    fn has_lines(&self) -> bool {
-        self.style.form != Form::Diag
-    }
-
-    /// Begins the line of a member, or goes on in the line.
-    fn begin(&mut self) -> Result<(), AllocError> {
-        if !self.has_lines() || self.depth == 0 {
-            return Ok(());
-        }
-        let blanks = if self.is_dump() { 3 } else { 4 };
-        for _ in 0..self.depth.saturating_mul(blanks) {
-            self.out.push(' ')?;
-        }
-        Ok(())
-    }
-
-    /// Appends a text of several lines, each of them with the blanks before a member.
-    fn push_lines(&mut self, text: &str) -> Result<(), AllocError> {
-        let mut first = true;
-        for line in text.lines() {
-            if !first {
-                self.out.push('\n')?;
-            }
-            if !first || self.is_dump() {
-                self.begin()?;
-            }
-            first = false;
-            self.out.push_str(line)?;
-        }
-        Ok(())
-    }
-
-    /// Appends a whole item.
-    fn push_item(&mut self, item: &[u8]) -> Result<(), Error> {
-        let alloc = *self.out.allocator();
-        let mut text = String::new(alloc);
-        if self.is_dump() {
-            push_bytes_to_hex(alloc, item, &mut text)?;
-        } else {
-            push_bytes_to_edn(alloc, item, self.edn(), &mut text)?;
-        }
-        self.push_lines(&text)?;
-        if self.is_dump() {
-            self.out.push('\n')?;
-        }
-        Ok(())
-    }
-
-    /// How EDN is written.
-    fn edn(&self) -> EdnStyle {
-        let lines = self.style.form == Form::Pretty;
-        EdnStyle {
-            lines,
-            notes: lines && self.style.notes,
-            embedded: self.style.embedded,
-            widths: self.style.widths,
-        }
-    }
-
-    /// Appends what opens a container, and its parts before one.
-    fn open(&mut self, spot: Spot, part: Part) -> Result<(), Error> {
-        let Some((head, end)) = head_at(self.bytes, spot.start) else {
-            return Ok(());
-        };
-        if self.is_dump() {
-            self.begin()?;
-            let digits = self.bytes.get(spot.start..end).unwrap_or(b"");
-            push_head_words(&mut self.out, digits, head)?;
-            self.depth = self.depth.saturating_add(1);
-        } else {
-            self.push_opening(part.open)?;
-        }
-        self.push_parts(part, end)
-    }
-
-    /// Appends what opens a container in EDN.
-    fn push_opening(&mut self, open: Open) -> Result<(), AllocError> {
-        let closer = match open {
-            Open::Tag { number, width } => {
-                let stated = stated_width(number, width, self.style.widths);
-                write!(self.out, "{number}{stated}(")?;
-                return Ok(self.closers.push(')')?);
-            }
-            Open::Array { count, .. } => ('[', ']', count),
-            Open::Key { count, .. } | Open::Value { count, .. } => ('{', '}', count),
-        };
-        self.out.push(closer.0)?;
-        self.closers.push(closer.1)?;
-        let stated = stated_length(closer.2);
-        self.out.push_str(stated)?;
-        if self.has_lines() {
-            self.out.push('\n')?;
-        } else if !stated.is_empty() {
-            self.out.push(' ')?;
-        }
-        self.depth = self.depth.saturating_add(1);
-        Ok(())
-    }
-
-    /// Appends the parts of a container that are before one, of which the first begins at a place.
-    fn push_parts(&mut self, part: Part, first: usize) -> Result<(), Error> {
-        let bytes = self.bytes;
-        let is_map = matches!(part.open, Open::Key { .. } | Open::Value { .. });
-        let mut at = first;
-        let mut is_value = false;
-        for _ in 0..u64::MAX {
-            let Extent::Item(len) = extent(bytes.get(at..part.start).unwrap_or(b"")) else {
-                break;
-            };
-            let end = at.saturating_add(len);
-            self.push_part(bytes.get(at..end).unwrap_or(b""), is_map, is_value)?;
-            is_value = is_map && !is_value;
-            at = end;
-        }
-        if !self.is_dump() && !is_value && !matches!(part.open, Open::Tag { .. }) {
-            self.begin()?;
-        }
-        Ok(())
-    }
-
-    /// Appends a whole part, with what is before and after it.
-    fn push_part(&mut self, item: &[u8], is_map: bool, is_value: bool) -> Result<(), Error> {
-        if self.is_dump() {
-            return self.push_item(item);
-        }
-        if !is_value {
-            self.begin()?;
-        }
-        self.push_item(item)?;
-        let after = if is_map && !is_value {
-            ": "
-        } else if self.has_lines() {
-            ",\n"
-        } else {
-            ", "
-        };
-        self.out.push_str(after)?;
-        Ok(())
-    }
-
-    /// Appends what is said of the bytes that remain, some of them, and what closes the containers.
-    fn push_rest(&mut self, rest: &[u8], said: &str) -> Result<(), AllocError> {
-        let shown = rest.get(..MOST).unwrap_or(rest);
-        let more = rest.len().saturating_sub(MOST);
-        if self.is_dump() {
-            return self.push_rest_of_dump(shown, more, said);
-        }
-        write!(self.out, "/{said}/ h'")?;
-        push_hex(&mut self.out, shown)?;
-        self.out.push('\'')?;
-        if more > 0 {
-            write!(self.out, " /and {more} more bytes/")?;
-        }
-        for _ in 0..=u8::MAX {
-            let Some(closer) = self.closers.pop() else {
-                break;
-            };
-            if closer != ')' {
-                self.depth = self.depth.saturating_sub(1);
-                if self.has_lines() {
-                    self.out.push('\n')?;
-                    self.begin()?;
-                }
-            }
-            self.out.push(closer)?;
-        }
-        self.out.push('\n')
-    }
-
-    /// Appends the same to a dump, in lines of their own.
-    fn push_rest_of_dump(
-        &mut self,
-        shown: &[u8],
-        more: usize,
-        said: &str,
-    ) -> Result<(), AllocError> {
-        self.begin()?;
-        write!(self.out, "# {said}\n")?;
-        for line in shown.chunks(16) {
-            self.begin()?;
-            push_hex(&mut self.out, line)?;
-            self.out.push('\n')?;
-        }
-        if more > 0 {
-            self.begin()?;
-            write!(self.out, "# and {more} more bytes\n")?;
-        }
-        Ok(())
-    }
-}
-
-/// What EDN states of the length of a container after its bracket: nothing of the shortest width.
-fn stated_length(count: Argument) -> &'static str {
-    match count {
-        Argument::Indefinite => "_",
-        Argument::Number(number, width) => stated_width(number, width, false),
-    }
-}
-
-/// What EDN states of a width: nothing where it is the shortest, unless each above 23 is stated.
-fn stated_width(number: u64, width: IntegerWidth, each: bool) -> &'static str {
-    match width {
-        IntegerWidth::Eight if each || number < 24 => "_0",
-        IntegerWidth::Sixteen if each || number <= 0xff => "_1",
-        IntegerWidth::ThirtyTwo if each || number <= 0xffff => "_2",
-        IntegerWidth::SixtyFour if each || number <= 0xffff_ffff => "_3",
-        _ => "",
-    }
-}
-
-/// Appends bytes in hex.
-fn push_hex(out: &mut String, bytes: &[u8]) -> Result<(), AllocError> {
-    for byte in bytes {
-        write!(out, "{byte:02x}")?;
-    }
-    Ok(())
 }

@@ -87,3 +87,25 @@ fn long_remains(rt: HostRuntime) -> Result<(), Fail> {
     assert!(rt; text.ends_with("00' /and 2 more bytes/]\n"));
     Ok(())
 }
+
+/// A part that is whole has the columns that the blanks before it leave. Four numbers of one digit
+/// are estimated as 24.
+#[test]
+fn columns_of_a_part(rt: HostRuntime) -> Result<(), Fail> {
+    let bytes = b"\x82\x84\x01\x02\x03\x04\x1f";
+    let mut style = Show::new(rt.alloc(), Form::Pretty).style;
+    style.columns = 29;
+    let text = partial_text(rt.alloc(), style, bytes, FAULT)?;
+    assert_eq!(rt;
+        text.as_str(),
+        "[\n    [1, 2, 3, 4],\n    /fault: no item can have this head/ h'1f'\n]\n"
+    );
+    style.columns = 28;
+    let text = partial_text(rt.alloc(), style, bytes, FAULT)?;
+    assert_eq!(rt;
+        text.as_str(),
+        "[\n    [\n        1,\n        2,\n        3,\n        4,\n    ],\n    \
+         /fault: no item can have this head/ h'1f'\n]\n"
+    );
+    Ok(())
+}

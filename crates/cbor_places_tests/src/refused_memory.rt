@@ -89,6 +89,7 @@ fn show_of<'a>(alloc: Global, case: &Case) -> Result<Show<'a>, Error> {
             embedded: case.embedded,
             notes: true,
             widths: false,
+            columns: 80,
         },
         names: None,
         steps: steps_of(alloc, case.path)?,

@@ -1,0 +1,3 @@
+pub mod PartialLemmas
+pub mod GoesOn
+pub mod FirstParts

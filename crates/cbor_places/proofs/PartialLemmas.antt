@@ -1,0 +1,223 @@
+-- Whole parts of a container, as they are read and as they are shown.
+use Rattle.std.proofs.Common.{◌≡◌, ℕ, zero, suc, ◌+◌, ◌-◌, ◌<◌, ◌≤◌, List, [], ◌∷◌, ◌++◌, length, take, drop, Option}
+use Rattle.std.proofs.Common.{Some, None, Ok, Err, refl, sym, ap, subst, ◌∙◌, append_assoc, append-nil, arith}
+use Rattle.std.proofs.Common.{min}
+use Rattle.std.proofs.lemmas.List.{take_min, drop_min, length-drop}
+use Rattle.hex.specs.Hex.{encode_lower}
+use Rattle.cbor_grammar.specs.declared.error.Error.{Error}
+use Rattle.cbor_grammar.specs.declared.width.IntegerWidth.{IntegerWidth}
+use Rattle.cbor_grammar.specs.Item as spec
+use Rattle.cbor_grammar.specs.Item.{Item, atom, array, tagged, Items, no_items, item, Pairs, no_pairs, pair}
+use Rattle.cbor_grammar.specs.Item.{item_count, pair_count}
+use Rattle.cbor_grammar.specs.Head.{break_byte}
+use Rattle.cbor_grammar.specs.Bytes.{any, MembersThen, Spells, SpellsItems, SpellsPairs}
+use Rattle.cbor_grammar.specs.Facts.{IsItem}
+use Rattle.cbor_grammar.specs.Reading.{read_item, read_head}
+use Rattle.cbor_grammar.specs.WellFormed.{levels_left}
+use Rattle.cbor_grammar.specs.declared.head.ItemHead.{ItemHead}
+use Rattle.cbor_grammar.specs.declared.layout.ContainerStyle.{ContainerStyle}
+use Rattle.cbor_grammar.proofs.bytes.Heads.{IsBytes, IsBytes-take}
+use Rattle.cbor_grammar.proofs.bytes.Shorter.{item_shorter}
+use Rattle.cbor_grammar.proofs.bytes.ExactlyOne.{one_outcome}
+use Rattle.cbor_grammar.proofs.bytes.Outcomes.{found_outcome}
+use Rattle.cbor_grammar.proofs.straight.PublicCalls.{one_item}
+use Rattle.cbor_edn_writer.specs.declared.style.EdnStyle.{EdnStyle}
+use Rattle.cbor_trace.specs.declared.part.Part.{Part}
+use Rattle.cbor_trace.specs.declared.part.Spot.{Spot}
+use Rattle.cbor_trace.specs.Around.{head_of, parts_before, AfterItems, IsPartAt, spot_of}
+use Rattle.cbor_trace.proofs.Values.{next_value, no_value, same_read, same_rest}
+use Rattle.cbor_places.specs.Partial.{PartTexts, EdnPart, AreTextsFrom, ArePartTexts, before_part, style_at}
+use Rattle.cbor_places.specs.PartialDump.{some_hex_lines}
+use Rattle.cbor_places.specs.Partial.{one_line, indent_inside, opening_of, closing_of, container_text}
+use Rattle.cbor_places.specs.Partial.{IsPartialEdn, opens}
+
+-- ---- an item is one at a higher level
+
+members_at : (major n : ℕ) (w : Option IntegerWidth) (b : List ℕ) (Members Others : List ℕ → List ℕ → Type 0)
+    → MembersThen major n w b Members
+    → ((rest end : List ℕ) → Members rest end → Others rest end) → MembersThen major n w b Others
+members_at major n (Some w) b Members Others h then = (h.0, h.1, h.2, then h.1 [] h.3)
+members_at major n None b Members Others h then = (h.0, h.1, then h.0 (break_byte ∷ []) h.2)
+
+mutual
+  pub spelled_higher : (low high : ℕ) (b : List ℕ) (i : Item) → high ≤ low → Spells any low b i → Spells any high b i
+  spelled_higher low high b (atom a) le h = (omega (arith, le, h.0), h.1)
+  spelled_higher low high b (array is w) le h = (
+    omega (arith, le, h.0),
+    members_at 4 (item_count is) w b _ _ h.1
+        (λ rest end s. items_higher (low + 1) (high + 1) rest is end (omega (arith, le)) s),
+  )
+  spelled_higher low high b (spec.map ps w) le h = (
+    omega (arith, le, h.0),
+    members_at 5 (pair_count ps) w b _ _ h.1
+        (λ rest end s. pairs_higher (low + 1) (high + 1) rest ps end (omega (arith, le)) s),
+  )
+  spelled_higher low high b (tagged t w i) le h = (
+    omega (arith, le, h.0),
+    (h.1.0, h.1.1, h.1.2, spelled_higher (low + 1) (high + 1) h.1.1 i (omega (arith, le)) h.1.3),
+  )
+
+  items_higher : (low high : ℕ) (b : List ℕ) (is : Items) (end : List ℕ) → high ≤ low → SpellsItems any low b is end
+      → SpellsItems any high b is end
+  items_higher low high b no_items end le h = h
+  items_higher low high b (item i is) end le h =
+      (h.0, h.1, h.2, spelled_higher low high h.0 i le h.3, items_higher low high h.1 is end le h.4)
+
+  pairs_higher : (low high : ℕ) (b : List ℕ) (ps : Pairs) (end : List ℕ) → high ≤ low → SpellsPairs any low b ps end
+      → SpellsPairs any high b ps end
+  pairs_higher low high b no_pairs end le h = h
+  pairs_higher low high b (pair k v ps) end le h = (
+    h.0,
+    h.1,
+    h.2,
+    h.3,
+    spelled_higher low high h.0 k le h.4,
+    spelled_higher low high h.1 v le h.5,
+    pairs_higher low high h.2 ps end le h.6,
+  )
+
+-- The bytes of an item that is read at some level are that item, and no other.
+pub read_is : (level left : ℕ) (b front : List ℕ) (i : Item) (rest : List ℕ) → level + left ≡ 129 → 1 ≤ level
+    → IsBytes b → front ≡ take (length b - length rest) b → read_item left b ≡ Ok (i, rest)
+    → IsItem front i × ((j : Item) → IsItem front j → j ≡ i)
+read_is level left b front i rest sum from fits is reads =
+    let found = found_outcome level left b i rest sum fits reads in
+    let high : IsItem front i = subst (λ (x : List ℕ). IsItem x i) (sym is)
+    (spelled_higher level 1 (take (length b - length rest) b) i from found.1) in
+    let bytes : IsBytes front = subst IsBytes (sym is) (IsBytes-take (length b - length rest) b fits) in
+    (high, λ j one. one_item front j i (one_outcome 1 128 front refl bytes) one high)
+
+-- ---- the whole parts of a container
+
+-- each item takes a byte at least
+pub items_count : (left k : ℕ) (b rest : List ℕ) → AfterItems left k b rest → k + length rest ≤ length b
+items_count left zero b rest h = let e : length b ≡ length rest = ap length h in omega (arith, e)
+items_count left (suc k) b rest h =
+    omega (arith, items_count left k b h.0 h.2, item_shorter left h.0 h.1 rest h.3)
+
+-- what is written is read
+pub texts_read : (Writes : PartTexts) (left k : ℕ) (b rest : List ℕ) (items : List Item) (text : List ℕ)
+    → AreTextsFrom Writes left k b rest items text → AfterItems left k b rest
+texts_read Writes left zero b rest items text h = h.0
+texts_read Writes left (suc k) b rest items text h =
+    (h.0, h.3, texts_read Writes left k b h.0 h.1 h.2 h.5, h.6)
+
+-- after the old text that of the parts so far was written
+abbrev pub AreWritten : PartTexts → ℕ → ℕ → List ℕ → List ℕ → List ℕ → List ℕ → Type 0
+AreWritten Writes left k b rest old out =
+    (items : List Item) × (text : List ℕ) × AreTextsFrom Writes left k b rest items text × (out ≡ old ++ text)
+
+pub none_written : (Writes : PartTexts) (left : ℕ) (b old : List ℕ) → AreWritten Writes left 0 b b old old
+none_written Writes left b old = ([], [], (refl, refl, refl), sym (append-nil old))
+
+-- one part more
+pub texts_more : (Writes : PartTexts) (left k : ℕ) (b mid rest old out new : List ℕ) (i : Item) (own : List ℕ)
+    → AreWritten Writes left k b mid old out → read_item left mid ≡ Ok (i, rest) → Writes k i own → new ≡ out ++ own
+    → AreWritten Writes left (k + 1) b rest old new
+texts_more Writes left k b mid rest old out new i own h reads is p =
+    let more : k + 1 ≡ suc k = omega arith in
+    let text = h.1 ++ own in
+    let items = h.0 ++ i ∷ [] in (
+      items,
+      text,
+      subst (λ (n : ℕ). AreTextsFrom Writes left n b rest items text) (sym more)
+          (mid, h.0, h.1, i, own, h.2, reads, refl, is, refl),
+      p ∙ ap (λ (x : List ℕ). x ++ own) h.3 ∙ append_assoc old h.1 own,
+    )
+
+-- no part is missing before the next
+pub none_missing : (left k n : ℕ) (b rest last : List ℕ) (e : Error) → AfterItems left k b rest
+    → AfterItems left n b last → k < n → read_item left rest ≡ Err e → ⊥
+none_missing left k n b rest last e h all lt fails =
+    let next = next_value (read_item left) (item_shorter left) k n b rest last h all lt in
+    no_value (read_item left rest) (next.0, next.1) e fails next.2
+
+module _ (b : List ℕ) (s : Spot) (at : ℕ) (p : Part) (is : IsPartAt b s at p) where
+  -- from the head that is read there
+  pub inner_there : (h : ItemHead) (inner : List ℕ) → read_head (drop s.start b) ≡ Ok (h, inner)
+      → is.1.before.inner ≡ inner
+  inner_there h inner reads =
+      same_read (read_head (drop s.start b)) (head_of p.«open») h is.1.before.inner inner is.1.before.head reads
+
+  pub whole_there : (h : ItemHead) (inner : List ℕ) → read_head (drop s.start b) ≡ Ok (h, inner)
+      → AfterItems (levels_left (s.level + 1)) (parts_before p.«open») inner is.1.rest
+  whole_there h inner reads =
+      subst (λ (x : List ℕ). AfterItems (levels_left (s.level + 1)) (parts_before p.«open») x is.1.rest)
+      (inner_there h inner reads) is.1.before.whole
+
+  -- all of them
+  pub texts_there : (Writes : PartTexts) (h : ItemHead) (k : ℕ) (inner rest : List ℕ) (items : List Item)
+      (text : List ℕ) → read_head (drop s.start b) ≡ Ok (h, inner) → k ≡ parts_before p.«open»
+      → AreTextsFrom Writes (levels_left (s.level + 1)) k inner rest items text
+      → ArePartTexts Writes p.«open» b s p.start items text
+  texts_there Writes h k inner rest items text reads all texts =
+      let left = levels_left (s.level + 1) in
+      let o = p.«open» in
+      let here = subst (λ (n : ℕ). AreTextsFrom Writes left n inner rest items text) all texts in
+      let same = same_rest (read_item left) (parts_before o) inner rest is.1.rest
+      (texts_read Writes left (parts_before o) inner rest items text here) (whole_there h inner reads) in (
+        inner,
+        rest,
+        is.1.before.head ∙ ap (λ (x : List ℕ). Ok (head_of o, x)) (inner_there h inner reads),
+        here,
+        ap (λ (x : List ℕ). p.start + length x) same ∙ is.1.place,
+      )
+
+-- ---- an open container
+
+-- what opens it, its whole parts, what is shown of the next and what closes it
+pub item_opens : (style : EdnStyle) (b said : List ℕ) (indent inside : ℕ) (s t : Spot) (p : Part) (l : ContainerStyle)
+    (old opened parted nexted closed : List ℕ) → IsPartAt b s (length b) p
+    → l ≡ style_at style.lines indent → inside ≡ indent_inside p.«open» indent → t ≡ spot_of s p
+    → opened ≡ old ++ opening_of style.widths l p.«open»
+    → ((items : List Item) × (text : List ℕ) × ArePartTexts (EdnPart style l p.«open») p.«open» b s p.start items text
+    × (parted ≡ opened ++ (text ++ before_part l p.«open» (parts_before p.«open»))))
+    → ((next : List ℕ) × IsPartialEdn style b b said inside t next × (nexted ≡ parted ++ next))
+    → closed ≡ nexted ++ closing_of l p.«open»
+    → (text : List ℕ) × IsPartialEdn style b b said indent s text × (closed ≡ old ++ text)
+item_opens style b said indent inside s t p l old opened parted nexted closed is laid far there f g h k =
+    let o = p.«open» in
+    let texts = subst (λ (x : ContainerStyle). ArePartTexts (EdnPart style x o) o b s p.start g.0 g.1) laid g.2 in
+    let next = subst (λ (n : ℕ). IsPartialEdn style b b said n (spot_of s p) h.0) far
+    (subst (λ (q : Spot). IsPartialEdn style b b said inside q h.0) there h.1) in
+    let all : closed ≡ old ++ container_text style.widths l o g.1 h.0 =
+    k ∙ ap (λ (x : List ℕ). x ++ closing_of l o)
+    (h.2 ∙ ap (λ (x : List ℕ). x ++ h.0)
+    (g.3 ∙ ap (λ (x : List ℕ). x ++ (g.1 ++ before_part l o (parts_before o))) f))
+    ∙ simp append_assoc refl in (
+      container_text style.widths (style_at style.lines indent) o g.1 h.0,
+      opens p g.0 g.1 h.0 is texts next,
+      all ∙ ap (λ (x : ContainerStyle). old ++ container_text style.widths x o g.1 h.0) laid,
+    )
+
+-- ---- lines of bytes
+
+-- one line more
+pub hex_more : (n indent m : ℕ) (rest line after out new all : List ℕ) → length rest ≤ n → 0 < length rest
+    → m ≡ min 16 (length rest) → line ≡ take m rest → after ≡ drop m rest
+    → new ≡ out ++ one_line indent (encode_lower line) → out ++ some_hex_lines n indent rest ≡ all
+    → (k : ℕ) × (length after ≤ k) × (new ++ some_hex_lines k indent after ≡ all)
+hex_more n indent m [] line after out new all le some is first then written so = absurd (omega (arith, some))
+hex_more zero indent m (b ∷ bs) line after out new all le some is first then written so =
+    absurd (omega (arith, le, some))
+hex_more (suc n) indent m (b ∷ bs) line after out new all le some is first then written so =
+    let rest : List ℕ = b ∷ bs in
+    let front : line ≡ take 16 rest = first ∙ ap (λ (k : ℕ). take k rest) is ∙ take_min 16 rest in
+    let back : after ≡ drop 16 rest = then ∙ ap (λ (k : ℕ). drop k rest) is ∙ drop_min 16 rest in
+    let few : length after ≡ length rest - 16 = ap length back ∙ length-drop 16 rest in (
+      n,
+      omega (arith, few, le),
+      ap (λ (x : List ℕ). x ++ some_hex_lines n indent after)
+          (written ∙ ap (λ (x : List ℕ). out ++ one_line indent (encode_lower x)) front)
+          ∙ ap (λ (x : List ℕ). (out ++ one_line indent (encode_lower (take 16 rest))) ++ some_hex_lines n indent x)
+          back
+          ∙ append_assoc out (one_line indent (encode_lower (take 16 rest))) (some_hex_lines n indent (drop 16 rest))
+          ∙ so,
+    )
+
+-- no line is left
+pub hex_end : (n indent : ℕ) (rest out all : List ℕ) → length rest ≡ 0 → out ++ some_hex_lines n indent rest ≡ all
+    → out ≡ all
+hex_end zero indent rest out all none so = sym (append-nil out) ∙ so
+hex_end (suc n) indent [] out all none so = sym (append-nil out) ∙ so
+hex_end (suc n) indent (b ∷ bs) out all none so = absurd (omega (arith, none))
