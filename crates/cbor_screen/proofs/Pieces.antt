@@ -84,27 +84,27 @@ colored_whole text n x all h = subst (λ (t : List ℕ). IsColored t x) (take_al
 
 -- ---- without the sequences
 
-lacks_first : (c : ℕ) (cs : List ℕ) → Lacks 27 (c ∷ cs) → c ≢ 27
-lacks_first c cs h = h 0 (omega arith)
+pub lacks_first : (byte c : ℕ) (cs : List ℕ) → Lacks byte (c ∷ cs) → c ≢ byte
+lacks_first byte c cs h = h 0 (omega arith)
 
-lacks_rest : (c : ℕ) (cs : List ℕ) → Lacks 27 (c ∷ cs) → Lacks 27 cs
-lacks_rest c cs h k below = h (suc k) (omega arith)
+pub lacks_rest : (byte c : ℕ) (cs : List ℕ) → Lacks byte (c ∷ cs) → Lacks byte cs
+lacks_rest byte c cs h k below = h (suc k) (omega arith)
 
-lacks_front : (a b : List ℕ) → Lacks 27 (a ++ b) → Lacks 27 a
-lacks_front [] b h k below = absurd (omega arith)
-lacks_front (c ∷ a) b h zero below = h 0 (omega arith)
-lacks_front (c ∷ a) b h (suc k) below = lacks_front a b (lacks_rest c (a ++ b) h) k (omega arith)
+pub lacks_front : (byte : ℕ) (a b : List ℕ) → Lacks byte (a ++ b) → Lacks byte a
+lacks_front byte [] b h k below = absurd (omega arith)
+lacks_front byte (c ∷ a) b h zero below = h 0 (omega arith)
+lacks_front byte (c ∷ a) b h (suc k) below = lacks_front byte a b (lacks_rest byte c (a ++ b) h) k (omega arith)
 
-lacks_back : (a b : List ℕ) → Lacks 27 (a ++ b) → Lacks 27 b
-lacks_back [] b h = h
-lacks_back (c ∷ a) b h = lacks_back a b (lacks_rest c (a ++ b) h)
+pub lacks_back : (byte : ℕ) (a b : List ℕ) → Lacks byte (a ++ b) → Lacks byte b
+lacks_back byte [] b h = h
+lacks_back byte (c ∷ a) b h = lacks_back byte a b (lacks_rest byte c (a ++ b) h)
 
 -- a text without ESC stays as it is
 plain_stays : (a b : List ℕ) → Lacks 27 a → outside_sgr false (a ++ b) ≡ a ++ outside_sgr false b
 plain_stays [] b h = refl
 plain_stays (c ∷ a) b h =
-    let other : eqb c 27 ≡ false = ne_eqb c 27 (lacks_first c a h) in
-    rw other (ap (λ t. c ∷ t) (plain_stays a b (lacks_rest c a h)))
+    let other : eqb c 27 ≡ false = ne_eqb c 27 (lacks_first 27 c a h) in
+    rw other (ap (λ t. c ∷ t) (plain_stays a b (lacks_rest 27 c a h)))
 
 end_goes : (k : Kind) (b : List ℕ) → outside_sgr false (end_of k ++ b) ≡ outside_sgr false b
 end_goes kind.Plain b = refl
@@ -137,8 +137,8 @@ span_stays k a b h =
 spans_stay : (spans : List Span) → Lacks 27 (texts_of spans) → without_sgr (colored spans) ≡ texts_of spans
 spans_stay [] h = refl
 spans_stay (s ∷ spans) h =
-    span_stays s.kind s.text (colored spans) (lacks_front s.text (texts_of spans) h)
-    ∙ ap (λ t. s.text ++ t) (spans_stay spans (lacks_back s.text (texts_of spans) h))
+    span_stays s.kind s.text (colored spans) (lacks_front 27 s.text (texts_of spans) h)
+    ∙ ap (λ t. s.text ++ t) (spans_stay spans (lacks_back 27 s.text (texts_of spans) h))
 
 pub colored_same : (text added : List ℕ) → IsColored text added → Lacks 27 text → without_sgr added ≡ text
 colored_same text added (spans, is-text, is-shown, lines) h =

@@ -1,3 +1,4 @@
 pub mod Colored
+pub mod Commented
 pub mod Elided
 pub mod Sgr

@@ -41,6 +41,11 @@ pub fn push_embedded(out: &mut String, dumps: &str) -> Result<(), Error> {
     push_dump(out, lines)
 }
 
+/// Whether a comment is of a part of a string, and not of a head.
+pub(crate) fn is_of_string(comment: &[u8]) -> bool {
+    comment.starts_with(b"\"") || comment.starts_with(b"h'") || comment.starts_with(b"b64'")
+}
+
 /// A line, taken apart.
 fn line_of(alloc: Global, text: &str) -> Result<Line, AllocError> {
     let (left, right) = text.split_once('#').unwrap_or((text, ""));
@@ -123,10 +128,9 @@ impl Line {
 
     /// Whether it has bytes of a string whose head is this deep.
     fn is_content(&self, depth: usize) -> bool {
-        let begins = self.comment.starts_with('"')
-            || self.comment.starts_with("h'")
-            || self.comment.starts_with("b64'");
-        begins && !self.digits.is_empty() && self.depth == depth.saturating_add(1)
+        is_of_string(self.comment.as_bytes())
+            && !self.digits.is_empty()
+            && self.depth == depth.saturating_add(1)
     }
 
     /// Whether it is a tag below which bytes have a note or are no item: what notes say of them,

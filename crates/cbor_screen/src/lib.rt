@@ -1,5 +1,5 @@
 //! What a screen is shown of a text: colours round the tokens of EDN and of dumps, long strings
-//! that are cut, and dumps with the items that are in byte strings.
+//! that are cut, and dumps with the items that are in byte strings and with names.
 //!
 //! ```rust
 //! use cbor_screen::{Language, push_colored};
@@ -19,6 +19,7 @@ mod color;
 mod elide;
 mod embedded;
 mod kind;
+mod named;
 mod quoted;
 mod token;
 
@@ -26,4 +27,5 @@ pub use color::{push_colored, push_in_color};
 pub use elide::push_elided;
 pub use embedded::push_embedded;
 pub use kind::Kind;
+pub use named::push_named;
 pub use token::Language;

@@ -1,6 +1,7 @@
 //! The examples of doc comments.
 
-use cbor_screen::{Kind, Language, push_colored, push_elided, push_in_color};
+use cbor_names::{Definition, Names, Shape};
+use cbor_screen::{Kind, Language, push_colored, push_elided, push_in_color, push_named};
 use std::test::Fail;
 
 #[test]
@@ -39,5 +40,16 @@ fn push_elided_example(rt: HostRuntime) -> Result<(), Fail> {
     push_elided(&mut out, b"[h'3082024101', \"no\"]", Language::Edn, 2)?;
     let wanted = b"[h'3082...' /5 bytes/, \"no\"]";
     assert_eq!(rt; out.as_slice(), wanted.as_slice());
+    Ok(())
+}
+
+#[test]
+fn push_named_example(rt: HostRuntime) -> Result<(), Fail> {
+    let alloc = rt.alloc();
+    let mut names = Names::new(alloc);
+    names.define(Definition::new("Frame", Shape::Map))?;
+    let mut out = Vec::new(alloc);
+    push_named(&mut out, "a0 # map(0)\n", &names, names.of("Frame"))?;
+    assert_eq!(rt; out.as_slice(), b"a0 # /Frame/ map(0)\n".as_slice());
     Ok(())
 }

@@ -10,3 +10,5 @@ mod doc_examples;
 mod elided;
 #[cfg(test)]
 mod embedded;
+#[cfg(test)]
+mod named;
