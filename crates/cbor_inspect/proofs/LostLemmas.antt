@@ -1,6 +1,6 @@
 -- How far steps lead that lead nowhere in the end.
-use Rattle.std.proofs.Common.{◌≡◌, ◌⊎◌, ℕ, ◌+◌, ◌<◌, ◌≤◌, zero, suc, add-one, arith, List, [], ◌∷◌, ◌++◌, length, take, refl}
-use Rattle.std.proofs.Common.{inl, inr, sym, subst, Option, None, Some, MatchOption, Result, Ok, Err, IfOk}
+use Rattle.std.proofs.Common.{◌≡◌, ◌⊎◌, ℕ, ◌+◌, ◌<◌, ◌≤◌, zero, suc, add-one, arith, List, [], ◌∷◌, ◌++◌, length, take}
+use Rattle.std.proofs.Common.{refl, inl, inr, sym, subst, Option, None, Some, MatchOption, Result, Ok, Err, IfOk}
 use Rattle.std.specs.List.{Contains, slice_get}
 use Rattle.std.proofs.lemmas.List.Elements.{Contains-append_left, Contains-append_right, Contains-append_cases}
 use Rattle.std.proofs.lemmas.List.{take_more}
@@ -71,7 +71,8 @@ pub after_one : (s : Step) (steps : List Step) (i next : Item) (count : ℕ) (fo
     → ((other : Item) → StepsTo s i other → other ≡ next) → LeadAsFar steps next count found
     → LeadAsFar (s ∷ steps) i (count + 1) found
 after_one s steps i next count found here only h =
-    subst (λ (n : ℕ). LeadAsFar (s ∷ steps) i n found) (sym (add-one count)) (farther s steps i next count found here only h)
+    subst (λ (n : ℕ). LeadAsFar (s ∷ steps) i n found) (sym (add-one count)) (farther s steps i next count found here
+    only h)
 
 pub far_by_key : (wanted : DataItem) (steps : List Step) (i next : Item) (count : ℕ) (found : Item)
     → IsMember (view wanted) (untagged i) next → LeadAsFar steps next count found

@@ -1,6 +1,6 @@
 -- What is written of an item at the front, and of a part of it.
-use Rattle.std.proofs.Common.{◌≡◌, ◌≢◌, map, ℕ, ◌-◌, ◌⊎◌, List, [], ◌∷◌, ◌++◌, length, take, drop, refl, sym, ap, subst, ◌∙◌, arith}
-use Rattle.std.proofs.Common.{Result, Ok, Err, IfOk, length-append, append-nil}
+use Rattle.std.proofs.Common.{◌≡◌, ◌≢◌, map, ℕ, ◌-◌, ◌⊎◌, List, [], ◌∷◌, ◌++◌, length, take, drop, refl, sym, ap, subst}
+use Rattle.std.proofs.Common.{◌∙◌, arith, Result, Ok, Err, IfOk, length-append, append-nil}
 use Rattle.std.proofs.Math.Seq.{take-length}
 use Rattle.std.specs.List.{slice_rotate_right}
 use Rattle.std.proofs.lemmas.List.{take_at, drop_at}

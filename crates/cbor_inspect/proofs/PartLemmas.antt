@@ -270,7 +270,8 @@ pub parts_are : (steps : List Step) (i p : Item) (parts : List Item) → ArePart
     → Contains parts p ↔ LeadsTo steps i p
 parts_are [] i p parts are = (
   λ h. only_that i p (subst (λ (l : List Item). Contains l p) are h),
-  λ h. subst (λ (l : List Item). Contains l p) (sym are) (subst (λ (x : Item). Contains (i ∷ []) x) (sym h) (first_in i [])),
+  λ h. subst (λ (l : List Item). Contains l p) (sym are) (subst (λ (x : Item). Contains (i ∷ []) x) (sym h) (first_in i
+      [])),
 )
 parts_are (s ∷ steps) i p parts (nexts, next, from) =
     let each = each_are (AreParts steps) (λ (n : Item). LeadsTo steps n p) p

@@ -187,7 +187,8 @@ values_view : (ps : List (DataItem × DataItem)) → values_of (pair_views ps) �
 values_view [] = refl
 values_view (p ∷ ps) = ap (λ (l : List Item). view p.1 ∷ l) (values_view ps)
 
-pub map_members : (i : Item) (ps : List (DataItem × DataItem)) (w : Option IntegerWidth) → i ≡ spec.map (pairs_view ps) w
+pub map_members : (i : Item) (ps : List (DataItem × DataItem)) (w : Option IntegerWidth)
+    → i ≡ spec.map (pairs_view ps) w
     → members_of i ≡ map (λ p. view p.1) ps
 map_members i ps w is =
     ap members_of is ∙ ap values_of (pairs_of_list (pair_views ps)) ∙ values_view ps
@@ -215,7 +216,8 @@ nth_of_map now None i ps found w n is same h m =
     ∙ ap (λ (l : List Item). slice_get l n) (sym (map_members i ps w is))
 nth_of_map now (Some x) i ps found w n is same h m =
     sym (slice_get-map (λ (p : DataItem × DataItem). view p.1) found n
-    ∙ ap (option_map (λ (p : DataItem × DataItem). view p.1)) (slice_get_read found (length found) n (now x) refl m.0 h))
+    ∙ ap (option_map (λ (p : DataItem × DataItem). view p.1)) (slice_get_read found (length found) n (now x) refl m.0
+    h))
     ∙ ap (λ (l : List (DataItem × DataItem)). slice_get (map (λ p. view p.1) l) n) same
     ∙ ap (λ (l : List Item). slice_get l n) (sym (map_members i ps w is))
 

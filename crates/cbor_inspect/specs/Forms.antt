@@ -25,6 +25,7 @@ edn_style style = record {
   notes = is_pretty style.form && style.notes;
   embedded = style.embedded;
   widths = style.widths;
+  columns = style.columns;
 }
 
 -- the notes beside the item and those in it: none without tables of names

@@ -6,8 +6,8 @@ use Rattle.cbor_inspect.specs.declared.path.Step.{Step}
 use Rattle.cbor_inspect.specs.Paths.{untagged, LeadsTo}
 use Rattle.cbor_inspect.specs.Parts.{HasNoPart}
 
--- So many of the first steps lead to this item, which is seen below its tags, and if there is one more, then no such
--- steps lead anywhere.
+-- The first `count` steps lead to this item, which is seen below its tags, and if there is one more, then the steps up
+-- to that one lead nowhere.
 pub record LeadAsFar (steps : List Step) (i : Item) (count : ℕ) (found : Item) : Type 0 where
   pub within : count ≤ length steps
   pub part : Item

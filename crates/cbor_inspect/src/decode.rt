@@ -1,6 +1,7 @@
 //! The forms of an input, and which form one has.
 
-ghost use Rattle.std.specs.Prelude.{◌≡◌, ◌≢◌, ◌↔◌, ◌⊎◌, ℕ, List, [], IfOk, IfErr, IfSome, None, IsTrue};
+ghost use Rattle.std.specs.Prelude.{◌≡◌, ◌≢◌, ◌↔◌, ◌⊎◌, ℕ, List, [], IfOk, IfErr, IfSome, None};
+ghost use Rattle.std.specs.Prelude.{IsTrue};
 ghost use Rattle.cbor_inspect.specs.declared.decode.Refusal.TheVariants as refusal;
 ghost use Rattle.cbor_inspect.specs.Sequence.{IsSequence};
 ghost use Rattle.cbor_inspect.specs.Inputs.{is_blank, unblanked, Stands, Reads, MayBe};

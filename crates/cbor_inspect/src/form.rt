@@ -30,6 +30,8 @@ pub struct Style {
     pub notes: bool,
     /// Whether EDN states the width of each float and of each number above 23.
     pub widths: bool,
+    /// The columns of a line of pretty EDN, as [`EdnStyle::columns`] has them.
+    pub columns: u16,
 }
 
 impl Style {
@@ -48,6 +50,7 @@ impl Style {
             notes: lines && self.notes,
             embedded: self.embedded,
             widths: self.widths,
+            columns: self.columns,
         }
     }
 }

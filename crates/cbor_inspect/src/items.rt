@@ -25,6 +25,7 @@ use cbor_bytes::strict::is_strict;
 use cbor_diag::{
     DataItem, Error, Extent, extent, parse_bytes, parse_bytes_partial, push_bytes_to_hex_partial,
 };
+use cbor_edn::EdnStyle;
 use cbor_tokens::push_hex;
 use std::alloc::{AllocError, Global};
 use std::mem;
@@ -47,14 +48,15 @@ pub struct Show<'a> {
 }
 
 impl<'a> Show<'a> {
-    /// Returns what writes whole items in a form, one after the other, with notes in pretty EDN, but
-    /// without names.
+    /// Returns what writes whole items in a form, one after the other, with notes in pretty EDN,
+    /// but without names. Its lines have 80 columns.
     pub fn new(alloc: Global, form: Form) -> Show<'a>
         ensures form { result.style.form ≡ form }
         ensures whole { steps_of result ≡ [] }
         ensures bytes { result.style.embedded ≡ false }
         ensures notes { result.style.notes ≡ true }
         ensures widths { result.style.widths ≡ false }
+        ensures columns { result.style.columns ≡ 80 }
         ensures names { result.names ≡ None }
         ensures all { result.one ≡ false }
     {
@@ -63,6 +65,7 @@ impl<'a> Show<'a> {
             embedded: false,
             notes: true,
             widths: false,
+            columns: EdnStyle::PRETTY.columns,
         };
         Show {
             style,

@@ -159,14 +159,16 @@ fn place_of(alloc: Global, bytes: &[u8], steps: &[Step]) -> Result<Option<usize>
 ///
 /// ```rust
 /// use cbor_inspect::{Naming, name_at, steps_of};
-/// use cbor_names::Names;
+/// use cbor_names::{Definition, Key, Names, Part, Shape};
 ///
-/// // 18([<<{1: -7}>>, {}, h'', h''])
-/// let bytes = b"\xd2\x84\x43\xa1\x01\x26\xa0\x40\x40";
-/// let names = Names::known(alloc)?;
+/// let mut names = Names::new(alloc);
+/// let reading = Definition::new("Reading", Shape::Map).tagged(1001);
+/// names.add(reading, &[Part::new(Key::Integer(1), "sensor")])?;
+/// // [1001({1: 7})]
+/// let bytes = b"\x81\xd9\x03\xe9\xa1\x01\x07";
 /// let naming = Naming::new(&names, None);
-/// let steps = steps_of(alloc, "0/@/1")?;
-/// assert_eq!(rt; name_at(alloc, naming, bytes, &steps)?, Some("alg"));
+/// let steps = steps_of(alloc, "0/1")?;
+/// assert_eq!(rt; name_at(alloc, naming, bytes, &steps)?, Some("sensor"));
 /// ```
 pub fn name_at<'a>(
     alloc: Global,

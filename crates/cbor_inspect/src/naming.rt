@@ -8,14 +8,16 @@ use std::alloc::{AllocError, Global};
 ///
 /// ```rust
 /// use cbor_inspect::{Form, Naming, Show, show_items};
-/// use cbor_names::Names;
+/// use cbor_names::{Definition, Key, Names, Part, Shape};
 ///
-/// let names = Names::known(alloc)?;
+/// let mut names = Names::new(alloc);
+/// let reading = Definition::new("Reading", Shape::Map);
+/// names.add(reading, &[Part::new(Key::Integer(1), "sensor")])?;
 /// let mut show = Show::new(alloc, Form::Pretty);
-/// show.names = Some(Naming::new(&names, names.of("COSE_Key")));
+/// show.names = Some(Naming::new(&names, names.of("Reading")));
 /// let mut out = Vec::new(alloc);
-/// show_items(&show, b"\xa1\x01\x04", &mut out);
-/// assert_eq!(rt; out.as_slice(), b"/COSE_Key/ {/kty/ 1: 4 /Symmetric/}\n".as_slice());
+/// show_items(&show, b"\xa1\x01\x07", &mut out);
+/// assert_eq!(rt; out.as_slice(), b"/Reading/ {/sensor/ 1: 7}\n".as_slice());
 /// ```
 #[derive(Clone, Copy)]
 pub struct Naming<'a> {
@@ -80,8 +82,8 @@ impl<'a> Naming<'a> {
         bytes.iter().any(|byte| self.is_mark(*byte))
     }
 
-    /// Whether an item is looked through before it is written, where so many bytes from it on have
-    /// no mark.
+    /// Whether an item is looked through before it is written, where the first `clear` bytes of it
+    /// have no mark.
     pub(crate) fn is_near(self, clear: usize) -> bool {
         self.outer.is_some() || clear < NEAR
     }

@@ -1,6 +1,8 @@
 //! Parts of an item, by a path.
-ghost use Rattle.std.specs.Prelude.{◌≡◌, ◌↔◌, ℕ, IsTrue, IfOk, IfSome, IfNone, OnOk, option_map, map};
-ghost use Rattle.std.specs.Prelude.{length, slice_get, ◌∷◌, [], ◌+◌, ◌^◌, ◌<◌, ◌≤◌, ◌⊎◌, MatchOption};
+ghost use Rattle.std.specs.Prelude.{◌≡◌, ◌↔◌, ℕ, IsTrue, IfOk, IfSome, IfNone, OnOk, option_map};
+ghost use Rattle.std.specs.Prelude.{map};
+ghost use Rattle.std.specs.Prelude.{length, slice_get, ◌∷◌, [], ◌+◌, ◌^◌, ◌<◌, ◌≤◌, ◌⊎◌};
+ghost use Rattle.std.specs.Prelude.{MatchOption};
 ghost use Rattle.cbor_diag.specs.Item.{Item};
 ghost use Rattle.cbor_diag.specs.View.{view};
 ghost use Rattle.cbor_inspect.specs.Paths.{untagged, IsKey, IsValue, element_of, IsMember};
@@ -238,7 +240,8 @@ pub(crate) fn has_part(alloc: Global, item: &DataItem, steps: &[Step]) -> Result
 }
 
 /// Reads a path: steps joined by `/`. A step is `@`, `@` and a decimal number, `*`, EDN, or a plain
-/// word, which is a text. A `/` between quotes joins nothing. The empty path has no steps.
+/// word, which is a text. A `/` between quotes joins nothing. An empty step is none, so the empty
+/// path has no steps.
 ///
 /// ```rust
 /// use cbor_inspect::steps_of;
@@ -350,7 +353,7 @@ impl Lost {
 /// farthest, the first of these.
 #[cycle(lost)]
 pub fn lost_at(alloc: Global, item: &DataItem, steps: &[Step]) -> Result<Lost, Error>
-    // So many steps lead to that item, and one more leads nowhere.
+    // As many steps lead to that item, and one more leads nowhere.
     ensures { IfOk result (λ lost.
         LeadAsFar steps.now (view item.now) lost.steps (view lost.item)) }
 {

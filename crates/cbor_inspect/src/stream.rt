@@ -223,8 +223,8 @@ impl Stream {
         // Items by RFC 8949 are passed.
         ensures items { (items : List Item) × ItemsThen8949 self.old items self.new }
 
-        // So of all bytes that came, those are such items that all calls passed, and these bytes are
-        // such items alone exactly if none remain at the end, unless memory ran out.
+        // So of all bytes that came, those are such items that all calls passed, and these bytes
+        // are such items alone exactly if none remain at the end, unless memory ran out.
         ensures joined { (came : List ℕ) (before : List Item) → ItemsThen8949 came before self.old
             → (more : List Item) × ItemsThen8949 came (before ++ more) self.new
             × ((one ≡ false) → (result ≡ End.Done → IsSequence8949 came)

@@ -1,5 +1,6 @@
 //! Inputs that are all text.
-ghost use Rattle.std.specs.Prelude.{◌≡◌, ◌↔◌, ◌+◌, ◌<◌, ◌≤◌, ℕ, IsTrue, IfSome, length, slice_index};
+ghost use Rattle.std.specs.Prelude.{◌≡◌, ◌↔◌, ◌+◌, ◌<◌, ◌≤◌, ℕ, IsTrue, IfSome, length};
+ghost use Rattle.std.specs.Prelude.{slice_index};
 ghost use Rattle.cbor_inspect.specs.Texts.{Controls, IsPlainAt, IsText, mark_len, unmarked};
 
 use cbor_bytes::utf8_fault;

@@ -7,7 +7,7 @@ use cbor_inspect::{
     place_of_digit, place_of_fault, push_shown, raw_content, recognize, show_items, skip_items,
     steps_of, two_byte_simple,
 };
-use cbor_names::Names;
+use cbor_names::{Definition, Key, Names, Part, Shape};
 use std::test::Fail;
 
 #[test]
@@ -94,27 +94,28 @@ fn contents_are_raw(rt: HostRuntime) -> Result<(), Fail> {
 #[test]
 fn names_are_shown(rt: HostRuntime) -> Result<(), Fail> {
     let alloc = rt.alloc();
-    let names = Names::known(alloc)?;
+    let mut names = Names::new(alloc);
+    let reading = Definition::new("Reading", Shape::Map);
+    names.add(reading, &[Part::new(Key::Integer(1), "sensor")])?;
     let mut show = Show::new(alloc, Form::Pretty);
-    show.names = Some(Naming::new(&names, names.of("COSE_Key")));
+    show.names = Some(Naming::new(&names, names.of("Reading")));
     let mut out = Vec::new(alloc);
-    show_items(&show, b"\xa1\x01\x04", &mut out);
-    assert_eq!(rt;
-        out.as_slice(),
-        b"/COSE_Key/ {/kty/ 1: 4 /Symmetric/}\n".as_slice()
-    );
+    show_items(&show, b"\xa1\x01\x07", &mut out);
+    assert_eq!(rt; out.as_slice(), b"/Reading/ {/sensor/ 1: 7}\n".as_slice());
     Ok(())
 }
 
 #[test]
 fn names_are_found(rt: HostRuntime) -> Result<(), Fail> {
     let alloc = rt.alloc();
-    // 18([<<{1: -7}>>, {}, h'', h''])
-    let bytes = b"\xd2\x84\x43\xa1\x01\x26\xa0\x40\x40";
-    let names = Names::known(alloc)?;
+    let mut names = Names::new(alloc);
+    let reading = Definition::new("Reading", Shape::Map).tagged(1001);
+    names.add(reading, &[Part::new(Key::Integer(1), "sensor")])?;
+    // [1001({1: 7})]
+    let bytes = b"\x81\xd9\x03\xe9\xa1\x01\x07";
     let naming = Naming::new(&names, None);
-    let steps = steps_of(alloc, "0/@/1")?;
-    assert_eq!(rt; name_at(alloc, naming, bytes, &steps)?, Some("alg"));
+    let steps = steps_of(alloc, "0/1")?;
+    assert_eq!(rt; name_at(alloc, naming, bytes, &steps)?, Some("sensor"));
     Ok(())
 }
 

@@ -110,21 +110,25 @@ fn say_not_inside_at(
     format!(in alloc; "{path}: no item begins at that byte of the {count} {what}{there}")
 }
 
-/// The first steps of a path, as they were given.
+/// The first steps of a path, as they were given. Between two `/` with nothing between them, and
+/// before a `/` at the front, is no step.
 fn first_steps(alloc: Global, path: &str, count: usize) -> Result<String, AllocError> {
     let mut text = String::new(alloc);
     let mut left = count;
     let mut quoted = false;
+    let mut in_step = false;
     for c in path.chars() {
         if c == '"' {
             quoted = !quoted;
         }
-        if c == '/' && !quoted {
+        let joins = c == '/' && !quoted;
+        if joins && in_step {
             left = left.saturating_sub(1);
         }
         if left == 0 {
             break;
         }
+        in_step = !joins;
         text.push(c)?;
     }
     Ok(text)

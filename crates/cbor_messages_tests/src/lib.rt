@@ -11,4 +11,6 @@ mod excerpts;
 #[cfg(test)]
 mod json;
 #[cfg(test)]
+mod lost;
+#[cfg(test)]
 mod refusals;
