@@ -76,7 +76,9 @@ enum cbor_diag_error {
     CBOR_DIAG_ERROR_NO_RULES = 12,   /* no such rules: `rules` is not an enum cbor_diag_rules */
     CBOR_DIAG_ERROR_NOT_ENCODABLE = 13, /* no encoding of the items keeps the rules, or the bytes are no items */
     CBOR_DIAG_ERROR_SAME_KEYS = 14,  /* two keys of a map become the same in JSON */
-    CBOR_DIAG_ERROR_NOT_KEPT = 15    /* JSON does not keep all of the item: only for CBOR_DIAG_FORM_JSON_STRICT */
+    CBOR_DIAG_ERROR_NOT_KEPT = 15,   /* JSON does not keep all of the item: only for CBOR_DIAG_FORM_JSON_STRICT */
+    CBOR_DIAG_ERROR_NO_PART = 16,    /* the path leads to no part of the item */
+    CBOR_DIAG_ERROR_NO_TYPE = 17     /* no such type: the tables of names have none of this name */
 };
 
 /* What JSON does not keep. */
@@ -161,6 +163,8 @@ int64_t cbor_diag_breach_text(uint32_t kind, uint8_t *output, size_t output_len)
 int64_t cbor_diag_reencode(uint32_t rules, const uint8_t *input, size_t input_len, uint8_t *output, size_t output_len);
 int64_t cbor_diag_reencode_fault(uint32_t rules, const uint8_t *input, size_t input_len, size_t *place,
                                  size_t *detail);
+int64_t cbor_diag_name_at(const uint8_t *input, size_t input_len, const uint8_t *path, size_t path_len,
+                          const uint8_t *type, size_t type_len, uint8_t *output, size_t output_len);
 int64_t cbor_diag_error_text(uint32_t error, uint8_t *output, size_t output_len);
 uint32_t cbor_diag_version(void);
 
@@ -512,6 +516,42 @@ static inline int64_t cbor_diag_reencode_fault_checked(uint32_t rules, const voi
     return cbor_diag_reencode_fault(rules, in, input_len, at, other);
 }
 #define cbor_diag_reencode_fault cbor_diag_reencode_fault_checked
+
+/*
+ * Says what a part of an item is called, by the names of COSE, CWT, EAT, SenML and CTAP2: the name of its key in a map,
+ * of a member of an array, of the tag before it, or of the type of the outermost item.
+ *
+ * `path` leads to the part, in steps joined by /, as cborcat -p reads them; the empty path is the item itself, and one
+ * with a * has no name. `type` is the type of the outermost item where no tag says it, such as COSE_Key; or empty.
+ *
+ * Returns the length of the name, which is ASCII, and of which as much is written as fits `output`; 0 if the part has
+ * no name. On an error, returns minus a number of enum cbor_diag_error, and `output` is unchanged:
+ *
+ * - the error for which the bytes are no item; CBOR_DIAG_ERROR_UTF8 also for a path that is not UTF-8;
+ * - CBOR_DIAG_ERROR_NO_PART, CBOR_DIAG_ERROR_NO_TYPE and CBOR_DIAG_ERROR_MEMORY.
+ *
+ *     char name[64];
+ *     cbor_diag_name_at("\xd2\x84\x43\xa1\x01\x26\xa0\x40\x40", 9, "0/@/1", 5, NULL, 0, name, sizeof name);
+ *     // 3: the key 1 in the protected header is called alg
+ *
+ * The tables are made at each call. A pointer may be null if its length is 0. The output must not overlap the others.
+ */
+static inline int64_t cbor_diag_name_at_checked(const void *input, size_t input_len, const void *path, size_t path_len,
+                                                const void *type, size_t type_len, void *output, size_t output_len)
+{
+    const uint8_t *in = input ? (const uint8_t *)input : cbor_diag_no_bytes();
+    const uint8_t *steps = path ? (const uint8_t *)path : cbor_diag_no_bytes();
+    const uint8_t *kind = type ? (const uint8_t *)type : cbor_diag_no_bytes();
+    uint8_t *out = output ? (uint8_t *)output : cbor_diag_no_bytes();
+    if (input_len > (size_t)PTRDIFF_MAX || path_len > (size_t)PTRDIFF_MAX || type_len > (size_t)PTRDIFF_MAX) {
+        return -CBOR_DIAG_ERROR_MEMORY; /* no object is that large */
+    }
+    if (output_len > (size_t)PTRDIFF_MAX) {
+        output_len = (size_t)PTRDIFF_MAX;
+    }
+    return cbor_diag_name_at(in, input_len, steps, path_len, kind, type_len, out, output_len);
+}
+#define cbor_diag_name_at cbor_diag_name_at_checked
 
 /*
  * Writes the text of an error into `text`, with a zero byte at its end, and returns `text`. `answer` is the negative

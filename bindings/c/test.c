@@ -399,12 +399,14 @@ static const char *const error_texts[] = {
     "no encoding of the items keeps the rules",
     "two keys of a map become the same in JSON",
     "JSON does not keep all of the item",
+    "the path leads to no part of the item",
+    "no such type",
     "no such error",
 };
 
 static void test_error_texts(void)
 {
-    for (int64_t number = 0; number <= 16; number++) {
+    for (int64_t number = 0; number <= 18; number++) {
         const char *expected = error_texts[number];
         char text[CBOR_DIAG_ERROR_TEXT_SIZE];
         check(strcmp(expected, cbor_diag_strerror(-number, text, sizeof text)) == 0,
@@ -966,6 +968,57 @@ static void test_reencoding(void)
                  cbor_diag_reencode(CBOR_DIAG_RULES_CORE, "\x01", SIZE_MAX, NULL, 0));
 }
 
+/* Names of parts, from RFC 9052, table 3 and section 4.2, and RFC 9053, table 18: the path, the type, and the name. */
+static void test_names(void)
+{
+    static const char sign1[] = "\xd2\x84\x43\xa1\x01\x26\xa0\x40\x40", key[] = "\xa2\x01\x04\x20\x41\x00";
+    const struct {
+        struct text input, path, type, name;
+        int error;
+    } rows[] = {
+        {TEXT(sign1), TEXT(""), TEXT(""), TEXT("COSE_Sign1"), 0},
+        {TEXT(sign1), TEXT("0"), TEXT(""), TEXT("protected"), 0},
+        {TEXT(sign1), TEXT("0/@/1"), TEXT(""), TEXT("alg"), 0},
+        {TEXT(sign1), TEXT("3"), TEXT(""), TEXT("signature"), 0},
+        {TEXT(sign1), TEXT("*"), TEXT(""), TEXT(""), 0},
+        {TEXT(key), TEXT("1"), TEXT(""), TEXT(""), 0},
+        {TEXT(key), TEXT(""), TEXT("COSE_Key"), TEXT("COSE_Key"), 0},
+        {TEXT(key), TEXT("-1"), TEXT("COSE_Key"), TEXT("k"), 0},
+
+        {TEXT(sign1), TEXT("4"), TEXT(""), TEXT(""), CBOR_DIAG_ERROR_NO_PART},
+        {TEXT(sign1), TEXT("0/1"), TEXT(""), TEXT(""), CBOR_DIAG_ERROR_NO_PART},
+        {TEXT(sign1), TEXT("0"), TEXT("COSE_Kex"), TEXT(""), CBOR_DIAG_ERROR_NO_TYPE},
+        {TEXT(sign1), TEXT("0"), TEXT("\xff"), TEXT(""), CBOR_DIAG_ERROR_NO_TYPE},
+        {TEXT(sign1), TEXT("\xff"), TEXT(""), TEXT(""), CBOR_DIAG_ERROR_UTF8},
+        {TEXT("\x82\x01"), TEXT("0"), TEXT(""), TEXT(""), CBOR_DIAG_ERROR_CUT_SHORT},
+        {TEXT("\x01\x02"), TEXT(""), TEXT(""), TEXT(""), CBOR_DIAG_ERROR_REMAINING},
+        {TEXT(""), TEXT(""), TEXT(""), TEXT(""), CBOR_DIAG_ERROR_CUT_SHORT},
+    };
+    for (size_t i = 0; i < sizeof rows / sizeof *rows; i++) {
+        const struct text *input = &rows[i].input, *path = &rows[i].path, *type = &rows[i].type, *wanted = &rows[i].name;
+        int64_t expected = rows[i].error ? -rows[i].error : (int64_t)wanted->length;
+        for (size_t room = 0; room <= 12; room++) {
+            unsigned char buffer[12], whole[12];
+            char name[40];
+            snprintf(name, sizeof name, "name %zu in %zu bytes", i, room);
+            memset(buffer, UNTOUCHED, sizeof buffer);
+            memset(whole, UNTOUCHED, sizeof whole);
+            memcpy(whole, wanted->bytes, wanted->length < room ? wanted->length : room);
+            check_answer(name, expected, cbor_diag_name_at(input->bytes, input->length, path->bytes, path->length,
+                                                           type->bytes, type->length, buffer, room));
+            check(memcmp(buffer, whole, sizeof buffer) == 0, "%s: the buffer holds something else", name);
+        }
+    }
+    check_answer("a name at null pointers", -CBOR_DIAG_ERROR_CUT_SHORT,
+                 cbor_diag_name_at(NULL, 0, NULL, 0, NULL, 0, NULL, 0));
+    check_answer("a name in 2^64 - 1 bytes", -CBOR_DIAG_ERROR_MEMORY,
+                 cbor_diag_name_at("\x01", SIZE_MAX, NULL, 0, NULL, 0, NULL, 0));
+    check_answer("a path of 2^64 - 1 bytes", -CBOR_DIAG_ERROR_MEMORY,
+                 cbor_diag_name_at("\x01", 1, "", SIZE_MAX, NULL, 0, NULL, 0));
+    check_answer("a type of 2^64 - 1 bytes", -CBOR_DIAG_ERROR_MEMORY,
+                 cbor_diag_name_at("\x01", 1, NULL, 0, "", SIZE_MAX, NULL, 0));
+}
+
 static void test_reencoding_faults(void)
 {
     const size_t none = CBOR_DIAG_NO_PLACE;
@@ -1264,6 +1317,7 @@ int main(int argc, char **argv)
     test_breach_texts();
     test_reencoding();
     test_reencoding_faults();
+    test_names();
     test_limits();
     test_memory();
     test_openings();

@@ -71,6 +71,8 @@ TEXTS = {
     Error.NOT_ENCODABLE: "no encoding of the items keeps the rules",
     Error.SAME_KEYS: "two keys of a map become the same in JSON",
     Error.NOT_KEPT: "JSON does not keep all of the item",
+    Error.NO_PART: "the path leads to no part of the item",
+    Error.NO_TYPE: "no such type",
 }
 
 
@@ -562,6 +564,32 @@ class Reencoding(unittest.TestCase):
     def test_longer_than_its_input(self):
         given = b"\x9f" + b"\x01" * 300 + b"\xff"
         self.assertEqual(cbor_diag.reencode(given, Rules.CORE), b"\x99\x01\x2c" + b"\x01" * 300)
+
+
+class Names(unittest.TestCase):
+    """Names of parts, from RFC 9052, table 3 and section 4.2, and RFC 9053, table 18."""
+
+    SIGN1 = bytes.fromhex("d28443a10126a04040")
+    KEY = bytes.fromhex("a20104204100")
+
+    def test_names(self):
+        for path, name in [("", "COSE_Sign1"), ("0", "protected"), ("0/@/1", "alg"), ("3", "signature"), ("*", None)]:
+            self.assertEqual(cbor_diag.name_at(self.SIGN1, path), name)
+            self.assertEqual(cbor_diag.name_at(bytearray(self.SIGN1), path), name)
+        for path, name in [("", "COSE_Key"), ("1", "kty"), ("-1", "k")]:
+            self.assertEqual(cbor_diag.name_at(self.KEY, path, "COSE_Key"), name)
+            self.assertIsNone(cbor_diag.name_at(self.KEY, path))
+
+    def test_errors(self):
+        for data, path, kind, error in [
+            (self.SIGN1, "4", None, Error.NO_PART), (self.SIGN1, "0/1", None, Error.NO_PART),
+            (self.SIGN1, "0", "COSE_Kex", Error.NO_TYPE), (self.SIGN1[:-1], "0", None, Error.CUT_SHORT),
+            (b"", "", None, Error.CUT_SHORT), (b"\x01\x02", "", None, Error.REMAINING),
+        ]:
+            with self.assertRaises(cbor_diag.CborDiagError) as raised:
+                cbor_diag.name_at(data, path, kind)
+            self.assertIs(raised.exception.error, error)
+            self.assertEqual(str(raised.exception), TEXTS[error])
 
 
 class Errors(unittest.TestCase):

@@ -55,6 +55,7 @@ __all__ = [
     "hex_to_json",
     "items",
     "library_version",
+    "name_at",
     "reencode",
 ]
 
@@ -117,6 +118,10 @@ class Error(enum.IntEnum):
     """Two keys of a map become the same in JSON."""
     NOT_KEPT = 15
     """JSON does not keep all of the item: only for `JSON_STRICT`."""
+    NO_PART = 16
+    """The path leads to no part of the item."""
+    NO_TYPE = 17
+    """No such type: the tables of names have none of this name."""
 
 
 class Rules(enum.IntEnum):
@@ -334,6 +339,10 @@ class _Library:
         self.reencode_fault = library.cbor_diag_reencode_fault
         self.reencode_fault.restype = ctypes.c_int64
         self.reencode_fault.argtypes = [ctypes.c_uint32, pointer, size, ctypes.POINTER(size), ctypes.POINTER(size)]
+        self.name_at = library.cbor_diag_name_at
+        self.name_at.restype = ctypes.c_int64
+        text = ctypes.c_char_p
+        self.name_at.argtypes = [pointer, size, text, size, text, size, text, size]
         self.error_text = library.cbor_diag_error_text
         self.error_text.restype = ctypes.c_int64
         self.error_text.argtypes = [ctypes.c_uint32, ctypes.c_char_p, size]
@@ -642,6 +651,37 @@ def reencode(data: Data, rules: Rules) -> bytes:
     for no such rules, and if memory runs out.
     """
     return _on_bytes(data, _reencoded, _rules_number(rules))
+
+
+def _name(library: _Library, given: Any, length: int, path: bytes, kind: bytes) -> Optional[str]:
+    """The name of a part."""
+    wanted = 64
+    while True:
+        text = ctypes.create_string_buffer(wanted)
+        room, wanted = wanted, library.name_at(given, length, path, len(path), kind, len(kind), text, wanted)
+        if wanted < 0:
+            raise CborDiagError(Error(-wanted))
+        if wanted <= room:
+            return text.raw[:wanted].decode("ascii") or None
+
+
+def name_at(data: Data, path: str, type: Optional[str] = None) -> Optional[str]:
+    """Returns what the part of an item is called that `path` leads to, by the names of COSE, CWT, EAT, SenML and CTAP2;
+    `None` if it has no name.
+
+    >>> name_at(bytes.fromhex("d28443a10126a04040"), "0/@/1")
+    'alg'
+    >>> name_at(bytes.fromhex("a10104"), "1", type="COSE_Key")
+    'kty'
+
+    A path has steps joined by `/`, as `cborcat -p` reads them; the empty path is the item itself, and one with a `*`
+    has no name. `type` is the type of the outermost item where no tag says it.
+
+    Raises `CborDiagError` if the data is no item, with `NO_PART` if the path leads to no part of it, with `NO_TYPE` if
+    there is no such type, and if memory runs out.
+    """
+    steps, kind = (given.encode("utf-8", "surrogatepass") for given in (path, type or ""))
+    return _on_bytes(data, _name, steps, kind)
 
 
 class Scanner:

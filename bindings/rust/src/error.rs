@@ -33,6 +33,10 @@ pub enum Error {
     SameKeys,
     /// JSON does not keep all of the item: only for [`Form::JsonStrict`].
     NotKept,
+    /// The path leads to no part of the item.
+    NoPart,
+    /// No such type: the tables of names have none of this name.
+    NoType,
 }
 
 /// The result of a conversion.
@@ -62,6 +66,10 @@ const NOT_ENCODABLE: i64 = 13;
 const SAME_KEYS: i64 = 14;
 const NOT_KEPT: i64 = 15;
 
+/// The numbers of `NoPart` and `NoType`.
+const NO_PART: i64 = 16;
+const NO_TYPE: i64 = 17;
+
 impl Error {
     /// The error for a negative result of the library.
     pub(crate) fn of(answer: i64) -> Error {
@@ -69,6 +77,8 @@ impl Error {
             NOT_ENCODABLE => Error::NotEncodable,
             SAME_KEYS => Error::SameKeys,
             NOT_KEPT => Error::NotKept,
+            NO_PART => Error::NoPart,
+            NO_TYPE => Error::NoType,
             number => usize::try_from(number - 1)
                 .ok()
                 .and_then(|index| ERRORS.get(index).copied())
@@ -164,12 +174,14 @@ impl Error {
     }
 
     /// Returns the number of the error: from 1 for `Memory` to 10 for `PastWidth`, in the order of the variants, and
-    /// from 13 for `NotEncodable` to 15 for `NotKept`.
+    /// from 13 for `NotEncodable` to 17 for `NoType`.
     pub fn number(self) -> u32 {
         match self {
             Error::NotEncodable => NOT_ENCODABLE as u32,
             Error::SameKeys => SAME_KEYS as u32,
             Error::NotKept => NOT_KEPT as u32,
+            Error::NoPart => NO_PART as u32,
+            Error::NoType => NO_TYPE as u32,
             other => other as u32 + 1,
         }
     }
@@ -202,6 +214,8 @@ mod tests {
             (13, Error::NotEncodable),
             (14, Error::SameKeys),
             (15, Error::NotKept),
+            (16, Error::NoPart),
+            (17, Error::NoType),
         ] {
             assert_eq!(error.number(), number);
             assert_eq!(Error::of(-i64::from(number)), error);

@@ -3,12 +3,14 @@
 
 mod error;
 mod json;
+mod names;
 mod rules;
 mod scanner;
 
 pub use error::{Error, Result};
 pub use json::{bytes_to_json, bytes_to_json_strict, hex_to_json, hex_to_json_strict, json_fault};
 pub use json::{JsonFault, LossKind};
+pub use names::name_at;
 pub use rules::{breach, reencode, reencode_fault, Breach, BreachKind, ReencodeFault, Rules};
 pub use scanner::Scanner;
 
@@ -138,6 +140,18 @@ mod library {
             input_len: usize,
             place: *mut usize,
             detail: *mut usize,
+        ) -> i64;
+        /// Returns the length of the name of a part, of which as much is written as fits, or minus the number of an
+        /// error. It reads no byte of the output.
+        pub fn cbor_diag_name_at(
+            input: *const u8,
+            input_len: usize,
+            path: *const u8,
+            path_len: usize,
+            kind: *const u8,
+            kind_len: usize,
+            output: *mut u8,
+            output_len: usize,
         ) -> i64;
         pub fn cbor_diag_breach_text(kind: u32, output: *mut u8, output_len: usize) -> i64;
         pub fn cbor_diag_error_text(error: u32, output: *mut u8, output_len: usize) -> i64;

@@ -3,3 +3,4 @@ pub mod Lines
 pub mod NoOutput
 pub mod FormNumbers
 pub mod Told
+pub mod NameErrors

@@ -1,4 +1,4 @@
--- What is told of the first breach.
+-- What C is told of the first breach.
 use Rattle.std.proofs.Common.{◌≡◌, ◌≢◌, ◌↔◌, ◌⊎◌, ℕ, List, Bool, false, Option, Some, None, inl, inr, refl, sym}
 use Rattle.std.proofs.Common.{subst, ◌∙◌, arith}
 use Rattle.cbor_rules.specs.declared.rules.Rules.{Rules}

@@ -42,9 +42,17 @@ same_keys = 14
 abbrev pub not_kept : ℕ
 not_kept = 15
 
+-- what is returned for a path that leads to no part of an item
+abbrev pub no_part : ℕ
+no_part = 16
+
+-- what is returned for a name of no type
+abbrev pub no_type : ℕ
+no_type = 17
+
 -- no error has this number
 abbrev pub IsNoError : ℕ → Type 0
-IsNoError n = (n ≡ 0) ⊎ (not_kept < n)
+IsNoError n = (n ≡ 0) ⊎ (no_type < n)
 
 -- what the error of this number says
 abbrev pub IsTextOf : ℕ → List ℕ → Type 0
@@ -55,6 +63,8 @@ IsTextOf n text =
     ⊎ ((n ≡ not_encodable) × (text ≡ codes "no encoding of the items keeps the rules"))
     ⊎ ((n ≡ same_keys) × (text ≡ codes "two keys of a map become the same in JSON"))
     ⊎ ((n ≡ not_kept) × (text ≡ codes "JSON does not keep all of the item"))
+    ⊎ ((n ≡ no_part) × (text ≡ codes "the path leads to no part of the item"))
+    ⊎ ((n ≡ no_type) × (text ≡ codes "no such type"))
     ⊎ (IsNoError n × (text ≡ codes "no such error"))
 
 -- this number was returned

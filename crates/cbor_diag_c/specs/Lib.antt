@@ -7,5 +7,6 @@ pub mod Pieces
 pub mod Places
 pub mod Words
 pub mod Messages
+pub mod Names
 pub mod Breaches
 pub mod Reencodings

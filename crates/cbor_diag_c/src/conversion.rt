@@ -2,7 +2,8 @@
 ghost use Rattle.std.specs.Prelude.{◌≡◌, ◌≢◌, ◌⊎◌, ◌<◌, negsuc, IfOk};
 ghost use Rattle.cbor_diag_c.specs.declared.form.Text.{Text as Texts};
 ghost use Rattle.cbor_diag_c.specs.Forms.{IsNoForm, IsOutputIn};
-ghost use Rattle.cbor_diag_c.specs.Outputs.{RefusedAs, IsNoOutput, error_number, loss_number, IsTold};
+ghost use Rattle.cbor_diag_c.specs.Outputs.{RefusedAs, IsNoOutput, error_number, loss_number};
+ghost use Rattle.cbor_diag_c.specs.Outputs.{IsTold};
 ghost use Rattle.cbor_diag_c.specs.Answers.{IfLength, IfError, IsMinus, no_form};
 ghost use Rattle.cbor_diag_c.specs.Conversions.{IsWhole, IsWhy, IsOutputFault, IsConverted};
 ghost use Rattle.cbor_diag_c.specs.Places.{no_place};

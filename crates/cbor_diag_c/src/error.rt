@@ -1,7 +1,8 @@
 //! The texts of errors.
 ghost use Rattle.std.specs.Prelude.{◌≡◌, ◌⊎◌, ◌<◌, ℕ, List, length, None, IfSome};
 ghost use Rattle.cbor_diag.specs.Refusals.{number_of};
-ghost use Rattle.cbor_diag_c.specs.Answers.{IfLength, IfError, no_form, no_rules, IsTextOf, written};
+ghost use Rattle.cbor_diag_c.specs.Answers.{IfLength, IfError, no_form, no_rules, IsTextOf};
+ghost use Rattle.cbor_diag_c.specs.Answers.{written};
 
 use crate::answer::write;
 use cbor_diag::Error;
@@ -37,6 +38,8 @@ fn text(number: u32) -> &'static str
         None if number == 13 => "no encoding of the items keeps the rules",
         None if number == 14 => "two keys of a map become the same in JSON",
         None if number == 15 => "JSON does not keep all of the item",
+        None if number == 16 => "the path leads to no part of the item",
+        None if number == 17 => "no such type",
         None => "no such error",
     }
 }

@@ -182,9 +182,9 @@ pub(crate) fn fault(alloc: Global, from: Form, input: &[u8]) -> Result<Fault, Er
 /// them; their end if they are cut; or the end of the item if more follow. In hex it is the first
 /// digit of that byte; or the digit that is wrong, which is the last one of an odd number. In
 /// notation it is the last of the first bytes after which no notation can follow, or the end of a
-/// text that may only be cut short. That these bytes are the fewest is in no clause. In EDN it is where the
-/// reader stops; the clause says that it is in the text or at its end. In a text that is not UTF-8
-/// it is the end of the longest front that is.
+/// text that may only be cut short. That these bytes are the fewest is in no clause. In EDN it is
+/// where the reader stops; the clause says that it is in the text or at its end. In a text that is
+/// not UTF-8 it is the end of the longest front that is.
 #[unsafe(no_mangle)]
 #[tactic(auto, using(crate::proofs::FormNumbers::number_laws))]
 pub extern "C" fn cbor_diag_fault(alloc: Global, from: u32, input: &[u8], place: &mut usize) -> i64

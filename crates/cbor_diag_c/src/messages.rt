@@ -26,8 +26,8 @@ fn in_hex(alloc: Global, text: &str) -> Result<Option<Fault>, Error>
     }
 }
 
-/// The fault of the bytes of an input in this form; `None` for an item, and for an input that has no
-/// bytes of its own: notation and wrong hex. The only error is `Memory`.
+/// The fault of the bytes of an input in this form; `None` for an item, and for an input that has
+/// no bytes of its own: notation and wrong hex. The only error is `Memory`.
 fn fault_in(alloc: Global, from: Form, input: &[u8]) -> Result<Option<Fault>, Error>
     ensures refused { IfOk result (λ f. IfSome f (λ x. IsRefusedIn from input.now x.error)) }
     ensures memory { IfErr result (λ e. e ≡ Error.Memory) }
@@ -46,8 +46,8 @@ fn fault_in(alloc: Global, from: Form, input: &[u8]) -> Result<Option<Fault>, Er
 /// joined by `/`, as `cborcat -p` reads them, in UTF-8; `/` for the outermost item.
 ///
 /// Returns the length of the path, of which as much is written as fits `output`; 0 where there is
-/// none: for an item, for bytes after an item, and for notation and hex that is not right. Otherwise
-/// minus the number of the error: `Memory`, or 11 for no form.
+/// none: for an item, for bytes after an item, and for notation and hex that is not right.
+/// Otherwise minus the number of the error: `Memory`, or 11 for no form.
 #[unsafe(no_mangle)]
 pub extern "C" fn cbor_diag_fault_path(
     alloc: Global,

@@ -1,0 +1,21 @@
+-- Why an item has no name at a path.
+use Rattle.std.proofs.Common.{ℕ, List, refl, inl, inr}
+use Rattle.cbor_grammar.specs.declared.error.Error.TheVariants as refusal
+use Rattle.cbor_inspect.specs.Named.{HasNoName}
+use Rattle.cbor_inspect.specs.declared.path.Step.{Step}
+use Rattle.cbor_inspect.specs.declared.name.NameError.{NameError}
+use Rattle.cbor_inspect.specs.declared.name.NameError.TheVariants.{Cbor, NoPart}
+use Rattle.cbor_diag_c.specs.Names.{IsNoNamed}
+
+pub no_name : (b path : List ℕ) (steps : List Step) (e : NameError) → HasNoName b steps e → IsNoNamed b path e
+no_name b path steps (Cbor refusal.Memory) h = inl refl
+no_name b path steps (Cbor refusal.CutShort) h = inr (inl h)
+no_name b path steps (Cbor refusal.Head) h = inr (inl h)
+no_name b path steps (Cbor refusal.Utf8) h = inr (inl h)
+no_name b path steps (Cbor refusal.TooDeep) h = inr (inl h)
+no_name b path steps (Cbor refusal.Remaining) h = inr (inl h)
+no_name b path steps (Cbor refusal.OddHex) h = inr (inl h)
+no_name b path steps (Cbor refusal.BadHex) h = inr (inl h)
+no_name b path steps (Cbor refusal.Notation) h = inr (inl h)
+no_name b path steps (Cbor refusal.PastWidth) h = inr (inl h)
+no_name b path steps NoPart h = (steps, h.0, h.1, h.2)

@@ -1,0 +1,5 @@
+use Rattle.std.proofs.Common.{refl, inl, inr}
+use Rattle.cbor_diag_c.proofs.error.text.Goals as goal
+
+pub returns-in-None-3 : goal.returns-in-None-3
+returns-in-None-3 c = inr (inr (inr (inl (c.if-number-eq13.true, refl))))

@@ -1,0 +1,33 @@
+-- Why nothing is told of the name of a part of an item.
+use Rattle.std.specs.Prelude.{◌≡◌, ◌≢◌, ◌⊎◌, ℕ, List, [], IsUtf8}
+use Rattle.cbor_grammar.specs.declared.error.Error.{Error}
+use Rattle.cbor_grammar.specs.declared.error.Error.TheVariants as refusal
+use Rattle.cbor_diag.specs.Item.{Item}
+use Rattle.cbor_diag.specs.Facts.{IsItem, IsNoItem}
+use Rattle.cbor_diag.specs.Refusals.{number_of}
+use Rattle.cbor_inspect.specs.Parts.{HasNoPart}
+use Rattle.cbor_inspect.specs.declared.path.Step.{Step}
+use Rattle.cbor_inspect.specs.declared.name.NameError.{NameError}
+use Rattle.cbor_inspect.specs.declared.name.NameError.TheVariants.{Cbor, NoPart}
+use Rattle.cbor_diag_c.specs.Answers.{no_part, no_type}
+
+-- steps lead to no part of the item that the input is
+abbrev pub LacksPart : List ℕ → Type 0
+LacksPart input = (steps : List Step) × (i : Item) × IsItem input i × HasNoPart steps i
+
+-- the input is no item, or the path is no text; nothing is said of memory
+abbrev pub IsNoItemOrText : List ℕ → List ℕ → Error → Type 0
+IsNoItemOrText input path e = (e ≡ refusal.Memory) ⊎ (IsNoItem input e ⊎ ((e ≡ refusal.Utf8) × ¬ IsUtf8 path))
+
+-- the same, or there is no such part
+abbrev pub IsNoNamed : List ℕ → List ℕ → NameError → Type 0
+IsNoNamed input path (Cbor e) = IsNoItemOrText input path e
+IsNoNamed input path NoPart = LacksPart input
+
+-- the same by the number of the error, or no type has the name that is given
+abbrev pub IsNoName : List ℕ → List ℕ → List ℕ → ℕ → Type 0
+IsNoName input path kind n =
+    (n ≡ 1)
+    ⊎ ((e : Error) × (n ≡ number_of e) × IsNoItemOrText input path e)
+    ⊎ ((n ≡ no_part) × LacksPart input)
+    ⊎ ((n ≡ no_type) × (kind ≢ []))
