@@ -159,6 +159,9 @@ def edn_text(chance):
         digits = f"{chance.randrange(16 ** chance.choice([1, 13, 14, 15, 16, 40])):x}"
         point = chance.randrange(len(digits) + 1)
         others += 2 * [f"0x{digits[:point]}.{digits[point:]}p{chance.choice([0, 1, -1, -1022, -1074, 970])}"]
+        tie = 2 * chance.randrange(1 << 23) + 1
+        after = "0" * chance.choice([0, 20]) + chance.choice(["", "1"])
+        others += [f"0x1.{tie:06x}{after}p{chance.choice([0, 1, -150, -126, 127])}", f"{1 + tie / (1 << 24):.24f}{after}"]
         text = str(chance.choice(DECIMALS + others)) + chance.choice(["", "", "_1", "_2", "_3", "f", "f16"])
     elif kind == 1:
         value = chance.choice([1 << 64, chance.randrange(1 << 70), chance.randrange(1 << 200), 10 ** 30])

@@ -79,8 +79,7 @@ def hexadecimal(text, width):
     if abs(exponent) >= 1 << 20:
         raise Refused("PastWidth")
     exponent -= 4 * len(found["fraction"] or b"")
-    double = nearest(number * Fraction(2) ** exponent, 8)
-    return float_item(text.startswith(b"-"), Fraction(value_of(double, 8)), width)
+    return float_item(text.startswith(b"-"), number * Fraction(2) ** exponent, width)
 
 
 def float_item(negative, value, width):

@@ -5,7 +5,7 @@ import sys
 
 import cases
 from bytes_form import sequence, to_bytes
-from edn_examples import APPENDIX_A, TEXTS, WRITTEN
+from edn_examples import APPENDIX_A, LINES, TEXTS, WRITTEN
 from edn_form import edn_to_bytes
 from edn_text import Writer
 from item import Refused
@@ -28,12 +28,15 @@ def run(seed=1, count=2000):
         check(digits, answer(text), text)
         items, _ = sequence(bytes.fromhex(digits), 1)
         check(WRITTEN.get(digits, text), Writer().item(items[0]), digits)
+    for columns, line, text in LINES:
+        items, _ = sequence(edn_to_bytes(line.encode()), 1)
+        check(text, Writer(columns=columns).item(items[0]), line)
     for text, digits in TEXTS:
         check(digits, answer(text), text)
     for number in range(count):
         chance = random.Random(f"{seed} edn {number}")
         item = cases.any_item(chance)
-        for writer in (Writer(), Writer(widths=True), Writer(embedded=True), Writer(True, True)):
+        for writer in (Writer(), Writer(widths=True), Writer(embedded=True), Writer(True, True), Writer(columns=20)):
             text = writer.item(sequence(to_bytes(item), 1)[0][0])
             check(to_bytes(item).hex(), answer(text), text)
 

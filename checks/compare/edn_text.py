@@ -1,8 +1,9 @@
-"""Items written in EDN on one line, so that the same bytes are read back: docs/EDN.md."""
+"""Items written in EDN, so that the same bytes are read back: docs/EDN.md."""
 
 import struct
 
 from bytes_form import sequence, to_bytes
+from diag_text import estimate
 from edn_form import FORMATS, USUAL, nearest_or_none, value_of
 from fractions import Fraction
 from item import (
@@ -19,13 +20,26 @@ HIDDEN = {
     *range(0x20), *range(0x7F, 0xA0), 0x61C, 0x200E, 0x200F, 0x2028, 0x2029, *range(0x202A, 0x202F),
     *range(0x2066, 0x206A), 0xFEFF,
 }
+# the columns that a container may take on one line, however far it is indented
+LEAST = 20
 
 
 class Writer:
-    """What is written beside the items: every width, and byte strings as the items that they are."""
+    """What is written beside the items: every width, and byte strings as the items that they are. With columns, lines
+    are broken, without notes."""
 
-    def __init__(self, widths=False, embedded=False):
-        self.widths, self.embedded = widths, embedded
+    def __init__(self, widths=False, embedded=False, columns=None):
+        self.widths, self.embedded, self.columns, self.indent = widths, embedded, columns, 0
+
+    def laid_out(self, opening, mark, members, closing, item):
+        """Members, each a function to its text, of an item that is estimated as the container, after a mark."""
+        opening += mark
+        if self.columns is None or estimate(item) < max(self.columns - self.indent, LEAST):
+            return opening + (mark and " ") + ", ".join(member() for member in members) + closing
+        self.indent += 4
+        lines = ["\n" + " " * self.indent + member() + "," for member in members]
+        self.indent -= 4
+        return opening + "".join(lines) + "\n" + " " * self.indent + closing
 
     def number(self, value, number, width):
         shown = self.widths and shortest(number) > 0
@@ -54,8 +68,15 @@ class Writer:
         found = self.items_in(item.content, level, tag)
         text = "h'" + item.content.hex() + "'"
         if found is not None:
-            text = "<<" + ", ".join(self.item(inner, level + 1) for inner in found) + ">>"
+            text = self.items(found, level, tag)
         return text + longer(len(item.content), item.width)
+
+    def items(self, found, level, tag):
+        """Items between `<<` and `>>`. One alone is not on a line of its own, but below tag 63."""
+        if tag != 63:
+            return "<<" + self.item(found[0], level + 1) + ">>"
+        members = [lambda inner=inner: self.item(inner, level + 1) for inner in found]
+        return self.laid_out("<<", "", members, ">>", Array(found, 0))
 
     def items_in(self, content, level, tag):
         """The items that are written between `<<` and `>>`, if these give the same bytes."""
@@ -72,20 +93,20 @@ class Writer:
                           for one in item.content)
         return f'"{content}"' + longer(len(utf8(item.content)), item.width)
 
-    def listed(self, opening, count, width, members, closing):
-        if width is None:
-            opening += "_ "
-        elif mark := longer(count, width):
-            opening += mark + " "
-        return opening + ", ".join(members) + closing
+    def listed(self, item, brackets, members):
+        mark = "_" if item.width is None else longer(len(members), item.width)
+        return self.laid_out(brackets[0], mark, members, brackets[1], item)
 
-    def chunks(self, item, level):
+    def chunks(self, item):
         if not item.chunks:
             return "''_" if isinstance(item, IndefiniteBytes) else '""_'
-        texts = [self.text(chunk) if isinstance(chunk, Text) else
-                 "h'" + chunk.content.hex() + "'" + longer(len(chunk.content), chunk.width)
-                 for chunk in item.chunks]
-        return "(_ " + ", ".join(texts) + ")"
+        chunks = [lambda chunk=chunk: self.chunk(chunk) for chunk in item.chunks]
+        return self.laid_out("(", "_", chunks, ")", item)
+
+    def chunk(self, item):
+        if isinstance(item, Text):
+            return self.text(item)
+        return "h'" + item.content.hex() + "'" + longer(len(item.content), item.width)
 
     def item(self, item, level=1, tag=None):
         if isinstance(item, Integer):
@@ -101,15 +122,16 @@ class Writer:
         if isinstance(item, Text):
             return self.text(item)
         if isinstance(item, (IndefiniteBytes, IndefiniteText)):
-            return self.chunks(item, level)
+            return self.chunks(item)
         if isinstance(item, Tagged):
             number = self.number(item.number, item.number, item.width)
             return number + "(" + self.item(item.value, level + 1, item.number) + ")"
         if isinstance(item, Array):
-            members = [self.item(member, level + 1) for member in item.members]
-            return self.listed("[", len(members), item.width, members, "]")
-        pairs = [self.item(key, level + 1) + ": " + self.item(value, level + 1) for key, value in item.pairs]
-        return self.listed("{", len(pairs), item.width, pairs, "}")
+            members = [lambda member=member: self.item(member, level + 1) for member in item.members]
+            return self.listed(item, "[]", members)
+        pairs = [lambda pair=pair: self.item(pair[0], level + 1) + ": " + self.item(pair[1], level + 1)
+                 for pair in item.pairs]
+        return self.listed(item, "{}", pairs)
 
 
 def longer(number, width):

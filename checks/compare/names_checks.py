@@ -2,6 +2,7 @@
 these names, and the rules of docs/NAMES.md."""
 
 import os
+import re
 
 TOKEN = """\
 /COSE_Sign1/ 18([
@@ -63,6 +64,28 @@ SHOWN = [
     (["-t", "diag", "-x", "18([h'a10126', {}, h'', h''])"], "18([h'a10126', {}, h'', h''])\n"),
 ]
 
+# A dump with names: each line as it is without them, but for its comment. The items in byte strings have lines with -e.
+DUMP = """\
+d2               # /COSE_Sign1/ tag(18)
+   84            #   array(4)
+      43         #     /protected/ bytes(3)
+         a10126  #       "\\xa1\\x01&"
+      a1         #     /unprotected/ map(1)
+         04      #       /kid/ unsigned(4)
+         42      #       bytes(2)
+            3131 #         "11"
+      40         #     /payload/ bytes(0)
+                 #       ""
+      40         #     /signature/ bytes(0)
+                 #       ""
+"""
+
+INNER = """\
+         a1      #       map(1)
+            01   #         /alg/ unsigned(1)
+            26   #         negative(-7) /ES256/
+"""
+
 FRAME = """\
 [Frame]
 tag = 1000
@@ -94,6 +117,31 @@ def examples(run, same, folder):
          (KEY.encode(), "", 0))
 
 
+def dumps(run, same, folder):
+    """Names in the comments of dumps. A dump is the same without its comments, and is read back as the same bytes."""
+    item = ("-x", "18([h'a10126', {4: '11'}, h'', h''])")
+    outside = DUMP.splitlines(keepends=True)
+    inside = "".join(outside[:3]) + INNER + "".join(outside[4:])
+    same("a dump with names", run("-t", "hex", *item)[0].decode(), DUMP)
+    same("with items in byte strings", run("-e", "-t", "hex", *item)[0].decode(), inside)
+    bare = "".join(re.sub(r"/[^/]*/ ", "", line) for line in outside)
+    for words in (["--no-names"], ["--no-notes"]):
+        same(f"a dump with {words}", run(*words, "-t", "hex", *item)[0].decode(), bare)
+    same("a type", run("--as=CWT", "-t", "hex", "-x", "{4: 0}")[0].decode(),
+         "a1    # /CWT/ map(1)\n   04 #   /exp/ unsigned(4)\n   00 #   unsigned(0) /1970-01-01T00:00:00Z/\n")
+    same("of a part", run("--as=CWT", "-p", "*", "-t", "hex", "-x", "[{}, {}]")[0].decode(), "a0 # /CWT/ map(0)\n" * 2)
+    same("in colours", run("--as=CWT", "--color=always", "-t", "hex", "-x", "{}")[0],
+         b"\x1b[33ma0 \x1b[0m\x1b[90m# /CWT/ map(0)\x1b[0m\n")
+    for name in sorted(os.listdir(folder)):
+        if name.endswith((".hex", ".cbor")):
+            for words in ([], ["-e"]):
+                dump = run(*words, "-t", "hex", f"{folder}/{name}")[0]
+                plain = run(*words, "--no-names", "-t", "hex", f"{folder}/{name}")[0]
+                same(f"{name} {words} without comments", re.sub(rb"#.*", b"", dump), re.sub(rb"#.*", b"", plain))
+                same(f"{name} {words} is read back", run("-t", "bytes", "-f", "hex", data=dump),
+                     run("-t", "bytes", f"{folder}/{name}"))
+
+
 def words(run, same):
     """The options of names, and what is wrong with them."""
     for given, wanted in SHOWN:
@@ -102,7 +150,7 @@ def words(run, same):
     same("no such type", (out, status, error.startswith("cborcat: there is no type COSE_Kex; the types are COSE_Sign1, ")),
          (b"", 2, True))
     same("types are listed", all(name in error for name in ("COSE_Key", "CWT", "SenML", "CTAP2_GetInfo")), True)
-    for given in (["--no-names", "--as=CWT"], ["--as=CWT", "-t", "hex"], ["--as=CWT", "--no-notes"], ["--as=CWT", "-c"],
+    for given in (["--no-names", "--as=CWT"], ["--as=CWT", "-t", "diag"], ["--as=CWT", "--no-notes"], ["--as=CWT", "-c"],
                   ["--no-names", "--names=x"]):
         out, _, status = run(*given, "-x", "1")
         same(f"refused {given}", (out, status), (b"", 2))
@@ -132,4 +180,5 @@ def check(run, same, folder, scratch):
     """All of these; `scratch` is a folder to write in."""
     examples(run, same, folder)
     words(run, same)
+    dumps(run, same, folder)
     files(run, same, scratch)

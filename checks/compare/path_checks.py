@@ -75,6 +75,9 @@ def nowhere(run, same):
         ("@18446744073709551616", "h'01'", "@18446744073709551616: no item begins at that byte of the 1 byte"),
         ("1", "5", "1: no array or map is there"),
         ("3", "[5]", "3: no such index; the array has 1 items"),
+        ("a//b", '{"a": {"c": 1}}', 'a//b: no such key; the map at a has "c"'),
+        ("/a", '{"c": 1}', '/a: no such key; the map has "c"'),
+        ("//a//b/c/", '{"a": {"b": 5}}', "//a//b/c: no array or map is at //a//b"),
     ]
     for path, text, said in rows:
         same(f"{path} of {text}", run("-p", path, "-t", "diag", "-f", "diag", "-x", text),

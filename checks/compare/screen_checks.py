@@ -45,6 +45,25 @@ def terminals(in_terminal, run, same):
     same("a pipe", run(data=b"\x81\x01", env={**os.environ, "TERM": "xterm"})[0], b"[1]\n")
 
 
+def marks(in_terminal, run, same):
+    """The mark below what is wrong has a colour where standard error is shown colours, and nothing else has."""
+    said = ("cborcat: standard input: byte 2 (0x2): no item can have this head\n"
+            "    at 1, in the array of 2 at byte 0, of which 1 is there\n    82 01 1f\n          ^^\n")
+    marked = said.replace("^^", "\x1b[1;31m^^\x1b[0m")
+    bad = bytes.fromhex("82011f")
+    same("a mark in a pipe", run("-c", data=bad), (b"", said, 1))
+    same("a mark with --color=always", run("-c", "--color=always", data=bad), (b"", marked, 1))
+    for words, variables, wanted in [
+        ([], {"TERM": "xterm"}, marked), ([], {}, said), ([], {"TERM": "xterm", "NO_COLOR": "1"}, said),
+        (["--color=never"], {"TERM": "xterm"}, said), (["--color=always"], {"NO_COLOR": "1"}, marked),
+    ]:
+        same(f"a mark in a terminal {words} {variables}", in_terminal(["-c", *words], bad, variables), (wanted, 1))
+    for words in (["-f", "hex", "-x", "82 01\n 1f"], ["-f", "hex", "-x", "82 0g"], ["-f", "diag", "-x", "[1 2"]):
+        plain, shown = run("-c", *words)[1], run("-c", "--color=always", *words)[1]
+        same(f"{words} without colours", re.sub("\x1b\\[[0-9;]*m", "", shown), plain)
+        same(f"{words} has one mark", shown.count("\x1b[1;31m^"), 1)
+
+
 def elided(run, same):
     """Strings that are as long as is allowed, and longer ones."""
     item = "82 43 010203 64 61c3bc62"
@@ -97,6 +116,7 @@ def check(run, in_terminal, same, examples):
     """All of them; without the sequences each example is the same text in each form, and no line leaves one open."""
     colors(run, same)
     terminals(in_terminal, run, same)
+    marks(in_terminal, run, same)
     elided(run, same)
     dumps(run, same)
     for name in sorted(os.listdir(examples)):

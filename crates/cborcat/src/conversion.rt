@@ -1,9 +1,11 @@
 //! The conversion of one input, as its bytes come.
 
+use crate::dumps::shown_dumps;
 use crate::each::show_each;
 use crate::encode::Encoding;
 use crate::input::{MORE, block_len, read_into};
 use crate::messages::{Place, report_byte, report_end, report_long, report_lost, say};
+use crate::naming::Tables;
 use crate::output::{Target, Written, write};
 use crate::plain::Plain;
 use crate::run::Runner;
@@ -12,10 +14,10 @@ use crate::shown::show_of;
 use crate::status::{Next, Status};
 use crate::words::{Job, View};
 use cbor_diag::Error;
-use cbor_inspect::{End, Form, Naming, Stream, two_byte_simple};
+use cbor_inspect::{End, Form, Stream, two_byte_simple};
 use cbor_messages::{TWO_BYTES, first_breach};
 use cbor_places::{Leaves, Piece, lines_at, partial_text};
-use cbor_screen::{Language, push_embedded};
+use cbor_screen::Language;
 use std::io;
 use std::io::Read;
 
@@ -27,7 +29,7 @@ pub struct Conversion<'a> {
     target: &'a mut Target,
     place: &'a Place<'a>,
     /// The names that are shown.
-    naming: Option<Naming<'a>>,
+    tables: Option<Tables<'a>>,
     /// How it went so far.
     pub status: Status,
     /// The bytes that came, but for those that are skipped or converted.
@@ -66,7 +68,7 @@ fn drop_front(bytes: &mut Vec<u8>, count: usize) {
 impl<'a> Conversion<'a> {
     /// A conversion of an input that begins with these bytes.
     pub fn new(run: &'a mut Runner<'_>, place: &'a Place<'a>, first: Vec<u8>) -> Conversion<'a> {
-        let (rt, job, naming) = (run.rt, run.job, run.naming);
+        let (rt, job, tables) = (run.rt, run.job, run.tables);
         let came = first.len();
         let mut first = first;
         let skipped = job.offset.min(came);
@@ -76,7 +78,7 @@ impl<'a> Conversion<'a> {
             job,
             target: run.target,
             place,
-            naming,
+            tables,
             status: Status::Fine,
             stream: Stream::new(first),
             came,
@@ -183,15 +185,24 @@ impl<'a> Conversion<'a> {
         let Some(language) = language_of(style.form) else {
             return Ok(write(self.rt, self.target, &self.out));
         };
-        if language == Language::Dump
-            && style.embedded
-            && let Ok(dumps) = str::from_utf8(&self.out)
-        {
-            let mut shown = String::new(self.rt.alloc());
-            push_embedded(&mut shown, dumps)?;
-            return Ok(self.screen.write(self.target, shown.as_bytes(), language)?);
+        if language == Language::Dump {
+            let tables = self.tables_of_passed();
+            if (style.embedded || tables.is_some())
+                && let Ok(dumps) = str::from_utf8(&self.out)
+            {
+                let shown = shown_dumps(self.rt.alloc(), dumps, style.embedded, tables)?;
+                return Ok(self.screen.write(self.target, &shown, language)?);
+            }
         }
         Ok(self.screen.write(self.target, &self.out, language)?)
+    }
+
+    /// The names that the items may have that were passed last.
+    fn tables_of_passed(&self) -> Option<Tables<'a>> {
+        match self.tables {
+            Some(tables) if tables.may_name(self.stream.passed(self.passed)) => Some(tables),
+            _ => None,
+        }
     }
 
     /// Writes a line for each item of these that holds no other.
@@ -296,7 +307,7 @@ impl<'a> Conversion<'a> {
 
     /// Shows some items, and tells what follows them.
     fn show_some(&mut self) -> End {
-        match show_of(self.rt.alloc(), self.job, self.naming) {
+        match show_of(self.rt.alloc(), self.job, self.tables) {
             Ok(show) => self.stream.show(&show, &mut self.out),
             Err(_) => End::Memory,
         }
@@ -312,7 +323,7 @@ impl<'a> Conversion<'a> {
             job: self.job,
             place: self.place,
             set,
-            naming: self.naming,
+            tables: self.tables,
         };
         let asked = (self.came, self.job.show.one);
         let (end, status) = show_each(&encoding, &mut self.stream, asked, &mut self.out);

@@ -2,11 +2,12 @@
 
 use crate::each::ShowsItem;
 use crate::messages::{Place, report_byte, report_lost};
+use crate::naming::Tables;
 use crate::shown::show_of;
 use crate::status::Status;
 use crate::words::Job;
 use cbor_diag::Error;
-use cbor_inspect::{End, Naming, show_items};
+use cbor_inspect::{End, show_items};
 use cbor_messages::{RuleSet, not_encoded};
 use cbor_places::Piece;
 use cbor_reencode::{ReencodeError, reencoded};
@@ -20,7 +21,7 @@ pub struct Encoding<'a> {
     /// The rules that the items are to keep.
     pub set: RuleSet,
     /// The names that are shown.
-    pub naming: Option<Naming<'a>>,
+    pub tables: Option<Tables<'a>>,
 }
 
 impl ShowsItem for Encoding<'_> {
@@ -30,7 +31,7 @@ impl ShowsItem for Encoding<'_> {
             Ok(again) => again,
             Err(error) => return self.refuse(item, error),
         };
-        let show = show_of(self.rt.alloc(), self.job, self.naming)?;
+        let show = show_of(self.rt.alloc(), self.job, self.tables)?;
         match show_items(&show, &again, out).end {
             End::Memory => Err(Error::Memory),
             End::Lost { .. } => Ok(report_lost(self.rt, self.job, self.place, &again)),

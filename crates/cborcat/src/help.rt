@@ -19,13 +19,15 @@ Output:
   -p, --path=PATH    only the part that PATH leads to, or each part
   -e, --embedded     show byte strings that hold an array, a map or a
                      tagged item as <<..>>, in a dump as its lines
-      --no-notes     no comments in notation
+      --no-notes     no comments in notation, and no names
       --as=TYPE      the type of what is shown, such as COSE_Key, where no tag
                      says it: its keys and values have their names
       --names=FILE   the names of FILE beside those of COSE, CWT, EAT, SenML
                      and CTAP2: tables in TOML
       --no-names     no names, but the other comments
       --widths       the width of each float and number above 23
+      --width=N      lines of N columns, 20 to 1000, where pretty notation takes
+                     several (default: 80)
       --strict       what JSON does not keep is an error (-t json)
       --elide[=N]    cut strings of more than N bytes (default: 32) in notation,
                      which then is not to be read back

@@ -6,6 +6,7 @@
 #![tactic(auto)]
 
 mod conversion;
+mod dumps;
 mod each;
 mod encode;
 mod help;

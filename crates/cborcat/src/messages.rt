@@ -1,5 +1,6 @@
 //! Messages on standard error.
 
+use crate::screen::Color;
 use crate::status::Status;
 use crate::words::Job;
 use cbor_diag::Error;
@@ -22,6 +23,8 @@ pub struct Place<'a> {
     pub form: Input,
     /// What it is in that form, if it is not bytes.
     pub text: &'a [u8],
+    /// Whether messages of it have colours.
+    pub color: Color,
 }
 
 /// The name of an input in a message.
@@ -181,7 +184,8 @@ fn say_byte(rt: &HostRuntime, place: &Place, left: Piece, at_fault: usize, words
         Some(at) => {
             say_at(rt, (place.name, place.text), at, what);
             say_where(rt, in_item);
-            let _ = eprintln!(rt; "{}", Excerpt::of_text(place.text, at, "^^"));
+            let excerpt = Excerpt::of_text(place.text, at, "^^");
+            place.color.say_excerpt(rt, &excerpt);
         }
         None => {
             let _ = eprintln!(rt;
@@ -191,7 +195,7 @@ fn say_byte(rt: &HostRuntime, place: &Place, left: Piece, at_fault: usize, words
             );
             say_where(rt, in_item);
             if let Some(excerpt) = Excerpt::of_bytes(left.bytes, at_fault) {
-                let _ = eprintln!(rt; "{excerpt}");
+                place.color.say_excerpt(rt, &excerpt);
             }
         }
     }
@@ -248,26 +252,40 @@ pub fn report_long(rt: &HostRuntime, place: &Place, begins: usize, limit: usize)
 }
 
 /// Says why a text does not have its form, and what it may be.
-pub fn report_refusal(rt: &HostRuntime, name: &str, text: &[u8], refusal: Refusal) -> Status {
+pub fn report_refusal(
+    rt: &HostRuntime,
+    color: Color,
+    input: (&str, &[u8]),
+    refusal: Refusal,
+) -> Status {
+    let (name, text) = input;
     let status = match refusal {
         Refusal::Memory | Refusal::Hex(HexFault::Memory) => say_out_of_memory(rt, name),
         Refusal::Hex(HexFault::Digit(at)) => {
-            report_character(rt, (name, text), at, "not a hex digit")
+            report_character(rt, color, input, (at, "not a hex digit"))
         }
         Refusal::Hex(HexFault::Odd(at)) => {
             say_at(rt, (name, text), at, "an odd number of hex digits");
             Status::Bad
         }
-        Refusal::Utf8 { at } => report_character(rt, (name, text), at, Error::Utf8.text()),
+        Refusal::Utf8 { at } => report_character(rt, color, input, (at, Error::Utf8.text())),
         Refusal::Diag { expected, at } => {
             let rest = text.get(at..).unwrap_or(b"");
-            report_character(rt, (name, text), at, expected.in_text(rest))
+            report_character(rt, color, input, (at, expected.in_text(rest)))
         }
         Refusal::Base64 => {
             let _ = eprintln!(rt; "cborcat: {}: not base 64", label(name));
             Status::Bad
         }
-        Refusal::Items { form, shown } => report_data(rt, (name, text), form, shown),
+        Refusal::Items { form, shown } => {
+            let place = Place {
+                name,
+                form,
+                text,
+                color,
+            };
+            report_data(rt, &place, shown)
+        }
     };
     if status == Status::Bad {
         say_pasted(rt, text);
@@ -278,12 +296,13 @@ pub fn report_refusal(rt: &HostRuntime, name: &str, text: &[u8], refusal: Refusa
 /// Says what is wrong at a character of a text, and shows it.
 fn report_character<T: Display + Drop>(
     rt: &HostRuntime,
+    color: Color,
     input: (&str, &[u8]),
-    at: usize,
-    what: T,
+    wrong: (usize, T),
 ) -> Status {
+    let (at, what) = wrong;
     say_at(rt, input, at, what);
-    let _ = eprintln!(rt; "{}", Excerpt::of_text(input.1, at, "^"));
+    color.say_excerpt(rt, &Excerpt::of_text(input.1, at, "^"));
     Status::Bad
 }
 
@@ -304,14 +323,13 @@ fn say_pasted(rt: &HostRuntime, text: &[u8]) {
 }
 
 /// Says why the data that a text stands for in a form are no items.
-fn report_data(rt: &HostRuntime, input: (&str, &[u8]), form: Input, shown: Shown) -> Status {
-    let (name, text) = input;
-    let Ok(data) = form.decode(rt.alloc(), text) else {
-        return say_out_of_memory(rt, name);
+fn report_data(rt: &HostRuntime, place: &Place, shown: Shown) -> Status {
+    let Ok(data) = place.form.decode(rt.alloc(), place.text) else {
+        return say_out_of_memory(rt, place.name);
     };
     let left = Piece {
         begins: shown.used,
         bytes: data.get(shown.used..).unwrap_or(b""),
     };
-    report_end(rt, &Place { name, form, text }, left, shown.end)
+    report_end(rt, place, left, shown.end)
 }

@@ -1,10 +1,11 @@
-//! The names that are shown, by the tables that come with `cbor_names` and those of a file.
+//! The names that are shown, by the tables of `cbor_known_names` and those of a file.
 
 use crate::messages::{label, say};
 use crate::status::Status;
 use crate::words::{Job, View};
 use cbor_inspect::{Form, Naming, is_shown};
-use cbor_names::Names;
+use cbor_known_names::known_names;
+use cbor_names::{Names, Type};
 use cbor_names_file::with_file;
 use std::fs;
 
@@ -20,7 +21,7 @@ pub fn tables_of(rt: &HostRuntime, job: &Job) -> Result<Names, Status> {
     if !job.has_names() {
         return Ok(Names::new(alloc));
     }
-    let Ok(known) = Names::known(alloc) else {
+    let Ok(known) = known_names(alloc) else {
         return Err(no_memory(rt));
     };
     let Some(path) = job.tables else {
@@ -42,22 +43,50 @@ pub fn tables_of(rt: &HostRuntime, job: &Job) -> Result<Names, Status> {
     }
 }
 
+/// The names that are shown.
+#[derive(Clone, Copy)]
+pub struct Tables<'a> {
+    /// The tables.
+    pub names: &'a Names,
+    /// The type of what is shown, if it is known.
+    pub outer: Option<Type>,
+}
+
+impl<'a> Tables<'a> {
+    /// The same, as `cbor_inspect` is told it.
+    pub fn naming(self) -> Naming<'a> {
+        Naming::new(self.names, self.outer)
+    }
+
+    /// Whether items of these bytes may have names: their type is known, or a tag of the tables may
+    /// begin with one of the bytes.
+    pub fn may_name(self, bytes: &[u8]) -> bool {
+        self.outer.is_some() || bytes.iter().any(|byte| self.begins_tag(*byte))
+    }
+
+    /// Whether a tag of the tables may begin with this byte.
+    fn begins_tag(self, byte: u8) -> bool {
+        let low = byte & 31;
+        byte >> 5 == 6 && (low >= 24 || self.names.tagged(u64::from(low)).is_some())
+    }
+}
+
 /// The names by these tables, if they are shown. Says which types there are if the one that is
 /// asked for is none.
-pub fn naming_of<'a>(
+pub fn shown_of<'a>(
     rt: &HostRuntime,
     job: &Job,
     names: &'a Names,
-) -> Result<Option<Naming<'a>>, Status> {
+) -> Result<Option<Tables<'a>>, Status> {
     if !job.has_names() {
         return Ok(None);
     }
     let Some(word) = job.outer else {
-        return Ok(Some(Naming::new(names, None)));
+        return Ok(Some(Tables { names, outer: None }));
     };
-    let found = names.of(word);
-    if found.is_some() {
-        return Ok(Some(Naming::new(names, found)));
+    let outer = names.of(word);
+    if outer.is_some() {
+        return Ok(Some(Tables { names, outer }));
     }
     let Ok(list) = names.list(rt.alloc()) else {
         return Err(no_memory(rt));
@@ -75,7 +104,8 @@ impl Job<'_> {
     /// Whether items are shown with their names.
     pub fn has_names(&self) -> bool {
         let style = self.show.style;
-        let is_shown = self.view == View::Items && style.form == Form::Pretty && !self.check;
+        let has_comments = matches!(style.form, Form::Pretty | Form::Hex);
+        let is_shown = self.view == View::Items && has_comments && !self.check;
         is_shown && style.notes && self.names
     }
 }

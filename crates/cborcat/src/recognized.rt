@@ -1,7 +1,9 @@
 //! The form of an input, if the arguments do not name it.
 
 use crate::messages::{label, report_refusal, say_out_of_memory, word_of};
+use crate::screen::Color;
 use crate::status::Status;
+use crate::words::Job;
 use cbor_inspect::{
     End, Input, Recognized, Refusal, is_text, place_of_fault, recognize, skip_items,
 };
@@ -11,21 +13,25 @@ use std::alloc::{AllocError, Global};
 /// is named, or the one that is recognized. A message says why there is none.
 pub fn data_of(
     rt: &HostRuntime,
-    from: Option<Input>,
+    job: &Job,
     input: (&str, &[u8]),
 ) -> Result<(Input, Vec<u8>), Status> {
-    let (name, text) = input;
-    let Some(form) = from else {
-        return recognized(rt, name, text);
+    let Some(form) = job.from else {
+        return recognized(rt, job.color, input);
     };
-    match form.decode(rt.alloc(), text) {
+    match form.decode(rt.alloc(), input.1) {
         Ok(bytes) => Ok((form, bytes)),
-        Err(refusal) => Err(report_refusal(rt, name, text, refusal)),
+        Err(refusal) => Err(report_refusal(rt, job.color, input, refusal)),
     }
 }
 
 /// The data of an input in the form that it has.
-fn recognized(rt: &HostRuntime, name: &str, text: &[u8]) -> Result<(Input, Vec<u8>), Status> {
+fn recognized(
+    rt: &HostRuntime,
+    color: Color,
+    input: (&str, &[u8]),
+) -> Result<(Input, Vec<u8>), Status> {
+    let (name, text) = input;
     let alloc = rt.alloc();
     let refusal = match recognize(alloc, text) {
         Ok(found) => {
@@ -42,7 +48,7 @@ fn recognized(rt: &HostRuntime, name: &str, text: &[u8]) -> Result<(Input, Vec<u
             Err(_) => Err(say_out_of_memory(rt, name)),
         };
     }
-    let status = report_refusal(rt, name, text, refusal);
+    let status = report_refusal(rt, color, input, refusal);
     if status == Status::Bad && is_text(text) {
         say_count(rt, text);
     }

@@ -3,12 +3,12 @@
 use crate::conversion::Conversion;
 use crate::input::{block_len, read_first};
 use crate::messages::{Place, say, say_no_text};
-use crate::naming::{naming_of, tables_of};
+use crate::naming::{Tables, shown_of, tables_of};
 use crate::output::{Target, close, open};
 use crate::recognized::data_of;
 use crate::status::{Next, Status};
 use crate::words::{Job, View};
-use cbor_inspect::{Form, Input, Naming};
+use cbor_inspect::{Form, Input};
 use std::fs::File;
 use std::io;
 use std::io::{IsTerminal, Read};
@@ -30,8 +30,8 @@ pub fn run(rt: &HostRuntime, job: &Job) -> u8 {
         Ok(names) => names,
         Err(status) => return status.number(),
     };
-    let naming = match naming_of(rt, job, &names) {
-        Ok(naming) => naming,
+    let tables = match shown_of(rt, job, &names) {
+        Ok(tables) => tables,
         Err(status) => return status.number(),
     };
     let asked = if job.check { None } else { job.output };
@@ -42,7 +42,7 @@ pub fn run(rt: &HostRuntime, job: &Job) -> u8 {
         rt,
         job,
         target: &mut target,
-        naming,
+        tables,
         status: Status::Fine,
     };
     run.inputs();
@@ -64,7 +64,7 @@ pub struct Runner<'a> {
     /// Where the output goes.
     pub target: &'a mut Target,
     /// The names that are shown.
-    pub naming: Option<Naming<'a>>,
+    pub tables: Option<Tables<'a>>,
     /// How it went so far.
     pub status: Status,
 }
@@ -118,7 +118,14 @@ impl Runner<'_> {
             Err(error) => return self.cannot_read(name, &error),
         };
         let (form, text) = (Input::Bytes, b"".as_slice());
-        let (next, begins) = self.items(&Place { name, form, text }, bytes, input);
+        let color = self.job.color;
+        let place = Place {
+            name,
+            form,
+            text,
+            color,
+        };
+        let (next, begins) = self.items(&place, bytes, input);
         if !begins && at > 0 {
             say_no_text(self.rt, at);
         }
@@ -138,10 +145,17 @@ impl Runner<'_> {
 
     /// Converts an input that was read to its end, in the form that is named or recognized.
     fn text(&mut self, name: &str, text: &[u8]) -> Next {
-        match data_of(self.rt, self.job.from, (name, text)) {
+        match data_of(self.rt, self.job, (name, text)) {
             Ok((form, bytes)) => {
                 let mut none = b"".as_slice();
-                self.items(&Place { name, form, text }, bytes, &mut none).0
+                let color = self.job.color;
+                let place = Place {
+                    name,
+                    form,
+                    text,
+                    color,
+                };
+                self.items(&place, bytes, &mut none).0
             }
             Err(status) => {
                 self.ended(status);

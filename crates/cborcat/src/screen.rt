@@ -1,10 +1,12 @@
-//! What is shown of a text on the screen: colours, and long strings that are cut.
+//! What is shown of a text on the screen: colours, and long strings that are cut; and the colour of
+//! the marks in messages.
 
 use crate::output::{Target, Written, write};
 use crate::words::Job;
 use cbor_inspect::{Form, is_shown, push_shown};
-use cbor_screen::{Language, push_colored, push_elided};
-use std::alloc::AllocError;
+use cbor_messages::Excerpt;
+use cbor_screen::{Kind, Language, push_colored, push_elided, push_in_color};
+use std::alloc::{AllocError, Global};
 use std::env;
 use std::io::IsTerminal;
 
@@ -39,6 +41,19 @@ pub fn language_of(form: Form) -> Option<Language> {
 }
 
 impl Color {
+    /// Says which part of an input a message is about. The mark below what is wrong has a colour if
+    /// standard error is shown colours.
+    pub fn say_excerpt(self, rt: &HostRuntime, excerpt: &Excerpt) {
+        if self.is_on(rt, rt.stderr().is_terminal())
+            && let Ok(text) = with_colored_mark(rt.alloc(), excerpt)
+            && let Ok(shown) = str::from_utf8(&text)
+        {
+            let _ = eprintln!(rt; "{shown}");
+        } else {
+            let _ = eprintln!(rt; "{excerpt}");
+        }
+    }
+
     /// Whether texts have colours that go to a terminal, or not.
     fn is_on(self, rt: &HostRuntime, terminal: bool) -> bool {
         match self {
@@ -47,6 +62,19 @@ impl Color {
             Color::Never => false,
         }
     }
+}
+
+/// The lines of an excerpt, with its mark, which follows the last blank, in colour.
+fn with_colored_mark(alloc: Global, excerpt: &Excerpt) -> Result<Vec<u8>, AllocError> {
+    let text = format!(in alloc; "{excerpt}")?;
+    let begins = match text.rfind(' ') {
+        Some(blank) => blank.saturating_add(1),
+        None => 0,
+    };
+    let (lines, mark) = text.as_bytes().split_at(begins.min(text.len()));
+    let mut shown = Vec::from_slice(alloc, lines)?;
+    push_in_color(&mut shown, Kind::Fault, mark)?;
+    Ok(shown)
 }
 
 /// Whether the environment wants colours in a terminal: `TERM` is there and is not `dumb`, and

@@ -1,12 +1,21 @@
 //! What is written of items, as `cbor_inspect` is told it.
 
+use crate::naming::Tables;
 use crate::words::Job;
 use cbor_diag::Error;
-use cbor_inspect::{Naming, Show, steps_of};
+use cbor_inspect::{Show, steps_of};
 use std::alloc::Global;
 
 /// What is written of items, by the arguments, with these names.
-pub fn show_of<'a>(alloc: Global, job: &Job, names: Option<Naming<'a>>) -> Result<Show<'a>, Error> {
+pub fn show_of<'a>(
+    alloc: Global,
+    job: &Job,
+    tables: Option<Tables<'a>>,
+) -> Result<Show<'a>, Error> {
+    let names = match tables {
+        Some(tables) => Some(tables.naming()),
+        None => None,
+    };
     Ok(Show {
         style: job.show.style,
         names,

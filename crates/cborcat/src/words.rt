@@ -169,12 +169,14 @@ fn with_output<'a>(alloc: Global, command: Command<'a>) -> Result<Command<'a>, A
         .default_missing_value("rfc8949")
         .value_parser(RULES.as_slice());
     let encode = option(alloc, "encode").value_parser(ENCODINGS.as_slice());
+    let width = option(alloc, "width").value_parser(clap::value_parser!(u16).range(20..=1000));
     command
         .arg(to)?
         .arg(path)?
         .arg(flag(alloc, "embedded").short('e'))?
         .arg(flag(alloc, "no-notes"))?
         .arg(flag(alloc, "widths"))?
+        .arg(width)?
         .arg(flag(alloc, "strict"))?
         .arg(option(alloc, "output").short('o'))?
         .arg(check)?
@@ -249,6 +251,9 @@ fn form_of(word: Option<&str>) -> Form {
     }
 }
 
+/// The columns of pretty notation, unless the arguments say so.
+const COLUMNS: u16 = 80;
+
 /// How the arguments ask for items to be written.
 fn style_of(matches: &ArgMatches) -> Style {
     Style {
@@ -256,6 +261,7 @@ fn style_of(matches: &ArgMatches) -> Style {
         embedded: matches.get_flag("embedded"),
         notes: !matches.get_flag("no-notes"),
         widths: matches.get_flag("widths"),
+        columns: matches.get_one::<u16>("width").unwrap_or(COLUMNS),
     }
 }
 
@@ -274,16 +280,20 @@ fn view_of(matches: &ArgMatches) -> View {
 }
 
 /// Why what the arguments ask for is not to be had, if it is not.
-fn refusal(job: &Job) -> Option<&'static str> {
+fn refusal(job: &Job, matches: &ArgMatches) -> Option<&'static str> {
     let encoded = job.encode.is_some();
     let is_notation = matches!(job.show.style.form, Form::Pretty | Form::Diag);
+    let has_width = matches.get_one::<u16>("width").is_some();
     let has_tables = job.outer.is_some() || job.tables.is_some();
     match job.view {
         _ if has_tables && !job.has_names() => {
-            Some("--as and --names are for names, which pretty notation with notes has alone")
+            Some("--as and --names are for names, which pretty notation and dumps have, with notes")
         }
         _ if job.elide.is_some() && !is_notation => {
             Some("--elide cuts strings of pretty, diag and paths alone")
+        }
+        _ if has_width && job.show.style.form != Form::Pretty => {
+            Some("--width is for pretty notation alone")
         }
         View::Paths if encoded || !job.path.is_empty() => {
             Some("-t paths shows all paths as they are, and has no -p or --encode")
@@ -346,7 +356,7 @@ fn job_of<'a>(rt: &HostRuntime, matches: &ArgMatches<'a>) -> Asked<'a> {
         encode: matches.get_str("encode").and_then(RuleSet::named),
         files,
     };
-    if let Some(why) = refusal(&job) {
+    if let Some(why) = refusal(&job, matches) {
         let _ = eprintln!(rt; "cborcat: {why}");
         return Asked::Ended(2);
     }
