@@ -11,7 +11,6 @@ use Rattle.cbor_grammar.specs.WellFormed.{FitsFloat}
 use Rattle.cbor_grammar.specs.Written.{encoded_head, resolve_float}
 use Rattle.cbor_grammar.specs.Normal.{normal_width}
 use Rattle.cbor_grammar.proofs.bytes.Strict.{shortest_has, stated_fits}
-use Rattle.cbor_notation.proofs.notation.Numbers.{fits_64}
 
 -- ---- lengths of heads
 
@@ -47,8 +46,16 @@ less_fits m n Sixteen le fits = let lt : n < 2 ^ 16 = fits in omega arith
 less_fits m n ThirtyTwo le fits = let lt : n < 2 ^ 32 = fits in omega arith
 less_fits m n SixtyFour le fits = let lt : n < 2 ^ 64 = fits in omega arith
 
+pub below_limit : (n : ℕ) (w : IntegerWidth) → FitsWidth w n → n < 2 ^ 64
+below_limit n Unknown fits = fits
+below_limit n Zero fits = let lt : n < 24 = fits in omega arith
+below_limit n Eight fits = let lt : n < 2 ^ 8 = fits in omega arith
+below_limit n Sixteen fits = let lt : n < 2 ^ 16 = fits in omega arith
+below_limit n ThirtyTwo fits = let lt : n < 2 ^ 32 = fits in omega arith
+below_limit n SixtyFour fits = fits
+
 pub open_fits : (m n : ℕ) (w : IntegerWidth) → m ≤ n → FitsWidth w n → FitsWidth Unknown m
-open_fits m n w le fits = let lt = fits_64 w n fits in omega arith
+open_fits m n w le fits = let lt = below_limit n w fits in omega arith
 
 -- the head of a length that is no greater, in an unstated width, is no longer
 pub head_no_longer : (major m n : ℕ) (w : IntegerWidth) → m ≤ n → FitsWidth w n

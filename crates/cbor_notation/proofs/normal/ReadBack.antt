@@ -38,16 +38,14 @@ use Rattle.cbor_grammar.proofs.shared.EmbeddedItems.{embedded_spells, sequence_s
 use Rattle.cbor_grammar.proofs.bytes.Laws.{AllBytes, bytes_at}
 use Rattle.cbor_notation.proofs.normal.WellFormed.{tag_kind}
 use Rattle.cbor_bytes.proofs.bytes.WellFormed.{items_well}
-use Rattle.cbor_notation.proofs.notation.sound.Items.{reads_blank}
-use Rattle.cbor_notation.proofs.notation.sound.Pieces.{blanked_more}
 use Rattle.cbor_notation.proofs.normal.ReadTokens.{one_space, number_read, negative_read, quoted_read}
 use Rattle.cbor_notation.proofs.normal.ReadTokens.{string_read, float_read, simple_read}
 use Rattle.cbor_notation.proofs.normal.ReadLists.{Each, opening_of, opens, listed}
 
--- ---- blanks round a core
+-- ---- a blank before a core
 
-plain : (Is : List ℕ → Type 0) (core : List ℕ) → Is core → Blanked Is core
-plain Is core h = ([], core, [], sym (append-nil core), nothing, h, nothing)
+after_gap : (Is : List ℕ → Type 0) (gap core : List ℕ) → IsBlank gap → Is core → Blanked Is (gap ++ core)
+after_gap Is gap core b h = (gap, core, [], ap (λ t. gap ++ t) (sym (append-nil core)), b, h, nothing)
 
 -- ---- chunks
 
@@ -59,7 +57,7 @@ chunks_each kind Read e [] h = tt
 chunks_each kind Read e (s ∷ cs) h =
     let Is : List ℕ → Type 0 = λ core. StringOf kind Read core (normal_chunk s) in
     let one = string_text kind e s.bytes in (
-      λ gap b. blanked_more Is gap one b (plain Is one (string_read kind Read e s h.0)),
+      λ gap b. after_gap Is gap one b (string_read kind Read e s h.0),
       chunks_each kind Read e cs h.1,
     )
 
@@ -103,10 +101,10 @@ colon_after _ value = refl
 
 -- ---- one level: members are read by what reads the level below
 
--- the text of an item is read as its normal form, at this level
+-- the text of an item, with any blank before it, is read as its normal form, at this level
 abbrev IsRead : ℕ → ℕ → Type 0
-IsRead level left = (c : Context) (tag : Option ℕ) (i : Item) → c.content ≡ content_of tag → WellFormed level i
-    → Reads left (text_at left c i) (normal_at left tag i)
+IsRead level left = (gap : List ℕ) → IsBlank gap → (c : Context) (tag : Option ℕ) (i : Item)
+    → c.content ≡ content_of tag → WellFormed level i → Reads left (gap ++ text_at left c i) (normal_at left tag i)
 
 module _ (level left : ℕ) (levels : level + left ≡ 129) (reads : IsRead level left) where
   items_each : (c : Context) (is : Items) → WellFormedItems level is
@@ -114,8 +112,7 @@ module _ (level left : ℕ) (levels : level + left ≡ 129) (reads : IsRead leve
       (list_of (normal_items (normal_at left None) is))
   items_each c no_items h = tt
   items_each c (item i is) h = (
-    λ gap b. reads_blank left gap (text_at left (inside c.layout c) i) (normal_at left None i) b
-        (reads (inside c.layout c) None i refl h.0),
+    λ gap b. reads gap b (inside c.layout c) None i refl h.0,
     items_each c is h.1,
   )
 
@@ -131,10 +128,8 @@ module _ (level left : ℕ) (levels : level + left ≡ 129) (reads : IsRead leve
           colon_gap l ++ value,
           sym (append_assoc gap key (colon l ++ value))
               ∙ ap (λ t. (gap ++ key) ++ t) (colon_after l value),
-          reads_blank left gap key _ b
-              (reads (inside c.layout c) None k refl h.0),
-          reads_blank left (colon_gap l) value _ (colon_blank l)
-              (reads (inside c.layout c) None v refl h.1),
+          reads gap b (inside c.layout c) None k refl h.0,
+          reads (colon_gap l) (colon_blank l) (inside c.layout c) None v refl h.1,
         ),
         pairs_each c l ps h.2,
       )
@@ -152,7 +147,7 @@ module _ (level left : ℕ) (levels : level + left ≡ 129) (reads : IsRead leve
       let t = text_at left (inside c.layout c) e in
       one
       (as_items (item (normal_at left None e) no_items)
-      (t ++ codes ">>", refl, (t, codes ">>", refl, reads (inside c.layout c) None e refl well, inl refl))
+      (t ++ codes ">>", refl, (t, codes ">>", refl, reads [] nothing (inside c.layout c) None e refl well, inl refl))
       (sym (append-nil (encoded (normal_at left None e)))))
 
   sequence_read : (c : Context) (b : List ℕ) → AllBytes b
@@ -217,11 +212,17 @@ core_read level left levels reads c tag (spec.map ps w) same h =
           (pairs_each (level + 1) left levels reads (inside (members_layout l) c) l ps h.2),
     )
 core_read level left levels reads c tag (tagged t w i) same h =
-    (number t w, text_at left (below t c) i, refl, number_read t w h.1, reads (below t c) (Some t) i refl h.2)
+    let inner = reads [] nothing (below t c) (Some t) i refl h.2 in
+    (number t w, text_at left (below t c) i, refl, number_read t w h.1, inner)
 
-pub reads_back : (level left : ℕ) → level + left ≡ 129 → IsRead level left
+read_after : (level left : ℕ) → level + left ≡ 129 → IsRead level left
 unfolding text_at normal_at Reads
-reads_back level zero levels c tag i is h = absurd (omega (arith, well_level level i h))
-reads_back level (suc left) levels c tag i is h =
-    let core = core_read level left (omega arith) (reads_back (level + 1) left (omega arith)) c tag i is h in
-    plain (λ t. Core (Reads left) t (normal_with left (normal_at left) tag i)) (text_with left (text_at left) c i) core
+read_after level zero levels gap b c tag i is h = absurd (omega (arith, well_level level i h))
+read_after level (suc left) levels gap b c tag i is h =
+    let core = core_read level left (omega arith) (read_after (level + 1) left (omega arith)) c tag i is h in
+    after_gap (λ t. Core (Reads left) t (normal_with left (normal_at left) tag i)) gap
+    (text_with left (text_at left) c i) b core
+
+pub reads_back : (level left : ℕ) → level + left ≡ 129 → (c : Context) (tag : Option ℕ) (i : Item)
+    → c.content ≡ content_of tag → WellFormed level i → Reads left (text_at left c i) (normal_at left tag i)
+reads_back level left levels = read_after level left levels [] nothing

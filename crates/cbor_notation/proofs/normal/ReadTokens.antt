@@ -36,7 +36,7 @@ use Rattle.cbor_grammar.specs.Notation.{SimpleOf, FloatDigits, FloatOf}
 use Rattle.cbor_grammar.specs.NotationText.{indicator, number, quoted, string_text, float_text, simple_text}
 use Rattle.cbor_grammar.specs.Normal.{normal_width, normal_chunk}
 use Rattle.cbor_grammar.proofs.bytes.Laws.{AllBytes, wide_bytes}
-use Rattle.cbor_notation.proofs.normal.Form.{normal_fits}
+use Rattle.cbor_notation.proofs.normal.Form.{below_limit, normal_fits}
 
 -- ---- blanks
 
@@ -79,14 +79,6 @@ width_is : (n : ℕ) (w : IntegerWidth) → FitsWidth w n → normal_width w n �
 width_is n Unknown fits = refl
 width_is n Zero fits = let lt : n < 24 = fits in rw (lt-ltb n 24 lt) refl
 width_is n _ fits = refl
-
-below_limit : (n : ℕ) (w : IntegerWidth) → FitsWidth w n → n < 2 ^ 64
-below_limit n Unknown fits = fits
-below_limit n Zero fits = let lt : n < 24 = fits in omega arith
-below_limit n Eight fits = let lt : n < 2 ^ 8 = fits in omega arith
-below_limit n Sixteen fits = let lt : n < 2 ^ 16 = fits in omega arith
-below_limit n ThirtyTwo fits = let lt : n < 2 ^ 32 = fits in omega arith
-below_limit n SixtyFour fits = fits
 
 pub number_read : (n : ℕ) (w : IntegerWidth) → FitsWidth w n → NumberOf (number n w) n (normal_width w n)
 number_read n w fits =
@@ -176,7 +168,7 @@ some_or_none : (ds : List ℕ) → (ds ≡ []) ⊎ (0 < length ds)
 some_or_none [] = inl refl
 some_or_none (d ∷ ds) = inr (omega arith)
 
-pub between : (comments : Bool) (ds : List ℕ) → Digits comments ds → DigitsBetween comments ds ds
+between : (comments : Bool) (ds : List ℕ) → Digits comments ds → DigitsBetween comments ds ds
 between comments ds h = (spaced comments ds h, some_or_none ds)
 
 pub quoted_read : (Read : List ℕ → Item → Type 0) (e : Encoding) (b : List ℕ) → AllBytes b

@@ -1,14 +1,14 @@
 -- A negative number of notation whose value was capped is the one that the definition reads.
 use Rattle.std.proofs.Common.{◌≡◌, ℕ, suc, zero, ◌-◌, ◌≢◌, Option, Ok}
 use Rattle.std.proofs.Common.{List}
-use Rattle.std.proofs.Common.{ap, subst, ◌∙◌, sym, arith}
+use Rattle.std.proofs.Common.{ap, ◌∙◌, sym, arith}
 use Rattle.std.proofs.lemmas.Grind.{common_steps}
 use Rattle.cbor_grammar.specs.declared.width.IntegerWidth.{IntegerWidth}
 use Rattle.cbor_grammar.specs.declared.error.Error.{Error}
+use Rattle.cbor_grammar.specs.declared.error.Error.TheVariants as refusal
 use Rattle.cbor_grammar.specs.Reading.{◌>>=◌, Fails}
 use Rattle.cbor_tokens.specs.Token.{capped}
 use Rattle.cbor_notation.specs.mirror.NotationReading.{read_number, with_width, negative_number, read_negative_number}
-use Rattle.cbor_bytes.proofs.reading.Readings.{fails_bind}
 
 -- one less than a capped number has the width of one less than the number, or none
 less_capped : (m : ℕ) (indicator : Option ℕ) → with_width (capped (suc m) - 1) indicator ≡ with_width m indicator
@@ -30,5 +30,5 @@ module _ (text rest : List ℕ) (value n : ℕ) (indicator : Option ℕ)
   negative_read x e = there ∙ ap (λ r. r >>= λ x. Ok (x, rest)) e
 
   pub negative_fails : (e : Error) → Fails e (with_width (n - 1) indicator) → Fails e (read_negative_number text)
-  negative_fails e h = subst (λ r. Fails e r) (sym there)
-      (fails_bind e (with_width (n - 1) indicator) (λ x. Ok (x, rest)) h)
+  negative_fails refusal.Memory h = tt
+  negative_fails e h = there ∙ ap (λ r. r >>= λ x. Ok (x, rest)) h

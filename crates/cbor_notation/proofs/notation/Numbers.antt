@@ -52,7 +52,7 @@ number_begins text n indicator is = digit_begins text (number_digit text n indic
 
 -- ---- widths
 
-pub fits_64 : (w : IntegerWidth) (n : ℕ) → FitsWidth w n → n < 2 ^ 64
+fits_64 : (w : IntegerWidth) (n : ℕ) → FitsWidth w n → n < 2 ^ 64
 fits_64 Unknown n fits = fits
 fits_64 Zero n fits = omega arith
 fits_64 Eight n fits = omega arith

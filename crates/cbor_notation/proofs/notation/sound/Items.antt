@@ -276,7 +276,7 @@ module _ (left : ℕ) (R : List ℕ → Item → Type 0) (read : List ℕ → Re
 
 -- ---- items
 
-pub reads_blank : (left : ℕ) (before text : List ℕ) (i : Item) → IsBlank before → Reads left text i
+reads_blank : (left : ℕ) (before text : List ℕ) (i : Item) → IsBlank before → Reads left text i
     → Reads left (before ++ text) i
 unfolding Reads
 reads_blank zero before text i is h = absurd h
