@@ -1,1 +1,2 @@
 pub mod MemberParts
+pub mod TextsAlike

@@ -30,7 +30,7 @@ pub use cbor_dump::{bytes_to_hex, hex_to_hex, push_bytes_to_hex, push_bytes_to_h
 pub use cbor_grammar::{
     ByteString, Error, FloatWidth, IntegerWidth, Result, Simple, Tag, TextString,
 };
-pub use cbor_notation::{
+pub use cbor_notation_writer::{
     bytes_to_diag, bytes_to_diag_pretty, hex_to_diag, hex_to_diag_pretty, push_bytes_to_diag,
     push_bytes_to_diag_partial, push_bytes_to_diag_pretty, push_bytes_to_diag_pretty_partial,
 };

@@ -25,10 +25,10 @@ use Rattle.cbor_grammar.specs.declared.width.IntegerWidth.TheVariants as width
 use Rattle.cbor_grammar.specs.Item.{Chunk, Atom, integer, negative, float, simple}
 use Rattle.cbor_grammar.specs.NotationText.{number, indicator, float_text, simple_text, last_line, indent_of}
 use Rattle.cbor_grammar.specs.StringKind.{no_chunks}
-use Rattle.cbor_notation.specs.Dialect.{Leaves, Texts}
-use Rattle.cbor_notation.specs.declared.parts.Container.{Container}
-use Rattle.cbor_notation.specs.declared.parts.Container.TheVariants.{Array, Map, Chunks, Embedded}
-use Rattle.cbor_notation.specs.mirror.LayoutView.{before_member, after_member}
+use Rattle.cbor_notation_writer.specs.Dialect.{Leaves, Texts}
+use Rattle.cbor_notation_writer.specs.declared.parts.Container.{Container}
+use Rattle.cbor_notation_writer.specs.declared.parts.Container.TheVariants.{Array, Map, Chunks, Embedded}
+use Rattle.cbor_notation_writer.specs.mirror.LayoutView.{before_member, after_member}
 use Rattle.cbor_edn_writer.specs.declared.note.Note.{Note}
 use Rattle.cbor_edn_writer.specs.declared.print.place.EdnPlace.{EdnPlace}
 use Rattle.cbor_escapes.specs.Escapes.{escaped_text}

@@ -5,7 +5,7 @@ use Rattle.cbor_grammar.specs.declared.error.Error.TheVariants as refusal
 use Rattle.cbor_grammar.specs.Item.{Item}
 use Rattle.cbor_grammar.specs.Answer.{Outcome, spelled, cut, fault}
 use Rattle.cbor_grammar.specs.Written.{encoded}
-use Rattle.cbor_notation.specs.Dialect.{TextsAt}
+use Rattle.cbor_notation_writer.specs.Dialect.{TextsAt}
 use Rattle.cbor_edn_writer.specs.declared.note.Note.{Note}
 use Rattle.cbor_edn_writer.specs.declared.print.place.EdnPlace.{EdnPlace}
 use Rattle.cbor_edn_writer.specs.declared.style.EdnStyle.{EdnStyle}

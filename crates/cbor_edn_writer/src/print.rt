@@ -25,9 +25,9 @@ use crate::print::text::{push_no_parts, push_part};
 use cbor_grammar::IntegerWidth;
 use cbor_grammar::layout::{ContainerStyle, Content, Layout};
 use cbor_grammar::strings::{StringContent, StringKind};
-use cbor_notation::dialect::Dialect;
-use cbor_notation::members::{push_end, push_start};
-use cbor_notation::parts::{Container, Leaf};
+use cbor_notation_writer::dialect::Dialect;
+use cbor_notation_writer::members::{push_end, push_start};
+use cbor_notation_writer::parts::{Container, Leaf};
 use std::alloc::{AllocError, Global};
 
 /// EDN, in which no notes are looked for. They are borrowed for so long.

@@ -9,7 +9,7 @@ ghost use Rattle.cbor_grammar.specs.Facts.{IsNoItem, BeginsSo, BeginsInOneWay};
 ghost use Rattle.cbor_grammar.specs.Item.{Item};
 ghost use Rattle.cbor_grammar.specs.Reading.{Fails, read_item};
 ghost use Rattle.cbor_grammar.specs.WellFormed.{deepest};
-ghost use Rattle.cbor_notation.specs.mirror.Straight.{Written};
+ghost use Rattle.cbor_notation_writer.specs.mirror.Straight.{Written};
 ghost use Rattle.cbor_edn_grammar.specs.Edn.{bytes_of_edn};
 ghost use Rattle.cbor_edn_writer.specs.Written.{IsEdnText, AppendsEdn, GaveEdn, line_style};
 ghost use Rattle.cbor_edn_writer.specs.Written.{pretty_style};
@@ -20,7 +20,7 @@ use crate::print::noted::NotedEdn;
 use crate::print::place::EdnPlace;
 use crate::style::{EdnStyle, NotedStyle};
 use cbor_grammar::Error;
-use cbor_notation::outermost::push_outermost;
+use cbor_notation_writer::outermost::push_outermost;
 use std::alloc::Global;
 
 /// Returns the one item that the bytes are in EDN on one line, without notes.

@@ -11,7 +11,7 @@ use Rattle.cbor_grammar.specs.declared.width.IntegerWidth.{IntegerWidth}
 use Rattle.cbor_grammar.specs.Item.{Item, Items, item_count, Pairs, pair_count, parts}
 use Rattle.cbor_grammar.specs.Reading.{read_head, read_item}
 use Rattle.cbor_grammar.specs.WellFormed.{deepest}
-use Rattle.cbor_notation.specs.Dialect.{TextsOf}
+use Rattle.cbor_notation_writer.specs.Dialect.{TextsOf}
 use Rattle.cbor_json.specs.JsonLeaves.{json_leaves, begins_container, wants_bytes}
 use Rattle.cbor_json.specs.Kept.{HasMore, ReadsItems}
 use Rattle.cbor_json.specs.declared.error.Clash.{Clash}

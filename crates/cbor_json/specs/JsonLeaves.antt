@@ -24,9 +24,9 @@ use Rattle.cbor_grammar.specs.declared.width.IntegerWidth.TheVariants.{Unknown}
 use Rattle.cbor_grammar.specs.Estimate.{one_line_limit}
 use Rattle.cbor_grammar.specs.Item.{Chunk, Atom, integer, negative, float, simple}
 use Rattle.cbor_grammar.specs.NotationText.{number, float_text, simple_text, quoted, encoded_bytes, encoding_below}
-use Rattle.cbor_notation.specs.Dialect.{Leaves, Texts}
-use Rattle.cbor_notation.specs.declared.parts.Container.{Container}
-use Rattle.cbor_notation.specs.declared.parts.Container.TheVariants.{Array, Map, Chunks, Embedded}
+use Rattle.cbor_notation_writer.specs.Dialect.{Leaves, Texts}
+use Rattle.cbor_notation_writer.specs.declared.parts.Container.{Container}
+use Rattle.cbor_notation_writer.specs.declared.parts.Container.TheVariants.{Array, Map, Chunks, Embedded}
 use Rattle.cbor_json.specs.Spots.{inside_spot, next_spot, value_spot, below_spot}
 use Rattle.cbor_json.specs.declared.print.place.JsonPlace.{JsonPlace}
 use Rattle.cbor_json.specs.declared.print.place.Spot.{Spot}

@@ -1,6 +1,6 @@
 -- Where in a text of JSON an item is, as it changes from an item to those in it and after it.
-use Rattle.cbor_notation.specs.declared.parts.Container.{Container}
-use Rattle.cbor_notation.specs.declared.parts.Container.TheVariants.{Map}
+use Rattle.cbor_notation_writer.specs.declared.parts.Container.{Container}
+use Rattle.cbor_notation_writer.specs.declared.parts.Container.TheVariants.{Map}
 use Rattle.cbor_json.specs.declared.print.place.Spot.{Spot}
 use Rattle.cbor_json.specs.declared.print.place.Spot.TheVariants as spot
 

@@ -15,7 +15,7 @@ use Rattle.cbor_grammar.specs.declared.error.Error.TheVariants as refusal
 use Rattle.cbor_grammar.specs.declared.layout.Layout.TheVariants.{Compact}
 use Rattle.cbor_grammar.specs.Answer.{Outcome, spelled, cut, fault}
 use Rattle.cbor_grammar.specs.Item.{Item}
-use Rattle.cbor_notation.specs.Dialect.{TextsAt}
+use Rattle.cbor_notation_writer.specs.Dialect.{TextsAt}
 use Rattle.cbor_json.specs.JsonLeaves.{json_leaves}
 use Rattle.cbor_json.specs.Clashes.{IsClash}
 use Rattle.cbor_json.specs.Kept.{IsKept, IsLoss}

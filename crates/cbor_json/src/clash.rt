@@ -22,7 +22,7 @@ use cbor_grammar::argument::Argument;
 use cbor_grammar::head::ItemHead;
 use cbor_grammar::level::DEEPEST;
 use cbor_grammar::strings::StringKind;
-use cbor_notation::from_bytes::push_front;
+use cbor_notation_writer::from_bytes::push_front;
 use std::alloc::{AllocError, Global};
 use std::collections::BTreeMap;
 

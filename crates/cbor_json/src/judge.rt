@@ -11,7 +11,7 @@ ghost use Rattle.cbor_grammar.specs.Reading.{Fails, read_item};
 ghost use Rattle.cbor_grammar.specs.WellFormed.{deepest};
 ghost use Rattle.json.specs.Json.{Json, document};
 ghost use Rattle.json.specs.Strict.{HasUniqueKeys};
-ghost use Rattle.cbor_notation.specs.mirror.Straight.{Written};
+ghost use Rattle.cbor_notation_writer.specs.mirror.Straight.{Written};
 ghost use Rattle.cbor_json.specs.Kept.{IsKept, IsLoss};
 ghost use Rattle.cbor_json.specs.Written.{IsJsonOf, IsNotKept, Judges, Tells};
 
@@ -21,7 +21,7 @@ use crate::print;
 use crate::print::place::JsonPlace;
 use crate::style::JsonStyle;
 use cbor_grammar::Error;
-use cbor_notation::outermost::push_outermost;
+use cbor_notation_writer::outermost::push_outermost;
 use json::{Scratch, Tape, Value};
 use memchr::memchr;
 use std::alloc::{AllocError, Global};

@@ -18,9 +18,9 @@ use crate::print::text::{content_at, push_part, push_string};
 use cbor_grammar::IntegerWidth;
 use cbor_grammar::layout::{ContainerStyle, Content, Layout};
 use cbor_grammar::strings::{StringContent, StringKind};
-use cbor_notation::budget::ONE_LINE_LIMIT;
-use cbor_notation::dialect::Dialect;
-use cbor_notation::parts::{Container, Leaf};
+use cbor_notation_writer::budget::ONE_LINE_LIMIT;
+use cbor_notation_writer::dialect::Dialect;
+use cbor_notation_writer::parts::{Container, Leaf};
 use std::alloc::{AllocError, Global};
 
 /// JSON.

@@ -1,4 +1,1 @@
 pub mod notation
-pub mod normal
-pub mod straight
-pub mod text

@@ -1,2 +1,1 @@
-pub mod Dialect
 pub mod mirror

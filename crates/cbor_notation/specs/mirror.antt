@@ -1,9 +1,4 @@
 -- Definitions that mirror the code. Only the checker reads them: no contract of a public call needs them.
 pub mod NotationReading
 pub mod OpenTokens
-pub mod Straight
-pub mod Ahead
-pub mod LayoutView
-pub mod LeafView
-pub mod DiagLeaves
 pub mod Cursor

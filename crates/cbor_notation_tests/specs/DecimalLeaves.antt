@@ -9,11 +9,11 @@ use Rattle.cbor_grammar.specs.declared.width.FloatWidth.TheVariants.{SixtyFour}
 use Rattle.cbor_grammar.specs.declared.width.IntegerWidth.{IntegerWidth}
 use Rattle.cbor_grammar.specs.Item.{Atom, float}
 use Rattle.cbor_grammar.specs.NotationText.{indicator}
-use Rattle.cbor_notation.specs.declared.context.NotationContext.{NotationContext}
-use Rattle.cbor_notation.specs.declared.parts.Container.{Container}
-use Rattle.cbor_notation.specs.declared.parts.Container.TheVariants.{Array}
-use Rattle.cbor_notation.specs.Dialect.{Leaves, Texts}
-use Rattle.cbor_notation.specs.mirror.DiagLeaves.{diag_leaves, leaf_text, opening}
+use Rattle.cbor_notation_writer.specs.declared.context.NotationContext.{NotationContext}
+use Rattle.cbor_notation_writer.specs.declared.parts.Container.{Container}
+use Rattle.cbor_notation_writer.specs.declared.parts.Container.TheVariants.{Array}
+use Rattle.cbor_notation_writer.specs.Dialect.{Leaves, Texts}
+use Rattle.cbor_notation_writer.specs.mirror.DiagLeaves.{diag_leaves, leaf_text, opening}
 
 -- a text that is read as the double; which digits it has is not said
 abbrev pub DecimalLeaf : Atom → Texts

@@ -1,4 +1,4 @@
-//! Tests of the dialects of `cbor_notation`: a small one of its own. `rt test` runs them.
+//! Tests of the dialects of `cbor_notation_writer`: a small one of its own. `rt test` runs them.
 #![tactic(auto)]
 
 pub mod decimal;

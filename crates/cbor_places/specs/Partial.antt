@@ -14,8 +14,8 @@ use Rattle.cbor_grammar.specs.Item.{Item}
 use Rattle.cbor_grammar.specs.NotationText.{number}
 use Rattle.cbor_grammar.specs.Reading.{read_head, read_item}
 use Rattle.cbor_grammar.specs.WellFormed.{levels_left}
-use Rattle.cbor_notation.specs.declared.parts.Container.TheVariants as container
-use Rattle.cbor_notation.specs.mirror.LayoutView.{before_member, after_member}
+use Rattle.cbor_notation_writer.specs.declared.parts.Container.TheVariants as container
+use Rattle.cbor_notation_writer.specs.mirror.LayoutView.{before_member, after_member}
 use Rattle.cbor_edn_writer.specs.declared.style.EdnStyle.{EdnStyle}
 use Rattle.cbor_edn_writer.specs.EdnLeaves.{edn_opening, edn_closing, marked}
 use Rattle.cbor_edn_writer.specs.Written.{IsEdnText}

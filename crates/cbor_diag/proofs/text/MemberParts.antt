@@ -5,7 +5,7 @@ use Rattle.cbor_diag.specs.declared.syntax.DataItem.{DataItem}
 use Rattle.cbor_grammar.specs.Item.{Item}
 use Rattle.cbor_diag.specs.View.{view, items_view, pairs_view}
 use Rattle.cbor_grammar.specs.NotationText.{item_texts, pair_texts}
-use Rattle.cbor_notation.proofs.text.Scalars.{drop_here}
+use Rattle.cbor_notation_writer.proofs.text.Scalars.{drop_here}
 
 pub items_rest : (write : Item → List ℕ) (vs : List DataItem) (i : ℕ) (v : DataItem) → i < length vs → v ≡ get_or vs i v
     → item_texts write (items_view (drop i vs)) ≡ write (view v) ∷ item_texts write (items_view (drop (i + 1) vs))

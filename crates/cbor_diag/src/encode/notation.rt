@@ -23,9 +23,9 @@ ghost use Rattle.cbor_grammar.specs.Pretty.{sequence_in_one_line, sequence_in_li
 ghost use Rattle.cbor_grammar.specs.Facts.{IsWellFormed, diag_of, pretty_of, normal_of};
 ghost use Rattle.cbor_grammar.specs.WellFormed.{deepest, WellFormed, WellFormedItems};
 ghost use Rattle.cbor_grammar.specs.WellFormed.{WellFormedPairs};
-ghost use Rattle.cbor_notation.specs.mirror.LayoutView.{context_view};
-ghost use Rattle.cbor_notation.specs.mirror.LayoutView.{IsIndented, item_text, items_there};
-ghost use Rattle.cbor_notation.specs.mirror.LayoutView.{pairs_there, content_there};
+ghost use Rattle.cbor_notation_writer.specs.mirror.LayoutView.{context_view};
+ghost use Rattle.cbor_notation_writer.specs.mirror.LayoutView.{IsIndented, item_text, items_there};
+ghost use Rattle.cbor_notation_writer.specs.mirror.LayoutView.{pairs_there, content_there};
 ghost use Rattle.cbor_grammar.specs.NotationText.{indent_of, style_indent, in_encoding};
 ghost use Rattle.cbor_grammar.specs.NotationText.{text_at_level, sequence_size};
 ghost use Rattle.cbor_grammar.specs.Embedded.{sequence, EmbedsExactly};
@@ -33,12 +33,14 @@ ghost use Rattle.cbor_grammar.specs.Embedded.{sequence, EmbedsExactly};
 use crate::syntax::DataItem;
 use cbor_grammar::layout::{ContainerStyle, Layout};
 use cbor_grammar::{ByteString, Error, IntegerWidth, Tag, TextString};
-use cbor_notation::context::NotationContext;
-use cbor_notation::diag::push_content;
-use cbor_notation::members::{
+use cbor_notation_writer::context::NotationContext;
+use cbor_notation_writer::diag::push_content;
+use cbor_notation_writer::members::{
     push_chunks, push_closing, push_colon, push_end, push_opening, push_start,
 };
-use cbor_notation::scalars::{push_float, push_negative, push_number, push_simple, push_text};
+use cbor_notation_writer::scalars::{
+    push_float, push_negative, push_number, push_simple, push_text,
+};
 use estimate::{array_style, map_style};
 use std::alloc::{AllocError, Global};
 

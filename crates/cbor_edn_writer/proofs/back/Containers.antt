@@ -16,10 +16,10 @@ use Rattle.cbor_grammar.specs.StringKind.{major_of}
 use Rattle.cbor_grammar.specs.WellFormed.{IsChunk, FitsCount}
 use Rattle.cbor_grammar.specs.Written.{encoded, encoded_items, encoded_pairs, encoded_chunk, encoded_open}
 use Rattle.cbor_grammar.specs.Written.{encoded_close}
-use Rattle.cbor_notation.specs.declared.parts.Container.{Container}
-use Rattle.cbor_notation.specs.declared.parts.Container.TheVariants.{Array, Map, Chunks}
-use Rattle.cbor_notation.specs.Dialect.{listed, count_of, Between, ChunkTexts}
-use Rattle.cbor_notation.specs.mirror.LayoutView.{before_member, after_member}
+use Rattle.cbor_notation_writer.specs.declared.parts.Container.{Container}
+use Rattle.cbor_notation_writer.specs.declared.parts.Container.TheVariants.{Array, Map, Chunks}
+use Rattle.cbor_notation_writer.specs.Dialect.{listed, count_of, Between, ChunkTexts}
+use Rattle.cbor_notation_writer.specs.mirror.LayoutView.{before_member, after_member}
 use Rattle.cbor_edn_grammar.specs.declared.close.Close.{Close}
 use Rattle.cbor_edn_grammar.specs.declared.close.Close.TheVariants.{Bracket, Brace, Parenthesis}
 use Rattle.cbor_edn_writer.specs.declared.print.place.EdnPlace.{EdnPlace}

@@ -8,7 +8,7 @@ use Rattle.cbor_grammar.specs.Item.{Chunk, string, Item, atom, Items, no_items, 
 use Rattle.cbor_grammar.specs.StringKind.{major_of}
 use Rattle.cbor_grammar.specs.WellFormed.{IsChunk}
 use Rattle.cbor_grammar.specs.Written.{encoded, encoded_items}
-use Rattle.cbor_notation.specs.Dialect.{embedding}
+use Rattle.cbor_notation_writer.specs.Dialect.{embedding}
 use Rattle.cbor_edn_grammar.specs.declared.close.Close.TheVariants.{Angles}
 use Rattle.cbor_edn_grammar.specs.declared.opening.Opening.TheVariants as opening
 use Rattle.cbor_edn_writer.specs.EdnLeaves.{longer, length_mark}

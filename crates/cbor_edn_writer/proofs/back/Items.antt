@@ -27,11 +27,11 @@ use Rattle.cbor_grammar.proofs.bytes.Laws.{bytes_at}
 use Rattle.cbor_grammar.proofs.bytes.Resolved.{spells_well}
 use Rattle.cbor_grammar.proofs.shared.EmbeddedItems.{embedded_spells, sequence_spells}
 use Rattle.cbor_bytes.proofs.bytes.WellFormed.{items_well}
-use Rattle.cbor_notation.specs.Dialect.{ItemTexts, PairTexts, ChunksText, OneText, EmbeddedText}
-use Rattle.cbor_notation.specs.Dialect.{SequenceText, ContentText, AtomText, TagText, TextWith, TextsOf, TextsAt}
-use Rattle.cbor_notation.specs.Dialect.{Writer, count_of, embedding, listed, sized_style, style_at}
-use Rattle.cbor_notation.specs.declared.parts.Container.TheVariants.{Array, Map, Chunks}
-use Rattle.cbor_notation.specs.mirror.LayoutView.{before_member, after_member}
+use Rattle.cbor_notation_writer.specs.Dialect.{ItemTexts, PairTexts, ChunksText, OneText, EmbeddedText}
+use Rattle.cbor_notation_writer.specs.Dialect.{SequenceText, ContentText, AtomText, TagText, TextWith, TextsOf, TextsAt}
+use Rattle.cbor_notation_writer.specs.Dialect.{Writer, count_of, embedding, listed, sized_style, style_at}
+use Rattle.cbor_notation_writer.specs.declared.parts.Container.TheVariants.{Array, Map, Chunks}
+use Rattle.cbor_notation_writer.specs.mirror.LayoutView.{before_member, after_member}
 use Rattle.cbor_edn_grammar.specs.declared.close.Close.{Close}
 use Rattle.cbor_edn_grammar.specs.declared.close.Close.TheVariants.{Bracket, Angles, End}
 use Rattle.cbor_edn_writer.specs.declared.print.place.EdnPlace.{EdnPlace}

@@ -8,7 +8,7 @@ use Rattle.std.specs.List.{AllByRecursion, flat_map, list_any}
 use Rattle.cbor_grammar.specs.Item.{Item, Items, no_items, item, items_of}
 use Rattle.cbor_grammar.specs.WellFormed.{WellFormed, WellFormedItems, levels_left}
 use Rattle.cbor_grammar.specs.Written.{encoded_items}
-use Rattle.cbor_notation.specs.Dialect.{TextsOf, TextsAt}
+use Rattle.cbor_notation_writer.specs.Dialect.{TextsOf, TextsAt}
 use Rattle.cbor_edn_grammar.specs.declared.close.Close.TheVariants.{End}
 use Rattle.cbor_edn_writer.specs.declared.print.place.EdnPlace.{EdnPlace}
 use Rattle.cbor_edn_writer.specs.declared.style.EdnStyle.{EdnStyle}

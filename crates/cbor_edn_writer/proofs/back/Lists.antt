@@ -11,8 +11,8 @@ use Rattle.cbor_grammar.specs.declared.width.IntegerWidth.{IntegerWidth}
 use Rattle.cbor_grammar.specs.declared.width.IntegerWidth.TheVariants.{Unknown, Zero, Eight, Sixteen, ThirtyTwo}
 use Rattle.cbor_grammar.specs.declared.width.IntegerWidth.TheVariants.{SixtyFour}
 use Rattle.cbor_grammar.specs.NotationText.{line, last_line, indicator}
-use Rattle.cbor_notation.specs.mirror.LayoutView.{before_member, after_member}
-use Rattle.cbor_notation.specs.Dialect.{listed}
+use Rattle.cbor_notation_writer.specs.mirror.LayoutView.{before_member, after_member}
+use Rattle.cbor_notation_writer.specs.Dialect.{listed}
 use Rattle.cbor_edn_grammar.specs.declared.close.Close.{Close}
 use Rattle.cbor_edn_grammar.specs.declared.close.Close.TheVariants.{Bracket, Brace, Parenthesis, Angles, End}
 use Rattle.cbor_edn_grammar.specs.Reading.{with_later, turns, ◌>>=◌, after_bytes}

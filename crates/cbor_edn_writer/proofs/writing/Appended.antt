@@ -15,7 +15,7 @@ use Rattle.cbor_grammar.specs.declared.width.IntegerWidth.TheVariants.{Unknown, 
 use Rattle.cbor_grammar.specs.declared.width.IntegerWidth.TheVariants.{SixtyFour}
 use Rattle.cbor_grammar.specs.NotationText.{indicator}
 use Rattle.cbor_grammar.proofs.shared.Appending.{begins_through, begins_still, begins_same, appends_after}
-use Rattle.cbor_notation.specs.Dialect.{Texts, Wrote}
+use Rattle.cbor_notation_writer.specs.Dialect.{Texts, Wrote}
 use Rattle.cbor_edn_writer.specs.EdnLeaves.{Noted, NoteAfter, with_gap, gap, encoded_float, float_indicator, FloatText}
 use Rattle.cbor_edn_writer.specs.EdnLeaves.{note_before, note_after, Beside, After}
 use Rattle.cbor_edn_writer.specs.declared.print.place.EdnPlace.{EdnPlace}

@@ -13,8 +13,8 @@ use Rattle.cbor_grammar.proofs.bytes.Laws.{AllBytes, all_bytes-front, bytes_at}
 use Rattle.cbor_grammar.proofs.bytes.Resolved.{spells_well}
 use Rattle.cbor_grammar.proofs.bytes.Found.{item_takes}
 use Rattle.cbor_grammar.specs.WellFormed.{levels_left}
-use Rattle.cbor_notation.specs.Dialect.{TextsOf, TextsAt}
-use Rattle.cbor_notation.specs.mirror.Straight.{Written}
+use Rattle.cbor_notation_writer.specs.Dialect.{TextsOf, TextsAt}
+use Rattle.cbor_notation_writer.specs.mirror.Straight.{Written}
 use Rattle.cbor_edn_grammar.specs.Edn.{bytes_of_edn}
 use Rattle.cbor_edn_writer.specs.EdnLeaves.{edn_leaves, layout_of}
 use Rattle.cbor_edn_writer.specs.Written.{IsOutermost, IsNotedText, IsEdnText}

@@ -11,7 +11,7 @@ use Rattle.cbor_grammar.specs.Embedded.{sequence_of, sequence_at}
 use Rattle.cbor_grammar.specs.Item.{Items, no_items}
 use Rattle.cbor_grammar.specs.Reading.{read_head, read_item}
 use Rattle.cbor_grammar.specs.WellFormed.{levels_left}
-use Rattle.cbor_notation.proofs.straight.Sequences.{SoFar}
+use Rattle.cbor_notation_writer.proofs.straight.Sequences.{SoFar}
 use Rattle.cbor_edn_writer.specs.Same.{after_head, after_read, go_on, are_heads, is_empty, is_sequence}
 
 pub head_none : (b : List ℕ) → length b < 1 → after_head b ≡ None

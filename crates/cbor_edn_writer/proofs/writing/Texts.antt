@@ -29,12 +29,13 @@ use Rattle.cbor_grammar.proofs.bytes.Laws.{bytes_at}
 use Rattle.cbor_grammar.proofs.bytes.Resolved.{spells_well}
 use Rattle.cbor_grammar.proofs.shared.EmbeddedItems.{embedded_spells, sequence_spells}
 use Rattle.cbor_bytes.proofs.bytes.WellFormed.{items_well}
-use Rattle.cbor_notation.specs.declared.parts.Container.{Container}
-use Rattle.cbor_notation.specs.declared.parts.Container.TheVariants.{Array, Map, Chunks, Embedded}
-use Rattle.cbor_notation.specs.mirror.LayoutView.{before_member, after_member}
-use Rattle.cbor_notation.specs.Dialect.{listed, ItemTexts, PairTexts, ChunkTexts, Between, ItemsText, PairsText}
-use Rattle.cbor_notation.specs.Dialect.{OneText, EmbeddedText, SequenceText, ContentText, ChunksText, AtomText, TagText}
-use Rattle.cbor_notation.specs.Dialect.{TextWith, TextsOf, Writer, embedding, count_of, style_at, style_within}
+use Rattle.cbor_notation_writer.specs.declared.parts.Container.{Container}
+use Rattle.cbor_notation_writer.specs.declared.parts.Container.TheVariants.{Array, Map, Chunks, Embedded}
+use Rattle.cbor_notation_writer.specs.mirror.LayoutView.{before_member, after_member}
+use Rattle.cbor_notation_writer.specs.Dialect.{listed, ItemTexts, PairTexts, ChunkTexts, Between, ItemsText, PairsText}
+use Rattle.cbor_notation_writer.specs.Dialect.{OneText, EmbeddedText, SequenceText, ContentText, ChunksText, AtomText}
+use Rattle.cbor_notation_writer.specs.Dialect.{TagText, TextWith, TextsOf, Writer, embedding, count_of, style_at}
+use Rattle.cbor_notation_writer.specs.Dialect.{style_within}
 use Rattle.cbor_edn_writer.specs.Breaks.{Nothing}
 use Rattle.cbor_edn_writer.specs.EdnLeaves.{edn_leaves, EdnLeaf, longer, marked, spaced, count_mark, with_gap, gap}
 use Rattle.cbor_edn_writer.specs.EdnLeaves.{edn_opening, edn_closing, embedded_mark, Noted, quoted_string}

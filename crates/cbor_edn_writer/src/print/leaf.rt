@@ -4,8 +4,8 @@
 ghost use Rattle.std.specs.Prelude.{◌+◌, ◌++◌, codes};
 ghost use Rattle.cbor_grammar.specs.mirror.StringView.{kind_of, borrowed_chunk};
 ghost use Rattle.cbor_grammar.specs.NotationText.{number, simple_text};
-ghost use Rattle.cbor_notation.specs.Dialect.{Writes};
-ghost use Rattle.cbor_notation.specs.mirror.LeafView.{atom_of, FitsLeaf};
+ghost use Rattle.cbor_notation_writer.specs.Dialect.{Writes};
+ghost use Rattle.cbor_notation_writer.specs.mirror.LeafView.{atom_of, FitsLeaf};
 ghost use Rattle.cbor_edn_writer.specs.EdnLeaves.{EdnLeaf, Noted, marked, quoted_string};
 
 use crate::print::notes::{push_integer_note, push_simple_note, push_string_note};
@@ -14,8 +14,8 @@ use crate::print::place::EdnPlace;
 use crate::print::text::push_part;
 use cbor_grammar::strings::StringContent;
 use cbor_grammar::{IntegerWidth, Simple};
-use cbor_notation::parts::Leaf;
-use cbor_notation::scalars;
+use cbor_notation_writer::parts::Leaf;
+use cbor_notation_writer::scalars;
 use std::alloc::AllocError;
 
 /// Writes a number, a float or a simple value.

@@ -13,9 +13,9 @@ use crate::print::numbers::{longer, push_indicator, push_length_mark};
 use cbor_grammar::IntegerWidth;
 use cbor_grammar::argument::Argument;
 use cbor_grammar::layout::ContainerStyle;
-use cbor_notation::members;
-use cbor_notation::parts::Container;
-use cbor_notation::scalars::push_number;
+use cbor_notation_writer::members;
+use cbor_notation_writer::parts::Container;
+use cbor_notation_writer::scalars::push_number;
 use std::alloc::AllocError;
 
 /// The style with blanks also on one line.

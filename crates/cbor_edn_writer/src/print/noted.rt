@@ -17,8 +17,8 @@ use crate::print::text::push_no_parts;
 use cbor_grammar::IntegerWidth;
 use cbor_grammar::layout::{ContainerStyle, Content, Layout};
 use cbor_grammar::strings::{StringContent, StringKind};
-use cbor_notation::dialect::Dialect;
-use cbor_notation::parts::{Container, Leaf};
+use cbor_notation_writer::dialect::Dialect;
+use cbor_notation_writer::parts::{Container, Leaf};
 use std::alloc::{AllocError, Global};
 
 /// EDN, in which a note is looked for at each item. It is apart from [`Edn`], since a place that

@@ -5,7 +5,7 @@
 ghost use Rattle.std.specs.Prelude.{◌≡◌};
 ghost use Rattle.std.specs.List.{list_any};
 ghost use Rattle.cbor_tokens.specs.Appends.{AppendsText};
-ghost use Rattle.cbor_notation.specs.Dialect.{Writes};
+ghost use Rattle.cbor_notation_writer.specs.Dialect.{Writes};
 ghost use Rattle.cbor_edn_writer.specs.EdnLeaves.{ends_note as no_note_has, begins_note};
 ghost use Rattle.cbor_edn_writer.specs.EdnLeaves.{AnyNote, NoteAfter, is_note as may_be_note};
 ghost use Rattle.cbor_edn_writer.specs.EdnLeaves.{comment_before, comment_after};

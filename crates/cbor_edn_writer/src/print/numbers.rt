@@ -5,7 +5,7 @@ ghost use Rattle.std.specs.Prelude.{◌≡◌};
 ghost use Rattle.cbor_floats.specs.Decimal.{IsTextOf};
 ghost use Rattle.cbor_grammar.specs.NotationText.{indicator};
 ghost use Rattle.cbor_grammar.specs.WellFormed.{FitsFloat};
-ghost use Rattle.cbor_notation.specs.Dialect.{Writes};
+ghost use Rattle.cbor_notation_writer.specs.Dialect.{Writes};
 ghost use Rattle.cbor_tokens.specs.Appends.{AppendsText};
 ghost use Rattle.cbor_edn_writer.specs.EdnLeaves.{longer as longer_width, marked, length_mark};
 ghost use Rattle.cbor_edn_writer.specs.EdnLeaves.{float_indicator};
@@ -13,7 +13,7 @@ ghost use Rattle.cbor_edn_writer.specs.EdnLeaves.{encoded_float as float_of, Flo
 
 use cbor_floats::EncodedFloat;
 use cbor_grammar::{FloatWidth, IntegerWidth};
-use cbor_notation::scalars;
+use cbor_notation_writer::scalars;
 use ryu::Buffer;
 use std::alloc::AllocError;
 

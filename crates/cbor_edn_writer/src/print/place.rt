@@ -14,7 +14,7 @@ use crate::style::EdnStyle;
 use cbor_grammar::IntegerWidth;
 use cbor_grammar::argument::Argument;
 use cbor_grammar::layout::Layout;
-use cbor_notation::parts::Container;
+use cbor_notation_writer::parts::Container;
 use std::alloc::Global;
 
 /// Where an item is.

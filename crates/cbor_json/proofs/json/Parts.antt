@@ -21,9 +21,9 @@ use Rattle.cbor_grammar.specs.Head.{FitsWidth}
 use Rattle.cbor_grammar.specs.Item.{Chunk, Atom, integer, negative, string, chunked_string, float, simple}
 use Rattle.cbor_grammar.specs.NotationText.{float_text, float_bits, simple_text, quoted}
 use Rattle.cbor_grammar.specs.WellFormed.{IsChunk, WellFormedAtom}
-use Rattle.cbor_notation.specs.Dialect.{listed, ChunksText, ChunkTexts}
-use Rattle.cbor_notation.specs.declared.parts.Container.{Container}
-use Rattle.cbor_notation.specs.declared.parts.Container.TheVariants.{Array, Map, Chunks, Embedded}
+use Rattle.cbor_notation_writer.specs.Dialect.{listed, ChunksText, ChunkTexts}
+use Rattle.cbor_notation_writer.specs.declared.parts.Container.{Container}
+use Rattle.cbor_notation_writer.specs.declared.parts.Container.TheVariants.{Array, Map, Chunks, Embedded}
 use Rattle.cbor_json.specs.JsonLeaves.{json_leaves, LeafAt, ValueLeaf, EdnLeaf, EdnFloat, NumberIf, json_simple}
 use Rattle.cbor_digits.specs.Decimal.{IsDecimal}
 use Rattle.cbor_json.specs.JsonLeaves.{integer_text, negative_text, string_at, is_value, is_bytes, is_big_tag, is_big}

@@ -22,11 +22,11 @@ use Rattle.cbor_grammar.specs.WellFormed.{IsChunk, WellFormedAtom, WellFormed, W
 use Rattle.cbor_grammar.proofs.bytes.Laws.{bytes_at}
 use Rattle.cbor_grammar.proofs.bytes.Resolved.{spells_well}
 use Rattle.cbor_grammar.proofs.shared.EmbeddedItems.{embedded_spells}
-use Rattle.cbor_notation.specs.Dialect.{listed, ItemTexts, PairTexts, ItemsText, PairsText}
-use Rattle.cbor_notation.specs.Dialect.{OneText, EmbeddedText, ContentText, AtomText, TagText, TextWith, TextsOf}
-use Rattle.cbor_notation.specs.Dialect.{Writer}
-use Rattle.cbor_notation.specs.Dialect.{embedding, count_of, style_at, joined, ChunkedText}
-use Rattle.cbor_notation.specs.declared.parts.Container.TheVariants.{Array, Map}
+use Rattle.cbor_notation_writer.specs.Dialect.{listed, ItemTexts, PairTexts, ItemsText, PairsText}
+use Rattle.cbor_notation_writer.specs.Dialect.{OneText, EmbeddedText, ContentText, AtomText, TagText, TextWith, TextsOf}
+use Rattle.cbor_notation_writer.specs.Dialect.{Writer}
+use Rattle.cbor_notation_writer.specs.Dialect.{embedding, count_of, style_at, joined, ChunkedText}
+use Rattle.cbor_notation_writer.specs.declared.parts.Container.TheVariants.{Array, Map}
 use Rattle.cbor_json.specs.JsonLeaves.{json_leaves, integer_text, begins_container, is_value, wants_bytes}
 use Rattle.cbor_json.specs.JsonLeaves.{opening_at, closing_at, StringAt, tag_at, tag_end_at, joins_at}
 use Rattle.cbor_json.specs.Spots.{inside_spot, next_spot, value_spot, below_spot}

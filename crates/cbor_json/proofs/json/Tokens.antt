@@ -14,7 +14,7 @@ use Rattle.json.specs.Tree.{json_tokens, depth}
 use Rattle.json.specs.Word.{ends_word, word}
 use Rattle.json.proofs.Printed.Numbers.{lex-number, in_word-ended}
 use Rattle.json.proofs.Printed.Trees.{value-json_tokens}
-use Rattle.cbor_notation.specs.Dialect.{listed}
+use Rattle.cbor_notation_writer.specs.Dialect.{listed}
 use Rattle.cbor_json.proofs.json.Fills.{Shows}
 use Rattle.cbor_json.proofs.json.Strings.{IsString}
 

@@ -3,7 +3,7 @@ use Rattle.std.proofs.Common.{◌≡◌, List, ◌++◌, ℕ, Result, Ok, Err, a
 use Rattle.std.proofs.Math.Seq.{take-length}
 use Rattle.std.specs.Float.Ieee.{Float}
 use Rattle.cbor_floats.specs.Decimal.{IsTextOf}
-use Rattle.cbor_notation.specs.Dialect.{Wrote}
+use Rattle.cbor_notation_writer.specs.Dialect.{Wrote}
 
 -- a text of a number is written
 pub number_wrote : {T E : Type 0} (r : Result T E) (new old text : List ℕ) (x : Float)

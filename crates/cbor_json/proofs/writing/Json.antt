@@ -20,8 +20,8 @@ use Rattle.cbor_grammar.specs.declared.error.Error.TheVariants.{Memory}
 use Rattle.cbor_grammar.specs.Item.{Item}
 use Rattle.cbor_grammar.specs.Reading.{read_item}
 use Rattle.cbor_grammar.specs.WellFormed.{WellFormed, levels_left}
-use Rattle.cbor_notation.specs.Dialect.{TextsAt, TextsOf}
-use Rattle.cbor_notation.specs.mirror.Straight.{Written}
+use Rattle.cbor_notation_writer.specs.Dialect.{TextsAt, TextsOf}
+use Rattle.cbor_notation_writer.specs.mirror.Straight.{Written}
 use Rattle.cbor_json.specs.JsonLeaves.{json_leaves}
 use Rattle.cbor_json.specs.Kept.{IsKept}
 use Rattle.cbor_json.specs.Written.{IsOutermost, IsJsonOf, IsJsonText, HasSameKeys, Judges, IsNoJson}

@@ -2,15 +2,15 @@
 #![tactic(auto, using(cbor_grammar::proofs::shared::Appending::appending_steps))]
 
 ghost use Rattle.cbor_tokens.specs.Appends.{AppendsText};
-ghost use Rattle.cbor_notation.specs.Dialect.{Writes};
-ghost use Rattle.cbor_notation.specs.mirror.LeafView.{atom_of, FitsLeaf};
+ghost use Rattle.cbor_notation_writer.specs.Dialect.{Writes};
+ghost use Rattle.cbor_notation_writer.specs.mirror.LeafView.{atom_of, FitsLeaf};
 ghost use Rattle.cbor_json.specs.JsonLeaves.{LeafAt, ValueLeaf, EdnLeaf, InQuotes, json_simple};
 
 use crate::print::numbers::{push_edn_float, push_value_float};
 use crate::print::place::Spot;
 use cbor_grammar::{IntegerWidth, Simple};
-use cbor_notation::parts::Leaf;
-use cbor_notation::scalars::{push_negative, push_number, push_simple};
+use cbor_notation_writer::parts::Leaf;
+use cbor_notation_writer::scalars::{push_negative, push_number, push_simple};
 use std::alloc::AllocError;
 
 /// Writes a number, a float or a simple value.

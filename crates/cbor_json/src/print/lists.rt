@@ -9,8 +9,8 @@ ghost use Rattle.cbor_json.specs.JsonLeaves.{empty_at, before_member, tag_at, ta
 use crate::print::place::Spot;
 use cbor_grammar::IntegerWidth;
 use cbor_grammar::strings::StringKind;
-use cbor_notation::parts::Container;
-use cbor_notation::scalars::push_number;
+use cbor_notation_writer::parts::Container;
+use cbor_notation_writer::scalars::push_number;
 use std::alloc::AllocError;
 
 /// Writes what is before the members of a list.

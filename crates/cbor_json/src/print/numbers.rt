@@ -5,13 +5,13 @@ ghost use Rattle.std.specs.Prelude.{◌≡◌};
 ghost use Rattle.cbor_floats.specs.Decimal.{IsTextOf};
 ghost use Rattle.cbor_grammar.specs.NotationText.{float_text};
 ghost use Rattle.cbor_grammar.specs.WellFormed.{FitsFloat};
-ghost use Rattle.cbor_notation.specs.Dialect.{Writes};
+ghost use Rattle.cbor_notation_writer.specs.Dialect.{Writes};
 ghost use Rattle.cbor_floats.specs.Value.{value_of};
 ghost use Rattle.cbor_json.specs.JsonLeaves.{encoded_float as float_of, NumberOrNull, EdnFloat};
 
 use cbor_floats::EncodedFloat;
 use cbor_grammar::FloatWidth;
-use cbor_notation::scalars;
+use cbor_notation_writer::scalars;
 use ryu::Buffer;
 use std::alloc::AllocError;
 

@@ -10,7 +10,7 @@ ghost use Rattle.cbor_json.specs.Written.{IsOutermost};
 use crate::style::JsonStyle;
 use cbor_grammar::encoding::Encoding;
 use cbor_grammar::layout::Layout;
-use cbor_notation::parts::Container;
+use cbor_notation_writer::parts::Container;
 use std::alloc::Global;
 
 /// What an item is in the one around it.

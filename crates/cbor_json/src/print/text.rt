@@ -13,7 +13,7 @@ ghost use Rattle.cbor_json.specs.JsonLeaves.{part_at, content_at as content_ther
 ghost use Rattle.cbor_json.specs.JsonLeaves.{begins_container as begins, is_value as is_value_spot};
 ghost use Rattle.cbor_json.specs.JsonLeaves.{wants_bytes, is_big as is_big_number, BigText};
 ghost use Rattle.cbor_json.specs.JsonLeaves.{is_negative_tag, StringAt};
-ghost use Rattle.cbor_notation.specs.Dialect.{Writes};
+ghost use Rattle.cbor_notation_writer.specs.Dialect.{Writes};
 
 use crate::print::place::{JsonPlace, Spot};
 use base64::engine::general_purpose::{STANDARD, URL_SAFE_NO_PAD};

@@ -13,7 +13,7 @@ ghost use Rattle.cbor_grammar.specs.Estimate.{estimated_items, estimated_pairs};
 
 use crate::syntax::DataItem;
 use cbor_grammar::layout::{ContainerStyle, Layout};
-use cbor_notation::budget::{
+use cbor_notation_writer::budget::{
     BUDGET, digit_count, float_len, left_after_chunks, left_after_string, pretty_style,
 };
 

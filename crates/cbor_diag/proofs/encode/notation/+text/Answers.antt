@@ -7,10 +7,10 @@ use Rattle.cbor_grammar.specs.Item as spec
 use Rattle.cbor_grammar.specs.Item.{Items, atom, array, integer, negative, string, chunked_string, float, simple}
 use Rattle.cbor_diag.specs.View.{view, items_view, pairs_view}
 use Rattle.cbor_grammar.specs.Strings.{byte_chunk, text_chunk}
-use Rattle.cbor_notation.specs.declared.context.NotationContext.{NotationContext}
+use Rattle.cbor_notation_writer.specs.declared.context.NotationContext.{NotationContext}
 use Rattle.cbor_grammar.specs.Context.{Context}
 use Rattle.cbor_grammar.specs.declared.strings.StringKind.TheVariants.{Bytes, Text}
-use Rattle.cbor_notation.specs.mirror.LayoutView.{context_view, item_text, content_there, chunks_there}
+use Rattle.cbor_notation_writer.specs.mirror.LayoutView.{context_view, item_text, content_there, chunks_there}
 use Rattle.cbor_grammar.specs.NotationText.{text, inside, members, members_layout, colon, item_texts, pair_texts}
 use Rattle.cbor_grammar.specs.NotationText.{array_text, map_text, below}
 use Rattle.cbor_grammar.specs.NotationText.{text_at_level}
@@ -18,7 +18,7 @@ use Rattle.cbor_grammar.specs.WellFormed.{WellFormedItems, WellFormedPairs}
 use Rattle.cbor_grammar.proofs.shared.Appending.{begins_two, begins_after_member, appends_last}
 use Rattle.cbor_diag.proofs.shared.Views.{view-Integer, view-Negative, view-ByteString, view-TextString}
 use Rattle.cbor_diag.proofs.shared.Views.{view-IndefiniteByteString, view-IndefiniteTextString, view-Float, view-Simple}
-use Rattle.cbor_notation.proofs.text.Scalars.{members_left, drop_here, member_more, members_end}
+use Rattle.cbor_notation_writer.proofs.text.Scalars.{members_left, drop_here, member_more, members_end}
 use Rattle.cbor_grammar.proofs.text.Parts.{write_below, shown, bracketed_written, opened_again, tag_shown}
 use Rattle.cbor_diag.proofs.text.MemberParts.{items_rest, pairs_rest}
 use Rattle.cbor_diag.proofs.encode.notation.+text.Goals as goal

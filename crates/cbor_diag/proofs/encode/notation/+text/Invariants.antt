@@ -4,9 +4,9 @@ use Rattle.std.specs.Io.{StartsWith}
 use Rattle.std.specs.String.{string_bytes}
 use Rattle.cbor_diag.specs.View.{items_view, pairs_view}
 use Rattle.cbor_grammar.specs.WellFormed.{WellFormedItems, WellFormedPairs}
-use Rattle.cbor_notation.specs.mirror.LayoutView.{item_text}
+use Rattle.cbor_notation_writer.specs.mirror.LayoutView.{item_text}
 use Rattle.cbor_grammar.specs.NotationText.{colon, item_texts, pair_texts}
-use Rattle.cbor_notation.proofs.text.Scalars.{members_left}
+use Rattle.cbor_notation_writer.proofs.text.Scalars.{members_left}
 use Rattle.cbor_diag.proofs.encode.notation.+text.Given as goal
 
 -- Each level is deeper than the one before; at one level an item is asked for its members, and these for the

@@ -7,9 +7,9 @@ use Rattle.cbor_grammar.specs.Facts.{diag_of}
 use Rattle.cbor_grammar.specs.Notation.{Reads}
 use Rattle.cbor_grammar.specs.NotationText.{in_encoding}
 use Rattle.cbor_grammar.specs.Normal.{normal_at}
-use Rattle.cbor_notation.proofs.normal.ReadBack.{reads_back}
-use Rattle.cbor_notation.proofs.normal.Text.{normal_text, normal_twice}
-use Rattle.cbor_notation.proofs.normal.TextsAlike.{texts_alike}
+use Rattle.cbor_notation_writer.proofs.normal.ReadBack.{reads_back}
+use Rattle.cbor_notation_writer.proofs.normal.Text.{normal_text, normal_twice}
+use Rattle.cbor_diag.proofs.text.TextsAlike.{texts_alike}
 use Rattle.cbor_grammar.proofs.shared.EmbeddedItems.{embeds_exactly}
 use Rattle.cbor_diag.proofs.syntax.DataItem.to_diag.Goals as goal
 

@@ -2,7 +2,7 @@
 use Rattle.std.proofs.Common.{subst}
 use Rattle.cbor_diag.specs.View.{items_view}
 use Rattle.cbor_grammar.specs.WellFormed.{WellFormedItems}
-use Rattle.cbor_notation.proofs.text.Scalars.{drop_here}
+use Rattle.cbor_notation_writer.proofs.text.Scalars.{drop_here}
 use Rattle.cbor_edn_grammar.proofs.Levels.{well_above}
 use Rattle.cbor_edn.proofs.read.pieces.encoded.Goals as goal
 

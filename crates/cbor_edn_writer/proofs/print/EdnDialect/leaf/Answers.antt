@@ -1,6 +1,6 @@
 -- What is written has no notes of a caller.
 use Rattle.std.specs.String.{string_bytes}
-use Rattle.cbor_notation.specs.mirror.LeafView.{atom_of}
+use Rattle.cbor_notation_writer.specs.mirror.LeafView.{atom_of}
 use Rattle.cbor_edn_writer.specs.EdnLeaves.{EdnLeaf}
 use Rattle.cbor_edn_writer.proofs.writing.Appended.{beside_nothing}
 use Rattle.cbor_edn_writer.proofs.print.EdnDialect.leaf.Goals as goal

@@ -4,7 +4,7 @@ use Rattle.cbor_grammar.specs.Item.{no_items, item}
 use Rattle.cbor_grammar.specs.Reading.{joined}
 use Rattle.cbor_grammar.specs.WellFormed.{levels_left}
 use Rattle.cbor_grammar.proofs.bytes.Shorter.{item_shorter}
-use Rattle.cbor_notation.proofs.straight.Sequences.{sequence_begun, sequence_more}
+use Rattle.cbor_notation_writer.proofs.straight.Sequences.{sequence_begun, sequence_more}
 use Rattle.cbor_edn_writer.proofs.writing.Heads.{all_items}
 use Rattle.cbor_edn_writer.proofs.print.same.is_sequence.Goals as goal
 

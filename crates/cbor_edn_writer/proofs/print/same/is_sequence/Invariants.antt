@@ -2,7 +2,7 @@ use Rattle.std.proofs.Common.{◌+◌, length}
 use Rattle.cbor_grammar.specs.Embedded.{sequence_at}
 use Rattle.cbor_grammar.specs.Item.{Items}
 use Rattle.cbor_grammar.specs.WellFormed.{levels_left}
-use Rattle.cbor_notation.proofs.straight.Sequences.{SoFar}
+use Rattle.cbor_notation_writer.proofs.straight.Sequences.{SoFar}
 use Rattle.cbor_edn_writer.proofs.print.same.is_sequence.Given as goal
 
 -- the items so far, and those of the rest

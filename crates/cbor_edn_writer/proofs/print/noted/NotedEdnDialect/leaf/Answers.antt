@@ -1,6 +1,6 @@
 -- Notes are before and after what is written.
 use Rattle.std.specs.String.{string_bytes}
-use Rattle.cbor_notation.specs.mirror.LeafView.{atom_of}
+use Rattle.cbor_notation_writer.specs.mirror.LeafView.{atom_of}
 use Rattle.cbor_edn_writer.specs.EdnLeaves.{EdnLeaf}
 use Rattle.cbor_edn_writer.proofs.writing.Appended.{beside_wrote}
 use Rattle.cbor_edn_writer.proofs.print.noted.NotedEdnDialect.leaf.Goals as goal

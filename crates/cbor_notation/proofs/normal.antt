@@ -1,7 +1,0 @@
-pub mod Form
-pub mod WellFormed
-pub mod Text
-pub mod TextsAlike
-pub mod ReadTokens
-pub mod ReadLists
-pub mod ReadBack

@@ -1,7 +1,0 @@
--- The place where an error cuts the text back is a boundary between characters.
-use Rattle.cbor_grammar.proofs.shared.Appending.{cut_back}
-use Rattle.cbor_notation.proofs.outermost.push_outermost.Goals as goal
-
-pub truncate-requires : goal.truncate-requires
-truncate-requires g c = λ _. (cut_back c.args.out.now c.push_front.new.out c.len-start.result c.len-start.ensures
-    c.in-Err.ensures.begun).0

@@ -1,0 +1,3 @@
+pub mod normal
+pub mod straight
+pub mod text

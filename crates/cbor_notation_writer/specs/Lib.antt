@@ -1,0 +1,2 @@
+pub mod Dialect
+pub mod mirror

@@ -1,0 +1,215 @@
+//! The notation that `cbor_view` writes (RFC 7049 section 6), as a dialect.
+#![tactic(auto, using(cbor_grammar::proofs::shared::Appending::appending_steps))]
+
+ghost use Rattle.std.specs.Prelude.{◌≡◌, ◌+◌, ◌≤◌};
+ghost use Rattle.cbor_grammar.specs.WellFormed.{deepest};
+ghost use Rattle.cbor_grammar.specs.mirror.StringView.{kind_of};
+ghost use Rattle.cbor_tokens.specs.Appends.{AppendsText};
+ghost use Rattle.cbor_notation_writer.specs.mirror.LayoutView.{IsIndented, content_there};
+ghost use Rattle.cbor_notation_writer.specs.mirror.DiagLeaves.{diag_leaves};
+
+use crate::budget::ONE_LINE_LIMIT;
+use crate::context::NotationContext;
+use crate::dialect::Dialect;
+use crate::from_bytes;
+use crate::members::{
+    push_closing, push_colon, push_end, push_no_chunks, push_opening, push_rest, push_start,
+};
+use crate::parts::{Container, Leaf};
+use crate::scalars::{push_float, push_negative, push_number, push_simple, push_string};
+use cbor_grammar::layout::{ContainerStyle, Content, Layout};
+use cbor_grammar::strings::{StringContent, StringKind};
+use cbor_grammar::{IntegerWidth, Simple, Tag};
+use std::alloc::{AllocError, Global};
+
+/// The notation that `cbor_view` writes.
+pub struct Diag;
+
+impl Dialect for Diag {
+    type Place = NotationContext;
+
+    ghost leaves = { diag_leaves };
+
+    #[inline(always)]
+    fn at(_place: &NotationContext, _remaining: usize) -> Option<NotationContext> {
+        None
+    }
+
+    #[inline(always)]
+    fn level(place: &NotationContext) -> u8 {
+        place.level
+    }
+
+    #[inline(always)]
+    fn layout(place: &NotationContext) -> Layout {
+        place.layout
+    }
+
+    #[inline(always)]
+    fn limit(_place: &NotationContext) -> usize {
+        ONE_LINE_LIMIT
+    }
+
+    #[inline(always)]
+    fn content(place: &NotationContext, _bytes: &[u8]) -> Content {
+        place.content
+    }
+
+    #[inline(always)]
+    fn joins(_place: &NotationContext, _kind: StringKind) -> Option<Global> {
+        None
+    }
+
+    #[inline(always)]
+    fn inside(place: &NotationContext, _container: Container, layout: Layout) -> NotationContext {
+        place.inside(layout)
+    }
+
+    #[inline(always)]
+    fn pass(_place: &mut NotationContext) {}
+
+    #[inline(always)]
+    fn pass_key(_place: &mut NotationContext, _bytes: &[u8], _rest: &[u8]) {}
+
+    #[inline(always)]
+    fn below(place: &NotationContext, tag: u64) -> NotationContext {
+        place.below(Tag(tag))
+    }
+
+    #[inline(always)]
+    fn leaf(out: &mut String, leaf: Leaf, _place: &NotationContext) -> Result<(), AllocError> {
+        match leaf {
+            Leaf::Integer(value, width) => push_number(out, value, width),
+            Leaf::Negative(value, width) => push_negative(out, value, width),
+            Leaf::Float(bits, width) => push_float(out, bits, width),
+            Leaf::Simple(value, _) => push_simple(out, Simple(value)),
+        }
+    }
+
+    #[inline(always)]
+    fn string(
+        out: &mut String,
+        content: StringContent<'_>,
+        _width: IntegerWidth,
+        place: &NotationContext,
+    ) -> Result<(), AllocError> {
+        push_string(out, content, place.encoding)
+    }
+
+    #[inline(always)]
+    fn part(
+        out: &mut String,
+        content: StringContent<'_>,
+        _width: IntegerWidth,
+        place: &NotationContext,
+    ) -> Result<(), AllocError> {
+        push_string(out, content, place.encoding)
+    }
+
+    #[inline(always)]
+    fn no_parts(
+        out: &mut String,
+        kind: StringKind,
+        _place: &NotationContext,
+    ) -> Result<(), AllocError> {
+        push_no_chunks(out, kind)
+    }
+
+    #[inline(always)]
+    fn opening(
+        out: &mut String,
+        container: Container,
+        style: ContainerStyle,
+        _place: &NotationContext,
+    ) -> Result<(), AllocError> {
+        match container {
+            Container::Array(count) => push_opening(out, '[', count.width(), style),
+            Container::Map(count) => push_opening(out, '{', count.width(), style),
+            Container::Chunks(_) => push_opening(out, '(', None, style),
+            Container::Embedded(_) => out.push_str("<<"),
+        }
+    }
+
+    #[inline(always)]
+    fn closing(
+        out: &mut String,
+        container: Container,
+        style: ContainerStyle,
+        _place: &NotationContext,
+    ) -> Result<(), AllocError> {
+        match container {
+            Container::Array(_) => push_closing(out, style, ']'),
+            Container::Map(_) => push_closing(out, style, '}'),
+            Container::Chunks(_) => push_closing(out, style, ')'),
+            Container::Embedded(_) => {
+                push_closing(out, style, '>')?;
+                out.push('>')
+            }
+        }
+    }
+
+    #[inline(always)]
+    fn rest(
+        out: &mut String,
+        _container: Container,
+        rest: &[u8],
+        place: &NotationContext,
+    ) -> Result<(), AllocError> {
+        push_rest(out, rest, place)
+    }
+
+    #[inline(always)]
+    fn tag(
+        out: &mut String,
+        tag: u64,
+        width: IntegerWidth,
+        _place: &NotationContext,
+    ) -> Result<(), AllocError> {
+        push_number(out, tag, width)?;
+        out.push('(')
+    }
+
+    #[inline(always)]
+    fn tag_end(out: &mut String, _tag: u64, _place: &NotationContext) -> Result<(), AllocError> {
+        out.push(')')
+    }
+
+    #[inline(always)]
+    fn start(
+        out: &mut String,
+        _container: Container,
+        style: ContainerStyle,
+        first: bool,
+    ) -> Result<(), AllocError> {
+        push_start(out, style, first)
+    }
+
+    #[inline(always)]
+    fn end(
+        out: &mut String,
+        _container: Container,
+        style: ContainerStyle,
+    ) -> Result<(), AllocError> {
+        push_end(out, style)
+    }
+
+    #[inline(always)]
+    fn colon(out: &mut String, style: ContainerStyle) -> Result<(), AllocError> {
+        push_colon(out, style)
+    }
+}
+
+/// Writes the bytes of a byte string, or the items that they are where these are shown and can
+/// be read.
+pub fn push_content(
+    out: &mut String,
+    bytes: &[u8],
+    context: &NotationContext,
+) -> Result<(), AllocError>
+    requires level { context.now.level ≤ deepest }
+    requires indent { IsIndented context.now }
+    ensures { AppendsText result out.old out.new
+        (content_there context.now context.now.content bytes.now) }
+{
+    from_bytes::push_content::<Diag>(out, bytes, IntegerWidth::Unknown, context)
+}

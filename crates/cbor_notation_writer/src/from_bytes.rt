@@ -1,0 +1,484 @@
+//! Writes an item straight from its bytes, in any dialect of notation: each part is written as soon
+//! as it is read, and no item is built. How long a container would be on one line is found by a
+//! look ahead (`ahead.rt`).
+//!
+//! Each function takes the remaining bytes and returns those after what it wrote. What was written
+//! before an error stays. Items that are embedded in a byte string are written by the same
+//! functions; what was written of them is cut back where they can't be read.
+#![tactic(auto, using(cbor_grammar::proofs::shared::Appending::appending_steps))]
+
+ghost use Rattle.std.specs.Prelude.{◌≡◌, ◌+◌, ◌*◌, ◌<◌, ◌≤◌, ◌^◌, IfOk, IfErr, OnErr, true, false};
+ghost use Rattle.std.specs.Prelude.{unwrap_or};
+ghost use Rattle.std.specs.Io.{StartsWith};
+ghost use Rattle.std.specs.String.{string_bytes};
+ghost use Rattle.cbor_grammar.specs.declared.layout.Content.TheVariants as shown;
+ghost use Rattle.cbor_grammar.specs.NotationText.{style_indent};
+ghost use Rattle.cbor_grammar.specs.Reading.{Fails};
+ghost use Rattle.cbor_grammar.specs.WellFormed.{deepest};
+ghost use Rattle.cbor_notation_writer.specs.Dialect.{Writes, TextsAt};
+ghost use Rattle.cbor_grammar.specs.mirror.AtLevel.{read_at, read_behind};
+ghost use Rattle.cbor_notation_writer.specs.mirror.Straight.{Written, TextsHere, IsLaidOut};
+ghost use Rattle.cbor_notation_writer.specs.mirror.Straight.{chunk, ContentThere, StringThere};
+ghost use Rattle.cbor_notation_writer.specs.mirror.Straight.{BeforeChunk, AfterChunks};
+
+use crate::ahead::{array_style_ahead, chunks_style_ahead, map_style_ahead, sequence_style_ahead};
+use crate::dialect::Dialect;
+use crate::parts::{Container, Leaf};
+use cbor_bytes::borrowed::{next_chunk, read_borrowed};
+use cbor_bytes::head::{no_level_left, read_head};
+use cbor_grammar::argument::Argument;
+use cbor_grammar::head::ItemHead;
+use cbor_grammar::layout::{ContainerStyle, Content};
+use cbor_grammar::level::DEEPEST;
+use cbor_grammar::strings::{StringContent, StringKind};
+use cbor_grammar::{Error, IntegerWidth};
+use std::alloc::{AllocError, Global};
+
+/// Whether the simple value at the front takes two bytes.
+#[inline(always)]
+fn takes_two(bytes: &[u8]) -> bool {
+    matches!(bytes.first(), Some(0xf8))
+}
+
+/// The place of an item that moved there, or stayed at its place.
+#[inline(always)]
+fn place_of<'a, D: Dialect>(moved: &'a Option<D::Place>, place: &'a D::Place) -> &'a D::Place
+    ensures { result.now ≡ unwrap_or moved.now place.now }
+{
+    match moved {
+        Some(here) => here,
+        None => place,
+    }
+}
+
+/// Writes the item at the front.
+#[cycle(straight)]
+pub fn push_front<'a, D: Dialect>(
+    out: &mut String,
+    bytes: &'a [u8],
+    place: &D::Place,
+) -> cbor_grammar::Result<&'a [u8]>
+    requires level { D.leaves.level place.now ≤ deepest + 1 }
+    requires indent { IsLaidOut D.leaves place.now }
+    ensures printed { IfOk result (λ rest. Written (TextsAt D.leaves place.now)
+        (read_at (D.leaves.level place.now) bytes.now)
+        rest.now (string_bytes out.old) (string_bytes out.new)) }
+    ensures refused { IfErr result
+        (λ e. Fails e (read_at (D.leaves.level place.now) bytes.now)) }
+    ensures begun { OnErr result (StartsWith (string_bytes out.new) (string_bytes out.old)) }
+{
+    if D::level(place) > DEEPEST {
+        return Err(no_level_left(bytes));
+    }
+    let (head, rest) = read_head(bytes)?;
+    let moved = D::at(place, bytes.len());
+    let here = place_of::<D>(&moved, place);
+    match head {
+        ItemHead::Integer(value, width) => {
+            D::leaf(out, Leaf::Integer(value, width), here)?;
+            Ok(rest)
+        }
+        ItemHead::Negative(value, width) => {
+            D::leaf(out, Leaf::Negative(value, width), here)?;
+            Ok(rest)
+        }
+        ItemHead::String(kind, len) => push_string_front::<D>(out, (kind, len), rest, here),
+        ItemHead::Array(count) => push_array_front::<D>(out, count, rest, here),
+        ItemHead::Map(count) => push_map_front::<D>(out, count, rest, here),
+        ItemHead::Tag(tag, width) => push_tag_front::<D>(out, (tag, width), rest, here),
+        ItemHead::Float(bits, width) => {
+            D::leaf(out, Leaf::Float(bits, width), here)?;
+            Ok(rest)
+        }
+        ItemHead::Simple(value) => {
+            D::leaf(out, Leaf::Simple(value, takes_two(bytes)), here)?;
+            Ok(rest)
+        }
+    }
+}
+
+/// Writes an array after its head, with this count of items.
+#[cycle(straight)]
+#[inline(never)]
+fn push_array_front<'a, D: Dialect>(
+    out: &mut String,
+    count: Argument,
+    bytes: &'a [u8],
+    place: &D::Place,
+) -> cbor_grammar::Result<&'a [u8]>
+    requires level { D.leaves.level place.now ≤ deepest }
+    requires indent { IsLaidOut D.leaves place.now }
+    ensures printed { IfOk result (λ rest. Written (TextsHere D.leaves place.now)
+        (read_behind (D.leaves.level place.now) (ItemHead.Array count) bytes.now)
+        rest.now (string_bytes out.old) (string_bytes out.new)) }
+    ensures refused { IfErr result (λ e. Fails e (read_behind (D.leaves.level place.now)
+        (ItemHead.Array count) bytes.now)) }
+    ensures begun { OnErr result (StartsWith (string_bytes out.new) (string_bytes out.old)) }
+{
+    let container = Container::Array(count);
+    let style = array_style_ahead(D::layout(place), D::limit(place), count, bytes);
+    let mut inner = D::inside(place, container, style.members_layout());
+    D::opening(out, container, style, place)?;
+    let mut rest = bytes;
+    let mut held = 0;
+    'items: loop {
+        if let Some(after) = count.after_end(held, rest) {
+            D::closing(out, container, style, place)?;
+            return Ok(after);
+        }
+        D::start(out, container, style, held == 0)?;
+        rest = push_front::<D>(out, rest, &inner)?;
+        D::end(out, container, style)?;
+        D::pass(&mut inner);
+        held += 1;
+    }
+}
+
+/// Writes a map after its head, with this count of pairs.
+#[cycle(straight)]
+#[inline(never)]
+fn push_map_front<'a, D: Dialect>(
+    out: &mut String,
+    count: Argument,
+    bytes: &'a [u8],
+    place: &D::Place,
+) -> cbor_grammar::Result<&'a [u8]>
+    requires level { D.leaves.level place.now ≤ deepest }
+    requires indent { IsLaidOut D.leaves place.now }
+    ensures printed { IfOk result (λ rest. Written (TextsHere D.leaves place.now)
+        (read_behind (D.leaves.level place.now) (ItemHead.Map count) bytes.now)
+        rest.now (string_bytes out.old) (string_bytes out.new)) }
+    ensures refused { IfErr result (λ e. Fails e (read_behind (D.leaves.level place.now)
+        (ItemHead.Map count) bytes.now)) }
+    ensures begun { OnErr result (StartsWith (string_bytes out.new) (string_bytes out.old)) }
+{
+    let container = Container::Map(count);
+    let style = map_style_ahead(D::layout(place), D::limit(place), count, bytes);
+    let mut inner = D::inside(place, container, style.members_layout());
+    D::opening(out, container, style, place)?;
+    let mut rest = bytes;
+    let mut held = 0;
+    'pairs: loop {
+        if let Some(after) = count.after_end(held, rest) {
+            D::closing(out, container, style, place)?;
+            return Ok(after);
+        }
+        D::start(out, container, style, held == 0)?;
+        let value = push_front::<D>(out, rest, &inner)?;
+        D::pass_key(&mut inner, rest, value);
+        D::colon(out, style)?;
+        rest = push_front::<D>(out, value, &inner)?;
+        D::end(out, container, style)?;
+        D::pass(&mut inner);
+        held += 1;
+    }
+}
+
+/// Writes a tag after its head, by its number and the width of that, and the item below it.
+#[cycle(straight)]
+#[inline(never)]
+fn push_tag_front<'a, D: Dialect>(
+    out: &mut String,
+    head: (u64, IntegerWidth),
+    bytes: &'a [u8],
+    place: &D::Place,
+) -> cbor_grammar::Result<&'a [u8]>
+    requires level { D.leaves.level place.now ≤ deepest }
+    requires indent { IsLaidOut D.leaves place.now }
+    ensures printed { IfOk result (λ rest. Written (TextsHere D.leaves place.now)
+        (read_behind (D.leaves.level place.now) (ItemHead.Tag head.0 head.1) bytes.now)
+        rest.now (string_bytes out.old) (string_bytes out.new)) }
+    ensures refused { IfErr result (λ e. Fails e (read_behind (D.leaves.level place.now)
+        (ItemHead.Tag head.0 head.1) bytes.now)) }
+    ensures begun { OnErr result (StartsWith (string_bytes out.new) (string_bytes out.old)) }
+{
+    let (tag, width) = head;
+    D::tag(out, tag, width, place)?;
+    let rest = push_front::<D>(out, bytes, &D::below(place, tag))?;
+    D::tag_end(out, tag, place)?;
+    Ok(rest)
+}
+
+/// Writes a string after its head, with this length.
+#[cycle(straight)]
+fn push_string_front<'a, D: Dialect>(
+    out: &mut String,
+    head: (StringKind, Argument),
+    bytes: &'a [u8],
+    place: &D::Place,
+) -> cbor_grammar::Result<&'a [u8]>
+    requires level { D.leaves.level place.now ≤ deepest }
+    requires indent { IsLaidOut D.leaves place.now }
+    ensures printed { IfOk result (λ rest. Written (TextsHere D.leaves place.now)
+        (read_behind (D.leaves.level place.now) (ItemHead.String head.0 head.1) bytes.now)
+        rest.now (string_bytes out.old) (string_bytes out.new)) }
+    ensures refused { IfErr result (λ e. Fails e (read_behind (D.leaves.level place.now)
+        (ItemHead.String head.0 head.1) bytes.now)) }
+    ensures begun { OnErr result (StartsWith (string_bytes out.new) (string_bytes out.old)) }
+{
+    let (kind, len) = head;
+    match len {
+        Argument::Number(count, width) => {
+            let (content, rest) = read_borrowed(kind, count, bytes)?;
+            push_definite::<D>(out, content, width, place)?;
+            Ok(rest)
+        }
+        Argument::Indefinite => push_chunks_front::<D>(out, kind, bytes, place),
+    }
+}
+
+/// Writes a string of definite length.
+#[cycle(straight)]
+fn push_definite<D: Dialect>(
+    out: &mut String,
+    content: StringContent<'_>,
+    width: IntegerWidth,
+    place: &D::Place,
+) -> Result<(), AllocError>
+    requires level { D.leaves.level place.now ≤ deepest }
+    requires indent { IsLaidOut D.leaves place.now }
+    ensures { Writes result out.old out.new (StringThere D.leaves place.now width content.entry) }
+{
+    match content {
+        StringContent::Bytes(bytes) => push_content::<D>(out, bytes, width, place),
+        StringContent::Text(_) => D::string(out, content, width, place),
+    }
+}
+
+/// Writes the bytes of a byte string, or the items that they are where these are shown and can
+/// be read. Its length has this width.
+#[cycle(straight)]
+pub fn push_content<D: Dialect>(
+    out: &mut String,
+    bytes: &[u8],
+    width: IntegerWidth,
+    place: &D::Place,
+) -> Result<(), AllocError>
+    requires level { D.leaves.level place.now ≤ deepest }
+    requires indent { IsLaidOut D.leaves place.now }
+    ensures { Writes result out.old out.new (ContentThere D.leaves (D.leaves.content place.now
+        bytes.now) place.now (chunk width bytes.now)) }
+{
+    match D::content(place, bytes) {
+        Content::Bytes => D::string(out, StringContent::Bytes(bytes), width, place),
+        Content::Item => push_embedded::<D>(out, bytes, width, place),
+        Content::Sequence => push_sequence::<D>(out, bytes, width, place),
+    }
+}
+
+/// Writes the item that the bytes are, or the bytes where they are none.
+#[cycle(straight)]
+#[inline(never)]
+fn push_embedded<D: Dialect>(
+    out: &mut String,
+    bytes: &[u8],
+    width: IntegerWidth,
+    place: &D::Place,
+) -> Result<(), AllocError>
+    requires level { D.leaves.level place.now ≤ deepest }
+    requires indent { IsLaidOut D.leaves place.now }
+    ensures { Writes result out.old out.new (ContentThere D.leaves shown.Item place.now
+        (chunk width bytes.now)) }
+{
+    let container = Container::Embedded(Argument::Number(bytes.len() as u64, width));
+    let style = ContainerStyle::Compact;
+    if bytes.is_empty() {
+        D::opening(out, container, style, place)?;
+        return D::closing(out, container, style, place);
+    }
+    let start = out.len();
+    D::opening(out, container, style, place)?;
+    match push_front::<D>(out, bytes, &D::inside(place, container, D::layout(place))) {
+        Ok(rest) => {
+            if rest.is_empty() {
+                return D::closing(out, container, style, place);
+            }
+            out.truncate(start);
+            D::string(out, StringContent::Bytes(bytes), width, place)
+        }
+        Err(error) => match error {
+            Error::Memory => Err(AllocError),
+            _ => {
+                out.truncate(start);
+                D::string(out, StringContent::Bytes(bytes), width, place)
+            }
+        },
+    }
+}
+
+/// Writes as many items as can be read one after the other, and the rest as bytes.
+#[cycle(straight)]
+#[inline(never)]
+fn push_sequence<D: Dialect>(
+    out: &mut String,
+    bytes: &[u8],
+    width: IntegerWidth,
+    place: &D::Place,
+) -> Result<(), AllocError>
+    requires level { D.leaves.level place.now ≤ deepest }
+    requires indent { IsLaidOut D.leaves place.now }
+    ensures { Writes result out.old out.new (ContentThere D.leaves shown.Sequence place.now
+        (chunk width bytes.now)) }
+{
+    let container = Container::Embedded(Argument::Number(bytes.len() as u64, width));
+    let style = sequence_style_ahead(
+        D::layout(place),
+        D::limit(place),
+        D::level(place) + 1,
+        bytes,
+    );
+    let mut inner = D::inside(place, container, style.members_layout());
+    D::opening(out, container, style, place)?;
+    let mut rest = bytes;
+    let mut held: usize = 0;
+    'items: loop {
+        let start = out.len();
+        D::start(out, container, style, held == 0)?;
+        match push_front::<D>(out, rest, &inner) {
+            Ok(after) => {
+                D::end(out, container, style)?;
+                D::pass(&mut inner);
+                rest = after;
+                held += 1;
+            }
+            Err(error) => match error {
+                Error::Memory => return Err(AllocError),
+                _ => {
+                    out.truncate(start);
+                    D::closing(out, container, style, place)?;
+                    return D::rest(out, container, rest, place);
+                }
+            },
+        }
+    }
+}
+
+/// Writes an indefinite string after its opening byte.
+#[inline(never)]
+fn push_chunks_front<'a, D: Dialect>(
+    out: &mut String,
+    kind: StringKind,
+    bytes: &'a [u8],
+    place: &D::Place,
+) -> cbor_grammar::Result<&'a [u8]>
+    requires level { D.leaves.level place.now ≤ deepest }
+    requires indent { IsLaidOut D.leaves place.now }
+    ensures printed { IfOk result (λ rest. Written (TextsHere D.leaves place.now)
+        (read_behind (D.leaves.level place.now)
+        (ItemHead.String kind Argument.Indefinite) bytes.now)
+        rest.now (string_bytes out.old) (string_bytes out.new)) }
+    ensures refused { IfErr result (λ e. Fails e (read_behind (D.leaves.level place.now)
+        (ItemHead.String kind Argument.Indefinite) bytes.now)) }
+    ensures begun { OnErr result (StartsWith (string_bytes out.new) (string_bytes out.old)) }
+{
+    match D::joins(place, kind) {
+        Some(alloc) => push_joined_front::<D>(out, bytes, place, alloc),
+        None => push_parts_front::<D>(out, kind, bytes, place),
+    }
+}
+
+/// Writes an indefinite byte string after its opening byte, its chunks as one string.
+#[inline(never)]
+fn push_joined_front<'a, D: Dialect>(
+    out: &mut String,
+    bytes: &'a [u8],
+    place: &D::Place,
+    alloc: Global,
+) -> cbor_grammar::Result<&'a [u8]>
+    requires joins { D.leaves.joins place.now StringKind.Bytes ≡ true }
+    requires level { D.leaves.level place.now ≤ deepest }
+    ensures printed { IfOk result (λ rest. Written (TextsHere D.leaves place.now)
+        (read_behind (D.leaves.level place.now)
+        (ItemHead.String StringKind.Bytes Argument.Indefinite) bytes.now)
+        rest.now (string_bytes out.old) (string_bytes out.new)) }
+    ensures refused { IfErr result (λ e. Fails e (read_behind (D.leaves.level place.now)
+        (ItemHead.String StringKind.Bytes Argument.Indefinite) bytes.now)) }
+    ensures begun { OnErr result (StartsWith (string_bytes out.new) (string_bytes out.old)) }
+{
+    let mut joined = Vec::new(alloc);
+    let mut rest = bytes;
+    'chunks: loop {
+        let (chunk, after) = next_chunk(StringKind::Bytes, rest)?;
+        let Some((content, _)) = chunk else {
+            let content = StringContent::Bytes(&joined);
+            D::string(out, content, IntegerWidth::Unknown, place)?;
+            return Ok(after);
+        };
+        joined.extend_from_slice(content.as_bytes())?;
+        rest = after;
+    }
+}
+
+/// Writes an indefinite string after its opening byte, chunk by chunk.
+#[inline(never)]
+fn push_parts_front<'a, D: Dialect>(
+    out: &mut String,
+    kind: StringKind,
+    bytes: &'a [u8],
+    place: &D::Place,
+) -> cbor_grammar::Result<&'a [u8]>
+    requires parts { D.leaves.joins place.now kind ≡ false }
+    requires level { D.leaves.level place.now ≤ deepest }
+    requires indent { IsLaidOut D.leaves place.now }
+    ensures printed { IfOk result (λ rest. Written (TextsHere D.leaves place.now)
+        (read_behind (D.leaves.level place.now)
+        (ItemHead.String kind Argument.Indefinite) bytes.now)
+        rest.now (string_bytes out.old) (string_bytes out.new)) }
+    ensures refused { IfErr result (λ e. Fails e (read_behind (D.leaves.level place.now)
+        (ItemHead.String kind Argument.Indefinite) bytes.now)) }
+    ensures begun { OnErr result (StartsWith (string_bytes out.new) (string_bytes out.old)) }
+{
+    let container = Container::Chunks(kind);
+    let style = chunks_style_ahead(D::layout(place), D::limit(place), kind, bytes);
+    let mut rest = bytes;
+    let mut held = 0;
+    'chunks: loop {
+        let (chunk, after) = next_chunk(kind, rest)?;
+        let Some((content, width)) = chunk else {
+            push_chunks_end::<D>(out, kind, held, style, place)?;
+            return Ok(after);
+        };
+        push_chunk_start::<D>(out, kind, held, style, place)?;
+        D::part(out, content, width, place)?;
+        D::end(out, container, style)?;
+        rest = after;
+        held += 1;
+    }
+}
+
+/// Writes what is before a chunk, after `held` others.
+fn push_chunk_start<D: Dialect>(
+    out: &mut String,
+    kind: StringKind,
+    held: usize,
+    style: ContainerStyle,
+    place: &D::Place,
+) -> Result<(), AllocError>
+    requires { style_indent style < 2 ^ 32 }
+    ensures { Writes result out.old out.new (BeforeChunk D.leaves place.now kind style held) }
+{
+    let container = Container::Chunks(kind);
+    if held == 0 {
+        D::opening(out, container, style, place)?;
+        D::start(out, container, style, true)
+    } else {
+        D::start(out, container, style, false)
+    }
+}
+
+/// Writes what is after the last of `held` chunks. A string without chunks keeps its kind.
+fn push_chunks_end<D: Dialect>(
+    out: &mut String,
+    kind: StringKind,
+    held: usize,
+    style: ContainerStyle,
+    place: &D::Place,
+) -> Result<(), AllocError>
+    ensures { Writes result out.old out.new (AfterChunks D.leaves place.now kind style held) }
+{
+    if held == 0 {
+        D::no_parts(out, kind, place)
+    } else {
+        D::closing(out, Container::Chunks(kind), style, place)
+    }
+}
