@@ -3,6 +3,7 @@ pub mod StringsAhead
 pub mod SequencesAhead
 pub mod Styles
 pub mod Sequences
+pub mod Fronts
 pub mod Texts
 pub mod ChunkTexts
 pub mod Wrote

@@ -1,80 +1,37 @@
 -- Texts that are written as their parts are read.
 use Rattle.std.proofs.Common.{◌≡◌, ℕ, zero, suc, ◌+◌, ◌-◌, ◌≤◌, Bool, true, false, eqb, List, [], ◌∷◌, ◌++◌}
-use Rattle.std.proofs.Common.{Some, None, Result, Ok, Err, IfOk, IfErr, refl, sym, ap, subst, ◌∙◌, append_assoc, arith}
+use Rattle.std.proofs.Common.{Some, None, refl, sym, ap, subst, ◌∙◌, append_assoc, arith}
 use Rattle.std.specs.List.{flat_map}
 use Rattle.std.proofs.lemmas.List.{append-nil}
 use Rattle.std.proofs.Math.Dec.{eqb-suc-zero}
 use Rattle.std.proofs.lemmas.Grind.{flat_map-append}
 use Rattle.cbor_grammar.specs.declared.argument.Argument.{Argument}
 use Rattle.cbor_grammar.specs.declared.argument.Argument.TheVariants.{Number, Indefinite}
-use Rattle.cbor_grammar.specs.declared.error.Error.{Error}
-use Rattle.cbor_grammar.specs.declared.head.ItemHead.{ItemHead}
 use Rattle.cbor_grammar.specs.declared.layout.ContainerStyle.{ContainerStyle}
 use Rattle.cbor_grammar.specs.declared.strings.StringContent.{StringContent}
 use Rattle.cbor_grammar.specs.declared.strings.StringContent.TheVariants as content
 use Rattle.cbor_grammar.specs.declared.width.IntegerWidth.{IntegerWidth}
 use Rattle.cbor_grammar.specs.Estimate.{estimated_items, estimated_pairs}
 use Rattle.cbor_grammar.specs.Item as spec
-use Rattle.cbor_grammar.specs.Item.{Chunk, string, chunked_string, Item, atom, array, tagged, Items, no_items, item}
+use Rattle.cbor_grammar.specs.Item.{string, Item, atom, array, tagged, Items, no_items, item}
 use Rattle.cbor_grammar.specs.Item.{item_count, Pairs, no_pairs, pair, pair_count}
 use Rattle.cbor_grammar.specs.NotationText.{members_layout}
-use Rattle.cbor_grammar.specs.Reading.{Fails, joined, joined_pairs, after_members, count_width, read_head}
+use Rattle.cbor_grammar.specs.Reading.{joined, joined_pairs, after_members, count_width}
 use Rattle.cbor_grammar.specs.WellFormed.{levels_left}
 use Rattle.cbor_grammar.specs.mirror.Lengths.{left_of}
 use Rattle.cbor_grammar.specs.mirror.StringView.{borrowed_chunk, kind_of}
 use Rattle.cbor_notation_writer.specs.declared.parts.Container.{Container}
 use Rattle.cbor_notation_writer.specs.declared.parts.Container.TheVariants.{Array, Map}
 use Rattle.cbor_notation_writer.specs.Dialect.{Leaves, Writer, listed, ItemTexts, PairText, PairTexts}
-use Rattle.cbor_notation_writer.specs.Dialect.{count_of, sized_style, TextWith, TextsOf, TextsAt, ItemsText, PairsText}
-use Rattle.cbor_notation_writer.specs.mirror.Straight.{Written, TextsBelow, TextsHere, StringThere}
-use Rattle.cbor_grammar.specs.mirror.AtLevel.{read_at, read_behind}
-use Rattle.cbor_bytes.proofs.reading.Levels.{head_reads}
+use Rattle.cbor_notation_writer.specs.Dialect.{count_of, sized_style, TextsOf, TextsAt, ItemsText, PairsText}
+use Rattle.cbor_notation_writer.specs.mirror.Straight.{TextsBelow, TextsHere, StringThere}
 
 -- ---- items
-
--- an item whose place is known, by its parts
-pub texts_open : {P : Type 0} (d : Leaves P) (p q r : P) (i : Item) (t : List ℕ) → d.level p ≤ 128 → q ≡ r → d.At p r
-    → d.level r ≡ d.level p → TextsHere d q i t → TextsAt d p i t
-unfolding TextsOf
-texts_open d p q r i t le is known same h =
-    let levels : suc (levels_left (d.level p + 1)) ≡ levels_left (d.level p) = omega arith in
-    let here : TextWith d (levels_left (d.level p + 1)) (TextsBelow d p) r i t =
-    subst (λ n. TextWith d (levels_left (n + 1)) (TextsOf d (levels_left (n + 1))) r i t) same
-    (subst (λ x. TextsHere d x i t) is h) in
-    subst (λ n. TextsOf d n p i t) levels (r, known, here)
 
 -- what is written at that level
 pub texts_below : {P : Type 0} (d : Leaves P) (inner : P) (level : ℕ) (i : Item) (t : List ℕ) → d.level inner ≡ level
     → TextsAt d inner i t → TextsOf d (levels_left level) inner i t
 texts_below d inner level i t same h = subst (λ n. TextsOf d (levels_left n) inner i t) same h
-
--- an item that is its head
-pub leaf_written : {P : Type 0} (d : Leaves P) (p q r : P) (b : List ℕ) (h : ItemHead) (rest : List ℕ) (i : Item)
-    (old new : List ℕ) → d.level p ≤ 128 → q ≡ r → d.At p r → d.level r ≡ d.level p → read_head b ≡ Ok (h, rest)
-    → read_behind (d.level p) h rest ≡ Ok (i, rest) → (t : List ℕ) × TextsHere d q i t × (new ≡ old ++ t)
-    → Written (TextsAt d p) (read_at (d.level p) b) rest old new
-leaf_written d p q r b h rest i old new le is known same e read w =
-    (i, head_reads (d.level p) b h rest le e ∙ read, w.0, texts_open d p q r i w.0 le is known same w.1, w.2)
-
-front_read : {P : Type 0} (d : Leaves P) (p q r : P) (b : List ℕ) (h : ItemHead) (rest : List ℕ) → d.level p ≤ 128
-    → q ≡ r → d.level r ≡ d.level p → read_head b ≡ Ok (h, rest)
-    → read_at (d.level p) b ≡ read_behind (d.level q) h rest
-front_read d p q r b h rest le is same e =
-    head_reads (d.level p) b h rest le e ∙ ap (λ n. read_behind n h rest) (sym (ap d.level is ∙ same))
-
--- what holds of what is read after a head holds of what is read there
-pub front_so : {P A : Type 0} (d : Leaves P) (p q r : P) (gave : Result A Error) (f : A → List ℕ) (b : List ℕ)
-    (h : ItemHead) (rest old new : List ℕ) → d.level p ≤ 128 → q ≡ r → d.At p r → d.level r ≡ d.level p
-    → read_head b ≡ Ok (h, rest)
-    → IfOk gave (λ x. Written (TextsHere d q) (read_behind (d.level q) h rest) (f x) old new)
-    × IfErr gave (λ e. Fails e (read_behind (d.level q) h rest))
-    → IfOk gave (λ x. Written (TextsAt d p) (read_at (d.level p) b) (f x) old new)
-    × IfErr gave (λ e. Fails e (read_at (d.level p) b))
-front_so d p q r (Ok x) f b h rest old new le is known same e (w, none) =
-    let read = front_read d p q r b h rest le is same e in
-    ((w.0, read ∙ w.1, w.2, texts_open d p q r w.0 w.2 le is known same w.3, w.4), tt)
-front_so d p q r (Err x) f b h rest old new le is known same e (none, fails) =
-    (tt, subst (Fails x) (sym (front_read d p q r b h rest le is same e)) fails)
 
 -- ---- members
 

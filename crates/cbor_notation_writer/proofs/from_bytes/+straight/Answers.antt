@@ -1,17 +1,14 @@
 -- What is appended from bytes is a text of the item that reading them gives, or reading fails the same.
-use Rattle.std.proofs.Common.{◌≡◌, ◌+◌, ◌++◌, Some, refl, ap, sym, subst, ◌∙◌, arith, length}
+use Rattle.std.proofs.Common.{◌≡◌, ◌+◌, ◌++◌, Some, refl, ap, sym, ◌∙◌, arith, length}
 use Rattle.std.proofs.lemmas.Bool.{eqb-true, eqb-false}
-use Rattle.std.proofs.lemmas.Result.{err_from_is_err_and}
 use Rattle.std.specs.String.{string_bytes}
 use Rattle.cbor_grammar.specs.Item as spec
-use Rattle.cbor_grammar.specs.Item.{atom, integer, negative, string, float, simple, array, no_items, item, no_pairs}
-use Rattle.cbor_grammar.specs.Item.{pair}
-use Rattle.cbor_grammar.specs.declared.head.ItemHead.TheVariants as item_head
+use Rattle.cbor_grammar.specs.Item.{atom, string, array, no_items, item, no_pairs, pair}
 use Rattle.cbor_grammar.specs.Embedded.{sequence_at}
 use Rattle.cbor_grammar.specs.Estimate.{estimated_items, estimated_pairs}
 use Rattle.cbor_grammar.specs.NotationText.{members_layout}
-use Rattle.cbor_grammar.specs.Reading.{Fails, items_in, pairs_in, tag_of, joined, joined_pairs, count_width}
-use Rattle.cbor_grammar.specs.Reading.{read_head, no_level_left}
+use Rattle.cbor_grammar.specs.Reading.{items_in, pairs_in, tag_of, joined, joined_pairs, count_width, read_head}
+use Rattle.cbor_grammar.specs.Reading.{no_level_left}
 use Rattle.cbor_grammar.specs.WellFormed.{levels_left}
 use Rattle.cbor_grammar.specs.mirror.AtLevel.{read_at}
 use Rattle.cbor_grammar.specs.mirror.Lengths.{left_of}
@@ -24,15 +21,16 @@ use Rattle.cbor_notation_writer.specs.Dialect.{embedding}
 use Rattle.cbor_notation_writer.specs.mirror.Straight.{TextsBelow, chunk, ContentThere}
 use Rattle.cbor_grammar.specs.declared.layout.Content.TheVariants as shown
 use Rattle.cbor_bytes.proofs.reading.Levels.{head_fails, too_deep, same_read, same_fails}
-use Rattle.cbor_bytes.proofs.reading.Readings.{fails_is, float_fits, parts_read, part_fails, parts_ended, none_held}
-use Rattle.cbor_bytes.proofs.reading.Readings.{member_read, pair_read, value_fails, tag_read, content_read}
+use Rattle.cbor_bytes.proofs.reading.Readings.{fails_is, float_fits, parts_read, parts_ended, none_held}
+use Rattle.cbor_bytes.proofs.reading.Readings.{member_read, pair_read, tag_read, content_read}
+use Rattle.cbor_notation_writer.proofs.straight.Fronts.{leaf_written, front_so, passed, part_refused, value_refused}
 use Rattle.cbor_notation_writer.proofs.straight.Sequences.{sequence_begun, sequence_more, sequence_style, sequence_ends}
 use Rattle.cbor_notation_writer.proofs.straight.Sequences.{begun_member, sequence_written, whole_item, nothing_written}
 use Rattle.cbor_notation_writer.proofs.straight.Sequences.{embedded_written}
-use Rattle.cbor_notation_writer.proofs.straight.Texts.{texts_below, leaf_written, reached_none, reached_more}
+use Rattle.cbor_notation_writer.proofs.straight.Texts.{texts_below, reached_none, reached_more}
 use Rattle.cbor_notation_writer.proofs.straight.Texts.{no_items_written, one_item_written, array_closed}
 use Rattle.cbor_notation_writer.proofs.straight.Texts.{no_pairs_written, pair_text, one_pair_written, map_closed}
-use Rattle.cbor_notation_writer.proofs.straight.Texts.{front_so, string_written, tag_written, width_left}
+use Rattle.cbor_notation_writer.proofs.straight.Texts.{string_written, tag_written, width_left}
 use Rattle.cbor_notation_writer.proofs.straight.Styles.{style_there}
 use Rattle.cbor_notation_writer.proofs.straight.Wrote.{wrote_begins, wrote_last}
 use Rattle.cbor_notation_writer.proofs.from_bytes.+straight.Goals as goal
@@ -49,49 +47,42 @@ push_front-returns-then-level-gt-DEEPEST-clause-refused g t c =
 
 pub push_front-returns-in_err-head-clause-refused : goal.push_front-returns-in_err-head-clause-refused
 push_front-returns-in_err-head-clause-refused g t c =
-    let p = err_from_is_err_and c.from_residual.result c.from_residual.ensures.1 in
-    rw p.1 (head_fails (g.D.Dialect.leaves.level c.args.place.now) c.args.bytes.now p.0
+    let e = c.in_err-head.field-0.0 in
+    passed c.from_residual.result e _ c.from_residual.ensures.1
+    (head_fails (g.D.Dialect.leaves.level c.args.place.now) c.args.bytes.now e
     (omega (arith, c.level.ensures, c.if-level-gt-DEEPEST.false))
-    (fails_is p.0 _ (read_head c.args.bytes.now) p.2 c.in_err-head.ensures.gives))
+    (fails_is e _ (read_head c.args.bytes.now) refl c.in_err-head.ensures.gives))
 
 pub push_front-returns-in-String : goal.push_front-returns-in-String
 push_front-returns-in-String g t c =
-    let so = front_so g.D.Dialect.leaves c.args.place.now c.place_of-here.result.now _
-    c.push_string_front.result (λ rest. rest.now) c.args.bytes.now _ c.in_ok-head.rest.now _ _
-    (omega (arith, c.level.ensures, c.if-level-gt-DEEPEST.false))
-    c.place_of-here.ensures c.at-moved.ensures.place c.at-moved.ensures.level
-    (rw c.in-String.is at c.in_ok-head.ensures.gives)
-    (c.push_string_front.ensures.printed, c.push_string_front.ensures.refused) in
+    let so = front_so g.D.Dialect.leaves c.args.place.now c.args.bytes.now c.level.ensures
+    c.if-level-gt-DEEPEST.false c.place_of-here.ensures c.at-moved.ensures.place c.at-moved.ensures.level
+    (rw c.in-String.is at c.in_ok-head.ensures.gives) c.push_string_front.result (λ rest. rest.now) _ _
+    c.push_string_front.ensures.printed c.push_string_front.ensures.refused in
     record { printed = so.0; refused = so.1; begun = c.push_string_front.ensures.begun }
 
 pub push_front-returns-in-Array : goal.push_front-returns-in-Array
 push_front-returns-in-Array g t c =
-    let so = front_so g.D.Dialect.leaves c.args.place.now c.place_of-here.result.now _
-    c.push_array_front.result (λ rest. rest.now) c.args.bytes.now _ c.in_ok-head.rest.now _ _
-    (omega (arith, c.level.ensures, c.if-level-gt-DEEPEST.false))
-    c.place_of-here.ensures c.at-moved.ensures.place c.at-moved.ensures.level
-    (rw c.in-Array.is at c.in_ok-head.ensures.gives)
-    (c.push_array_front.ensures.printed, c.push_array_front.ensures.refused) in
+    let so = front_so g.D.Dialect.leaves c.args.place.now c.args.bytes.now c.level.ensures
+    c.if-level-gt-DEEPEST.false c.place_of-here.ensures c.at-moved.ensures.place c.at-moved.ensures.level
+    (rw c.in-Array.is at c.in_ok-head.ensures.gives) c.push_array_front.result (λ rest. rest.now) _ _
+    c.push_array_front.ensures.printed c.push_array_front.ensures.refused in
     record { printed = so.0; refused = so.1; begun = c.push_array_front.ensures.begun }
 
 pub push_front-returns-in-Map : goal.push_front-returns-in-Map
 push_front-returns-in-Map g t c =
-    let so = front_so g.D.Dialect.leaves c.args.place.now c.place_of-here.result.now _
-    c.push_map_front.result (λ rest. rest.now) c.args.bytes.now _ c.in_ok-head.rest.now _ _
-    (omega (arith, c.level.ensures, c.if-level-gt-DEEPEST.false))
-    c.place_of-here.ensures c.at-moved.ensures.place c.at-moved.ensures.level
-    (rw c.in-Map.is at c.in_ok-head.ensures.gives)
-    (c.push_map_front.ensures.printed, c.push_map_front.ensures.refused) in
+    let so = front_so g.D.Dialect.leaves c.args.place.now c.args.bytes.now c.level.ensures
+    c.if-level-gt-DEEPEST.false c.place_of-here.ensures c.at-moved.ensures.place c.at-moved.ensures.level
+    (rw c.in-Map.is at c.in_ok-head.ensures.gives) c.push_map_front.result (λ rest. rest.now) _ _
+    c.push_map_front.ensures.printed c.push_map_front.ensures.refused in
     record { printed = so.0; refused = so.1; begun = c.push_map_front.ensures.begun }
 
 pub push_front-returns-in-Tag : goal.push_front-returns-in-Tag
 push_front-returns-in-Tag g t c =
-    let so = front_so g.D.Dialect.leaves c.args.place.now c.place_of-here.result.now _
-    c.push_tag_front.result (λ rest. rest.now) c.args.bytes.now _ c.in_ok-head.rest.now _ _
-    (omega (arith, c.level.ensures, c.if-level-gt-DEEPEST.false))
-    c.place_of-here.ensures c.at-moved.ensures.place c.at-moved.ensures.level
-    (rw c.in-Tag.is at c.in_ok-head.ensures.gives)
-    (c.push_tag_front.ensures.printed, c.push_tag_front.ensures.refused) in
+    let so = front_so g.D.Dialect.leaves c.args.place.now c.args.bytes.now c.level.ensures
+    c.if-level-gt-DEEPEST.false c.place_of-here.ensures c.at-moved.ensures.place c.at-moved.ensures.level
+    (rw c.in-Tag.is at c.in_ok-head.ensures.gives) c.push_tag_front.result (λ rest. rest.now) _ _
+    c.push_tag_front.ensures.printed c.push_tag_front.ensures.refused in
     record { printed = so.0; refused = so.1; begun = c.push_tag_front.ensures.begun }
 
 pub push_front-leaf-requires-in-Float : goal.push_front-leaf-requires-in-Float
@@ -102,45 +93,29 @@ push_front-leaf-requires-in-Float g t c =
 pub push_front-returns-in_ok-leaf-in-Integer-clause-printed
     : goal.push_front-returns-in_ok-leaf-in-Integer-clause-printed
 push_front-returns-in_ok-leaf-in-Integer-clause-printed g t c =
-    leaf_written g.D.Dialect.leaves c.args.place.now c.place_of-here.result.now _ c.args.bytes.now
-    (item_head.Integer c.in-Integer.value c.in-Integer.width)
-    c.in_ok-head.rest.now (atom (integer c.in-Integer.value c.in-Integer.width)) (string_bytes c.args.out.now)
-    (string_bytes c.leaf.new.out) (omega (arith, c.level.ensures, c.if-level-gt-DEEPEST.false))
+    leaf_written g.D.Dialect.leaves c.args.place.now c.args.bytes.now c.level.ensures c.if-level-gt-DEEPEST.false
     c.place_of-here.ensures c.at-moved.ensures.place c.at-moved.ensures.level
-    (rw c.in-Integer.is at c.in_ok-head.ensures.gives)
-    refl c.in_ok-leaf-in-Integer.ensures
+    (rw c.in-Integer.is at c.in_ok-head.ensures.gives) _ _ _ refl c.in_ok-leaf-in-Integer.ensures
 
 pub push_front-returns-in_ok-leaf-in-Negative-clause-printed
     : goal.push_front-returns-in_ok-leaf-in-Negative-clause-printed
 push_front-returns-in_ok-leaf-in-Negative-clause-printed g t c =
-    leaf_written g.D.Dialect.leaves c.args.place.now c.place_of-here.result.now _ c.args.bytes.now
-    (item_head.Negative c.in-Negative.value c.in-Negative.width)
-    c.in_ok-head.rest.now (atom (negative c.in-Negative.value c.in-Negative.width)) (string_bytes c.args.out.now)
-    (string_bytes c.leaf-in-Negative.new.out) (omega (arith, c.level.ensures, c.if-level-gt-DEEPEST.false))
+    leaf_written g.D.Dialect.leaves c.args.place.now c.args.bytes.now c.level.ensures c.if-level-gt-DEEPEST.false
     c.place_of-here.ensures c.at-moved.ensures.place c.at-moved.ensures.level
-    (rw c.in-Negative.is at c.in_ok-head.ensures.gives)
-    refl c.in_ok-leaf-in-Negative.ensures
+    (rw c.in-Negative.is at c.in_ok-head.ensures.gives) _ _ _ refl c.in_ok-leaf-in-Negative.ensures
 
 pub push_front-returns-in_ok-leaf-in-Float-clause-printed : goal.push_front-returns-in_ok-leaf-in-Float-clause-printed
 push_front-returns-in_ok-leaf-in-Float-clause-printed g t c =
-    leaf_written g.D.Dialect.leaves c.args.place.now c.place_of-here.result.now _ c.args.bytes.now
-    (item_head.Float c.in-Float.bits c.in-Float.width)
-    c.in_ok-head.rest.now (atom (float c.in-Float.bits c.in-Float.width)) (string_bytes c.args.out.now)
-    (string_bytes c.leaf-in-Float.new.out) (omega (arith, c.level.ensures, c.if-level-gt-DEEPEST.false))
+    leaf_written g.D.Dialect.leaves c.args.place.now c.args.bytes.now c.level.ensures c.if-level-gt-DEEPEST.false
     c.place_of-here.ensures c.at-moved.ensures.place c.at-moved.ensures.level
-    (rw c.in-Float.is at c.in_ok-head.ensures.gives)
-    refl c.in_ok-leaf-in-Float.ensures
+    (rw c.in-Float.is at c.in_ok-head.ensures.gives) _ _ _ refl c.in_ok-leaf-in-Float.ensures
 
 pub push_front-returns-in_ok-leaf-in-Simple-clause-printed
     : goal.push_front-returns-in_ok-leaf-in-Simple-clause-printed
 push_front-returns-in_ok-leaf-in-Simple-clause-printed g t c =
-    leaf_written g.D.Dialect.leaves c.args.place.now c.place_of-here.result.now _ c.args.bytes.now
-    (item_head.Simple c.in-Simple.value)
-    c.in_ok-head.rest.now (atom (simple c.in-Simple.value)) (string_bytes c.args.out.now)
-    (string_bytes c.leaf-in-Simple.new.out) (omega (arith, c.level.ensures, c.if-level-gt-DEEPEST.false))
+    leaf_written g.D.Dialect.leaves c.args.place.now c.args.bytes.now c.level.ensures c.if-level-gt-DEEPEST.false
     c.place_of-here.ensures c.at-moved.ensures.place c.at-moved.ensures.level
-    (rw c.in-Simple.is at c.in_ok-head.ensures.gives)
-    refl c.in_ok-leaf-in-Simple.ensures
+    (rw c.in-Simple.is at c.in_ok-head.ensures.gives) _ _ _ refl c.in_ok-leaf-in-Simple.ensures
 
 -- ---- an array
 
@@ -168,31 +143,27 @@ push_array_front-returns-in-Some-clause-printed g t c =
     let d = g.D.Dialect.leaves in
     let place = c.args.place.now in
     let i = c.items.invariant in
-    let l = c.array_style_ahead-style.result in
     let count = c.args.count in
+    let width = count_width count in
     let held = c.items.held in
     let left = levels_left (d.level place + 1) in
     let after = c.in-Some.after.now in
-    let whole = array i.found (count_width count) in
-    let read = sym i.so_far ∙ parts_ended left (items_in i.found (left_of count held)) c.items.rest.now after whole
+    let read = sym i.so_far ∙ parts_ended left (items_in i.found (left_of count held)) c.items.rest.now after _
     (ap (λ x. Some (array i.found x)) (width_left count held)) (sym c.in-Some.ensures) in
-    let same = c.array_style_ahead-style.ensures.style left i.found (count_width count) after read
+    let same = c.array_style_ahead-style.ensures.style left i.found width after read
     ∙ style_there d place _ _ (4 + estimated_items i.found) c.layout.ensures c.limit.ensures in
-    let text = array_closed d place c.items.inner l count i.found held _ _ _ c.items.rest.now after same
-    i.written i.reached c.in-Some.ensures c.in_ok-closing.ensures in
-    (whole, read, text.0, text.1, text.2)
+    let text = array_closed d place c.items.inner _ count i.found held _ _ _ c.items.rest.now after same i.written
+    i.reached c.in-Some.ensures c.in_ok-closing.ensures in
+    (array i.found width, read, text.0, text.1, text.2)
 
 pub push_array_front-returns-in_err-rest-clause-refused : goal.push_array_front-returns-in_err-rest-clause-refused
 push_array_front-returns-in_err-rest-clause-refused g t c =
-    let level = g.D.Dialect.leaves.level c.args.place.now + 1 in
-    let p = err_from_is_err_and c.from_residual-in_err-rest.result c.from_residual-in_err-rest.ensures.1 in
     let i = c.items.invariant in
     let e = c.in_err-rest.field-0.0 in
-    let left = levels_left level in
-    rw (p.1, p.2) (subst (Fails e) i.so_far (part_fails e left
-    (items_in i.found (left_of c.args.count c.items.held)) c.items.rest.now (sym c.in_default.ensures)
-    (same_fails e (g.D.Dialect.leaves.level c.items.inner) level c.items.rest.now i.level
-    c.in_err-rest.ensures.refused)))
+    passed c.from_residual-in_err-rest.result e _ c.from_residual-in_err-rest.ensures.1
+    (part_refused g.D.Dialect.leaves c.args.place.now c.items.inner e i.level
+    (items_in i.found (left_of c.args.count c.items.held)) c.items.rest.now i.so_far c.in_default.ensures
+    c.in_err-rest.ensures.refused)
 
 pub push_array_front-items-smaller : goal.push_array_front-items-smaller
 push_array_front-items-smaller g t c =
@@ -252,45 +223,37 @@ push_map_front-returns-in-Some-clause-printed g t c =
     let d = g.D.Dialect.leaves in
     let place = c.args.place.now in
     let i = c.pairs.invariant in
-    let l = c.map_style_ahead-style.result in
     let count = c.args.count in
+    let width = count_width count in
     let held = c.pairs.held in
     let left = levels_left (d.level place + 1) in
     let after = c.in-Some.after.now in
-    let whole = spec.map i.found (count_width count) in
-    let read = sym i.so_far ∙ parts_ended left (pairs_in i.found (left_of count held)) c.pairs.rest.now after whole
+    let read = sym i.so_far ∙ parts_ended left (pairs_in i.found (left_of count held)) c.pairs.rest.now after _
     (ap (λ x. Some (spec.map i.found x)) (width_left count held)) (sym c.in-Some.ensures) in
-    let same = c.map_style_ahead-style.ensures.style left i.found (count_width count) after read
+    let same = c.map_style_ahead-style.ensures.style left i.found width after read
     ∙ style_there d place _ _ (4 + estimated_pairs i.found) c.layout.ensures c.limit.ensures in
-    let text = map_closed d place c.pairs.inner l count i.found held _ _ _ c.pairs.rest.now after same
-    i.written i.reached c.in-Some.ensures c.in_ok-closing.ensures in
-    (whole, read, text.0, text.1, text.2)
+    let text = map_closed d place c.pairs.inner _ count i.found held _ _ _ c.pairs.rest.now after same i.written
+    i.reached c.in-Some.ensures c.in_ok-closing.ensures in
+    (spec.map i.found width, read, text.0, text.1, text.2)
 
 pub push_map_front-returns-in_err-value-clause-refused : goal.push_map_front-returns-in_err-value-clause-refused
 push_map_front-returns-in_err-value-clause-refused g t c =
-    let level = g.D.Dialect.leaves.level c.args.place.now + 1 in
-    let p = err_from_is_err_and c.from_residual-in_err-value.result c.from_residual-in_err-value.ensures.1 in
     let i = c.pairs.invariant in
     let e = c.in_err-value.field-0.0 in
-    rw (p.1, p.2) (subst (Fails e) i.so_far (part_fails e (levels_left level)
-    (pairs_in i.found (left_of c.args.count c.pairs.held)) c.pairs.rest.now (sym c.in_default.ensures)
-    (same_fails e (g.D.Dialect.leaves.level c.pairs.inner) level c.pairs.rest.now i.level
-    c.in_err-value.ensures.refused)))
+    passed c.from_residual-in_err-value.result e _ c.from_residual-in_err-value.ensures.1
+    (part_refused g.D.Dialect.leaves c.args.place.now c.pairs.inner e i.level
+    (pairs_in i.found (left_of c.args.count c.pairs.held)) c.pairs.rest.now i.so_far c.in_default.ensures
+    c.in_err-value.ensures.refused)
 
 pub push_map_front-returns-in_err-rest-clause-refused : goal.push_map_front-returns-in_err-rest-clause-refused
 push_map_front-returns-in_err-rest-clause-refused g t c =
-    let d = g.D.Dialect.leaves in
-    let level = d.level c.args.place.now + 1 in
-    let p = err_from_is_err_and c.from_residual-in_err-rest.result c.from_residual-in_err-rest.ensures.1 in
     let i = c.pairs.invariant in
-    let e = c.in_err-rest.field-0.0 in
     let k = c.in_ok-value.ensures.printed in
-    let mid = c.in_ok-value.value.now in
-    let key = same_read (d.level c.pairs.inner) level c.pairs.rest.now mid k.0 i.level k.1 in
-    rw (p.1, p.2) (subst (Fails e) i.so_far (value_fails e (levels_left level) i.found c.args.count c.pairs.held
-    c.pairs.rest.now mid k.0 (sym c.in_default.ensures) key
-    (same_fails e (d.level c.pass_key.new.place) level mid (c.pass_key.ensures.level ∙ i.level)
-    c.in_err-rest.ensures.refused)))
+    let e = c.in_err-rest.field-0.0 in
+    passed c.from_residual-in_err-rest.result e _ c.from_residual-in_err-rest.ensures.1
+    (value_refused g.D.Dialect.leaves c.args.place.now c.pairs.inner e i.level
+    c.pass_key.new.place i.found c.args.count c.pairs.held c.pairs.rest.now c.in_ok-value.value.now k.0 i.so_far
+    c.in_default.ensures k.1 c.pass_key.ensures.level c.in_err-rest.ensures.refused)
 
 pub push_map_front-pairs-smaller : goal.push_map_front-pairs-smaller
 push_map_front-pairs-smaller g t c =
@@ -348,29 +311,24 @@ push_map_front-pairs-preserved g t c =
 
 pub push_tag_front-returns-in_err-rest-clause-refused : goal.push_tag_front-returns-in_err-rest-clause-refused
 push_tag_front-returns-in_err-rest-clause-refused g t c =
-    let level = g.D.Dialect.leaves.level c.args.place.now + 1 in
-    let p = err_from_is_err_and c.from_residual-in_err-rest.result c.from_residual-in_err-rest.ensures.1 in
     let e = c.in_err-rest.field-0.0 in
-    rw (p.1, p.2) (part_fails e (levels_left level) (tag_of c.args.head.0 c.args.head.1) c.args.bytes.now refl
-    (same_fails e (g.D.Dialect.leaves.level c.below.result) level c.args.bytes.now c.below.ensures.level
-    c.in_err-rest.ensures.refused))
+    passed c.from_residual-in_err-rest.result e _ c.from_residual-in_err-rest.ensures.1
+    (part_refused g.D.Dialect.leaves c.args.place.now c.below.result e c.below.ensures.level
+    (tag_of c.args.head.0 c.args.head.1) c.args.bytes.now refl refl c.in_err-rest.ensures.refused)
 
 pub push_tag_front-returns-clause-printed : goal.push_tag_front-returns-clause-printed
 push_tag_front-returns-clause-printed g t c =
     let d = g.D.Dialect.leaves in
     let place = c.args.place.now in
-    let old = string_bytes c.args.out.now in
     let p = c.in_ok-rest.ensures.printed in
-    let level = d.level place + 1 in
     let tag = c.args.head.0 in
     let width = c.args.head.1 in
-    let after = c.in_ok-rest.rest.now in
-    let text = tag_written d place c.below.result tag width p.0 p.2 old (string_bytes c.tag.new.out)
-    (string_bytes c.push_front.new.out) (string_bytes c.tag_end.new.out) c.in_ok-tag.ensures
-    c.below.ensures.place c.below.ensures.level p.3 p.4 c.in_ok-tag_end.ensures in (
+    let level = d.level place + 1 in
+    let text = tag_written d place c.below.result tag width p.0 p.2 _ _ _ _ c.in_ok-tag.ensures c.below.ensures.place
+    c.below.ensures.level p.3 p.4 c.in_ok-tag_end.ensures in (
       spec.tagged tag width p.0,
-      tag_read (levels_left level) tag width c.args.bytes.now after p.0
-          (same_read (d.level c.below.result) level c.args.bytes.now after p.0 c.below.ensures.level p.1),
+      tag_read (levels_left level) tag width c.args.bytes.now c.in_ok-rest.rest.now p.0
+          (same_read (d.level c.below.result) level c.args.bytes.now _ p.0 c.below.ensures.level p.1),
       text.0,
       text.1,
       text.2,
@@ -385,19 +343,15 @@ push_string_front-returns-in_ok-push_definite-in-Number-clause-printed g t c =
     let content = c.in_ok-content-in-Number.content in
     let read = content_read c.in-Number.count w content c.args.bytes.now c.in_ok-content-in-Number.rest.now _
     c.in_ok-content-in-Number.ensures.kind (c.in_ok-content-in-Number.ensures.gives w) in
-    let text = string_written g.D.Dialect.leaves c.args.place.now w content (string_bytes c.args.out.now)
-    (string_bytes c.push_definite.new.out) c.in_ok-push_definite-in-Number.ensures in
+    let text = string_written g.D.Dialect.leaves c.args.place.now w content _ _
+    c.in_ok-push_definite-in-Number.ensures in
     rw c.in-Number.is (atom (string (kind_of content) (borrowed_chunk w content)), read, text.0, text.1, text.2)
 
 -- ---- an embedded item
 
 pub push_embedded-returns-then-is_empty : goal.push_embedded-returns-then-is_empty
 push_embedded-returns-then-is_empty g t c =
-    let d = g.D.Dialect.leaves in
-    let place = c.args.place.now in
-    let old = string_bytes c.args.out.now in
-    let b = chunk c.args.width c.args.bytes.now in
-    nothing_written c.closing.result d place b old (string_bytes c.opening.new.out) (string_bytes c.closing.new.out)
+    nothing_written c.closing.result g.D.Dialect.leaves c.args.place.now (chunk c.args.width c.args.bytes.now) _ _ _
     (eqb-true (length c.args.bytes.now) 0 (sym c.is_empty.ensures ∙ c.if-is_empty.true)) c.in_ok-opening.ensures
     c.closing.ensures
 
@@ -405,7 +359,6 @@ pub push_embedded-returns-then-is_empty-2 : goal.push_embedded-returns-then-is_e
 push_embedded-returns-then-is_empty-2 g t c =
     let d = g.D.Dialect.leaves in
     let place = c.args.place.now in
-    let old = string_bytes c.args.out.now in
     let p = c.in-Ok.ensures.printed in
     let level = d.level place + 1 in
     let bytes = c.args.bytes.now in
@@ -415,9 +368,7 @@ push_embedded-returns-then-is_empty-2 g t c =
     let none = eqb-true (length rest) 0 (sym c.is_empty-in-Ok.ensures ∙ c.if-is_empty-2.true) in
     let read = same_read (d.level c.inside.result) level bytes rest p.0 c.inside.ensures.level p.1 in
     let there = c.inside.ensures.place ∙ ap (λ x. d.inside (embedding b) x place) c.layout.ensures in
-    embedded_written c.closing-then-is_empty-2.result d place c.inside.result b p.0 p.2 old
-    (string_bytes c.opening-2.new.out)
-    (string_bytes c.push_front.new.out) (string_bytes c.closing-then-is_empty-2.new.out) (omega (arith, some))
+    embedded_written c.closing-then-is_empty-2.result d place c.inside.result b p.0 p.2 _ _ _ _ (omega (arith, some))
     (whole_item (levels_left level) bytes rest p.0 read none) c.in_ok-opening-2.ensures there
     (texts_below d c.inside.result level p.0 p.2 c.inside.ensures.level p.3) p.4 c.closing-then-is_empty-2.ensures
 
