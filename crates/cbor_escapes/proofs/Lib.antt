@@ -1,2 +1,3 @@
+pub mod High
 pub mod Unescaped
 pub mod Shown

@@ -4,16 +4,17 @@ use Rattle.std.proofs.Common.{Some, None, Bool, true, false, ◌==◌, ◌&&◌,
 use Rattle.std.proofs.Common.{arith, slice_index}
 use Rattle.std.specs.Prelude.{nat_lt}
 use Rattle.std.proofs.Math.Utf8.{encode, encodes}
-use Rattle.std.proofs.lemmas.Bool.{cases_lt, lt-ltb, le-ltb, lt-leb, agree_below_at, eqb-true}
+use Rattle.std.proofs.lemmas.Bool.{cases_lt, lt-ltb, lt-leb, agree_below_at, eqb-true}
 use Rattle.std.proofs.lemmas.Bool.Decides.{nat_tests}
 use Rattle.std.proofs.lemmas.List.{append-nil}
 use Rattle.std.proofs.lemmas.Str.{encode_ascii, encodes-chars}
 use Rattle.std.specs.Char.{digit_value}
-use Rattle.std.specs.List.{AllByRecursion, flat_map}
+use Rattle.std.specs.List.{flat_map}
 use Rattle.std.specs.Str.{IsUtf8, chars}
 use Rattle.hex.specs.Hex.{encode_lower, encode_with, lower_digits}
 use Rattle.cbor_edn_grammar.specs.Reading.{Read, ◌>>=◌}
 use Rattle.cbor_escapes.specs.Escapes.{is_hidden, escaped_char, escaped_text, unit_escape}
+use Rattle.cbor_escapes.proofs.High.{High, high_encode}
 use Rattle.cbor_edn_grammar.specs.Quoted.{two_hex, four_hex, is_first_half, is_second_half, second_half, character}
 use Rattle.cbor_edn_grammar.specs.Quoted.{unicode_escape, content_turn, quoted}
 use Rattle.cbor_edn_grammar.proofs.Pieces.{Taken, taken_nothing, taken_then, taken_turn, taken_all}
@@ -27,26 +28,12 @@ GivesContent text content = Taken (content_turn 34) text content
 byte_gives : (b : ℕ) → (b == 34) ≡ false → (b == 92) ≡ false → GivesContent (b ∷ []) (b ∷ [])
 byte_gives b no_quote no_escape = taken_turn (omega arith) (λ rest. rw (no_quote, no_escape) refl)
 
-abbrev High : List ℕ → Type 0
-High bytes = AllByRecursion (λ b. 128 ≤ b) bytes
-
 high_gives : (bytes : List ℕ) → High bytes → GivesContent bytes bytes
 high_gives [] h = taken_nothing
 high_gives (b ∷ bytes) h =
     let low : 128 ≤ b = h.0 in
     let one = byte_gives b (grind (arith, nat_tests, low)) (grind (arith, nat_tests, low)) in
     taken_then one (high_gives bytes h.1)
-
-high_encode : (c : ℕ) → 128 ≤ c → High (encode c)
-unfolding encode
-high_encode c low = elim (cases_lt c 2048) [
-  | inl b ↦ rw (le-ltb c 128 low, lt-ltb c 2048 b) (omega arith, (omega arith, tt))
-  | inr b ↦ elim (cases_lt c 65536) [
-    | inl d ↦ rw (le-ltb c 128 low, le-ltb c 2048 b, lt-ltb c 65536 d) (omega arith, (omega arith, (omega arith, tt)))
-    | inr d ↦ rw (le-ltb c 128 low, le-ltb c 2048 b, le-ltb c 65536 d)
-        (omega arith, (omega arith, (omega arith, (omega arith, tt))))
-  ]
-]
 
 plain_gives : (c : ℕ) → (c == 34) ≡ false → (c == 92) ≡ false → GivesContent (encode c) (encode c)
 plain_gives c no_quote no_escape = elim (cases_lt c 128) [

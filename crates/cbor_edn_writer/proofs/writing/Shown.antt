@@ -3,7 +3,7 @@ use Rattle.std.proofs.Common.{◌≡◌, inl, inr, ℕ, ◌/◌, ◌%◌, ◌^�
 use Rattle.std.proofs.Common.{Bool, true, false, Option, Some, None, ◌==◌, ◌||◌, if◌then◌else◌, codes}
 use Rattle.std.proofs.Common.{refl, sym, ap, subst, ◌∙◌, arith, slice_index}
 use Rattle.std.proofs.Math.Utf8.{encode}
-use Rattle.std.proofs.lemmas.Bool.{cases_lt, lt-ltb, le-ltb, agree_below_at}
+use Rattle.std.proofs.lemmas.Bool.{cases_lt, agree_below_at}
 use Rattle.std.proofs.lemmas.Bool.Decides.{nat_tests}
 use Rattle.std.proofs.lemmas.Fmt.{decimal_is_IsNumeral_wide}
 use Rattle.std.proofs.lemmas.List.{append-nil}
@@ -32,6 +32,7 @@ use Rattle.cbor_grammar.specs.declared.strings.StringKind.TheVariants as kind
 use Rattle.cbor_grammar.proofs.bytes.Laws.{AllBytes, wide_bytes}
 use Rattle.cbor_edn_writer.specs.Breaks.{Nothing, Text, Bytes, Comment, after, BreaksApart}
 use Rattle.cbor_escapes.specs.Escapes.{is_hidden, escaped_char, unit_escape}
+use Rattle.cbor_escapes.proofs.High.{High, high_encode}
 use Rattle.cbor_edn_writer.specs.EdnLeaves.{longer, marked, length_mark, ends_note, IsNote, AnyNote, NoteAfter, Noted}
 use Rattle.cbor_edn_writer.specs.EdnLeaves.{comment_before, text_before, note_before, note_after, Beside, After}
 use Rattle.cbor_edn_writer.specs.EdnLeaves.{FloatText, float_indicator, quoted_string}
@@ -145,9 +146,6 @@ after_runs {lines} p texts t runs (inr (core, is_core, is)) =
 -- ---- texts
 
 -- bytes past U+007F change nothing in a text
-abbrev High : List ℕ → Type 0
-High t = AllByRecursion (λ b. 128 ≤ b) t
-
 high_after : (b : ℕ) → 128 ≤ b → after Text b ≡ Text
 high_after b h = grind (arith, nat_tests, h)
 
@@ -160,17 +158,6 @@ high_breaks (b ∷ t) h =
       ((λ e. absurd (omega (arith, e, low))), subst (λ w. BreaksApart w t) (sym same) more.0),
       ap (λ w. ends w t) same ∙ more.1,
     )
-
-high_encode : (c : ℕ) → 128 ≤ c → High (encode c)
-unfolding encode
-high_encode c low = elim (cases_lt c 2048) [
-  | inl b ↦ rw (le-ltb c 128 low, lt-ltb c 2048 b) (omega arith, (omega arith, tt))
-  | inr b ↦ elim (cases_lt c 65536) [
-    | inl d ↦ rw (le-ltb c 128 low, le-ltb c 2048 b, lt-ltb c 65536 d) (omega arith, (omega arith, (omega arith, tt)))
-    | inr d ↦ rw (le-ltb c 128 low, le-ltb c 2048 b, le-ltb c 65536 d)
-        (omega arith, (omega arith, (omega arith, (omega arith, tt))))
-  ]
-]
 
 plain_runs : {lines : Bool} (c : ℕ) → is_hidden c ≡ false → (c == 34) ≡ false → (c == 92) ≡ false
     → Runs lines Text Text (encode c)

@@ -3,7 +3,7 @@ use Rattle.std.proofs.Common.{◌≡◌, ℕ, ◌≤◌, List, [], ◌∷◌, �
 use Rattle.std.proofs.Common.{◌==◌, ◌&&◌, ◌||◌, not, cond, nat_le, refl, inl, inr, sym, ap, subst, ◌∙◌, arith}
 use Rattle.std.proofs.Common.{append_assoc}
 use Rattle.std.proofs.Math.Utf8.{encode, encodes}
-use Rattle.std.proofs.lemmas.Bool.{cases_lt, lt-ltb, le-ltb}
+use Rattle.std.proofs.lemmas.Bool.{cases_lt, le-ltb}
 use Rattle.std.proofs.lemmas.Bool.Decides.{nat_tests}
 use Rattle.std.proofs.lemmas.List.{append-nil}
 use Rattle.std.proofs.lemmas.Str.{encode_ascii, encodes-append}
@@ -12,6 +12,7 @@ use Rattle.json.specs.Lex.{Lexeme, Mode, lex, lex_byte, in_string, operator, spa
 use Rattle.json.specs.Text.{content, plain, prepend}
 use Rattle.json.specs.Word.{is_operator, is_space}
 use Rattle.cbor_escapes.specs.Escapes.{is_hidden}
+use Rattle.cbor_escapes.proofs.High.{High, high_encode}
 
 -- ---- characters
 
@@ -146,21 +147,6 @@ pub calm_constant : (t : List ℕ) → all_calm t ≡ true → Calm t
 calm_constant t h = calm_of t h
 
 -- ---- other characters
-
--- bytes past U+007F
-abbrev High : List ℕ → Type 0
-High t = AllByRecursion (λ b. 128 ≤ b) t
-
-high_encode : (c : ℕ) → 128 ≤ c → High (encode c)
-unfolding encode
-high_encode c low = elim (cases_lt c 2048) [
-  | inl b ↦ rw (le-ltb c 128 low, lt-ltb c 2048 b) (omega arith, (omega arith, tt))
-  | inr b ↦ elim (cases_lt c 65536) [
-    | inl d ↦ rw (le-ltb c 128 low, le-ltb c 2048 b, lt-ltb c 65536 d) (omega arith, (omega arith, (omega arith, tt)))
-    | inr d ↦ rw (le-ltb c 128 low, le-ltb c 2048 b, le-ltb c 65536 d)
-        (omega arith, (omega arith, (omega arith, (omega arith, tt))))
-  ]
-]
 
 high_read : (t r : List ℕ) → High t → content plain (t ++ r) ≡ prepend t (content plain r)
 high_read [] r h = prepend_none (content plain r)
