@@ -147,20 +147,28 @@ fn nearest_single(text: &[u8]) -> f32
     Numeral::scan(without_sign(text)).to_float(is_negative(text))
 }
 
-/// Appends a text of the number, which reads back as this number: one of the three words, or
-/// decimal digits with a point or an exponent. An error is out of memory; the text may then have a
-/// part of it.
+/// A text of the number, which reads back as this number: one of the three words, or decimal digits
+/// with a point or an exponent, which are in the buffer.
+#[inline]
+pub fn number_text(buffer: &mut Buffer, x: f64) -> &str
+    ensures { IsTextOf result.now x }
+{
+    if x.is_nan() {
+        "NaN"
+    } else if x.is_finite() {
+        buffer.format_finite(x)
+    } else if x.is_sign_negative() {
+        "-Infinity"
+    } else {
+        "Infinity"
+    }
+}
+
+/// Appends a text of the number, as `number_text` gives it. An error is out of memory; the text may
+/// then have a part of it.
 pub fn push_number(out: &mut String, x: f64) -> Result<(), AllocError>
     ensures { OnOk result ((text : List ℕ)
         × (string_bytes out.new ≡ string_bytes out.old ++ text) × IsTextOf text x) }
 {
-    if x.is_nan() {
-        out.push_str("NaN")
-    } else if x.is_finite() {
-        out.push_str(Buffer::new().format_finite(x))
-    } else if x.is_sign_negative() {
-        out.push_str("-Infinity")
-    } else {
-        out.push_str("Infinity")
-    }
+    out.push_str(number_text(&mut Buffer::new(), x))
 }

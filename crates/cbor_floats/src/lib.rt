@@ -24,7 +24,7 @@ mod nearest;
 mod preferred;
 mod single;
 
-pub use decimal::{NumberError, parse_in_width, parse_number, push_number};
+pub use decimal::{NumberError, number_text, parse_in_width, parse_number, push_number};
 pub use float::{EncodedFloat, Width};
 pub use half::half_value;
 pub use nearest::{half_of, nearest_half};

@@ -1,3 +1,2 @@
 pub mod Json
-pub mod Appended
 pub mod Calls

@@ -1,8 +1,6 @@
 -- What calls that write EDN append, one after the other.
 use Rattle.std.proofs.Common.{◌≡◌, ◌≢◌, List, ◌++◌, ℕ, Bool, Result, Ok, Err, ap, subst, refl, ◌∙◌, inl}
-use Rattle.std.proofs.Common.{append_assoc, is_ok, if◌then◌else◌, take, length}
-use Rattle.std.proofs.Common.{inr}
-use Rattle.std.proofs.Math.Seq.{take-length}
+use Rattle.std.proofs.Common.{inr, append_assoc}
 use Rattle.std.specs.Float.Ieee.{Float}
 use Rattle.cbor_floats.specs.Decimal.{IsTextOf}
 use Rattle.cbor_floats.specs.Value.{value_of, IsEncodingOf}
@@ -68,12 +66,6 @@ pub wrote_one : {T E : Type 0} (r : Result T E) (old new core : List ℕ) → Ap
 wrote_one (Ok x) old new core written = (core, refl, written)
 wrote_one (Err e) old new core begun = begun
 
--- one of these texts
-pub wrote_such : {T E : Type 0} (r : Result T E) (texts : Texts) (old new core : List ℕ) → texts core
-    → Appends r old new core → Wrote r old new texts
-wrote_such (Ok x) texts old new core such written = (core, such, written)
-wrote_such (Err e) texts old new core such begun = begun
-
 -- two calls
 pub appends_both : {T E : Type 0} (r : Result T E) (old mid new a b all : List ℕ) → mid ≡ old ++ a → Appends r mid new b
     → a ++ b ≡ all → Appends r old new all
@@ -90,13 +82,7 @@ gap_more l Sixteen p q = refl
 gap_more l ThirtyTwo p q = refl
 gap_more l SixtyFour p q = refl
 
--- a text of a number is written
-pub number_wrote : {T E : Type 0} (r : Result T E) (new old text : List ℕ) (x : Float)
-    → new ≡ (if is_ok r then old ++ text else old) → IsTextOf text x → Wrote r old new (λ t. IsTextOf t x)
-number_wrote (Ok y) new old text x is h = (text, h, is)
-number_wrote (Err e) new old text x is h = ap (take (length old)) is ∙ take-length old
-
--- and after it the width
+-- a text of a number, and after it the width
 pub width_wrote : {T E : Type 0} (r : Result T E) (all : Bool) (bits : ℕ) (w : FloatWidth) (float : EncodedFloat)
     (x : Float) (old mid new t : List ℕ) → float ≡ encoded_float bits w → IsEncodingOf float (value_of float)
     → x ≡ value_of float → IsTextOf t x → mid ≡ old ++ t → Appends r mid new (float_indicator w)

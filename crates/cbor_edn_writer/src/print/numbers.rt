@@ -11,7 +11,7 @@ ghost use Rattle.cbor_edn_writer.specs.EdnLeaves.{longer as longer_width, marked
 ghost use Rattle.cbor_edn_writer.specs.EdnLeaves.{float_indicator};
 ghost use Rattle.cbor_edn_writer.specs.EdnLeaves.{encoded_float as float_of, FloatText};
 
-use cbor_floats::EncodedFloat;
+use cbor_floats::{EncodedFloat, number_text};
 use cbor_grammar::{FloatWidth, IntegerWidth};
 use cbor_notation_writer::scalars;
 use ryu::Buffer;
@@ -101,15 +101,7 @@ fn push_float_indicator(out: &mut String, width: FloatWidth) -> Result<(), Alloc
 fn push_number(out: &mut String, x: f64) -> Result<(), AllocError>
     ensures { Writes result out.old out.new (λ t. IsTextOf t x) }
 {
-    if x.is_nan() {
-        out.push_str("NaN")
-    } else if x.is_finite() {
-        out.push_str(Buffer::new().format_finite(x))
-    } else if x.is_sign_negative() {
-        out.push_str("-Infinity")
-    } else {
-        out.push_str("Infinity")
-    }
+    out.push_str(number_text(&mut Buffer::new(), x))
 }
 
 /// Writes a float by its number, with its width where that is not the shortest that has the number,

@@ -9,7 +9,7 @@ ghost use Rattle.cbor_notation_writer.specs.Dialect.{Writes};
 ghost use Rattle.cbor_floats.specs.Value.{value_of};
 ghost use Rattle.cbor_json.specs.JsonLeaves.{encoded_float as float_of, NumberOrNull, EdnFloat};
 
-use cbor_floats::EncodedFloat;
+use cbor_floats::{EncodedFloat, number_text};
 use cbor_grammar::FloatWidth;
 use cbor_notation_writer::scalars;
 use ryu::Buffer;
@@ -32,15 +32,7 @@ pub(crate) fn encoded_float(bits: u64, width: FloatWidth) -> EncodedFloat
 fn push_number(out: &mut String, x: f64) -> Result<(), AllocError>
     ensures { Writes result out.old out.new (λ t. IsTextOf t x) }
 {
-    if x.is_nan() {
-        out.push_str("NaN")
-    } else if x.is_finite() {
-        out.push_str(Buffer::new().format_finite(x))
-    } else if x.is_sign_negative() {
-        out.push_str("-Infinity")
-    } else {
-        out.push_str("Infinity")
-    }
+    out.push_str(number_text(&mut Buffer::new(), x))
 }
 
 /// Writes a finite number, or `null`.

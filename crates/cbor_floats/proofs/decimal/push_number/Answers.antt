@@ -1,34 +1,7 @@
-use Rattle.std.proofs.Common.{sym, ap, ◌∙◌}
-use lib.Ieee.{inf}
-use Rattle.cbor_floats.proofs.Halves.{nan_is_nan}
-use Rattle.cbor_floats.proofs.Decimals.{appended, nan_text, finite_text, infinity_text, minus_infinity_text}
-use Rattle.cbor_floats.proofs.Decimals.{is_infinity}
+-- That text is appended.
+use Rattle.cbor_floats.proofs.Decimals.{appended}
 use Rattle.cbor_floats.proofs.decimal.push_number.Goals as goal
 
-pub returns-then-is_nan : goal.returns-then-is_nan
-returns-then-is_nan c =
-    appended c.push_str.result _ _ _ c.args.x c.push_str.ensures.bytes
-    (nan_text c.args.x (nan_is_nan c.args.x c.if-is_nan.ensures.value))
-
-pub returns-then-is_finite : goal.returns-then-is_finite
-returns-then-is_finite c =
-    let f = c.format_finite in
-    appended c.push_str-then-is_finite.result _ _ _ c.args.x c.push_str-then-is_finite.ensures.bytes
-    (finite_text f.result.now c.args.x f.ensures.plain f.ensures.layout f.ensures.parses
-    (sym c.if-is_finite.ensures.value))
-
-pub returns-then-is_sign_negative : goal.returns-then-is_sign_negative
-returns-then-is_sign_negative c =
-    let x = c.args.x in
-    let e = is_infinity x (sym c.if-is_nan.ensures.value) (sym c.if-is_finite.ensures.value)
-    ∙ ap inf (sym c.if-is_sign_negative.ensures) in
-    appended c.push_str-then-is_sign_negative.result _ _ _ x c.push_str-then-is_sign_negative.ensures.bytes
-    (minus_infinity_text x e (sym c.if-is_finite.ensures.value))
-
-pub returns-else-is_sign_negative : goal.returns-else-is_sign_negative
-returns-else-is_sign_negative c =
-    let x = c.args.x in
-    let e = is_infinity x (sym c.if-is_nan.ensures.value) (sym c.if-is_finite.ensures.value)
-    ∙ ap inf (sym c.if-is_sign_negative.ensures) in
-    appended c.push_str-else-is_sign_negative.result _ _ _ x c.push_str-else-is_sign_negative.ensures.bytes
-    (infinity_text x e (sym c.if-is_finite.ensures.value))
+pub returns : goal.returns
+returns c =
+    appended c.push_str.result _ _ _ c.args.x c.push_str.ensures.bytes c.number_text.ensures

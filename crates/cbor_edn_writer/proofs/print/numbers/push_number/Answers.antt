@@ -1,35 +1,12 @@
 -- The digits or the word are a text of the number.
-use Rattle.std.proofs.Common.{sym, ap, ◌∙◌}
-use lib.Ieee.{inf}
-use Rattle.cbor_floats.proofs.Halves.{nan_is_nan}
-use Rattle.cbor_floats.proofs.Decimals.{nan_text, finite_text, infinity_text, minus_infinity_text, is_infinity}
-use Rattle.cbor_edn_writer.proofs.writing.Appended.{number_wrote}
+use Rattle.std.specs.String.{string_bytes}
+use Rattle.cbor_floats.specs.Decimal.{IsTextOf}
+use Rattle.cbor_grammar.proofs.shared.Appending.{appends_of}
+use Rattle.cbor_notation_writer.proofs.straight.Wrote.{appends_wrote}
 use Rattle.cbor_edn_writer.proofs.print.numbers.push_number.Goals as goal
 
-pub returns-then-is_nan : goal.returns-then-is_nan
-returns-then-is_nan c =
-    number_wrote c.push_str.result _ _ _ c.args.x c.push_str.ensures.bytes
-    (nan_text c.args.x (nan_is_nan c.args.x c.if-is_nan.ensures.value))
-
-pub returns-then-is_finite : goal.returns-then-is_finite
-returns-then-is_finite c =
-    let f = c.format_finite in
-    number_wrote c.push_str-then-is_finite.result _ _ _ c.args.x c.push_str-then-is_finite.ensures.bytes
-    (finite_text f.result.now c.args.x f.ensures.plain f.ensures.layout f.ensures.parses
-    (sym c.if-is_finite.ensures.value))
-
-pub returns-then-is_sign_negative : goal.returns-then-is_sign_negative
-returns-then-is_sign_negative c =
-    let x = c.args.x in
-    let e = is_infinity x (sym c.if-is_nan.ensures.value) (sym c.if-is_finite.ensures.value)
-    ∙ ap inf (sym c.if-is_sign_negative.ensures) in
-    number_wrote c.push_str-then-is_sign_negative.result _ _ _ x c.push_str-then-is_sign_negative.ensures.bytes
-    (minus_infinity_text x e (sym c.if-is_finite.ensures.value))
-
-pub returns-else-is_sign_negative : goal.returns-else-is_sign_negative
-returns-else-is_sign_negative c =
-    let x = c.args.x in
-    let e = is_infinity x (sym c.if-is_nan.ensures.value) (sym c.if-is_finite.ensures.value)
-    ∙ ap inf (sym c.if-is_sign_negative.ensures) in
-    number_wrote c.push_str-else-is_sign_negative.result _ _ _ x c.push_str-else-is_sign_negative.ensures.bytes
-    (infinity_text x e (sym c.if-is_finite.ensures.value))
+pub returns : goal.returns
+returns c =
+    let text = c.number_text.result.now in
+    appends_wrote c.push_str.result _ _ text (λ t. IsTextOf t c.args.x) c.number_text.ensures
+    (appends_of c.push_str.result (string_bytes c.args.out.now) _ text c.push_str.ensures.bytes)
