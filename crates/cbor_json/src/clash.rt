@@ -44,6 +44,15 @@ impl Search {
     }
 }
 
+/// The members of an array or a map of this length, after its head.
+#[derive(Clone, Copy)]
+struct Members<'a> {
+    len: Argument,
+    bytes: &'a [u8],
+    /// The level of the array or the map.
+    level: u8,
+}
+
 /// Two keys that become the same: how many bytes are left from each of them on.
 #[derive(Clone, Copy)]
 pub(crate) struct SameKeys {
@@ -88,8 +97,22 @@ fn clash_front(bytes: &[u8], level: u8, search: Search) -> Result<Option<SameKey
         return Ok(None);
     };
     match head {
-        ItemHead::Array(len) => clash_in_array(len, inner, level, search),
-        ItemHead::Map(len) => clash_in_map(len, inner, level, search),
+        ItemHead::Array(len) => clash_in_array(
+            Members {
+                len,
+                bytes: inner,
+                level,
+            },
+            search,
+        ),
+        ItemHead::Map(len) => clash_in_map(
+            Members {
+                len,
+                bytes: inner,
+                level,
+            },
+            search,
+        ),
         ItemHead::Tag(tag, _) => clash_front(inner, level + 1, search.below(Some(tag))),
         ItemHead::String(StringKind::Bytes, Argument::Number(len, _)) => {
             clash_in_bytes(len, inner, level, search)
@@ -98,29 +121,24 @@ fn clash_front(bytes: &[u8], level: u8, search: Search) -> Result<Option<SameKey
     }
 }
 
-/// Two keys that become the same in one of the items of an array, whose head is before the bytes.
+/// Two keys that become the same in one of the items of an array.
 #[cycle(clash)]
-fn clash_in_array(
-    len: Argument,
-    bytes: &[u8],
-    level: u8,
-    search: Search,
-) -> Result<Option<SameKeys>, AllocError>
-    requires from { 1 ≤ level }
-    requires to { level ≤ deepest }
-    ensures { IfOk result (λ o. IfSome o
-        (IsFoundBehind search level (ItemHead.Array len) bytes.now)) }
+fn clash_in_array(members: Members<'_>, search: Search) -> Result<Option<SameKeys>, AllocError>
+    requires from { 1 ≤ members.level }
+    requires to { members.level ≤ deepest }
+    ensures { IfOk result (λ o. IfSome o (IsFoundBehind search members.entry.level
+        (ItemHead.Array members.entry.len) members.entry.bytes.now)) }
 {
-    let mut rest = bytes;
+    let mut rest = members.bytes;
     let mut held: usize = 0;
     'items: loop {
-        if len.after_end(held, rest).is_some() {
+        if members.len.after_end(held, rest).is_some() {
             return Ok(None);
         }
-        if let Some(keys) = clash_front(rest, level + 1, search.below(None))? {
+        if let Some(keys) = clash_front(rest, members.level + 1, search.below(None))? {
             return Ok(Some(keys));
         }
-        let Some(next) = after_front(rest, level + 1) else {
+        let Some(next) = after_front(rest, members.level + 1) else {
             return Ok(None);
         };
         rest = next;
@@ -128,51 +146,41 @@ fn clash_in_array(
     }
 }
 
-/// Two keys that become the same, of a map whose head is before the bytes or in one of its values.
+/// Two keys that become the same, of a map or in one of its values.
 #[cycle(clash)]
-fn clash_in_map(
-    len: Argument,
-    bytes: &[u8],
-    level: u8,
-    search: Search,
-) -> Result<Option<SameKeys>, AllocError>
-    requires from { 1 ≤ level }
-    requires to { level ≤ deepest }
-    ensures { IfOk result (λ o. IfSome o
-        (IsFoundBehind search level (ItemHead.Map len) bytes.now)) }
+fn clash_in_map(members: Members<'_>, search: Search) -> Result<Option<SameKeys>, AllocError>
+    requires from { 1 ≤ members.level }
+    requires to { members.level ≤ deepest }
+    ensures { IfOk result (λ o. IfSome o (IsFoundBehind search members.entry.level
+        (ItemHead.Map members.entry.len) members.entry.bytes.now)) }
 {
-    match same_keys(len, bytes, level, search)? {
+    match same_keys(members, search)? {
         Some(keys) => Ok(Some(keys)),
-        None => clash_in_values(len, bytes, level, search),
+        None => clash_in_values(members, search),
     }
 }
 
-/// Two keys that become the same in one of the values of such a map.
+/// Two keys that become the same in one of the values of a map.
 #[cycle(clash)]
-fn clash_in_values(
-    len: Argument,
-    bytes: &[u8],
-    level: u8,
-    search: Search,
-) -> Result<Option<SameKeys>, AllocError>
-    requires from { 1 ≤ level }
-    requires to { level ≤ deepest }
-    ensures { IfOk result (λ o. IfSome o
-        (IsFoundBehind search level (ItemHead.Map len) bytes.now)) }
+fn clash_in_values(members: Members<'_>, search: Search) -> Result<Option<SameKeys>, AllocError>
+    requires from { 1 ≤ members.level }
+    requires to { members.level ≤ deepest }
+    ensures { IfOk result (λ o. IfSome o (IsFoundBehind search members.entry.level
+        (ItemHead.Map members.entry.len) members.entry.bytes.now)) }
 {
-    let mut rest = bytes;
+    let mut rest = members.bytes;
     let mut held: usize = 0;
     'pairs: loop {
-        if len.after_end(held, rest).is_some() {
+        if members.len.after_end(held, rest).is_some() {
             return Ok(None);
         }
-        let Some(value) = after_front(rest, level + 1) else {
+        let Some(value) = after_front(rest, members.level + 1) else {
             return Ok(None);
         };
-        if let Some(keys) = clash_front(value, level + 1, search.below(None))? {
+        if let Some(keys) = clash_front(value, members.level + 1, search.below(None))? {
             return Ok(Some(keys));
         }
-        let Some(next) = after_front(value, level + 1) else {
+        let Some(next) = after_front(value, members.level + 1) else {
             return Ok(None);
         };
         rest = next;
@@ -224,33 +232,28 @@ fn is_shown(content: &[u8], level: u8, search: Search) -> bool
     }
 }
 
-/// Two keys that become the same of a map whose head is before the bytes.
-fn same_keys(
-    len: Argument,
-    bytes: &[u8],
-    level: u8,
-    search: Search,
-) -> Result<Option<SameKeys>, AllocError>
-    requires from { 1 ≤ level }
-    requires to { level ≤ deepest }
-    ensures { IfOk result (λ o. IfSome o
-        (IsFoundBehind search level (ItemHead.Map len) bytes.now)) }
+/// Two keys of a map that become the same.
+fn same_keys(members: Members<'_>, search: Search) -> Result<Option<SameKeys>, AllocError>
+    requires from { 1 ≤ members.level }
+    requires to { members.level ≤ deepest }
+    ensures { IfOk result (λ o. IfSome o (IsFoundBehind search members.entry.level
+        (ItemHead.Map members.entry.len) members.entry.bytes.now)) }
 {
     let mut places = BTreeMap::new(search.alloc);
-    let mut rest = bytes;
+    let mut rest = members.bytes;
     let mut held: usize = 0;
     'pairs: loop {
-        if len.after_end(held, rest).is_some() {
+        if members.len.after_end(held, rest).is_some() {
             return Ok(None);
         }
-        let Some((name, value)) = name_front(rest, level + 1, search)? else {
+        let Some((name, value)) = name_front(rest, members.level + 1, search)? else {
             return Ok(None);
         };
         let second = rest.len();
         if let Some(first) = places.insert(name, second)? {
             return Ok(Some(SameKeys { first, second }));
         }
-        let Some(next) = after_front(value, level + 1) else {
+        let Some(next) = after_front(value, members.level + 1) else {
             return Ok(None);
         };
         rest = next;

@@ -39,30 +39,31 @@ clash_in_array-items-init t c = record { before = no_items; reads = refl; count 
 
 pub clash_in_array-returns-in-Some : goal.clash_in_array-returns-in-Some
 clash_in_array-returns-in-Some t c =
+    let m = c.args.members in
     let i = c.items.invariant in
     let none = none_left c.after_end.result (λ x. x.now) _ c.after_end.ensures
     (sym c.is_some.ensures ∙ c.if-is_some.false) in
     let is = rw c.in-Some.is at c.in_ok-keys.ensures in
-    found_member c.args.search c.args.level (omega (arith, c.requires.to)) c.args.len c.args.bytes.now c.items.rest.now
-    c.items.held i.before c.in-Some.keys i.reads i.count none (omega (arith, i.room))
-    (subst (λ s. IsFound s (c.args.level + 1) c.items.rest.now c.in-Some.keys) c.below.ensures is)
+    found_member c.args.search m.level (omega (arith, c.requires.to)) m.len m.bytes.now c.items.rest.now c.items.held
+    i.before c.in-Some.keys i.reads i.count none (omega (arith, i.room))
+    (subst (λ s. IsFound s (m.level + 1) c.items.rest.now c.in-Some.keys) c.below.ensures is)
 
 pub clash_in_array-items-smaller : goal.clash_in_array-items-smaller
 clash_in_array-items-smaller t c =
     let p = c.in-Some-after_front.ensures.some in
-    item_shorter (levels_left (c.args.level + 1)) c.items.rest.now p.0 c.in-Some-after_front.next.now p.1
+    item_shorter (levels_left (c.args.members.level + 1)) c.items.rest.now p.0 c.in-Some-after_front.next.now p.1
 
 pub clash_in_array-items-preserved : goal.clash_in_array-items-preserved
 clash_in_array-items-preserved t c =
     let i = c.items.invariant in
     let p = c.in-Some-after_front.ensures.some in
-    let left = levels_left (c.args.level + 1) in
+    let left = levels_left (c.args.members.level + 1) in
     let rest = c.items.rest.now in
     let next = c.in-Some-after_front.next.now in
     let shorter = item_shorter left rest p.0 next p.1 in
     record {
       before = joined i.before (item p.0 no_items);
-      reads = reads_more left c.args.bytes.now rest next i.before p.0 i.reads p.1;
+      reads = reads_more left c.args.members.bytes.now rest next i.before p.0 i.reads p.1;
       count = omega (arith, i.count, count_more i.before p.0);
       room = omega (arith, i.room, shorter);
     }
@@ -87,18 +88,19 @@ clash_in_values-pairs-init t c = record { before = no_pairs; reads = refl; count
 
 pub clash_in_values-returns-in-Some-2 : goal.clash_in_values-returns-in-Some-2
 clash_in_values-returns-in-Some-2 t c =
+    let m = c.args.members in
     let i = c.pairs.invariant in
     let none = none_left c.after_end.result (λ x. x.now) _ c.after_end.ensures
     (sym c.is_some.ensures ∙ c.if-is_some.false) in
     let key = c.in-Some.ensures.some in
     let is = rw c.in-Some-2.is at c.in_ok-keys.ensures in
-    found_value c.args.search c.args.level (omega (arith, c.requires.to)) c.args.len c.args.bytes.now c.pairs.rest.now
-    c.pairs.held i.before i.reads i.count none (omega (arith, i.room)) key.0 c.in-Some.value.now c.in-Some-2.keys key.1
-    (subst (λ s. IsFound s (c.args.level + 1) c.in-Some.value.now c.in-Some-2.keys) c.below.ensures is)
+    found_value c.args.search m.level (omega (arith, c.requires.to)) m.len m.bytes.now c.pairs.rest.now c.pairs.held
+    i.before i.reads i.count none (omega (arith, i.room)) key.0 c.in-Some.value.now c.in-Some-2.keys key.1
+    (subst (λ s. IsFound s (m.level + 1) c.in-Some.value.now c.in-Some-2.keys) c.below.ensures is)
 
 pub clash_in_values-pairs-smaller : goal.clash_in_values-pairs-smaller
 clash_in_values-pairs-smaller t c =
-    let left = levels_left (c.args.level + 1) in
+    let left = levels_left (c.args.members.level + 1) in
     let k = c.in-Some.ensures.some in
     let v = c.in-Some-after_front.ensures.some in
     let mid = c.in-Some.value.now in
@@ -111,7 +113,7 @@ clash_in_values-pairs-smaller t c =
 pub clash_in_values-pairs-preserved : goal.clash_in_values-pairs-preserved
 clash_in_values-pairs-preserved t c =
     let i = c.pairs.invariant in
-    let left = levels_left (c.args.level + 1) in
+    let left = levels_left (c.args.members.level + 1) in
     let k = c.in-Some.ensures.some in
     let v = c.in-Some-after_front.ensures.some in
     let rest = c.pairs.rest.now in
@@ -121,7 +123,7 @@ clash_in_values-pairs-preserved t c =
     let second = item_shorter left mid v.0 next v.1 in
     record {
       before = joined_pairs i.before (pair k.0 v.0 no_pairs);
-      reads = reads_pair left c.args.bytes.now rest mid next i.before k.0 v.0 i.reads k.1 v.1;
+      reads = reads_pair left c.args.members.bytes.now rest mid next i.before k.0 v.0 i.reads k.1 v.1;
       count = omega (arith, i.count, pair_count_more i.before k.0 v.0);
       room = omega (arith, i.room, first, second);
     }

@@ -26,6 +26,7 @@ pairs-init c =
 
 pub returns-in-Some-2 : goal.returns-in-Some-2
 returns-in-Some-2 c =
+    let m = c.args.members in
     let i = c.pairs.invariant in
     let key = rw c.in-Some.is at c.in_ok-name.ensures in
     let name = string_bytes c.in-Some.name in
@@ -33,13 +34,13 @@ returns-in-Some-2 c =
     (sym c.is_some.ensures ∙ c.if-is_some.false) in
     let known : get_by_text c.pairs.places name ≡ Some c.in-Some-2.first =
     sym c.in_ok-first.ensures.old ∙ c.in-Some-2.is in
-    found_keys c.args.search c.args.level (omega (arith, c.requires.to)) c.args.len c.args.bytes.now c.pairs.rest.now
-    c.pairs.held i.before i.reads i.count none (omega (arith, i.room)) key.0 c.in-Some.value.now name c.in-Some-2.first
+    found_keys c.args.search m.level (omega (arith, c.requires.to)) m.len m.bytes.now c.pairs.rest.now c.pairs.held
+    i.before i.reads i.count none (omega (arith, i.room)) key.0 c.in-Some.value.now name c.in-Some-2.first
     key.1 key.2 (i.low name c.in-Some-2.first known) (i.named name c.in-Some-2.first known)
 
 pub pairs-smaller : goal.pairs-smaller
 pairs-smaller c =
-    let left = levels_left (c.args.level + 1) in
+    let left = levels_left (c.args.members.level + 1) in
     let k = rw c.in-Some.is at c.in_ok-name.ensures in
     let v = c.in-Some-after_front.ensures.some in
     let mid = c.in-Some.value.now in
@@ -51,8 +52,9 @@ pairs-smaller c =
 
 pub pairs-preserved : goal.pairs-preserved
 pairs-preserved c =
+    let m = c.args.members in
     let i = c.pairs.invariant in
-    let left = levels_left (c.args.level + 1) in
+    let left = levels_left (m.level + 1) in
     let k = rw c.in-Some.is at c.in_ok-name.ensures in
     let v = c.in-Some-after_front.ensures.some in
     let rest = c.pairs.rest.now in
@@ -67,12 +69,12 @@ pairs-preserved c =
     c.in_ok-first.ensures.updates in
     record {
       before = joined_pairs i.before (pair k.0 v.0 no_pairs);
-      reads = reads_pair left c.args.bytes.now rest mid next i.before k.0 v.0 i.reads k.1 v.1;
+      reads = reads_pair left m.bytes.now rest mid next i.before k.0 v.0 i.reads k.1 v.1;
       count = omega (arith, i.count, pair_count_more i.before k.0 v.0);
       room = omega (arith, i.room, first, second);
-      named = named_more c.args.search c.args.level (omega (arith, c.requires.to)) c.args.len c.args.bytes.now rest
-          c.pairs.held i.before i.reads i.count none (omega (arith, i.room)) (get_by_text c.pairs.places)
+      named = named_more c.args.search m.level (omega (arith, c.requires.to)) m.len m.bytes.now rest c.pairs.held
+          i.before i.reads i.count none (omega (arith, i.room)) (get_by_text c.pairs.places)
           (get_by_text c.insert.new.self) name k.0 mid next puts i.named k.1 k.2 (omega (arith, first, second));
       low = λ t n is. low_more (get_by_text c.pairs.places) (get_by_text c.insert.new.self) name (length rest)
-          (length c.args.bytes.now) puts i.low (omega (arith, i.room)) t n is;
+          (length m.bytes.now) puts i.low (omega (arith, i.room)) t n is;
     }

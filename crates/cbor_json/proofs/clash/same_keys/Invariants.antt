@@ -14,10 +14,10 @@ decreases-pairs l = length l.rest
 abbrev pub invariant-pairs : goal.invariant-pairs
 invariant-pairs l = record {
   before : Pairs;
-  reads : ReadsItems (levels_left (l.level + 1)) l.bytes (parts before) l.rest;
+  reads : ReadsItems (levels_left (l.members.level + 1)) l.members.bytes.now (parts before) l.rest;
   count : l.held ≡ pair_count before;
-  room : l.held + length l.rest ≤ length l.bytes;
+  room : l.held + length l.rest ≤ length l.members.bytes.now;
   named : (t : List ℕ) (n : ℕ) → get_by_text l.places t ≡ Some n
-      → IsNamed l.search l.level l.len l.bytes l.rest n t;
-  low : (t : List ℕ) (n : ℕ) → get_by_text l.places t ≡ Some n → n ≤ length l.bytes;
+      → IsNamed l.search l.members.level l.members.len l.members.bytes.now l.rest n t;
+  low : (t : List ℕ) (n : ℕ) → get_by_text l.places t ≡ Some n → n ≤ length l.members.bytes.now;
 }
