@@ -1,16 +1,11 @@
 -- Whole parts of a container, as they are read and as they are shown.
-use Rattle.std.proofs.Common.{◌≡◌, ℕ, zero, suc, ◌+◌, ◌-◌, ◌<◌, ◌≤◌, List, [], ◌∷◌, ◌++◌, length, take, drop, Option}
-use Rattle.std.proofs.Common.{Some, None, Ok, Err, refl, sym, ap, subst, ◌∙◌, append_assoc, append-nil, arith}
+use Rattle.std.proofs.Common.{◌≡◌, ℕ, zero, suc, ◌+◌, ◌-◌, ◌<◌, ◌≤◌, List, [], ◌∷◌, ◌++◌, length, take, drop}
+use Rattle.std.proofs.Common.{Ok, Err, refl, sym, ap, subst, ◌∙◌, append_assoc, append-nil, arith}
 use Rattle.std.proofs.Common.{min}
 use Rattle.std.proofs.lemmas.List.{take_min, drop_min, length-drop}
 use Rattle.hex.specs.Hex.{encode_lower}
 use Rattle.cbor_grammar.specs.declared.error.Error.{Error}
-use Rattle.cbor_grammar.specs.declared.width.IntegerWidth.{IntegerWidth}
-use Rattle.cbor_grammar.specs.Item as spec
-use Rattle.cbor_grammar.specs.Item.{Item, atom, array, tagged, Items, no_items, item, Pairs, no_pairs, pair}
-use Rattle.cbor_grammar.specs.Item.{item_count, pair_count}
-use Rattle.cbor_grammar.specs.Head.{break_byte}
-use Rattle.cbor_grammar.specs.Bytes.{any, MembersThen, Spells, SpellsItems, SpellsPairs}
+use Rattle.cbor_grammar.specs.Item.{Item}
 use Rattle.cbor_grammar.specs.Facts.{IsItem}
 use Rattle.cbor_grammar.specs.Reading.{read_item, read_head}
 use Rattle.cbor_grammar.specs.WellFormed.{levels_left}
@@ -19,6 +14,7 @@ use Rattle.cbor_grammar.specs.declared.layout.ContainerStyle.{ContainerStyle}
 use Rattle.cbor_grammar.proofs.bytes.Heads.{IsBytes, IsBytes-take}
 use Rattle.cbor_grammar.proofs.bytes.Shorter.{item_shorter}
 use Rattle.cbor_grammar.proofs.bytes.ExactlyOne.{one_outcome}
+use Rattle.cbor_grammar.proofs.bytes.Higher.{spelled_higher}
 use Rattle.cbor_grammar.proofs.bytes.Outcomes.{found_outcome}
 use Rattle.cbor_grammar.proofs.straight.PublicCalls.{one_item}
 use Rattle.cbor_edn_writer.specs.declared.style.EdnStyle.{EdnStyle}
@@ -30,51 +26,6 @@ use Rattle.cbor_places.specs.Partial.{PartTexts, EdnPart, AreTextsFrom, ArePartT
 use Rattle.cbor_places.specs.PartialDump.{some_hex_lines}
 use Rattle.cbor_places.specs.Partial.{one_line, indent_inside, opening_of, closing_of, container_text}
 use Rattle.cbor_places.specs.Partial.{IsPartialEdn, opens}
-
--- ---- an item is one at a higher level
-
-members_at : (major n : ℕ) (w : Option IntegerWidth) (b : List ℕ) (Members Others : List ℕ → List ℕ → Type 0)
-    → MembersThen major n w b Members
-    → ((rest end : List ℕ) → Members rest end → Others rest end) → MembersThen major n w b Others
-members_at major n (Some w) b Members Others h then = (h.0, h.1, h.2, then h.1 [] h.3)
-members_at major n None b Members Others h then = (h.0, h.1, then h.0 (break_byte ∷ []) h.2)
-
-mutual
-  pub spelled_higher : (low high : ℕ) (b : List ℕ) (i : Item) → high ≤ low → Spells any low b i → Spells any high b i
-  spelled_higher low high b (atom a) le h = (omega (arith, le, h.0), h.1)
-  spelled_higher low high b (array is w) le h = (
-    omega (arith, le, h.0),
-    members_at 4 (item_count is) w b _ _ h.1
-        (λ rest end s. items_higher (low + 1) (high + 1) rest is end (omega (arith, le)) s),
-  )
-  spelled_higher low high b (spec.map ps w) le h = (
-    omega (arith, le, h.0),
-    members_at 5 (pair_count ps) w b _ _ h.1
-        (λ rest end s. pairs_higher (low + 1) (high + 1) rest ps end (omega (arith, le)) s),
-  )
-  spelled_higher low high b (tagged t w i) le h = (
-    omega (arith, le, h.0),
-    (h.1.0, h.1.1, h.1.2, spelled_higher (low + 1) (high + 1) h.1.1 i (omega (arith, le)) h.1.3),
-  )
-
-  items_higher : (low high : ℕ) (b : List ℕ) (is : Items) (end : List ℕ) → high ≤ low → SpellsItems any low b is end
-      → SpellsItems any high b is end
-  items_higher low high b no_items end le h = h
-  items_higher low high b (item i is) end le h =
-      (h.0, h.1, h.2, spelled_higher low high h.0 i le h.3, items_higher low high h.1 is end le h.4)
-
-  pairs_higher : (low high : ℕ) (b : List ℕ) (ps : Pairs) (end : List ℕ) → high ≤ low → SpellsPairs any low b ps end
-      → SpellsPairs any high b ps end
-  pairs_higher low high b no_pairs end le h = h
-  pairs_higher low high b (pair k v ps) end le h = (
-    h.0,
-    h.1,
-    h.2,
-    h.3,
-    spelled_higher low high h.0 k le h.4,
-    spelled_higher low high h.1 v le h.5,
-    pairs_higher low high h.2 ps end le h.6,
-  )
 
 -- The bytes of an item that is read at some level are that item, and no other.
 pub read_is : (level left : ℕ) (b front : List ℕ) (i : Item) (rest : List ℕ) → level + left ≡ 129 → 1 ≤ level

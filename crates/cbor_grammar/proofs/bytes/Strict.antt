@@ -73,7 +73,7 @@ encoded_head-resolve major n w = ap (head major n) (stated-stated w n)
 -- ---- members of an array or a map
 
 -- members that hold something else
-members_map : (major n : ℕ) (w : Option IntegerWidth) (b : List ℕ) (Members Others : List ℕ → List ℕ → Type 0)
+pub members_map : (major n : ℕ) (w : Option IntegerWidth) (b : List ℕ) (Members Others : List ℕ → List ℕ → Type 0)
     → MembersThen major n w b Members
     → ((rest end : List ℕ) → Members rest end → Others rest end) → MembersThen major n w b Others
 members_map major n (Some w) b Members Others h then = (h.0, h.1, h.2, then h.1 [] h.3)
