@@ -3,4 +3,4 @@ mod bytes;
 mod dump;
 mod notation;
 
-pub(crate) use bytes::push_items;
+pub use bytes::push_items;

@@ -1,4 +1,4 @@
-//! Reads items: from bytes, from hex with comments, and from diagnostic notation.
+//! Reads a `DataItem`: from bytes, from hex with comments, and from diagnostic notation.
 mod binary;
 mod hex_text;
 mod notation;

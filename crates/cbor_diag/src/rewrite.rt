@@ -1,5 +1,5 @@
-//! Encodes items anew, from their bytes: the bytes themselves, but where a simple value below 24
-//! takes two of them.
+//! From bytes or hex to the bytes that their `DataItem` is written as: the same, but where a
+//! simple value below 24 takes two of them.
 ghost use Rattle.std.specs.Prelude.{◌≡◌, ◌<◌, ◌++◌, ℕ, slice_index, None, Ok, IfSome, IsTrue};
 ghost use Rattle.std.specs.Prelude.{IfOk, IfErr, OnOk, OnErr, MatchResult};
 ghost use Rattle.cbor_grammar.specs.Item.{Item};

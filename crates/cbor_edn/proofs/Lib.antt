@@ -1,4 +1,3 @@
 pub mod Bigs
 pub mod Dates
 pub mod Members
-pub mod Levels

@@ -1,4 +1,4 @@
--- In EDN, the members of a list: one that is closed at once, and before the first member.
+-- Items that are read in EDN: the members of a list, one that is closed at once, and before the first member.
 use Rattle.std.proofs.Common.{◌≡◌, ℕ, ◌<◌, List, [], length, Option, Some, None, Bool, sym, ap, ◌∙◌}
 use Rattle.cbor_edn_grammar.specs.declared.close.Close.{Close}
 use Rattle.cbor_edn_grammar.specs.Reading.{turns}

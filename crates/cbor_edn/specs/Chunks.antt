@@ -1,4 +1,4 @@
--- In EDN, the chunks of a string that is read.
+-- Items that are read in EDN: the chunks of a string.
 use Rattle.std.specs.Prelude.{◌≡◌, List, [], ◌∷◌, ◌++◌, map, Option, Some, Result, Ok, Err}
 use Rattle.cbor_grammar.specs.Item.{Chunk}
 use Rattle.cbor_grammar.specs.declared.strings.StringKind.{StringKind}

@@ -1,4 +1,4 @@
-//! In EDN, items of network addresses between apostrophes, and of prefixes of them.
+//! Reads items of EDN: network addresses between apostrophes, and prefixes of them.
 ghost use Rattle.std.specs.Prelude.{◌≡◌, ◌==◌, ◌+◌, ◌-◌, ◌<◌, ◌≤◌, ℕ, length, position, IfOk};
 ghost use Rattle.std.specs.Prelude.{IfErr, IfSome};
 ghost use Rattle.cbor_edn_grammar.specs.declared.error.Stop.TheVariants.{Memory};

@@ -1,4 +1,5 @@
-//! In EDN, what joins the pieces of a string, what follows the last, and the string that they are.
+//! Reads items of EDN: what joins the pieces of a string, what follows the last, and the string
+//! that they are.
 ghost use Rattle.std.specs.Prelude.{◌≡◌, ℕ, ◌≤◌, length, map, [], IfOk};
 ghost use Rattle.std.specs.List.{AllByRecursion};
 ghost use Rattle.cbor_grammar.specs.Item.{atom, chunked_string};

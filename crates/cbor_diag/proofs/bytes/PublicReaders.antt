@@ -1,4 +1,4 @@
--- What the readers of bytes promise, from what the front or the whole of an input is.
+-- Reading bytes into a `DataItem`: what the readers promise, from what the front or the whole of an input is.
 use Rattle.std.proofs.Common.{◌≡◌, ◌≢◌, ℕ, ◌≤◌, List, [], length, take, drop, Some, None, Ok, Err}
 use Rattle.std.proofs.Common.{sym, ap, ◌∙◌, arith, inl, inr}
 use Rattle.std.proofs.lemmas.List.{length-append, length-take, length-drop, take-append-drop, take-append-le}

@@ -1,4 +1,4 @@
--- Loops that read one part after the other: what was read before, and what is read after it.
+-- Reading notation part by part, by loops: what was read before, and what is read after it.
 use Rattle.std.proofs.Common.{◌≡◌, Result, Ok, ap, subst}
 use Rattle.cbor_grammar.specs.declared.error.Error.{Error}
 use Rattle.cbor_grammar.specs.declared.error.Error.TheVariants as refusal

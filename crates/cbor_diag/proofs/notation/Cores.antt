@@ -1,4 +1,4 @@
--- What reading an item, a string or a piece gives, by what is at the front of the text.
+-- Reading notation part by part: what an item, a string or a piece gives, by what is at the front of the text.
 use Rattle.std.proofs.Common.{◌≡◌, ℕ, zero, suc, ◌+◌, ◌-◌, ◌<◌, ◌≤◌, ◌^◌, ◌⊎◌, inl, inr, Bool, true, false, List}
 use Rattle.std.proofs.Common.{[], ◌∷◌, ◌++◌, length, Option, Some, None, Result, Ok, Err, Vec, Global, refl, sym, ap}
 use Rattle.std.proofs.Common.{subst, ◌∙◌, append_assoc, arith}
@@ -30,7 +30,8 @@ use Rattle.cbor_notation.specs.mirror.NotationReading.{checked, with_chunk, read
 use Rattle.cbor_notation.specs.mirror.NotationReading.{read_members, read_chunks, read_string_item, read_length}
 use Rattle.cbor_grammar.proofs.bytes.Heads.{bind_ok, ok_is}
 use Rattle.cbor_diag.proofs.notation.ChunkLoops.{Fails-bind, onto, onto_fails}
-use Rattle.cbor_diag.proofs.shared.Views.{view-Array, view-Map, item_count_view, pair_count_view}
+use Rattle.cbor_diag.proofs.shared.Views.{item_count_view, pair_count_view}
+use Rattle.cbor_diag.proofs.shared.Levels.{array_well, map_well}
 
 pub core_by : (read : List ℕ → Read Item) (text rest : List ℕ) (s : Start) → s ≡ first_start text → rest ≡ rest_of text
     → read_core read text ≡ core_of read s text rest
@@ -333,36 +334,21 @@ module _ (read : List ℕ → Read Item) (text : List ℕ) where
 abbrev pub pair_view : DataItem × DataItem → Item × Item
 pair_view p = (view p.0, view p.1)
 
-pub pairs_push : (level : ℕ) (vs : List (DataItem × DataItem)) (v : DataItem × DataItem)
-    → WellFormedPairs level (pairs_view vs) → WellFormed level (view v.0) → WellFormed level (view v.1)
-    → WellFormedPairs level (pairs_view (vs ++ v ∷ []))
-pairs_push level [] v held key value = (key, value, tt)
-pairs_push level (w ∷ vs) v held key value = (held.0, held.1, pairs_push level vs v held.2 key value)
-
+-- a container whose width is not stated, or that has an indefinite length
 open_fits : (w : Option IntegerWidth) (n : ℕ) → n < 2 ^ 64 → (w ≡ None) ⊎ (w ≡ Some Unknown) → FitsCount w n
 open_fits w n fits (inl e) = subst (λ x. FitsCount x n) (sym e) tt
 open_fits w n fits (inr e) = subst (λ x. FitsCount x n) (sym e) fits
 
-pub array_well : (inner : ℕ) (v : Vec DataItem Global) {w : Option IntegerWidth} → 1 ≤ inner → inner ≤ 129
+pub open_array_well : (inner : ℕ) (v : Vec DataItem Global) {w : Option IntegerWidth} → 1 ≤ inner → inner ≤ 129
     → (w ≡ None) ⊎ (w ≡ Some Unknown) → WellFormedItems inner (items_view v.items)
     → WellFormed (inner - 1) (view (Array v w))
-array_well inner v {w} low high length_is held =
-    let level : inner - 1 + 1 ≡ inner = omega arith in
+open_array_well inner v {w} low high length_is held =
     let count : item_count (items_view v.items) < 2 ^ 64 = omega (arith, item_count_view v.items, v.ok.0) in
-    subst (λ i. WellFormed (inner - 1) i) (sym (view-Array v w)) (
-      omega arith,
-      open_fits w (item_count (items_view v.items)) count length_is,
-      subst (λ l. WellFormedItems l (items_view v.items)) (sym level) held,
-    )
+    array_well inner v w low high (open_fits w (item_count (items_view v.items)) count length_is) held
 
-pub map_well : (inner : ℕ) (v : Vec (DataItem × DataItem) Global) {w : Option IntegerWidth} → 1 ≤ inner → inner ≤ 129
-    → (w ≡ None) ⊎ (w ≡ Some Unknown) → WellFormedPairs inner (pairs_view v.items)
+pub open_map_well : (inner : ℕ) (v : Vec (DataItem × DataItem) Global) {w : Option IntegerWidth} → 1 ≤ inner
+    → inner ≤ 129 → (w ≡ None) ⊎ (w ≡ Some Unknown) → WellFormedPairs inner (pairs_view v.items)
     → WellFormed (inner - 1) (view (Map v w))
-map_well inner v {w} low high length_is held =
-    let level : inner - 1 + 1 ≡ inner = omega arith in
+open_map_well inner v {w} low high length_is held =
     let count : pair_count (pairs_view v.items) < 2 ^ 64 = omega (arith, pair_count_view v.items, v.ok.0) in
-    subst (λ i. WellFormed (inner - 1) i) (sym (view-Map v w)) (
-      omega arith,
-      open_fits w (pair_count (pairs_view v.items)) count length_is,
-      subst (λ l. WellFormedPairs l (pairs_view v.items)) (sym level) held,
-    )
+    map_well inner v w low high (open_fits w (pair_count (pairs_view v.items)) count length_is) held

@@ -1,4 +1,4 @@
--- What a reader returns after an error of a callee, or after what a callee returned.
+-- Reading notation part by part: what a reader returns after an error of a callee, or after what a callee returned.
 use Rattle.std.proofs.Common.{◌≡◌, ◌≢◌, ◌<◌, ℕ, List, length, map, ◌++◌, ◌∷◌, [], Result, Ok, Err, sym, subst, ◌∙◌}
 use Rattle.std.proofs.lemmas.List.{map_push}
 use Rattle.std.specs.Prelude.{IsErrAnd}

@@ -1,4 +1,4 @@
--- Items that end before the text does: more bytes behind the text change nothing of them.
+-- Reading notation part by part: more bytes behind the text change nothing of items that end before it does.
 use Rattle.std.proofs.Common.{◌≡◌, ℕ, zero, suc, true, false, ◌==◌, ◌||◌, List, [], ◌∷◌, ◌++◌, codes, Option, Some}
 use Rattle.std.proofs.Common.{None, Result, Ok, Err, inl, inr, refl, sym, ap, ◌∙◌, subst}
 use Rattle.std.proofs.lemmas.Bool.{or_cases, eqb-true, false≢true}

@@ -1,4 +1,5 @@
--- Members, pairs, arrays and maps that end before the text does: more bytes behind it change nothing of them.
+-- Reading notation part by part: more bytes behind the text change nothing of members, pairs, arrays and maps that end
+-- before it does.
 use Rattle.std.proofs.Common.{◌≡◌, ℕ, zero, suc, ◌<◌, ◌≤◌, true, false, not, ◌==◌, List, [], ◌∷◌, ◌++◌, length, Option}
 use Rattle.std.proofs.Common.{Some, None, Ok, inl, inr, refl, sym, ap, ◌∙◌, subst, arith, length-append, append_assoc}
 use Rattle.std.specs.List.{position, prefix_len}

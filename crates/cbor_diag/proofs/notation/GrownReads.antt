@@ -1,4 +1,5 @@
--- What was read, said with more bytes behind the text: what does not change, and where a rest is firm.
+-- Reading notation part by part: what was read, with more bytes behind the text: what does not change, and where a
+-- rest is firm.
 use Rattle.std.proofs.Common.{◌≡◌, ℕ, Bool, true, false, not, ◌==◌, ◌&&◌, List, [], ◌∷◌, ◌++◌, Option, Some, None, Ok}
 use Rattle.std.proofs.Common.{ap, subst}
 use Rattle.std.proofs.lemmas.Bool.{and_parts}

@@ -1,4 +1,5 @@
--- Strings that end before the text does, in pieces and in chunks: more bytes behind it change nothing of them.
+-- Reading notation part by part: more bytes behind the text change nothing of strings, in pieces and in chunks, that
+-- end before it does.
 use Rattle.std.proofs.Common.{◌≡◌, ℕ, zero, suc, ◌≤◌, Bool, true, false, not, nat_eq, ◌==◌, ◌&&◌, ◌||◌, List, [], ◌∷◌}
 use Rattle.std.proofs.Common.{◌++◌, length, take, drop, codes, Option, Some, None, Ok, ◌⊎◌, inl, inr, refl, sym, ap}
 use Rattle.std.proofs.Common.{◌∙◌, subst, arith, length-append}

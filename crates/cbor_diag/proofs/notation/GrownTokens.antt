@@ -1,4 +1,4 @@
--- Tokens that end before the text does: more bytes behind the text change nothing of them.
+-- Reading notation part by part: more bytes behind the text change nothing of tokens that end before it does.
 use Rattle.std.proofs.Common.{◌≡◌, ℕ, ◌+◌, ◌*◌, ◌≤◌, Bool, true, false, not, nat_lt, nat_le, nat_eq}
 use Rattle.std.proofs.Common.{◌==◌, ◌&&◌, ◌||◌, List, [], ◌∷◌, ◌++◌, length, drop, Ok, Option, Some, None, ◌⊎◌}
 use Rattle.std.proofs.Common.{inl, inr, refl, sym, ap, ◌∙◌, subst, arith, append_assoc, ◌≢◌}

@@ -1,4 +1,4 @@
--- The number at the front of a text with more text behind it: what it may become.
+-- Where reading notation stops: what the number at the front of a text may become with more text behind it.
 use Rattle.std.proofs.Common.{◌≡◌, ◌≢◌, ℕ, ◌+◌, ◌*◌, ◌≤◌, Bool, true, false, nat_lt, nat_le, ◌==◌, ◌&&◌}
 use Rattle.std.proofs.Common.{List, [], ◌∷◌, ◌++◌, length, drop, Option, Some, None, ◌⊎◌, inl, inr, refl, sym, ap}
 use Rattle.std.proofs.Common.{◌∙◌, subst, arith}

@@ -1,4 +1,5 @@
--- Reading the members of a list and the pieces of a string one after the other, as a loop does.
+-- Reading notation part by part: the members of a list and the pieces of a string, one after the other, as a loop
+-- does.
 use Rattle.std.proofs.Common.{◌≡◌, ℕ, zero, suc, ◌<◌, ◌≤◌, List, [], ◌∷◌, ◌++◌, length, Some, None, Ok, Err, refl, sym}
 use Rattle.std.proofs.Common.{ap, subst, ◌∙◌, append_assoc, arith}
 use Rattle.std.proofs.lemmas.List.{append-nil}

@@ -1,4 +1,4 @@
--- From what the reader of notation gives to what its callers read.
+-- Reading notation into a `DataItem`: from what the reader gives to what its callers read.
 use Rattle.std.proofs.Common.{◌≡◌, ◌≢◌, ℕ, List, Result, Ok, Err, IfOk, ◌⊎◌, inl, inr, refl, sym, subst, ◌∙◌}
 use Rattle.cbor_grammar.specs.declared.error.Error.{Error}
 use Rattle.cbor_grammar.specs.declared.error.Error.TheVariants as refusal

@@ -1,4 +1,5 @@
--- How far a loop has read a list, or the pieces of a string: what it holds and what it is still to read are the whole.
+-- Reading notation part by part: what a loop holds of a list, or of a string's pieces, and what it is still to read
+-- are the whole.
 use Rattle.std.proofs.Common.{◌≡◌, ℕ, suc, ◌<◌, ◌≤◌, List, [], ◌∷◌, ◌++◌, length, true, false, Some, None, Ok, Err}
 use Rattle.std.proofs.Common.{sym, ap, subst, ◌∙◌, arith}
 use Rattle.cbor_grammar.specs.declared.error.Error.{Error}

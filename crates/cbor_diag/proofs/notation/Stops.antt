@@ -1,4 +1,4 @@
--- Where a reader stops before a byte, what it is part of is not read either, whatever follows.
+-- Where reading notation stops before a byte, what this is part of is not read either, whatever follows.
 use Rattle.std.proofs.Common.{◌≡◌, ◌≢◌, ℕ, suc, ◌<◌, Bool, true, false, ◌==◌, List, [], ◌∷◌, ◌++◌, length}
 use Rattle.std.proofs.Common.{Some, None, Result, Ok, Err, ◌⊎◌, inl, inr, refl, sym, ap, ◌∙◌, subst, arith}
 use Rattle.std.proofs.lemmas.Bool.{false≢true, eqb-true}

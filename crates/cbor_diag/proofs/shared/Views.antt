@@ -1,4 +1,4 @@
--- A data item, level by level, beside the item that it is.
+-- A `DataItem`, level by level, beside the item that it is.
 use Rattle.std.proofs.Common.{◌≡◌, ℕ, suc, map, List, [], ◌∷◌, ◌++◌, Option, Vec, Global, length, refl, ap, rules}
 use Rattle.cbor_grammar.specs.declared.width.IntegerWidth.{IntegerWidth}
 use Rattle.cbor_grammar.specs.declared.width.FloatWidth.{FloatWidth}
@@ -11,7 +11,7 @@ use Rattle.cbor_diag.specs.declared.syntax.DataItem.{Simple, the_lemmas}
 use Rattle.cbor_grammar.specs.Item as spec
 use Rattle.cbor_grammar.specs.Item.{item_count, pair_count}
 use Rattle.cbor_grammar.specs.declared.strings.StringKind.TheVariants.{Bytes, Text}
-use Rattle.cbor_grammar.specs.WellFormed.{WellFormed, WellFormedItems}
+use Rattle.cbor_grammar.specs.WellFormed.{WellFormed, WellFormedItems, WellFormedPairs}
 use Rattle.cbor_diag.specs.View.{view, items_view, pairs_view}
 use Rattle.cbor_grammar.specs.Strings.{byte_chunk, text_chunk}
 
@@ -62,3 +62,9 @@ pub items_push : (level : ℕ) (vs : List DataItem) (v : DataItem) → WellForme
     → WellFormed level (view v) → WellFormedItems level (items_view (vs ++ v ∷ []))
 items_push level [] v held well = (well, tt)
 items_push level (w ∷ vs) v held well = (held.0, items_push level vs v held.1 well)
+
+pub pairs_push : (level : ℕ) (vs : List (DataItem × DataItem)) (v : DataItem × DataItem)
+    → WellFormedPairs level (pairs_view vs) → WellFormed level (view v.0) → WellFormed level (view v.1)
+    → WellFormedPairs level (pairs_view (vs ++ v ∷ []))
+pairs_push level [] v held key value = (key, value, tt)
+pairs_push level (w ∷ vs) v held key value = (held.0, held.1, pairs_push level vs v held.2 key value)

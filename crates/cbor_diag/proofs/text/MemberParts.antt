@@ -1,4 +1,4 @@
--- The texts of the members of a container, from one on.
+-- Writing a `DataItem`: the texts of the members of a container, from one on.
 use Rattle.std.proofs.Common.{◌≡◌, ℕ, ◌+◌, ◌<◌, List, ◌∷◌, ◌++◌, length, drop, get_or}
 use Rattle.std.proofs.Common.{ap}
 use Rattle.cbor_diag.specs.declared.syntax.DataItem.{DataItem}

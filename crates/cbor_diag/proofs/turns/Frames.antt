@@ -1,4 +1,4 @@
--- What an open container is with one more part.
+-- Reading bytes into a `DataItem`: what an open container is with one more part.
 use Rattle.std.proofs.Common.{◌≡◌, List, [], ◌∷◌, ◌++◌, refl, ap}
 use Rattle.cbor_diag.specs.declared.syntax.DataItem.{DataItem}
 use Rattle.cbor_grammar.specs.Item.{no_items, item, no_pairs, pair}

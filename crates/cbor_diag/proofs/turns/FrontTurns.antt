@@ -1,4 +1,4 @@
--- From what counted reading gives to the turns of the front of an input.
+-- Reading bytes into a `DataItem`: from what counted reading gives to the turns of the front of an input.
 use Rattle.std.proofs.Common.{◌≡◌, ◌≢◌, ℕ, ◌+◌, ◌≤◌, List, take, drop, Some, None, Ok, Err}
 use Rattle.std.proofs.Common.{refl, sym, ap, ◌∙◌, arith}
 use Rattle.std.proofs.lemmas.List.{length-take, take-append-drop}

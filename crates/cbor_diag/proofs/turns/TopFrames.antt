@@ -1,4 +1,4 @@
--- A stack in a vector, its innermost element at the end.
+-- Reading bytes into a `DataItem`: the stack in a vector, its innermost element at the end.
 use Rattle.std.proofs.Common.{◌≡◌, ℕ, ◌+◌, ◌-◌, ◌<◌, List, [], ◌∷◌, ◌++◌, length, set, get_or, take, Some, None, refl}
 use Rattle.std.proofs.Common.{sym}
 use Rattle.std.proofs.Common.{ap, ◌∙◌, arith}

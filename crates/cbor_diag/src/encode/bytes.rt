@@ -1,4 +1,4 @@
-//! Writes an item as bytes (RFC 7049 section 2), each byte once, at the end of one vector.
+//! Writes a `DataItem` as bytes (RFC 7049 section 2), each byte once, at the end of one vector.
 //!
 //! What writes strings and containers isn't inlined where the kinds of items are told apart: it
 //! keeps values over calls, and room for these would be made for each integer, too.
@@ -162,7 +162,7 @@ fn push_tagged(
 
 /// Writes items one after the other.
 #[cycle(push)]
-pub(crate) fn push_items(out: &mut Vec<u8>, items: &Vec<DataItem>) -> Result<(), AllocError>
+pub fn push_items(out: &mut Vec<u8>, items: &Vec<DataItem>) -> Result<(), AllocError>
     requires { (level : ℕ) × WellFormedItems level (items_view items.now.items) }
     ensures { Appends result out.old.items out.new.items
         (encoded_items (items_view items.now.items)) }

@@ -1,4 +1,4 @@
-//! Writes an item as a dump, annotated hex: the dump of its bytes.
+//! Writes a `DataItem` as a dump, annotated hex: the dump of its bytes.
 ghost use Rattle.std.specs.Prelude.{◌≡◌, ◌+◌, IfOk, IfErr};
 ghost use Rattle.std.specs.List.{AllByRecursion};
 ghost use Rattle.std.specs.String.{string_bytes};

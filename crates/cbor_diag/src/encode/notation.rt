@@ -1,4 +1,4 @@
-//! Writes an item as diagnostic notation (RFC 7049 section 6), each part once, at the end of
+//! Writes a `DataItem` as diagnostic notation (RFC 7049 section 6), each part once, at the end of
 //! one text.
 //!
 //! Compact and pretty text are written by the same functions: they differ in their `Layout` alone.

@@ -1,4 +1,4 @@
-//! Reads an item from bytes (RFC 7049 section 2): a loop over turns with a stack of the open
+//! Reads a `DataItem` from bytes (RFC 7049 section 2): a loop over turns with a stack of the open
 //! containers.
 //!
 //! Each private function takes the remaining bytes and returns a value with the bytes after it, or

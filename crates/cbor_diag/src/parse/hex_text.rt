@@ -1,4 +1,4 @@
-//! Reads an item from hex with comments.
+//! Reads a `DataItem` from hex with comments.
 ghost use Rattle.std.specs.Prelude.{◌<◌};
 ghost use Rattle.std.specs.Prelude.{IfOk};
 ghost use Rattle.cbor_grammar.specs.Item.{Item};

@@ -1,5 +1,5 @@
-//! Reads an item from diagnostic notation (RFC 7049 section 6), by recursion over the levels of
-//! nesting.
+//! Reads a `DataItem` from diagnostic notation (RFC 7049 section 6), by recursion over the levels
+//! of nesting.
 //!
 //! Each private function reads at a cursor over the text, as bytes of UTF-8. It returns a value and
 //! leaves the cursor behind it, or returns the first error from the left; then it leaves the cursor
@@ -249,7 +249,7 @@ fn read_pairs(alloc: Global, text: &mut Cursor<'_>, level: u8) -> Result<Vec<(Da
 /// first.
 #[cycle(diag)]
 #[inline(always)]
-#[tactic(auto, using(crate::proofs::notation::Cores::pairs_push))]
+#[tactic(auto, using(crate::proofs::shared::Views::pairs_push))]
 fn some_pairs(alloc: Global, text: &mut Cursor<'_>, level: u8) -> Result<Vec<(DataItem, DataItem)>>
     requires { level ≤ 129 }
     ensures gives { Gives (λ x. (map (λ p. (view p.0, view p.1)) x.items, text.new)) result

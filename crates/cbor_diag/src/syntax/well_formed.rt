@@ -1,4 +1,5 @@
-//! Whether an item has an encoding: each number fits its width, and no level is deeper than 128.
+//! Whether a `DataItem` has an encoding: each number fits its width, and no level is deeper than
+//! 128.
 ghost use Rattle.std.specs.Prelude.{◌↔◌, IsTrue, map};
 ghost use Rattle.std.specs.List.{AllByRecursion};
 ghost use Rattle.cbor_diag.specs.View.{view, items_view, pairs_view};

@@ -1,4 +1,4 @@
-//! In EDN, the pieces of a string, and the items between `<<` and `>>`.
+//! Reads items of EDN: the pieces of a string, and the items between `<<` and `>>`.
 ghost use Rattle.std.specs.Prelude.{◌≡◌, ◌-◌, ◌<◌, ◌≤◌, ◌++◌, ℕ, length, IfOk, OnOk};
 ghost use Rattle.cbor_diag.specs.View.{view, items_view};
 ghost use Rattle.cbor_grammar.specs.WellFormed.{levels_left, WellFormed, WellFormedItems};

@@ -1,5 +1,5 @@
-//! How long a container would be on one line, roughly: pretty text gives each member of a long
-//! one a line of its own.
+//! How long a container of a `DataItem` would be on one line, roughly: pretty text gives each
+//! member of a long one a line of its own.
 //!
 //! Each function takes a budget of characters and returns what its part leaves of it: 0 where
 //! the part takes all of it or more. Nothing after that is looked at, so an item is looked at

@@ -1,4 +1,4 @@
-//! Open containers: what was read of them, and what they still need.
+//! Open containers of a `DataItem` that is read: what was read of them, and what they still need.
 ghost use Rattle.std.specs.Prelude.{◌≡◌, ◌≤◌, ℕ, Some, IsSome, IfSome, IfOk, IfErr, OnOk};
 ghost use Rattle.std.specs.Prelude.{option_map};
 ghost use Rattle.cbor_diag.specs.View.{view};

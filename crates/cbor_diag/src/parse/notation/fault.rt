@@ -1,4 +1,4 @@
-//! Finds where diagnostic notation is wrong.
+//! Finds where diagnostic notation is wrong, by where the reading of it stops.
 ghost use Rattle.std.specs.Prelude.{◌≡◌, ◌≤◌, ◌<◌, length, take, true, Ok, Some, None, IfOk, IfErr};
 ghost use Rattle.std.specs.Prelude.{IfSome, IfNone, IsTrue};
 ghost use Rattle.cbor_grammar.specs.Item.{Item};

@@ -1,4 +1,4 @@
-//! Strings in pieces, and the chunks of indefinite ones.
+//! Reads strings of notation into a `DataItem`: in pieces, and the chunks of indefinite ones.
 //!
 //! Most strings are one piece, a text without escapes or hex digits without blanks, and right after
 //! it a list goes on or closes. A fast path reads these straight into the item; all others are read

@@ -1,4 +1,5 @@
-//! Whether the token at the front of a text is wrong for good, whatever follows the text.
+//! Where the reading of notation stops: whether the token at the front of a text is wrong for
+//! good, whatever follows the text.
 ghost use Rattle.std.specs.Prelude.{◌≡◌, ◌≢◌, ◌<◌, ◌⊎◌, ◌++◌, List, ℕ, false, length, Ok, Err};
 ghost use Rattle.std.specs.Prelude.{Some, None, IsTrue, IfErr, IfOk, IfSome, IfNone, MatchResult};
 ghost use Rattle.std.specs.Prelude.{position, ◌==◌, nat_lt};

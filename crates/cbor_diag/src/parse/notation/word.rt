@@ -1,4 +1,4 @@
-//! Simple values and floats.
+//! Reads simple values and floats of notation into a `DataItem`.
 ghost use Rattle.std.specs.Prelude.{◌≡◌, ◌<◌, ◌≤◌, ◌^◌, ◌==◌, ℕ, length, nat_lt, position, IfOk};
 ghost use Rattle.std.specs.List.{list_all};
 ghost use Rattle.std.specs.Char.{digit_value};

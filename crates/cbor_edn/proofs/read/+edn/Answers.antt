@@ -12,11 +12,10 @@ use Rattle.cbor_edn.proofs.Members.{members_closed, members_begin}
 use Rattle.cbor_diag.specs.View.{items_view, pairs_view}
 use Rattle.cbor_grammar.specs.Item.{item_count, pair_count}
 use Rattle.cbor_grammar.specs.WellFormed.{FitsCount}
-use Rattle.cbor_diag.proofs.shared.Views.{items_push, item_count_view, pair_count_view}
-use Rattle.cbor_diag.proofs.notation.Cores.{pairs_push}
+use Rattle.cbor_diag.proofs.shared.Views.{items_push, pairs_push, item_count_view, pair_count_view}
 use Rattle.cbor_edn_grammar.specs.Strings.{begins_string}
 use Rattle.cbor_edn_grammar.proofs.Levels.{none_left, core_string, core_other}
-use Rattle.cbor_edn.proofs.Levels.{array_well, map_well}
+use Rattle.cbor_diag.proofs.shared.Levels.{array_well, map_well}
 use Rattle.cbor_edn.proofs.read.+edn.Goals as goal
 
 pub pieces::read_pieces-returns-in_err-more-clause-gives : goal.pieces::read_pieces-returns-in_err-more-clause-gives

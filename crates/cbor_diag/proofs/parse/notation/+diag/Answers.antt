@@ -5,7 +5,7 @@ use Rattle.cbor_notation.specs.mirror.NotationReading.{begins_piece, begins_stri
 use Rattle.cbor_notation.specs.mirror.NotationReading.{read_pair}
 use Rattle.cbor_diag.specs.View.{view}
 use Rattle.cbor_diag.specs.mirror.ChunkList.{chunk_list}
-use Rattle.cbor_diag.proofs.shared.Views.{items_push, view-Array, view-Map, view-Negative}
+use Rattle.cbor_diag.proofs.shared.Views.{items_push, pairs_push, view-Array, view-Map, view-Negative}
 use Rattle.cbor_diag.proofs.notation.Errors.{error_given, error_stuck, stuck_from, pushed_view}
 use Rattle.cbor_diag.proofs.notation.Loops.{members_closed}
 use Rattle.cbor_diag.proofs.notation.SoFar.{first_stuck, list_begins, list_fails, member_stuck, list_ends, comma_fails}
@@ -15,7 +15,7 @@ use Rattle.cbor_diag.proofs.notation.SoFar.{pieces_go_on}
 use Rattle.cbor_diag.proofs.notation.Cores.{core_bytes, minus_fails, minus_read, array_fails, array_read, map_fails}
 use Rattle.cbor_diag.proofs.notation.Cores.{map_read, item_none, item_fails, item_read, no_content, no_string}
 use Rattle.cbor_diag.proofs.notation.Cores.{string_read, no_chunks, chunks_read, chunks_well, no_key, no_colon}
-use Rattle.cbor_diag.proofs.notation.Cores.{no_value, pair_read, pair_view, pairs_push, array_well, map_well}
+use Rattle.cbor_diag.proofs.notation.Cores.{no_value, pair_read, pair_view, open_array_well, open_map_well}
 use Rattle.cbor_diag.proofs.notation.Stops.{deep_stuck, item_stuck, core_stuck, bytes_stuck, array_stuck, map_stuck}
 use Rattle.cbor_diag.proofs.notation.Stops.{minus_stuck, word_stuck, tag_stuck, close_stuck, key_stuck, colon_stuck}
 use Rattle.cbor_diag.proofs.notation.Stops.{value_stuck, string_stuck, content_stuck, embedded_stuck, chunks_stuck}
@@ -232,7 +232,7 @@ read_core-returns-in_ok-content-in-Bracket-clause-gives t c =
 
 pub read_core-returns-in_ok-content-in-Bracket-clause-well : goal.read_core-returns-in_ok-content-in-Bracket-clause-well
 read_core-returns-in_ok-content-in-Bracket-clause-well t c =
-    array_well c.args.inner _ (omega arith) (omega arith) c.take_length-bitwidth.ensures.unstated
+    open_array_well c.args.inner _ (omega arith) (omega arith) c.take_length-bitwidth.ensures.unstated
     c.in_ok-content-in-Bracket.ensures.well
 
 pub read_core-returns-in_err-content-in-Brace-clause-gives : goal.read_core-returns-in_err-content-in-Brace-clause-gives
@@ -249,7 +249,7 @@ read_core-returns-in_ok-content-in-Brace-clause-gives t c =
 
 pub read_core-returns-in_ok-content-in-Brace-clause-well : goal.read_core-returns-in_ok-content-in-Brace-clause-well
 read_core-returns-in_ok-content-in-Brace-clause-well t c =
-    map_well c.args.inner _ (omega arith) (omega arith) c.take_length-bitwidth-in-Brace.ensures.unstated
+    open_map_well c.args.inner _ (omega arith) (omega arith) c.take_length-bitwidth-in-Brace.ensures.unstated
     c.in_ok-content-in-Brace.ensures.well
 
 pub read_core-returns-in-Apostrophe-clause-gives : goal.read_core-returns-in-Apostrophe-clause-gives

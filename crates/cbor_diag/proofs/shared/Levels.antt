@@ -1,4 +1,4 @@
--- In EDN, a container is well formed a level below its members.
+-- A container of a `DataItem` is well formed a level below its members.
 use Rattle.std.proofs.Common.{◌≡◌, ℕ, ◌+◌, ◌-◌, ◌≤◌, Option, Vec, Global, sym, subst, arith}
 use Rattle.cbor_grammar.specs.declared.width.IntegerWidth.{IntegerWidth}
 use Rattle.cbor_grammar.specs.Item.{item_count, pair_count}
