@@ -1,8 +1,8 @@
--- Why an item has no name at a path.
+-- What C is told where an item has no name at a path.
 use Rattle.std.proofs.Common.{ℕ, List, refl, inl, inr}
 use Rattle.cbor_grammar.specs.declared.error.Error.TheVariants as refusal
 use Rattle.cbor_inspect.specs.Named.{HasNoName}
-use Rattle.cbor_inspect.specs.declared.path.Step.{Step}
+use Rattle.cbor_paths.specs.declared.path.Step.{Step}
 use Rattle.cbor_inspect.specs.declared.name.NameError.{NameError}
 use Rattle.cbor_inspect.specs.declared.name.NameError.TheVariants.{Cbor, NoPart}
 use Rattle.cbor_diag_c.specs.Names.{IsNoNamed}

@@ -1,4 +1,4 @@
--- An error of an input is one that refuses it.
+-- What C is told: an error of an input is one that refuses it.
 use Rattle.std.proofs.Common.{◌≡◌, ◌≢◌, ◌+◌, ◌-◌, ◌<◌, ◌≤◌, ℕ, List, take, Ok, subst, sym, refl, inl}
 use Rattle.std.proofs.Common.{arith, zero, suc, [], inr, length, codes}
 use Rattle.hex.specs.Hex.{decode_of}

@@ -1,4 +1,4 @@
--- What is returned for where bytes first break a set of rules.
+-- What C is told of where bytes first break a set of rules.
 use Rattle.std.specs.Prelude.{◌≡◌, ◌⊎◌, ℕ, List, Option, Some, None, IsTrue}
 use Rattle.std.specs.Prelude.{◌==◌, if◌then◌else◌}
 use Rattle.cbor_diag.specs.Refusals.{number_of}

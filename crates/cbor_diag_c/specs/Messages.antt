@@ -1,4 +1,4 @@
--- What is said of where in an item an input is none.
+-- What C is told of where in an item an input is none.
 use Rattle.std.specs.Prelude.{◌≡◌, ◌⊎◌, ℕ, List, []}
 use Rattle.cbor_grammar.specs.declared.error.Error.{Error}
 use Rattle.cbor_diag_c.specs.declared.form.Form.{Form}

@@ -1,12 +1,12 @@
--- Why nothing is told of the name of a part of an item.
+-- Why C is told nothing of the name of a part of an item.
 use Rattle.std.specs.Prelude.{◌≡◌, ◌≢◌, ◌⊎◌, ℕ, List, [], IsUtf8}
 use Rattle.cbor_grammar.specs.declared.error.Error.{Error}
 use Rattle.cbor_grammar.specs.declared.error.Error.TheVariants as refusal
 use Rattle.cbor_diag.specs.Item.{Item}
 use Rattle.cbor_diag.specs.Facts.{IsItem, IsNoItem}
 use Rattle.cbor_diag.specs.Refusals.{number_of}
-use Rattle.cbor_inspect.specs.Parts.{HasNoPart}
-use Rattle.cbor_inspect.specs.declared.path.Step.{Step}
+use Rattle.cbor_paths.specs.Parts.{HasNoPart}
+use Rattle.cbor_paths.specs.declared.path.Step.{Step}
 use Rattle.cbor_inspect.specs.declared.name.NameError.{NameError}
 use Rattle.cbor_inspect.specs.declared.name.NameError.TheVariants.{Cbor, NoPart}
 use Rattle.cbor_diag_c.specs.Answers.{no_part, no_type}

@@ -1,4 +1,4 @@
--- What is said in words of an input that is no item.
+-- What C is told in words of an input that is no item.
 use Rattle.std.specs.Prelude.{◌≡◌, ◌⊎◌, ℕ, List, [], codes, IsUtf8, None}
 use Rattle.cbor_grammar.specs.declared.error.Error.{Error}
 use Rattle.cbor_grammar.specs.declared.error.Error.TheVariants as refusal

@@ -1,4 +1,4 @@
-//! The calls that report where bytes break rules.
+//! The calls for C that report where bytes break rules.
 ghost use Rattle.std.specs.Prelude.{◌≡◌, ◌⊎◌, ◌↔◌, ◌<◌, negsuc, None, length, IfOk, IsErr};
 ghost use Rattle.cbor_messages.specs.Kinds.{kind_text};
 ghost use Rattle.cbor_rules.specs.FirstBreach.{first_breach};

@@ -1,4 +1,4 @@
-//! The calls that convert, and that say why an item has no output.
+//! The calls for C that convert, and that say why an item has no output.
 ghost use Rattle.std.specs.Prelude.{◌≡◌, ◌≢◌, ◌⊎◌, ◌<◌, negsuc, IfOk};
 ghost use Rattle.cbor_diag_c.specs.declared.form.Text.{Text as Texts};
 ghost use Rattle.cbor_diag_c.specs.Forms.{IsNoForm, IsOutputIn};

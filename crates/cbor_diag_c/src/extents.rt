@@ -1,4 +1,4 @@
-//! The call that reports how bytes begin.
+//! The call for C that reports how bytes begin.
 ghost use Rattle.std.specs.Prelude.{◌≡◌, ◌<◌, ◌^◌, ℕ, List, length};
 ghost use Rattle.cbor_diag.specs.Extent.{IfItem, IsExtent};
 ghost use Rattle.cbor_bytes.specs.declared.skip.answer.Extent.{Extent as Beginning};

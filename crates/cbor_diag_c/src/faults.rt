@@ -1,4 +1,4 @@
-//! The call that reports where an input is no item.
+//! The call for C that reports where an input is no item.
 ghost use Rattle.std.specs.Prelude.{◌≡◌, ◌≢◌, negsuc, None, IfSome, IfOk, IfErr};
 ghost use Rattle.cbor_diag.specs.Item.{Item};
 ghost use Rattle.cbor_diag.specs.Facts.{IsItem, IsNoItem};

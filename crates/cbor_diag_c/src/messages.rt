@@ -1,4 +1,4 @@
-//! The calls that say where in an item a fault is.
+//! The calls for C that say where in an item a fault is.
 ghost use Rattle.std.specs.Prelude.{◌≡◌, ℕ, List, negsuc, length, IfOk, IfErr, IfSome};
 ghost use Rattle.cbor_diag_c.specs.Forms.{IsNoForm, IsRefusedIn};
 ghost use Rattle.cbor_diag_c.specs.Answers.{IfLength, IfError, written};

@@ -1,4 +1,4 @@
-//! The call that says what a part of an item is called.
+//! The call for C that says what a part of an item is called.
 ghost use Rattle.std.specs.Prelude.{◌≡◌, ℕ, List, length, IfOk, IfErr};
 ghost use Rattle.cbor_diag.specs.Item.{Item};
 ghost use Rattle.cbor_diag.specs.Facts.{IsItem};

@@ -1,4 +1,4 @@
-//! The calls that encode items again, and that say why there is no such encoding.
+//! The calls for C that encode items again, and that say why there is no such encoding.
 ghost use Rattle.std.specs.Prelude.{◌≡◌, ◌≢◌, ◌⊎◌, negsuc, None};
 ghost use Rattle.cbor_rules.specs.Keeps.{KeepsRules};
 ghost use Rattle.cbor_diag_c.specs.Answers.{IfLength, IfError, IfReturned};

@@ -1,4 +1,4 @@
-//! The calls for bytes that come in pieces.
+//! The calls for C on bytes that come in pieces.
 //!
 //! C has the memory for the scanner, as a [`ScannerRoom`]. Each call casts its pointer, so these
 //! two are proved by hand; the rest is in [`CountedScanner`].

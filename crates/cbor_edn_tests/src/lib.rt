@@ -1,7 +1,9 @@
 //! Tests of the calls of `cbor_edn`: EDN of each kind with the bytes that it is, and texts that are
-//! none, with the place of the error. `rt test` runs them.
+//! none, with the place of the error; and of those of `cbor_escapes`. `rt test` runs them.
 #![tactic(auto)]
 
+#[cfg(test)]
+mod escapes;
 #[cfg(test)]
 mod read;
 #[cfg(test)]

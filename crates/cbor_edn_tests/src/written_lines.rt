@@ -5,8 +5,8 @@ use cbor_grammar::Error;
 use std::alloc::Global;
 use std::process::Abort;
 
-/// The text of the item that a notation is, over lines of so many columns. The same bytes are read
-/// back from it.
+/// The text of the item that a notation is, over lines of this many columns. The same bytes are
+/// read back from it.
 fn lines_of(rt: &impl Abort, alloc: Global, columns: u16, notation: &str) -> String {
     let Ok(bytes) = edn_to_bytes(alloc, notation) else {
         panic!(rt; "no notation: {notation}");
@@ -26,7 +26,7 @@ fn lines_of(rt: &impl Abort, alloc: Global, columns: u16, notation: &str) -> Str
     out
 }
 
-/// A text of so many letters.
+/// A text of this many letters.
 fn letters(alloc: Global, count: usize) -> Result<String, Error> {
     let mut text = String::from_str(alloc, "\"")?;
     for _ in 0..count {
@@ -36,7 +36,7 @@ fn letters(alloc: Global, count: usize) -> Result<String, Error> {
     Ok(text)
 }
 
-/// Whether an array with a text of so many letters is on one line. A text is estimated as its
+/// Whether an array with a text of this many letters is on one line. A text is estimated as its
 /// letters and 2, and the array as 4, and 2 for its member.
 fn is_line(rt: &impl Abort, alloc: Global, columns: u16, count: usize) -> Result<bool, Error> {
     let text = letters(alloc, count)?;

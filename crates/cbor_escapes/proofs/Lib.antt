@@ -1,3 +1,4 @@
 pub mod High
 pub mod Unescaped
 pub mod Shown
+pub mod HiddenLemmas

@@ -1,4 +1,4 @@
--- The content of a text as it is written between quotes.
+-- The content of a text as JSON and EDN write it between quotes, with escapes.
 use Rattle.std.specs.Prelude.{ℕ, ◌/◌, ◌%◌, ◌==◌, ◌&&◌, ◌||◌, nat_le, Bool, List, [], ◌∷◌, ◌++◌, if◌then◌else◌, codes}
 use Rattle.std.specs.Prelude.{flat_map, encode_utf8}
 use Rattle.std.specs.Str.{chars}

@@ -1,5 +1,6 @@
 //! Escapes in quoted texts, as JSON and EDN have them: of a quote, of a backslash, and of each
-//! character that no terminal and no log is given as it is.
+//! character that no terminal and no log is given as it is. [`is_shown`] finds these in any text,
+//! and [`push_shown`] escapes them there.
 //!
 //! ```rust
 //! use cbor_escapes::push_escaped;
@@ -16,7 +17,10 @@ ghost use Rattle.cbor_tokens.specs.Appends.{AppendsText};
 ghost use Rattle.cbor_escapes.specs.Escapes.{escaped_text, escaped_char, unit_escape};
 ghost use Rattle.cbor_escapes.specs.Escapes.{begins_escape, is_hidden as hides};
 
+mod hidden;
+
 use cbor_tokens::push_hex;
+pub use hidden::{is_shown, push_shown};
 use std::alloc::AllocError;
 
 /// Writes a text, each of its characters escaped. Most have none that is.

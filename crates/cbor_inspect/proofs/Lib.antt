@@ -1,13 +1,4 @@
-pub mod Sequences
-pub mod PathLemmas
-pub mod PartLemmas
-pub mod LostLemmas
-pub mod Fronts
-pub mod EndLemmas
 pub mod SimpleLemmas
-pub mod LooseLemmas
-pub mod InputLemmas
-pub mod HiddenLemmas
 pub mod StreamLemmas
 pub mod OutputLemmas
 pub mod Lines

@@ -1,4 +1,4 @@
--- What is written of items in EDN, one after the other, is read back as their bytes.
+-- For viewers, what is written of items in EDN, one after the other, is read back as their bytes.
 use Rattle.std.proofs.Common.{◌≡◌, ℕ, ◌≤◌, List, [], ◌∷◌, ◌++◌, length, Option, Some, refl, sym, ap, subst}
 use Rattle.std.proofs.Common.{◌∙◌, append_assoc, append-nil, length-append, arith, map}
 use Rattle.std.specs.List.{AllByRecursion}
@@ -22,11 +22,12 @@ use Rattle.cbor_inspect.specs.declared.form.Form.{Form}
 use Rattle.cbor_inspect.specs.declared.form.Form.TheVariants as form
 use Rattle.cbor_inspect.specs.declared.items.Show.{Show}
 use Rattle.cbor_inspect.specs.declared.naming.Naming.{Naming}
-use Rattle.cbor_inspect.specs.declared.path.Step.{Step}
-use Rattle.cbor_inspect.specs.Ends.{Shows, steps_of}
+use Rattle.cbor_paths.specs.declared.path.Step.{Step}
+use Rattle.cbor_inspect.specs.Shows.{Shows, steps_of}
 use Rattle.cbor_inspect.specs.Forms.{IsEdn, IsForm, IsFormOf, IsLineOf, edn_style}
-use Rattle.cbor_inspect.specs.Parts.{AreParts, ShowsPart}
-use Rattle.cbor_inspect.specs.Sequence.{ItemsThen, ShowsEach, IsShownOfFirst, AreStrictItems, IsStrictSequence}
+use Rattle.cbor_paths.specs.Parts.{AreParts}
+use Rattle.cbor_inspect.specs.Shows.{ShowsPart}
+use Rattle.cbor_paths.specs.Sequence.{ItemsThen, ShowsEach, IsShownOfFirst, AreStrictItems, IsStrictSequence}
 
 -- ---- the items of bytes
 

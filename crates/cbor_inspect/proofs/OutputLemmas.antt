@@ -1,4 +1,4 @@
--- What is written of an item at the front, and of a part of it.
+-- For viewers, what is written of an item at the front, and of a part of it.
 use Rattle.std.proofs.Common.{◌≡◌, ◌≢◌, map, ℕ, ◌-◌, ◌⊎◌, List, [], ◌∷◌, ◌++◌, length, take, drop, refl, sym, ap, subst}
 use Rattle.std.proofs.Common.{◌∙◌, arith, Result, Ok, Err, IfOk, length-append, append-nil}
 use Rattle.std.proofs.Math.Seq.{take-length}
@@ -10,17 +10,18 @@ use Rattle.cbor_bytes.proofs.bytes.StrictHeads.{strict_is}
 use Rattle.cbor_diag.specs.Item.{Item, items_of}
 use Rattle.cbor_diag.specs.Facts.{IsItem, BeginsWithItem}
 use Rattle.cbor_diag.specs.Written.{encoded, encoded_items, resolve}
-use Rattle.cbor_inspect.specs.declared.path.Step.{Step}
+use Rattle.cbor_paths.specs.declared.path.Step.{Step}
 use Rattle.cbor_inspect.specs.Forms.{IsForm}
-use Rattle.cbor_inspect.specs.Parts.{ShowsPart, AppendsParts}
-use Rattle.cbor_inspect.specs.Sequence.{ShowsEach, ShowsFront, IsShownOfFirst, AreStrictItems}
-use Rattle.cbor_inspect.specs.declared.items.End.{End}
+use Rattle.cbor_paths.specs.Parts.{AppendsParts}
+use Rattle.cbor_inspect.specs.Shows.{ShowsPart}
+use Rattle.cbor_paths.specs.Sequence.{ShowsEach, ShowsFront, IsShownOfFirst, AreStrictItems}
+use Rattle.cbor_paths.specs.declared.end.End.{End}
 use Rattle.cbor_inspect.specs.declared.items.Show.{Show}
-use Rattle.cbor_inspect.specs.Ends.{Shows, steps_of}
+use Rattle.cbor_inspect.specs.Shows.{Shows, steps_of}
 use Rattle.cbor_inspect.proofs.Lines.{same_items}
-use Rattle.cbor_inspect.proofs.PartLemmas.{strict_parts}
-use Rattle.cbor_inspect.proofs.Sequences.{one_shown}
-use Rattle.cbor_inspect.proofs.Fronts.{front_length}
+use Rattle.cbor_paths.proofs.PartLemmas.{strict_parts}
+use Rattle.cbor_paths.proofs.Sequences.{one_shown}
+use Rattle.cbor_paths.proofs.Fronts.{front_length}
 
 -- without steps the part is the item, which has no unstated width
 pub front_shown : (show : Show) (steps : List Step) (b output : List ℕ) (n : ℕ) → steps ≡ []

@@ -1,4 +1,4 @@
--- Bytes in which no byte below 32 follows 0xf8, and items by RFC 8949.
+-- For viewers, bytes in which no byte below 32 follows 0xf8, and items by RFC 8949.
 use Rattle.std.proofs.Common.{◌≡◌, ℕ, zero, suc, ◌+◌, ◌<◌, ◌≤◌, List, [], ◌∷◌, ◌++◌, length, take, drop}
 use Rattle.std.proofs.Common.{Option, Some, None, inl, inr, refl, sym, ap, subst, ◌∙◌, arith}
 use Rattle.std.proofs.Common.{length-append, take-append-drop, append_assoc, Result, Ok, Err, OnOk, get_or, true}
@@ -20,7 +20,7 @@ use Rattle.cbor_bytes.specs.declared.skip.answer.Extent.TheVariants as extent
 use Rattle.cbor_diag.specs.Extent.{IsExtent}
 use Rattle.cbor_inspect.specs.Simple.{Is8949, ItemsThen8949, IsSequence8949}
 use Rattle.cbor_inspect.specs.Simple.{BeginsNo8949}
-use Rattle.cbor_inspect.proofs.Fronts.{front_length, take_front, drop_front, same_rest}
+use Rattle.cbor_paths.proofs.Fronts.{front_length, take_front, drop_front, same_rest}
 
 -- ---- parts of bytes
 

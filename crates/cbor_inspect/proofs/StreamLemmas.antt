@@ -1,4 +1,4 @@
--- The bytes that a stream keeps, and those that were scanned.
+-- The bytes that a stream keeps of items as they arrive, and those that were scanned.
 use Rattle.std.proofs.Common.{◌≡◌, ℕ, ◌≤◌, Bool, true, false, List, [], ◌∷◌, ◌++◌, length, take, drop, sym}
 use Rattle.std.proofs.Common.{subst, arith}
 use Rattle.std.proofs.Common.{Result, Ok, Err, OnOk, if◌then◌else◌, length-append}
@@ -14,9 +14,9 @@ use Rattle.cbor_diag.specs.Facts.{BeginsWithItem, IsCut}
 use Rattle.cbor_diag.specs.Extent.{IfItem, IfFault, FaultEnds}
 use Rattle.std.specs.Prelude.{◌↔◌}
 use Rattle.std.proofs.Common.{◌<◌, refl}
-use Rattle.cbor_inspect.specs.Sequence.{ItemsThen, IsSequence, IsShownOfFirst}
-use Rattle.cbor_inspect.proofs.Fronts.{front_of}
-use Rattle.cbor_inspect.proofs.Sequences.{item_then, items_then, shown_later, came_later}
+use Rattle.cbor_paths.specs.Sequence.{ItemsThen, IsSequence, IsShownOfFirst}
+use Rattle.cbor_paths.proofs.Fronts.{front_of}
+use Rattle.cbor_paths.proofs.Sequences.{item_then, items_then, shown_later, came_later}
 
 -- the first bytes of those that are kept were scanned
 abbrev pub IsScanned : Scanner → ℕ → List ℕ → Type 0

@@ -1,4 +1,4 @@
--- What is written of one item, in each form.
+-- For viewers, what is written of one item, in each form.
 use Rattle.std.specs.Prelude.{◌≡◌, ◌&&◌, ℕ, Bool, true, false, List, [], ◌∷◌, ◌++◌, Option, Some, None}
 use Rattle.hex.specs.Hex.{encode_lower}
 use Rattle.cbor_diag.specs.Item.{Item}

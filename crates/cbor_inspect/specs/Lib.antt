@@ -1,12 +1,11 @@
 pub mod Forms
-pub mod Sequence
-pub mod Paths
-pub mod Parts
-pub mod Lost
+pub mod Shows
 pub mod Simple
-pub mod Ends
-pub mod Texts
-pub mod Loose
-pub mod Inputs
 pub mod Raw
 pub mod Named
+-- what the crate below defines, for callers
+pub use Rattle.cbor_paths.specs.Ends
+pub use Rattle.cbor_paths.specs.Lost
+pub use Rattle.cbor_paths.specs.Parts
+pub use Rattle.cbor_paths.specs.Paths
+pub use Rattle.cbor_paths.specs.Sequence

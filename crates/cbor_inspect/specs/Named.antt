@@ -1,10 +1,10 @@
--- Why there is no item whose name is looked for.
+-- Why there is no item, at the end of a path, whose name is looked for.
 use Rattle.std.specs.Prelude.{ℕ, List}
 use Rattle.cbor_diag.specs.Item.{Item}
 use Rattle.cbor_diag.specs.Facts.{IsItem, IsNoItem}
 use Rattle.cbor_grammar.specs.declared.error.Error.TheVariants as refusal
-use Rattle.cbor_inspect.specs.Parts.{HasNoPart}
-use Rattle.cbor_inspect.specs.declared.path.Step.{Step}
+use Rattle.cbor_paths.specs.Parts.{HasNoPart}
+use Rattle.cbor_paths.specs.declared.path.Step.{Step}
 use Rattle.cbor_inspect.specs.declared.name.NameError.{NameError}
 use Rattle.cbor_inspect.specs.declared.name.NameError.TheVariants.{Cbor, NoPart}
 

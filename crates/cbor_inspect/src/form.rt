@@ -1,4 +1,4 @@
-//! The forms in which an item is written.
+//! For viewers, the forms in which an item is written.
 ghost use Rattle.std.specs.Prelude.{◌≡◌};
 ghost use Rattle.cbor_inspect.specs.Forms.{edn_style};
 
@@ -41,7 +41,7 @@ impl Style {
     }
 
     /// How EDN is written in this style: only pretty text has lines and notes.
-    pub(crate) fn edn(self) -> EdnStyle
+    pub fn edn(self) -> EdnStyle
         ensures { result ≡ edn_style self }
     {
         let lines = self.form == Form::Pretty;

@@ -1,5 +1,5 @@
-//! Items one after the other, as far as they have come.
-ghost use Rattle.std.specs.Prelude.{◌≡◌, ◌↔◌, ℕ, ◌≤◌, ◌++◌, ◌∷◌, [], List, length, drop};
+//! For viewers, items one after the other, as far as they have come.
+ghost use Rattle.std.specs.Prelude.{◌≡◌, ℕ, ◌≤◌, ◌++◌, ◌∷◌, [], List, length, drop};
 ghost use Rattle.std.specs.Prelude.{IfOk, IfErr, IfSome, OnOk, OnErr, IsTrue, true, false, Ok};
 ghost use Rattle.std.specs.Prelude.{None, Some};
 ghost use Rattle.std.specs.String.{string_bytes};
@@ -11,21 +11,21 @@ ghost use Rattle.cbor_diag.specs.Dump.{dump};
 ghost use Rattle.cbor_diag.specs.Facts.{IsItem, IsWellFormed, BeginsWithItem, IsCut, HasFault};
 ghost use Rattle.cbor_diag.specs.Written.{encoded};
 ghost use Rattle.cbor_inspect.specs.Forms.{IsForm};
-ghost use Rattle.cbor_inspect.specs.declared.path.Step.{Step};
-ghost use Rattle.cbor_inspect.specs.Sequence.{IsSequence, ItemsThen, IsShownOfFirst, ShowsFront};
-ghost use Rattle.cbor_inspect.specs.Sequence.{OneAtMost};
-ghost use Rattle.cbor_inspect.specs.Ends.{EndsSo, StopsSo, Shows, steps_of};
+ghost use Rattle.cbor_paths.specs.declared.path.Step.{Step};
+ghost use Rattle.cbor_paths.specs.Sequence.{IsShownOfFirst, ShowsFront, OneAtMost};
+ghost use Rattle.cbor_paths.specs.Ends.{EndsSo, StopsSo};
+ghost use Rattle.cbor_inspect.specs.Shows.{Shows, steps_of};
 
 use crate::form::{Form, Style};
 use crate::naming::Naming;
 use crate::notation::{Work, push_notation};
 use crate::part::push_part;
-use crate::path::Step;
 use cbor_bytes::strict::is_strict;
 use cbor_diag::{
     DataItem, Error, Extent, extent, parse_bytes, parse_bytes_partial, push_bytes_to_hex_partial,
 };
 use cbor_edn::EdnStyle;
+use cbor_paths::{End, Shown, Step};
 use cbor_tokens::push_hex;
 use std::alloc::{AllocError, Global};
 use std::mem;
@@ -74,40 +74,6 @@ impl<'a> Show<'a> {
             one: false,
         }
     }
-}
-
-/// Why no further item is written.
-#[derive(Clone, Copy, PartialEq, Eq, Debug)]
-pub enum End {
-    /// The call stopped without a look at what remains, which may be nothing: a block of output was
-    /// appended, or one item was to be written or skipped, and was. At least one byte was passed,
-    /// so a loop over such calls ends. Write the output, and go on.
-    Full,
-    /// No bytes remain.
-    Done,
-    /// An item begins, and is not whole.
-    Cut,
-    /// What remains is no item: its first `end` bytes have this error, and fewer are cut.
-    Fault { error: Error, end: usize },
-    /// The input was to be one item, and more bytes follow it. No call here returns this.
-    Remaining,
-    /// The item that follows, of this many bytes, has no part where the path leads.
-    Lost { len: usize },
-    /// The item that follows is none by RFC 8949: at its byte `at` is a simple value below 32 in
-    /// two bytes. Only [`Stream::check`](crate::Stream::check) returns this.
-    TwoByteSimple { at: usize },
-    /// Memory ran out, and nothing was made of what remains. A call that takes no memory never
-    /// returns this.
-    Memory,
-}
-
-/// How far items were written.
-#[derive(Clone, Copy, PartialEq, Eq, Debug)]
-pub struct Shown {
-    /// How many bytes the items take that were written.
-    pub used: usize,
-    /// Why no further item was written.
-    pub end: End,
 }
 
 /// Appends what is written of one item after the other, from the front of the bytes, until no whole
@@ -387,64 +353,5 @@ fn fault_of(bytes: &[u8], error: Error) -> End
     match extent(bytes) {
         Extent::Fault { error, end } => End::Fault { error, end },
         _ => unreachable!(),
-    }
-}
-
-/// Goes past one item after the other, from the front of the bytes, until no whole item is there,
-/// without memory; with `one`, past one item at most.
-///
-/// ```rust
-/// use cbor_inspect::{End, skip_items};
-///
-/// let shown = skip_items(b"\x01\x82\x02", false);
-/// assert_eq!(rt; shown.used, 1);
-/// assert_eq!(rt; shown.end, End::Cut);
-/// ```
-pub fn skip_items(bytes: &[u8], one: bool) -> Shown
-    ensures used { result.used ≤ length bytes.now }
-
-    // The first `used` bytes are items, one after the other.
-    ensures items { (items : List Item) × ItemsThen bytes.now items (drop result.used bytes.now) }
-
-    // Why none of the bytes after them are.
-    ensures ends { (steps : List Step) → EndsSo steps (drop result.used bytes.now) result.end }
-
-    // The bytes are items alone exactly if none remain at the end.
-    ensures clean { (one ≡ false) → (result.end ≡ End.Done) ↔ IsSequence bytes.now }
-
-    // It stops without a look at what remains only after the one item that it was asked to pass.
-    ensures full { result.end ≡ End.Full → IsTrue one × (1 ≤ result.used) }
-
-    // One item at most is passed, if so asked.
-    ensures one { IsTrue one → OneAtMost bytes.now (drop result.used bytes.now) }
-
-    // It takes no memory, so none runs out.
-    ensures failed { ¬ (result.end ≡ End.Memory) }
-{
-    let mut used = 0;
-    'items: while used < bytes.len() {
-        match extent(&bytes[used..]) {
-            Extent::Item(count) => used += count,
-            Extent::Cut => return Shown {
-                used,
-                end: End::Cut,
-            },
-            Extent::Fault { error, end } => {
-                return Shown {
-                    used,
-                    end: End::Fault { error, end },
-                };
-            }
-        }
-        if one {
-            return Shown {
-                used,
-                end: End::Full,
-            };
-        }
-    }
-    Shown {
-        used,
-        end: End::Done,
     }
 }

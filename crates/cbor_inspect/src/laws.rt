@@ -1,16 +1,13 @@
-//! Laws of the definitions, as contracts of functions that nobody calls.
-ghost use Rattle.std.specs.Prelude.{◌≡◌, ◌↔◌, ◌++◌, ◌∷◌, ℕ, ◌<◌, List, [], Some};
-ghost use Rattle.std.specs.List.{AllByRecursion, Contains};
+//! Laws of what viewers show, as contracts of a function that nobody calls.
+ghost use Rattle.std.specs.Prelude.{◌≡◌, ◌++◌, ℕ, ◌<◌, List, [], Some};
+ghost use Rattle.std.specs.List.{AllByRecursion};
 ghost use Rattle.cbor_diag.specs.Item.{Item, items_of};
 ghost use Rattle.cbor_diag.specs.Written.{encoded_items};
 ghost use Rattle.cbor_edn.specs.Edn.{bytes_of_edn};
-ghost use Rattle.cbor_inspect.specs.Ends.{Shows, steps_of};
+ghost use Rattle.cbor_inspect.specs.Shows.{Shows, steps_of};
 ghost use Rattle.cbor_inspect.specs.Forms.{IsEdn};
-ghost use Rattle.cbor_inspect.specs.Sequence.{IsShownOfFirst, IsStrictSequence};
-ghost use Rattle.cbor_inspect.specs.Parts.{AreParts, NoneEach};
-ghost use Rattle.cbor_inspect.specs.Paths.{LeadsTo};
+ghost use Rattle.cbor_paths.specs.Sequence.{IsShownOfFirst, IsStrictSequence};
 ghost use Rattle.cbor_inspect.specs.declared.items.Show.{Show};
-ghost use Rattle.cbor_inspect.specs.declared.path.Step.{Step};
 
 /// What is written of whole items as EDN, one after the other, is read back.
 fn read_back()
@@ -25,15 +22,4 @@ fn read_back()
         → IsShownOfFirst (Shows show) (front ++ rest) written rest → IsEdn show.style.form
         → steps_of show ≡ [] → AllByRecursion (λ b. b < 256) (front ++ rest)
         → IsStrictSequence front → bytes_of_edn written ≡ Some front }
-{}
-
-/// The parts that are written are those that the steps lead to.
-fn parts()
-    // Each of them, and nothing else.
-    ensures all { (steps : List Step) (i p : Item) (parts : List Item) → AreParts steps i parts
-        → (Contains parts p ↔ LeadsTo steps i p) }
-
-    // Without `*` that is one at most.
-    ensures one { (steps : List Step) (i p : Item) (parts : List Item) → NoneEach steps
-        → AreParts steps i parts → LeadsTo steps i p → parts ≡ p ∷ [] }
 {}

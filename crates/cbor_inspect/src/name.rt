@@ -1,12 +1,11 @@
-//! The name of an item at a path.
+//! For viewers, the name of an item at a path.
 ghost use Rattle.std.specs.Prelude.{IfOk, IfErr};
 ghost use Rattle.cbor_diag.specs.Item.{Item};
 ghost use Rattle.cbor_diag.specs.Facts.{IsItem};
 ghost use Rattle.cbor_inspect.specs.Named.{HasNoName};
-ghost use Rattle.cbor_inspect.specs.Paths.{LeadsTo};
+ghost use Rattle.cbor_paths.specs.Paths.{LeadsTo};
 
 use crate::naming::Naming;
-use crate::path::{Step, has_part, is_key};
 use cbor_bytes::head::read_head;
 use cbor_bytes::skip::after_front;
 use cbor_bytes::strings::split_at;
@@ -14,6 +13,7 @@ use cbor_diag::{DataItem, Error, parse_bytes, parse_bytes_partial};
 use cbor_grammar::argument::Argument;
 use cbor_grammar::head::ItemHead;
 use cbor_grammar::strings::StringKind;
+use cbor_paths::{Step, has_part, is_key};
 use std::alloc::Global;
 
 /// Why there is no item whose name is looked for.

@@ -1,4 +1,4 @@
-//! Names beside items, and where in bytes items begin that may have one.
+//! For viewers, names beside items, and where in bytes items begin that may have one.
 
 use cbor_edn::Note;
 use cbor_names::{Names, Notes, Type, notes};

@@ -1,13 +1,14 @@
 //! What is written of the parts of an item that a path leads to.
 ghost use Rattle.std.specs.Prelude.{◌≡◌, ◌++◌, ℕ, [], List, IfOk, IfErr, OnOk, OnErr};
 ghost use Rattle.std.specs.String.{string_bytes};
-ghost use Rattle.cbor_inspect.specs.Ends.{StopsSo, Shows, steps_of};
+ghost use Rattle.cbor_paths.specs.Ends.{StopsSo};
+ghost use Rattle.cbor_inspect.specs.Shows.{Shows, steps_of};
 ghost use Rattle.cbor_inspect.specs.Forms.{IsForm};
-ghost use Rattle.cbor_inspect.specs.Sequence.{IsShownOfFirst, ShowsFront};
+ghost use Rattle.cbor_paths.specs.Sequence.{IsShownOfFirst, ShowsFront};
 
-use crate::items::{End, Show, first_item, push_front};
+use crate::items::{Show, first_item, push_front};
 use crate::notation::Work;
-use crate::path::push_parts;
+use cbor_paths::{End, push_parts};
 
 /// Appends what is written of the parts of the item at the front that the path leads to.
 pub(crate) fn push_part(

@@ -1,4 +1,4 @@
-//! The content of a string.
+//! For viewers, the content of a string.
 ghost use Rattle.std.specs.Prelude.{◌≡◌, IfOk, IfErr, option_map, map, Some};
 ghost use Rattle.std.specs.List.{flat_map};
 ghost use Rattle.cbor_diag.specs.Item.{Chunk, Item};
@@ -7,8 +7,8 @@ ghost use Rattle.cbor_diag.specs.View.{view};
 ghost use Rattle.cbor_diag.specs.Strings.{byte_chunk, text_chunk};
 ghost use Rattle.cbor_inspect.specs.Raw.{raw_content as content_of, IsNoRaw};
 
-use crate::path::untagged;
 use cbor_diag::{ByteString, DataItem, Error, TextString, parse_bytes};
+use cbor_paths::untagged;
 use std::alloc::{AllocError, Global};
 
 /// Why bytes have no raw content.

@@ -1,4 +1,5 @@
-//! Simple values below 32 in two bytes, which RFC 8949 forbids (section 3.3) and RFC 7049 allows.
+//! For viewers, simple values below 32 in two bytes, which RFC 8949 forbids (section 3.3) and RFC
+//! 7049 allows.
 ghost use Rattle.std.specs.Prelude.{◌↔◌, ◌+◌, ◌<◌, ◌≤◌, length, drop, IsTrue};
 ghost use Rattle.std.specs.Prelude.{IfOk, IfSome, IfNone};
 ghost use Rattle.cbor_diag.specs.Item.{Item};
@@ -7,8 +8,8 @@ ghost use Rattle.cbor_diag.specs.Facts.{IsItem};
 ghost use Rattle.cbor_inspect.specs.Simple.{NoneReserved, NoneReservedItems, NoneReservedPairs};
 ghost use Rattle.cbor_inspect.specs.Simple.{Is8949, IsTwoByteSimple, NoPair};
 
-use crate::heads::step;
 use cbor_diag::{DataItem, Error, parse_bytes};
+use cbor_trace::heads::step;
 use memchr::memchr;
 use std::alloc::Global;
 

@@ -1,4 +1,4 @@
-//! Items one after the other that come in pieces.
+//! For viewers, items one after the other that come in pieces.
 ghost use Rattle.std.specs.Prelude.{◌≡◌, ◌↔◌, ◌⊎◌, ℕ, ◌<◌, ◌≤◌, ◌++◌, List, length, take, drop};
 ghost use Rattle.std.specs.Prelude.{false, IfOk, IfErr, IfSome, IfNone, OnOk, OnErr, IsTrue};
 ghost use Rattle.cbor_diag.specs.Facts.{BeginsWithItem};
@@ -7,15 +7,17 @@ ghost use Rattle.cbor_bytes.specs.declared.skip.answer.Extent.{Extent};
 ghost use Rattle.cbor_diag.specs.Item.{Item};
 ghost use Rattle.cbor_diag.specs.Extent.{IsExtent};
 ghost use Rattle.cbor_inspect.specs.declared.items.Show.{Show};
-ghost use Rattle.cbor_inspect.specs.declared.path.Step.{Step};
-ghost use Rattle.cbor_inspect.specs.Sequence.{ItemsThen, IsSequence, IsShownOfFirst, OneThen};
-ghost use Rattle.cbor_inspect.specs.Sequence.{OneAtMost};
-ghost use Rattle.cbor_inspect.specs.Ends.{EndsSo, StopsSo, ChecksSo, Shows, steps_of};
+ghost use Rattle.cbor_paths.specs.declared.path.Step.{Step};
+ghost use Rattle.cbor_paths.specs.Sequence.{ItemsThen, IsSequence, IsShownOfFirst, OneThen};
+ghost use Rattle.cbor_paths.specs.Sequence.{OneAtMost};
+ghost use Rattle.cbor_paths.specs.Ends.{EndsSo, StopsSo};
+ghost use Rattle.cbor_inspect.specs.Shows.{ChecksSo, Shows, steps_of};
 
-use crate::items::{End, Show, show_first, show_items};
+use crate::items::{Show, show_first, show_items};
 use crate::notation::Work;
 use crate::simple::fault_8949;
 use cbor_diag::{Error, Extent, Scanner, extent};
+use cbor_paths::{End, bytes_from};
 use std::alloc::{AllocError, Global};
 use std::marker::Model;
 
@@ -45,16 +47,6 @@ impl Model for Stream {
 
     ghost invariant = { λ s. (s.scanned ≤ length (drop s.start s.kept.items))
         × HasScanned s.scanner (take s.scanned (drop s.start s.kept.items)) };
-}
-
-/// The bytes from a place on; none are past the end.
-pub(crate) fn bytes_from(bytes: &[u8], start: usize) -> &[u8]
-    ensures { result.now ≡ drop start bytes.now }
-{
-    match bytes.get(start..) {
-        Some(rest) => rest,
-        None => b"",
-    }
 }
 
 /// How bytes begin, as `extent` reports it.

@@ -1,40 +1,19 @@
 //! The examples of the doc comments of `cbor_inspect`, line for line: `checks/examples`
 //! compares.
 
-use cbor_diag::Error;
 use cbor_inspect::{
-    End, Form, Input, Naming, Pasted, Show, Stream, is_shown, is_text, looks_like, name_at,
-    place_of_digit, place_of_fault, push_shown, raw_content, recognize, show_items, skip_items,
-    steps_of, two_byte_simple,
+    End, Form, Naming, Show, Stream, name_at, raw_content, show_items, steps_of, two_byte_simple,
 };
 use cbor_names::{Definition, Key, Names, Part, Shape};
 use std::test::Fail;
 
 #[test]
-fn hex_is_shown(rt: HostRuntime) -> Result<(), Fail> {
+fn items_are_shown(rt: HostRuntime) -> Result<(), Fail> {
     let alloc = rt.alloc();
-    let found = recognize(alloc, b"0x82 01 02 # two numbers")?;
     let mut out = Vec::new(alloc);
-    let shown = show_items(&Show::new(alloc, Form::Diag), &found.bytes, &mut out);
+    let shown = show_items(&Show::new(alloc, Form::Diag), b"\x82\x01\x02", &mut out);
     assert_eq!(rt; shown.end, End::Done);
     assert_eq!(rt; out.as_slice(), b"[1, 2]\n".as_slice());
-    Ok(())
-}
-
-#[test]
-fn notation_is_recognized(rt: HostRuntime) -> Result<(), Fail> {
-    let alloc = rt.alloc();
-    let found = recognize(alloc, b"[1, 2]")?;
-    assert_eq!(rt; found.form, Input::Diag);
-    assert_eq!(rt; found.bytes.as_slice(), b"\x82\x01\x02".as_slice());
-    Ok(())
-}
-
-#[test]
-fn items_are_passed(rt: HostRuntime) -> Result<(), Fail> {
-    let shown = skip_items(b"\x01\x82\x02", false);
-    assert_eq!(rt; shown.used, 1);
-    assert_eq!(rt; shown.end, End::Cut);
     Ok(())
 }
 
@@ -62,23 +41,10 @@ fn items_are_checked(rt: HostRuntime) -> Result<(), Fail> {
 }
 
 #[test]
-fn texts_hide_characters(rt: HostRuntime) -> Result<(), Fail> {
-    assert!(rt; is_shown(true, b"two\nlines"));
-    assert!(rt; !is_shown(false, b"two\nlines"));
+fn paths_are_read(rt: HostRuntime) -> Result<(), Fail> {
     let alloc = rt.alloc();
-    let mut out = String::new(alloc);
-    push_shown(&mut out, "a\u{202e}b\n")?;
-    assert_eq!(rt; out.as_str(), "a\\u{202e}b\n");
-    Ok(())
-}
-
-#[test]
-fn places_are_found(rt: HostRuntime) -> Result<(), Fail> {
-    let alloc = rt.alloc();
-    assert_eq!(rt; place_of_digit(b"0x82 01", 2), 5);
     assert_eq!(rt; steps_of(alloc, "2/@/1")?.len(), 3);
     assert_eq!(rt; steps_of(alloc, "authData/@71")?.len(), 2);
-    assert_eq!(rt; place_of_fault(b"\x63a\xffb", Error::Utf8, 4), 2);
     Ok(())
 }
 
@@ -117,11 +83,4 @@ fn names_are_found(rt: HostRuntime) -> Result<(), Fail> {
     let steps = steps_of(alloc, "0/1")?;
     assert_eq!(rt; name_at(alloc, naming, bytes, &steps)?, Some("sensor"));
     Ok(())
-}
-
-#[test]
-fn texts_are_told(rt: HostRuntime) {
-    assert!(rt; is_text(b"two\nlines"));
-    assert!(rt; !is_text(b"a\x1b"));
-    assert_eq!(rt; looks_like(b"82-01"), Some(Pasted::Dashes));
 }

@@ -1,7 +1,8 @@
-//! Tests of `cbor_inspect`: forms and places worked out by hand. `rt test` runs them.
+//! Tests of `cbor_inspect` and `cbor_paths`: the examples of their doc comments. `rt test` runs
+//! them.
 #![tactic(auto)]
 
 #[cfg(test)]
 mod doc_examples;
 #[cfg(test)]
-mod recognition;
+mod paths;

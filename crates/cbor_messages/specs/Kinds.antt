@@ -1,4 +1,4 @@
--- The kinds of breaches, by their numbers.
+-- What is said of the kinds of breaches, and their numbers.
 use Rattle.std.specs.Prelude.{ℕ, List, codes, ◌==◌, if◌then◌else◌}
 use Rattle.cbor_rules.specs.declared.kind.BreachKind.{BreachKind}
 use Rattle.cbor_rules.specs.declared.kind.BreachKind.TheVariants as kind

@@ -1,14 +1,13 @@
-//! What is said of the first place that breaks a set of rules.
+//! What is wrong, in words, where a set of rules is first broken.
 
 use crate::kind::{kind_number, kind_text};
-use crate::rule_set::RuleSet;
 use crate::widths::{major_of, push_integer_float, push_long_float, push_long_head};
 use crate::words::{Message, TWO_BYTES, Words};
 use cbor_diag::Error;
 use cbor_grammar::major::Major;
 use cbor_places::Piece;
 use cbor_reencode::ReencodeError;
-use cbor_rules::{Breach, BreachKind, breach_in};
+use cbor_rules::{Breach, BreachKind, RuleSet, breach_in};
 use std::alloc::Global;
 use std::fmt::Write;
 

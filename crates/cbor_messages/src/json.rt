@@ -1,4 +1,4 @@
-//! What is said of items that are not written as JSON.
+//! What is said, in words, of items that are not written as JSON.
 
 use crate::words::{Message, Words};
 use cbor_diag::Error;

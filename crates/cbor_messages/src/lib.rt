@@ -2,8 +2,9 @@
 //! not keep, of a path that leads nowhere; and the lines that a message shows.
 //!
 //! ```rust
-//! use cbor_messages::{RuleSet, first_breach};
+//! use cbor_messages::first_breach;
 //! use cbor_places::Piece;
+//! use cbor_rules::RuleSet;
 //!
 //! // {"b": 2, "a": 1}: the keys are not in the order of their bytes.
 //! let items = Piece {
@@ -26,7 +27,6 @@ mod excerpt;
 mod json;
 mod kind;
 mod lost;
-mod rule_set;
 mod widths;
 mod words;
 
@@ -35,5 +35,4 @@ pub use excerpt::{Excerpt, Position, position_of};
 pub use json::not_json;
 pub use kind::{kind_number, kind_text};
 pub use lost::lost_words;
-pub use rule_set::{ENCODINGS, RULES, RuleSet};
 pub use words::{Message, TWO_BYTES};

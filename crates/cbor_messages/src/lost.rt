@@ -1,8 +1,8 @@
-//! Where a path leads nowhere.
+//! What is said, in words, where a path leads nowhere.
 
 use cbor_diag::{DataItem, Error, parse_bytes_partial};
 use cbor_edn::{EdnStyle, push_bytes_to_edn};
-use cbor_inspect::{Step, lost_at};
+use cbor_paths::{Step, lost_at};
 use std::alloc::{AllocError, Global};
 
 /// What is said of the item at the front of the bytes, which does not have the part that the steps

@@ -1,7 +1,8 @@
 //! What is said of the first breach of a set of rules, by the standards' words.
 
-use cbor_messages::{RuleSet, first_breach};
+use cbor_messages::first_breach;
 use cbor_places::Piece;
+use cbor_rules::RuleSet;
 use std::alloc::Global;
 use std::process::Abort;
 use std::test::Fail;

@@ -1,7 +1,8 @@
 //! The examples of the doc comments of `cbor_messages`, line for line: `checks/examples` compares.
 
-use cbor_messages::{RuleSet, first_breach};
+use cbor_messages::first_breach;
 use cbor_places::Piece;
+use cbor_rules::RuleSet;
 use std::test::Fail;
 
 #[test]

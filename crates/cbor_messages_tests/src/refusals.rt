@@ -1,8 +1,9 @@
 //! What is said of items that cannot be encoded again, by the standards' words.
 
-use cbor_messages::{ENCODINGS, RuleSet, not_encoded};
+use cbor_messages::not_encoded;
 use cbor_places::Piece;
 use cbor_reencode::reencoded;
+use cbor_rules::{ENCODINGS, RuleSet};
 use std::alloc::Global;
 use std::process::Abort;
 use std::test::Fail;

@@ -1,4 +1,4 @@
--- Where more bytes follow, the same parts are read.
+-- Of an item that is cut: where more bytes follow, the same parts are read.
 use Rattle.std.proofs.Common.{◌≡◌, ℕ, zero, suc, ◌+◌, List, ◌++◌, length, drop, Ok, refl, ap, subst, ◌∙◌}
 use Rattle.std.proofs.Common.{append_assoc, arith}
 use Rattle.std.proofs.lemmas.List.{drop-append-le, length-append}

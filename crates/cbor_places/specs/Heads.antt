@@ -1,4 +1,4 @@
--- A head as a line of a dump has it: its bytes, and what it is.
+-- What `--at` shows of the place of a byte: a head as a line of a dump has it, its bytes, and what it is.
 use Rattle.std.specs.Prelude.{◌≡◌, ℕ, List, [], ◌∷◌, ◌++◌, codes}
 use Rattle.std.specs.Fmt.{decimal}
 use Rattle.std.specs.List.{flat_map}

@@ -27,14 +27,14 @@ use Rattle.cbor_trace.specs.Around.{head_of, parts_before, IsPartAt, spot_of}
 
 -- ---- lines
 
--- a text, each line but the first with so many blanks before it
+-- a text, each line but the first with this many blanks before it
 abbrev pub indented_character : ℕ → ℕ → List ℕ
 indented_character indent c = encode_utf8 c ++ (if c == line_feed then replicate indent space else [])
 
 abbrev pub indented : ℕ → List ℕ → List ℕ
 indented indent text = flat_map (indented_character indent) (chars text)
 
--- each line of a text with so many blanks before it
+-- each line of a text with this many blanks before it
 abbrev pub one_line : ℕ → List ℕ → List ℕ
 one_line indent line = replicate indent space ++ (line ++ line_feed ∷ [])
 
@@ -109,7 +109,7 @@ abbrev pub EdnPart : EdnStyle → ContainerStyle → Open → PartTexts
 EdnPart style l o index i text =
     (own : List ℕ) × IsPartText style l i own × (text ≡ before_part l o index ++ (own ++ after_part l o index))
 
--- From these bytes so many parts are read, one after the other, which are these items, and then the rest is left. The
+-- From these bytes this many parts are read, one after the other, which are these items, and then the rest is left. The
 -- text is what is written of each.
 abbrev pub AreTextsFrom : PartTexts → ℕ → ℕ → List ℕ → List ℕ → List Item → List ℕ → Type 0
 AreTextsFrom Writes left zero b rest items text = (b ≡ rest) × (items ≡ []) × (text ≡ [])
@@ -145,7 +145,7 @@ abbrev pub container_text : Bool → ContainerStyle → Open → List ℕ → Li
 container_text widths l o parts next =
     opening_of widths l o ++ (parts ++ (before_part l o (parts_before o) ++ (next ++ closing_of l o)))
 
--- What is shown of the item at a spot of bytes, which is not whole, with so many blanks before its lines. A container
+-- What is shown of the item at a spot of bytes, which is not whole, with this many blanks before its lines. A container
 -- that goes on to the end of the bytes is shown with the parts that are whole, and with what is shown of the next. In
 -- the place of another item is what remains. The parts are read in the other bytes, which begin with these.
 pub data IsPartialEdn (style : EdnStyle) (b longer said : List ℕ) : ℕ → Spot → List ℕ → Type 0 where

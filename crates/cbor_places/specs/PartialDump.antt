@@ -14,7 +14,7 @@ use Rattle.cbor_trace.specs.Around.{head_of, IsPartAt, spot_of}
 use Rattle.cbor_places.specs.Heads.{IsHeadWords, head_line}
 use Rattle.cbor_places.specs.Partial.{PartTexts, ArePartTexts, in_lines, most_shown, one_line}
 
--- the line of the head of the container at a spot, with so many blanks before it
+-- the line of the head of the container at a spot, with this many blanks before it
 abbrev pub IsHeadLine : Open → List ℕ → Spot → ℕ → List ℕ → Type 0
 IsHeadLine o b s indent text =
     (inner words : List ℕ) × (read_head (drop s.start b) ≡ Ok (head_of o, inner))
@@ -22,11 +22,11 @@ IsHeadLine o b s indent text =
     × (text ≡ replicate indent space
     ++ head_line (take (length (drop s.start b) - length inner) (drop s.start b)) words)
 
--- a part is its dump, with so many blanks before each line
+-- a part is its dump, with this many blanks before each line
 abbrev pub DumpPart : ℕ → PartTexts
 DumpPart indent index i text = text ≡ in_lines indent (dump i)
 
--- bytes in hex, 16 of them on a line; there are no more than so many lines
+-- bytes in hex, 16 of them on a line; there are no more than this many lines
 abbrev pub some_hex_lines : ℕ → ℕ → List ℕ → List ℕ
 some_hex_lines zero indent bytes = []
 some_hex_lines (suc n) indent [] = []

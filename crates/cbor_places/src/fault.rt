@@ -1,4 +1,4 @@
-//! Why bytes are no item, and where in the item that is.
+//! Where in an item its fault is, and why the bytes are no item.
 ghost use Rattle.std.specs.Prelude.{◌≡◌, IfOk, IfErr, IfSome, None};
 ghost use Rattle.cbor_diag.specs.Item.{Item};
 ghost use Rattle.cbor_diag.specs.Facts.{IsItem, IsNoItem};
@@ -6,7 +6,7 @@ ghost use Rattle.cbor_diag.specs.Facts.{IsItem, IsNoItem};
 use crate::around::Around;
 use crate::piece::{ByteNumbers, Piece};
 use cbor_diag::{Error, Extent, extent};
-use cbor_inspect::place_of_fault;
+use cbor_trace::place_of_fault;
 use std::alloc::Global;
 use std::fmt::Write;
 

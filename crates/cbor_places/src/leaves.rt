@@ -1,4 +1,4 @@
-//! A line for each item that holds no other.
+//! Where each item is that holds no other: a line for each, with its path.
 
 use crate::path::Path;
 use crate::piece::Piece;
@@ -6,7 +6,6 @@ use cbor_diag::{Error, Extent, extent};
 use cbor_edn::{EdnStyle, push_bytes_to_edn};
 use cbor_grammar::argument::Argument;
 use cbor_grammar::head::ItemHead;
-use cbor_inspect::Style;
 use cbor_trace::head_at;
 use std::alloc::{AllocError, Global};
 use std::fmt::Write;
@@ -42,8 +41,9 @@ pub struct Leaves<'a> {
 }
 
 impl<'a> Leaves<'a> {
-    /// The lines of these items.
-    pub fn new(alloc: Global, items: Piece<'a>, style: Style) -> Leaves<'a> {
+    /// The lines of these items. Each is in EDN on one line without notes, and otherwise in this
+    /// style.
+    pub fn new(alloc: Global, items: Piece<'a>, style: EdnStyle) -> Leaves<'a> {
         Leaves {
             items,
             style: EdnStyle {

@@ -3,8 +3,8 @@
 //!
 //! [`Around`] has what is around a byte, and says it: the path that `cborcat -p` reads, the
 //! container, and what an item that is cut lacks. [`lines_at`] says which item has a byte,
-//! [`Leaves`] goes from one item that holds no other to the next, and [`partial_text`] shows an
-//! item that is not whole.
+//! [`Leaves`] goes from one item that holds no other to the next, and [`partial_edn`] and
+//! [`partial_dump`] show an item that is not whole.
 //!
 //! ```rust
 //! use cbor_places::{Around, ByteNumbers, Piece};
@@ -37,6 +37,6 @@ pub use around::{Around, item_with};
 pub use at::lines_at;
 pub use fault::{Fault, fault_of};
 pub use leaves::Leaves;
-pub use partial::partial_text;
+pub use partial::{partial_dump, partial_edn};
 pub use path::Path;
 pub use piece::{ByteNumbers, Piece, Places};

@@ -1,4 +1,4 @@
-//! What containers, strings and their parts are called.
+//! For texts on places, what containers, strings and their parts are called.
 
 use cbor_grammar::argument::Argument;
 use cbor_grammar::strings::StringKind;

@@ -1,5 +1,5 @@
 //! What `--partial` shows of an item that is cut or has a fault.
-ghost use Rattle.std.specs.Prelude.{◌≡◌, ◌≢◌, ℕ, ◌+◌, ◌-◌, ◌^◌, ◌<◌, ◌≤◌, [], ◌∷◌, ◌++◌, List};
+ghost use Rattle.std.specs.Prelude.{◌≡◌, ℕ, ◌+◌, ◌-◌, ◌^◌, ◌<◌, ◌≤◌, [], ◌∷◌, ◌++◌, List};
 ghost use Rattle.std.specs.Prelude.{take, length, IfOk, IfSome, IfNone, Ok, Err};
 ghost use Rattle.std.specs.String.{string_bytes};
 ghost use Rattle.cbor_grammar.specs.declared.error.Error.{Error};
@@ -7,8 +7,6 @@ ghost use Rattle.cbor_grammar.specs.Facts.{IsItem};
 ghost use Rattle.cbor_grammar.specs.Item.{Item};
 ghost use Rattle.cbor_grammar.specs.Reading.{read_item};
 ghost use Rattle.cbor_grammar.specs.WellFormed.{deepest, levels_left};
-ghost use Rattle.cbor_inspect.specs.declared.form.Form.TheVariants as form;
-ghost use Rattle.cbor_inspect.specs.Forms.{edn_style};
 ghost use Rattle.cbor_trace.specs.Around.{outermost, parts_before as parts_of};
 ghost use Rattle.cbor_places.specs.Partial.{IsPartialEdn};
 ghost use Rattle.cbor_places.specs.PartialDump.{IsPartialDump};
@@ -20,7 +18,6 @@ mod lines;
 use cbor_bytes::skip::after_front;
 use cbor_diag::Error;
 use cbor_edn::EdnStyle;
-use cbor_inspect::{Form, Style};
 use cbor_trace::{Open, Spot};
 use dump::PartialDump;
 use edn::PartialEdn;
@@ -29,29 +26,18 @@ use std::alloc::Global;
 /// How many of the bytes that remain are shown.
 const MOST: usize = 64;
 
-/// What is shown of the item that is not whole, at the front of these bytes: its whole parts, and
+/// What EDN shows of the item that is not whole, at the front of these bytes: its whole parts, and
 /// then, with what is said of them, the bytes that remain.
-pub fn partial_text(alloc: Global, style: Style, bytes: &[u8], said: &str) -> Result<String, Error>
-    // EDN has each container that goes on to the end of the bytes, with its whole parts. Each of
+pub fn partial_edn(
+    alloc: Global,
+    style: EdnStyle,
+    bytes: &[u8],
+    said: &str,
+) -> Result<String, Error>
+    // It has each container that goes on to the end of the bytes, with its whole parts. Each of
     // these is the text of exactly the item that is read there, whatever bytes follow. In the place
     // of the next part is what remains.
-    ensures edn { (more : List ℕ) → style.form ≢ form.Hex → IfOk result (λ s. (text : List ℕ)
-        × IsPartialEdn (edn_style style) bytes.now (bytes.now ++ more) said.now 0 outermost text
-        × (string_bytes s ≡ text ++ 10 ∷ [])) }
-
-    // A dump has the same, in lines.
-    ensures dump { (more : List ℕ) → style.form ≡ form.Hex → IfOk result (λ s.
-        IsPartialDump bytes.now (bytes.now ++ more) said.now 0 outermost (string_bytes s)) }
-{
-    match style.form {
-        Form::Hex => partial_dump(alloc, bytes, said),
-        _ => partial_edn(alloc, edn_of(style), bytes, said),
-    }
-}
-
-/// What is shown in EDN.
-fn partial_edn(alloc: Global, style: EdnStyle, bytes: &[u8], said: &str) -> Result<String, Error>
-    ensures { (more : List ℕ) → IfOk result (λ s. (text : List ℕ)
+    ensures edn { (more : List ℕ) → IfOk result (λ s. (text : List ℕ)
         × IsPartialEdn style bytes.now (bytes.now ++ more) said.now 0 outermost text
         × (string_bytes s ≡ text ++ 10 ∷ [])) }
 {
@@ -62,29 +48,16 @@ fn partial_edn(alloc: Global, style: EdnStyle, bytes: &[u8], said: &str) -> Resu
     Ok(out)
 }
 
-/// What is shown in a dump.
-fn partial_dump(alloc: Global, bytes: &[u8], said: &str) -> Result<String, Error>
-    ensures { (more : List ℕ) → IfOk result (λ s.
+/// What a dump shows of it, in lines.
+pub fn partial_dump(alloc: Global, bytes: &[u8], said: &str) -> Result<String, Error>
+    // The same as EDN has.
+    ensures dump { (more : List ℕ) → IfOk result (λ s.
         IsPartialDump bytes.now (bytes.now ++ more) said.now 0 outermost (string_bytes s)) }
 {
     let mut out = String::new(alloc);
     let dump = PartialDump { bytes, said };
     dump.push_item(&mut out, Spot::outermost(), 0)?;
     Ok(out)
-}
-
-/// How EDN is written in this style: only pretty text has lines and notes.
-fn edn_of(style: Style) -> EdnStyle
-    ensures { result ≡ edn_style style }
-{
-    let lines = style.form == Form::Pretty;
-    EdnStyle {
-        lines,
-        notes: lines && style.notes,
-        embedded: style.embedded,
-        widths: style.widths,
-        columns: style.columns,
-    }
 }
 
 /// The first of the bytes that remain, and how many more there are.

@@ -1,11 +1,11 @@
-//! Paths to items, as `-p` reads them.
+//! Where an item is: its path, written as `-p` reads it.
 
 use cbor_diag::Error;
 use cbor_edn::{EdnError, bytes_to_edn, parse_edn};
+use cbor_escapes::is_shown;
 use cbor_grammar::argument::Argument;
 use cbor_grammar::head::ItemHead;
 use cbor_grammar::strings::StringKind;
-use cbor_inspect::is_shown;
 use cbor_trace::head_at;
 use std::alloc::{AllocError, Global};
 use std::fmt::Write;

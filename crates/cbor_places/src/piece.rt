@@ -1,4 +1,4 @@
-//! Pieces of data, and how a message names their bytes.
+//! Places in pieces of data, and how a message names their bytes.
 
 use std::alloc::AllocError;
 use std::fmt::Write;

@@ -1,6 +1,6 @@
 // What is said of where a byte is in an item, worked out by hand.
 
-use cbor_inspect::{Form, Show};
+use cbor_edn::EdnStyle;
 use cbor_places::{Around, ByteNumbers, Leaves, Piece, lines_at};
 use std::alloc::Global;
 use std::process::Abort;
@@ -193,8 +193,7 @@ fn bytes_are_found(rt: HostRuntime) -> Result<(), Fail> {
 }
 
 fn check_leaves(rt: &impl Abort, alloc: Global, bytes: &[u8], wanted: &str) -> Result<(), Fail> {
-    let style = Show::new(alloc, Form::Diag).style;
-    let mut leaves = Leaves::new(alloc, piece(bytes), style);
+    let mut leaves = Leaves::new(alloc, piece(bytes), EdnStyle::LINE);
     let mut out = String::new(alloc);
     leaves.push_block(&mut out)?;
     assert!(rt; leaves.is_done());

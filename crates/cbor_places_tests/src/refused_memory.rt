@@ -1,10 +1,10 @@
-//! Calls of `cbor_inspect` and `cbor_places`, in which
+//! Calls of `cbor_inputs`, `cbor_inspect` and `cbor_places`, in which
 //! `checks/allocations/failing_calls` makes allocations fail, one after the other.
 
 use cbor_diag::{DataItem, Error, parse_bytes};
-use cbor_inspect::{
-    End, Form, Input, Refusal, Show, Stream, Style, lost_at, recognize, show_items, steps_of,
-};
+use cbor_edn::EdnStyle;
+use cbor_inputs::{Input, Refusal, recognize};
+use cbor_inspect::{End, Form, Show, Stream, Style, lost_at, show_items, steps_of};
 use cbor_places::{Around, ByteNumbers, Leaves, Piece, lines_at};
 use std::alloc::Global;
 use std::process::Abort;
@@ -184,7 +184,7 @@ fn lined(rt: &impl Abort, alloc: Global) -> Result<bool, Error> {
         bytes: MAP,
         begins: 0,
     };
-    let mut leaves = Leaves::new(alloc, items, Show::new(alloc, Form::Diag).style);
+    let mut leaves = Leaves::new(alloc, items, EdnStyle::LINE);
     let mut out = String::new(alloc);
     leaves.push_block(&mut out)?;
     assert_eq!(rt; out.as_str(), "0x2  1  1(1700000000)\n0x9  2  1.5\n");

@@ -1,4 +1,4 @@
--- Where an encoding has no choice, bytes of the same items are the same bytes.
+-- Where the rules of an encoding leave no choice, bytes of the same items are the same bytes.
 use Rattle.std.proofs.Common.{◌≡◌, ◌≢◌, ℕ, ◌+◌, Bool, true, false, List, [], ◌++◌, Option, Some, None}
 use Rattle.std.proofs.Common.{length, refl, sym, ap, subst, ◌∙◌}
 use Rattle.cbor_grammar.specs.declared.width.IntegerWidth.{IntegerWidth}

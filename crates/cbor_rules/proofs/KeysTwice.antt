@@ -1,4 +1,4 @@
--- No key that was seen stands again exactly if the keys differ.
+-- Finding a breach: no key that was seen stands again exactly if the keys differ.
 use Rattle.std.proofs.Common.{◌≡◌, ◌≢◌, ℕ, Bool, true, false, cond, List, Option, Some, None, refl, sym, ap, subst, ◌∙◌}
 use Rattle.std.proofs.Common.{true≢false}
 use Rattle.std.proofs.lemmas.Bool.{false_from_ne_true}

@@ -1,4 +1,4 @@
--- Two maps with the same pairs, whose keys are in order, are one.
+-- By the rules, two maps with the same pairs, whose keys are in order, are one.
 use Rattle.std.proofs.Common.{◌≡◌, ◌≢◌, ℕ, List, length, refl, sym, ap, subst, ◌∙◌}
 use Rattle.std.specs.declared.cmp.Ordering.TheVariants.{Less, Equal}
 use Rattle.std.specs.Cmp.{IsTotalOrder}

@@ -1,4 +1,4 @@
--- What stops the reading of a part stops the whole.
+-- Finding a breach: what stops the reading of a part stops the whole.
 use Rattle.std.proofs.Common.{◌≡◌, ◌≤◌, ℕ, List, Option, Some, None, Result, Ok, Err, sym, ap, subst, ◌∙◌}
 use Rattle.std.specs.Prelude.{IfOk, IfSome}
 use Rattle.std.specs.declared.alloc.Global.{Global}

@@ -1,4 +1,5 @@
--- One turn of reading chunks, the parts of a container, or items: it ends with what all turns give, or goes on.
+-- Finding a breach: one turn of reading chunks, the parts of a container, or items ends with what all turns give, or
+-- goes on.
 use Rattle.std.proofs.Common.{◌≡◌, ◌-◌, ◌<◌, ◌≤◌, ℕ, zero, suc, List, [], ◌∷◌, length, Option, Some, None, Ok, Err}
 use Rattle.std.proofs.Common.{refl, sym, ap, subst, ◌∙◌, arith}
 use Rattle.cbor_grammar.specs.WellFormed.{deepest}

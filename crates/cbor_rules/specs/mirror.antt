@@ -1,3 +1,3 @@
--- Definitions that mirror the code. Only the checker reads them: no contract of a public call needs them.
+-- Definitions for the checker alone, which follow the code that finds the first breach of rules.
 pub mod DoubleSizes
 pub mod Opened

@@ -1,4 +1,4 @@
-//! What is wrong with one head, by its number, its bits or the bytes after it.
+//! Which rule one head breaks, by its number, its bits or the bytes after it.
 ghost use Rattle.std.specs.Prelude.{◌≡◌, ℕ, List, None, true};
 ghost use Rattle.cbor_grammar.specs.Reading.{read_head};
 ghost use Rattle.cbor_grammar.specs.WellFormed.{FitsFloat};

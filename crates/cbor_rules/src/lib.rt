@@ -21,10 +21,12 @@ mod keys;
 mod kind;
 mod laws;
 mod reduced;
+mod rule_set;
 mod rules;
 mod text;
 
 pub use check::{breach, breach_in};
 pub use kind::{Breach, BreachKind};
 pub use reduced::reduced_breach;
+pub use rule_set::{ENCODINGS, RULES, RuleSet};
 pub use rules::{KeyOrder, Rules};

@@ -1,4 +1,5 @@
--- The part of a whole container that is read after as many others is the part that its item has there.
+-- Where parts begin: the part of a whole container that is read after as many others is the part that its item has
+-- there.
 use Rattle.std.proofs.Common.{◌≡◌, ℕ, zero, suc, ◌+◌, ◌*◌, ◌<◌, ◌≤◌, List, [], ◌∷◌, ◌++◌, length, take, drop, Option}
 use Rattle.std.proofs.Common.{Some, None, Ok, Err, refl, sym, ap, subst, ◌∙◌, ◌⊎◌, inl, inr, arith}
 use Rattle.std.specs.List.{slice_get}

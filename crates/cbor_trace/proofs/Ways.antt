@@ -1,4 +1,4 @@
--- Ways from item to item.
+-- Ways from item to item, down to a byte.
 use Rattle.std.proofs.Common.{◌≡◌, ℕ, ◌≤◌, List, [], ◌∷◌, Some, None, refl, subst, arith}
 use Rattle.cbor_trace.specs.declared.part.Part.{Part}
 use Rattle.cbor_trace.specs.declared.part.Spot.{Spot}

@@ -1,4 +1,4 @@
-//! The head of an item, and where the item ends.
+//! The head of an item, and where the item ends in the bytes.
 ghost use Rattle.std.specs.Prelude.{◌≡◌, ℕ, ◌≤◌, IfSome, Some};
 ghost use Rattle.cbor_grammar.specs.declared.head.ItemHead.{ItemHead};
 ghost use Rattle.cbor_trace.specs.Around.{EndsAt, IsHeadAt};

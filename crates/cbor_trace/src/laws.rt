@@ -1,4 +1,4 @@
-//! Laws of the definitions, as contracts of functions that nobody calls.
+//! Laws of what is open at a byte, as contracts of functions that nobody calls.
 ghost use Rattle.std.specs.Prelude.{◌≡◌, ◌↔◌, ℕ, ◌+◌, ◌<◌, ◌≤◌, List, ◌++◌, length, drop};
 ghost use Rattle.std.specs.Prelude.{slice_index};
 ghost use Rattle.cbor_grammar.specs.Item.{Item};

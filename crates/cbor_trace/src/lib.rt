@@ -2,7 +2,8 @@
 //!
 //! [`part_at`] goes one container inwards, and [`innermost`] all the way. [`chunk_at`] finds the
 //! chunk of a string of indefinite length, [`head_at`] the head of an item, and [`end_at`] where an
-//! item ends. None of them takes memory.
+//! item ends. [`place_of_fault`] finds the byte that is at fault in bytes that are no item. None of
+//! them takes memory.
 //!
 //! The containers around a byte, the outermost first:
 //!
@@ -28,6 +29,7 @@
 #![tactic(auto)]
 
 mod chunk;
+pub mod heads;
 mod item;
 mod laws;
 mod open;
@@ -35,6 +37,7 @@ mod part;
 mod walk;
 
 pub use chunk::{Chunk, chunk_at};
+pub use heads::place_of_fault;
 pub use item::{end_at, head_at};
 pub use open::Open;
 pub use part::{Part, Spot, part_at};

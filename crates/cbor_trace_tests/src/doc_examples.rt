@@ -1,6 +1,7 @@
-// The example of the doc comment.
+// The examples of the doc comments.
 
-use cbor_trace::{Open, Spot, part_at};
+use cbor_grammar::Error;
+use cbor_trace::{Open, Spot, part_at, place_of_fault};
 use std::process::Abort;
 
 #[test]
@@ -20,4 +21,9 @@ fn of_the_crate(rt: HostRuntime) {
         spot = spot.of_part(part);
     }
     assert_eq!(rt; (spot.start, spot.level), (5, 3));
+}
+
+#[test]
+fn faults_have_places(rt: HostRuntime) {
+    assert_eq!(rt; place_of_fault(b"\x63a\xffb", Error::Utf8, 4), 2);
 }

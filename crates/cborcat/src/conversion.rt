@@ -1,4 +1,4 @@
-//! The conversion of one input, as its bytes come.
+//! In the program, the conversion of one input, as its bytes come.
 
 use crate::dumps::shown_dumps;
 use crate::each::show_each;
@@ -12,12 +12,12 @@ use crate::run::Runner;
 use crate::screen::{Screen, language_of};
 use crate::shown::show_of;
 use crate::status::{Next, Status};
-use crate::words::{Job, View};
 use cbor_diag::Error;
 use cbor_inspect::{End, Form, Stream, two_byte_simple};
 use cbor_messages::{TWO_BYTES, first_breach};
-use cbor_places::{Leaves, Piece, lines_at, partial_text};
+use cbor_places::{Leaves, Piece, lines_at, partial_dump, partial_edn};
 use cbor_screen::Language;
+use cborcat_arguments::{Job, View};
 use std::io;
 use std::io::Read;
 
@@ -211,7 +211,7 @@ impl<'a> Conversion<'a> {
         let begins = self.begins().saturating_sub(self.passed);
         let bytes = self.stream.passed(self.passed);
         let items = Piece { begins, bytes };
-        let mut leaves = Leaves::new(alloc, items, self.job.show.style);
+        let mut leaves = Leaves::new(alloc, items, self.job.show.style.edn());
         let mut lines = String::new(alloc);
         for _ in 0..u64::MAX {
             if leaves.is_done() {
@@ -261,9 +261,10 @@ impl<'a> Conversion<'a> {
         let style = self.job.show.style;
         let bytes = self.stream.rest();
         let text = match style.form {
-            Form::Pretty | Form::Diag | Form::Hex if !bytes.is_empty() => {
-                partial_text(alloc, style, bytes, &said)?
+            Form::Pretty | Form::Diag if !bytes.is_empty() => {
+                partial_edn(alloc, style.edn(), bytes, &said)?
             }
+            Form::Hex if !bytes.is_empty() => partial_dump(alloc, bytes, &said)?,
             _ => return Ok(Written::Whole),
         };
         let language = language_of(style.form).unwrap_or(Language::Edn);

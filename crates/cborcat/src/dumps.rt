@@ -1,4 +1,4 @@
-//! Dumps, as they are shown.
+//! In the program, dumps, as they are shown.
 
 use crate::naming::Tables;
 use cbor_diag::Error;

@@ -1,4 +1,4 @@
-//! Items that are shown one by one, each from its bytes.
+//! In the program, items that are shown one by one, each from its bytes.
 
 use crate::status::Status;
 use cbor_diag::Error;

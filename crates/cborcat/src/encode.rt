@@ -1,16 +1,17 @@
-//! Items that are encoded again before they are shown.
+//! In the program, items that are encoded again before they are shown.
 
 use crate::each::ShowsItem;
 use crate::messages::{Place, report_byte, report_lost};
 use crate::naming::Tables;
 use crate::shown::show_of;
 use crate::status::Status;
-use crate::words::Job;
 use cbor_diag::Error;
 use cbor_inspect::{End, show_items};
-use cbor_messages::{RuleSet, not_encoded};
+use cbor_messages::not_encoded;
 use cbor_places::Piece;
 use cbor_reencode::{ReencodeError, reencoded};
+use cbor_rules::RuleSet;
+use cborcat_arguments::Job;
 
 /// How the items of an input are encoded again.
 #[derive(Clone, Copy)]

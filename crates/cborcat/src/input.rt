@@ -1,6 +1,6 @@
-//! Inputs, as they are read.
+//! In the program, inputs, which are files or standard input, as they are read.
 
-use cbor_inspect::{Input, text_fault};
+use cbor_inputs::{Input, text_fault};
 use std::io::{ErrorKind, Read};
 use std::{fs, io};
 

@@ -1,15 +1,14 @@
 //! Shows CBOR data (RFC 8949) as text, or converts it: `cborcat FILE`.
 //!
-//! Its words are in `words.rt`, and its help is what `cborcat --help` prints. The forms and what is
-//! written of an item are in the crate `cbor_inspect`, where something is in `cbor_places`, and
-//! what is wrong there in `cbor_messages`; here are arguments and files.
+//! Its arguments are in `cborcat_arguments`. The forms and what is written of an item are in
+//! `cbor_inspect`, where something is in `cbor_places`, and what is wrong there in `cbor_messages`;
+//! here are files, standard output and standard error.
 #![tactic(auto)]
 
 mod conversion;
 mod dumps;
 mod each;
 mod encode;
-mod help;
 mod input;
 mod messages;
 mod naming;
@@ -20,10 +19,9 @@ mod run;
 mod screen;
 mod shown;
 mod status;
-mod words;
 
 use crate::run::run;
-use crate::words::{Asked, read_words};
+use cborcat_arguments::{Asked, read_words};
 use std::env;
 use std::io::ErrorKind;
 use std::process::ExitCode;

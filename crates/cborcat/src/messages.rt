@@ -1,15 +1,15 @@
 //! Messages on standard error.
 
-use crate::screen::Color;
+use crate::screen::say_excerpt;
 use crate::status::Status;
-use crate::words::Job;
 use cbor_diag::Error;
-use cbor_inspect::{
-    End, HexFault, Input, Pasted, Refusal, Shown, is_shown, looks_like, place_of_digit,
-    place_of_fault,
-};
+use cbor_escapes::is_shown;
+use cbor_inputs::{HexFault, Input, Pasted, Refusal, looks_like, place_of_digit};
+use cbor_inspect::{End, Shown};
 use cbor_messages::{Excerpt, Position, TWO_BYTES, lost_words, position_of};
 use cbor_places::{Around, Piece, Places, item_with};
+use cbor_trace::place_of_fault;
+use cborcat_arguments::{Color, Job};
 use std::alloc::AllocError;
 use std::fmt::{Display, Write};
 use std::io;
@@ -185,7 +185,7 @@ fn say_byte(rt: &HostRuntime, place: &Place, left: Piece, at_fault: usize, words
             say_at(rt, (place.name, place.text), at, what);
             say_where(rt, in_item);
             let excerpt = Excerpt::of_text(place.text, at, "^^");
-            place.color.say_excerpt(rt, &excerpt);
+            say_excerpt(rt, place.color, &excerpt);
         }
         None => {
             let _ = eprintln!(rt;
@@ -195,7 +195,7 @@ fn say_byte(rt: &HostRuntime, place: &Place, left: Piece, at_fault: usize, words
             );
             say_where(rt, in_item);
             if let Some(excerpt) = Excerpt::of_bytes(left.bytes, at_fault) {
-                place.color.say_excerpt(rt, &excerpt);
+                say_excerpt(rt, place.color, &excerpt);
             }
         }
     }
@@ -302,7 +302,7 @@ fn report_character<T: Display + Drop>(
 ) -> Status {
     let (at, what) = wrong;
     say_at(rt, input, at, what);
-    color.say_excerpt(rt, &Excerpt::of_text(input.1, at, "^"));
+    say_excerpt(rt, color, &Excerpt::of_text(input.1, at, "^"));
     Status::Bad
 }
 

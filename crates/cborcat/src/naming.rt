@@ -1,12 +1,13 @@
-//! The names that are shown, by the tables of `cbor_known_names` and those of a file.
+//! The names that the program shows, by the tables of `cbor_known_names` and those of a file.
 
 use crate::messages::{label, say};
 use crate::status::Status;
-use crate::words::{Job, View};
-use cbor_inspect::{Form, Naming, is_shown};
+use cbor_escapes::is_shown;
+use cbor_inspect::Naming;
 use cbor_known_names::known_names;
 use cbor_names::{Names, Type};
 use cbor_names_file::with_file;
+use cborcat_arguments::Job;
 use std::fs;
 
 /// Says that memory ran out.
@@ -98,14 +99,4 @@ pub fn shown_of<'a>(
     };
     let _ = eprintln!(rt; "cborcat: there is no type {word}; the types are {list}");
     Err(Status::Trouble)
-}
-
-impl Job<'_> {
-    /// Whether items are shown with their names.
-    pub fn has_names(&self) -> bool {
-        let style = self.show.style;
-        let has_comments = matches!(style.form, Form::Pretty | Form::Hex);
-        let is_shown = self.view == View::Items && has_comments && !self.check;
-        is_shown && style.notes && self.names
-    }
 }

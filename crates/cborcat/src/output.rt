@@ -1,4 +1,4 @@
-//! Where the output goes.
+//! Where the output of the program goes.
 
 use crate::messages::say;
 use std::fs::{File, OpenOptions};

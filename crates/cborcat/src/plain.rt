@@ -1,18 +1,19 @@
-//! Items as JSON, and the content of strings.
+//! In the program, items as JSON, and the content of strings.
 
 use crate::each::ShowsItem;
 use crate::messages::{Place, label, report_byte, report_lost};
 use crate::shown::show_of;
 use crate::status::Status;
-use crate::words::{Job, View};
 use cbor_diag::{Error, Extent, extent};
+use cbor_escapes::is_shown;
 use cbor_grammar::head::ItemHead;
 use cbor_grammar::strings::StringKind;
-use cbor_inspect::{End, RawError, is_shown, raw_content, show_items};
+use cbor_inspect::{End, RawError, raw_content, show_items};
 use cbor_json::{JsonStyle, bytes_to_json};
 use cbor_messages::not_json;
 use cbor_places::{Around, Piece};
 use cbor_trace::head_at;
+use cborcat_arguments::{Job, View};
 use std::io::IsTerminal;
 
 /// How the items of an input, or their parts, are written as JSON or as their content.

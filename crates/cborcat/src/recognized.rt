@@ -1,12 +1,11 @@
-//! The form of an input, if the arguments do not name it.
+//! In the program, the form of an input, if the arguments do not name it.
 
 use crate::messages::{label, report_refusal, say_out_of_memory, word_of};
-use crate::screen::Color;
 use crate::status::Status;
-use crate::words::Job;
-use cbor_inspect::{
-    End, Input, Recognized, Refusal, is_text, place_of_fault, recognize, skip_items,
-};
+use cbor_inputs::{Input, Recognized, Refusal, is_text, recognize};
+use cbor_inspect::{End, skip_items};
+use cbor_trace::place_of_fault;
+use cborcat_arguments::{Color, Job};
 use std::alloc::{AllocError, Global};
 
 /// The data of an input that was read to its end, and the form that it was read in: the form that

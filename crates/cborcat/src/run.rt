@@ -1,4 +1,4 @@
-//! A run: each input, one after the other.
+//! A run of the program: each input, one after the other.
 
 use crate::conversion::Conversion;
 use crate::input::{block_len, read_first};
@@ -7,8 +7,9 @@ use crate::naming::{Tables, shown_of, tables_of};
 use crate::output::{Target, close, open};
 use crate::recognized::data_of;
 use crate::status::{Next, Status};
-use crate::words::{Job, View};
-use cbor_inspect::{Form, Input};
+use cbor_inputs::Input;
+use cbor_inspect::Form;
+use cborcat_arguments::{Job, View};
 use std::fs::File;
 use std::io;
 use std::io::{IsTerminal, Read};

@@ -1,35 +1,15 @@
-//! What is shown of a text on the screen: colours, and long strings that are cut; and the colour of
-//! the marks in messages.
+//! What the program shows of a text on the screen: colours, and long strings that are cut; and the
+//! colour of the marks in messages.
 
 use crate::output::{Target, Written, write};
-use crate::words::Job;
-use cbor_inspect::{Form, is_shown, push_shown};
+use cbor_escapes::{is_shown, push_shown};
+use cbor_inspect::Form;
 use cbor_messages::Excerpt;
 use cbor_screen::{Kind, Language, push_colored, push_elided, push_in_color};
+use cborcat_arguments::{Color, Job};
 use std::alloc::{AllocError, Global};
 use std::env;
 use std::io::IsTerminal;
-
-/// Whether colours are asked for.
-#[derive(Clone, Copy, PartialEq, Eq)]
-pub enum Color {
-    /// If they are written to a terminal that shows them.
-    Auto,
-    Always,
-    Never,
-}
-
-/// The words of these.
-pub static COLORS: [&str; 3] = ["auto", "always", "never"];
-
-/// Whether colours are asked for by a word.
-pub fn color_of(word: Option<&str>) -> Color {
-    match word {
-        Some("always") => Color::Always,
-        Some("never") => Color::Never,
-        _ => Color::Auto,
-    }
-}
 
 /// What a form is written in, if that has colours.
 pub fn language_of(form: Form) -> Option<Language> {
@@ -40,27 +20,25 @@ pub fn language_of(form: Form) -> Option<Language> {
     }
 }
 
-impl Color {
-    /// Says which part of an input a message is about. The mark below what is wrong has a colour if
-    /// standard error is shown colours.
-    pub fn say_excerpt(self, rt: &HostRuntime, excerpt: &Excerpt) {
-        if self.is_on(rt, rt.stderr().is_terminal())
-            && let Ok(text) = with_colored_mark(rt.alloc(), excerpt)
-            && let Ok(shown) = str::from_utf8(&text)
-        {
-            let _ = eprintln!(rt; "{shown}");
-        } else {
-            let _ = eprintln!(rt; "{excerpt}");
-        }
+/// Says which part of an input a message is about. The mark below what is wrong has a colour if
+/// standard error is shown colours.
+pub fn say_excerpt(rt: &HostRuntime, color: Color, excerpt: &Excerpt) {
+    if has_colors(rt, color, rt.stderr().is_terminal())
+        && let Ok(text) = with_colored_mark(rt.alloc(), excerpt)
+        && let Ok(shown) = str::from_utf8(&text)
+    {
+        let _ = eprintln!(rt; "{shown}");
+    } else {
+        let _ = eprintln!(rt; "{excerpt}");
     }
+}
 
-    /// Whether texts have colours that go to a terminal, or not.
-    fn is_on(self, rt: &HostRuntime, terminal: bool) -> bool {
-        match self {
-            Color::Auto => terminal && wants_colors(rt),
-            Color::Always => true,
-            Color::Never => false,
-        }
+/// Whether texts have colours that go to a terminal, or not.
+fn has_colors(rt: &HostRuntime, color: Color, terminal: bool) -> bool {
+    match color {
+        Color::Auto => terminal && wants_colors(rt),
+        Color::Always => true,
+        Color::Never => false,
     }
 }
 
@@ -107,7 +85,7 @@ impl<'a> Screen<'a> {
         let terminal = job.output.is_none() && rt.stdout().is_terminal();
         Screen {
             rt,
-            colors: job.color.is_on(rt, terminal),
+            colors: has_colors(rt, job.color, terminal),
             most: job.elide,
         }
     }

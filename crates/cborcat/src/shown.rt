@@ -1,9 +1,9 @@
-//! What is written of items, as `cbor_inspect` is told it.
+//! What the program writes of items, as `cbor_inspect` is told it.
 
 use crate::naming::Tables;
-use crate::words::Job;
 use cbor_diag::Error;
 use cbor_inspect::{Show, steps_of};
+use cborcat_arguments::Job;
 use std::alloc::Global;
 
 /// What is written of items, by the arguments, with these names.

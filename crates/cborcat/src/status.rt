@@ -1,4 +1,4 @@
-//! How a run goes.
+//! How a run of the program goes.
 
 /// How a run ended, or a part of it; each is worse than those before it.
 #[derive(Clone, Copy, PartialEq, Eq)]

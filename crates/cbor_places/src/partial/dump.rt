@@ -1,4 +1,4 @@
-//! An item that is not whole in a dump.
+//! An item that is cut or has a fault, in a dump.
 ghost use Rattle.std.specs.Prelude.{◌≡◌, ◌+◌, ◌*◌, ◌≤◌, ◌++◌, ℕ, List, length, drop, OnOk};
 ghost use Rattle.std.specs.String.{string_bytes};
 ghost use Rattle.cbor_grammar.specs.Facts.{IsItem};

@@ -1,4 +1,4 @@
-//! An item that is not whole in EDN.
+//! An item that is cut or has a fault, in EDN.
 #![tactic(auto, using(cbor_grammar::proofs::shared::Appending::appending_steps))]
 
 ghost use Rattle.std.specs.Prelude.{◌≡◌, ◌-◌, ◌*◌, ◌<◌, ◌≤◌, ◌^◌, ◌++◌, ℕ, List, length};

@@ -1,4 +1,4 @@
-//! Lines with blanks before them.
+//! For an item that is cut, lines with blanks before them.
 ghost use Rattle.std.specs.Prelude.{◌≡◌, ◌++◌, OnOk};
 ghost use Rattle.std.specs.String.{string_bytes};
 ghost use Rattle.cbor_places.specs.Partial.{indented, indented_character, in_lines};
@@ -6,7 +6,7 @@ ghost use Rattle.cbor_places.specs.Partial.{indented, indented_character, in_lin
 use cbor_notes::push_blanks;
 use std::alloc::AllocError;
 
-/// Appends a character of a text, and so many blanks after a line feed.
+/// Appends a character of a text, and this many blanks after a line feed.
 fn push_character(out: &mut String, c: char, indent: usize) -> Result<(), AllocError>
     ensures { OnOk result (string_bytes out.new ≡ string_bytes out.old
         ++ indented_character indent c) }
@@ -18,7 +18,7 @@ fn push_character(out: &mut String, c: char, indent: usize) -> Result<(), AllocE
     Ok(())
 }
 
-/// Appends a text, each line but the first with so many blanks before it.
+/// Appends a text, each line but the first with this many blanks before it.
 pub(super) fn push_indented(out: &mut String, text: &str, indent: usize) -> Result<(), AllocError>
     ensures { OnOk result (string_bytes out.new ≡ string_bytes out.old
         ++ indented indent text.now) }
@@ -29,7 +29,7 @@ pub(super) fn push_indented(out: &mut String, text: &str, indent: usize) -> Resu
     Ok(())
 }
 
-/// Appends the lines of a text, each with so many blanks before it.
+/// Appends the lines of a text, each with this many blanks before it.
 pub(super) fn push_lines(out: &mut String, text: &str, indent: usize) -> Result<(), AllocError>
     ensures { OnOk result (string_bytes out.new ≡ string_bytes out.old
         ++ in_lines indent text.now) }

@@ -1,4 +1,4 @@
--- The size of a double as an integer, by its bits without the sign.
+-- For the rules of dCBOR, the size of a double as an integer, by its bits without the sign.
 use Rattle.std.specs.Prelude.{ℕ, ◌/◌, ◌%◌, ◌^◌, Bool, ◌&&◌, Option, Some, None, ◌==◌, nat_lt, if◌then◌else◌}
 use Rattle.std.specs.Float.MulAdd.{units_of_bits}
 use Rattle.cbor_rules.specs.Reduced.{in_range}

@@ -1,5 +1,5 @@
--- What the code keeps of the keys of an open map, as the definitions have it; and what reading gives where memory may
--- run out.
+-- Finding a breach: what the code keeps of the keys of an open map, as the definitions have it; and what reading gives
+-- where memory may run out.
 use Rattle.std.specs.Prelude.{◌≡◌, ◌≢◌, ◌≤◌, ℕ, List, Bool, false, Option, Some, None, is_some, if◌then◌else◌}
 use Rattle.std.specs.Prelude.{Result, Ok, Err}
 use Rattle.std.specs.BTreeMap.{BTreeMap, get_by}

@@ -1,4 +1,5 @@
-//! Strings, whose content may have to be in NFC, and other items without parts.
+//! Finds a breach of rules in strings, whose content may have to be in NFC, and in other items
+//! without parts.
 ghost use Rattle.std.specs.Prelude.{◌≡◌, ◌≢◌, ℕ, suc, ◌<◌, ◌≤◌, List, length, take, None, IfOk};
 ghost use Rattle.std.specs.Prelude.{IfErr};
 ghost use Rattle.std.specs.Prelude.{IsErr, IfSome, IfNone, option_map};

@@ -1,5 +1,5 @@
 use Rattle.std.proofs.Common.{◌≡◌, length, rules}
-use Rattle.cbor_inspect.specs.Ends.{steps_of}
+use Rattle.cbor_inspect.specs.Shows.{steps_of}
 use Rattle.cbor_inspect.proofs.OutputLemmas.{first_appended, whole_appended, no_steps}
 use Rattle.cbor_inspect.proofs.items.show_first.Goals as goal
 

@@ -1,7 +1,7 @@
 use Rattle.std.proofs.Common.{◌++◌, drop, arith, append_assoc, vec_items}
 use Rattle.std.proofs.lemmas.List.{take_rest, drop-drop, length-drop}
-use Rattle.cbor_inspect.specs.Ends.{Shows}
-use Rattle.cbor_inspect.proofs.Sequences.{more_shown}
+use Rattle.cbor_inspect.specs.Shows.{Shows}
+use Rattle.cbor_paths.proofs.Sequences.{more_shown}
 use Rattle.cbor_inspect.proofs.items.show_items.Goals as goal
 
 pub returns-then-show-clause-written : goal.returns-then-show-clause-written

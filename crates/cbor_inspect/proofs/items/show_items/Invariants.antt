@@ -1,7 +1,7 @@
 -- What was written is the output of the items so far.
 use Rattle.std.proofs.Common.{◌≡◌, ℕ, List, ◌++◌, ◌-◌, ◌≤◌, length, drop, vec_items, IsTrue}
-use Rattle.cbor_inspect.specs.Sequence.{IsShownOfFirst}
-use Rattle.cbor_inspect.specs.Ends.{Shows}
+use Rattle.cbor_paths.specs.Sequence.{IsShownOfFirst}
+use Rattle.cbor_inspect.specs.Shows.{Shows}
 use Rattle.cbor_inspect.proofs.items.show_items.Given as goal
 
 abbrev pub invariant-items : goal.invariant-items

@@ -1,6 +1,6 @@
 use Rattle.std.proofs.Common.{◌∙◌, ℕ, Result, IfErr, sym, subst}
-use Rattle.cbor_inspect.specs.declared.items.End.{End}
-use Rattle.cbor_inspect.specs.Ends.{StopsSo}
+use Rattle.cbor_paths.specs.declared.end.End.{End}
+use Rattle.cbor_paths.specs.Ends.{StopsSo}
 use Rattle.cbor_inspect.proofs.notation.push_notation.Goals as goal
 use Rattle.cbor_inspect.proofs.notation.push_notation.Goals.{in-Some, in_default}
 

@@ -1,7 +1,7 @@
 use Rattle.std.proofs.Common.{◌++◌, drop, arith, append_assoc, vec_items}
 use Rattle.std.proofs.lemmas.List.{take_rest, drop-drop, length-drop}
 use Rattle.cbor_inspect.specs.Forms.{IsForm}
-use Rattle.cbor_inspect.proofs.Sequences.{one_shown, more_shown}
+use Rattle.cbor_paths.proofs.Sequences.{one_shown, more_shown}
 use Rattle.cbor_inspect.proofs.part.push_all.Goals as goal
 
 pub items-preserved : goal.items-preserved

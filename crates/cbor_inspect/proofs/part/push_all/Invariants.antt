@@ -1,6 +1,6 @@
 -- What was written is the output of the items so far.
 use Rattle.std.proofs.Common.{◌≡◌, ℕ, List, ◌++◌, ◌-◌, ◌≤◌, length, drop, vec_items}
-use Rattle.cbor_inspect.specs.Sequence.{IsShownOfFirst}
+use Rattle.cbor_paths.specs.Sequence.{IsShownOfFirst}
 use Rattle.cbor_inspect.specs.Forms.{IsForm}
 use Rattle.cbor_inspect.proofs.part.push_all.Given as goal
 

@@ -1,8 +1,8 @@
 use Rattle.std.proofs.Common.{◌≡◌, length, rules}
 use Rattle.cbor_diag.specs.View.{view}
-use Rattle.cbor_inspect.specs.Ends.{steps_of}
+use Rattle.cbor_inspect.specs.Shows.{steps_of}
 use Rattle.cbor_inspect.proofs.OutputLemmas.{part_appended}
-use Rattle.cbor_inspect.proofs.PartLemmas.{lost_part}
+use Rattle.cbor_paths.proofs.PartLemmas.{lost_part}
 use Rattle.cbor_inspect.proofs.part.push_part.Goals as goal
 
 pub returns-in-Err-clause-ends : goal.returns-in-Err-clause-ends

@@ -1,5 +1,5 @@
 use Rattle.std.proofs.Common.{◌≡◌, [], sym, ◌∙◌, inl, inr, rules}
-use Rattle.cbor_inspect.proofs.EndLemmas.{passes_one}
+use Rattle.cbor_paths.proofs.EndLemmas.{passes_one}
 use Rattle.cbor_bytes.specs.declared.skip.answer.Extent.TheVariants as extent
 use Rattle.cbor_inspect.proofs.SimpleLemmas.{scanned_passed_8949, begins_so_8949, later_passed_8949, none_8949}
 use Rattle.cbor_inspect.proofs.stream.Stream.check_next.Goals as goal

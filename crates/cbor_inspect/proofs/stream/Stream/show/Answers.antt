@@ -1,5 +1,5 @@
-use Rattle.cbor_inspect.specs.Ends.{Shows}
-use Rattle.cbor_inspect.proofs.Sequences.{more_shown}
+use Rattle.cbor_inspect.specs.Shows.{Shows}
+use Rattle.cbor_paths.proofs.Sequences.{more_shown}
 use Rattle.cbor_inspect.proofs.stream.Stream.show.Goals as goal
 
 pub returns-clause-joined : goal.returns-clause-joined

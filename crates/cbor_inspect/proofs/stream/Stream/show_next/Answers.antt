@@ -1,6 +1,6 @@
 use Rattle.std.proofs.Common.{◌++◌, append_assoc, vec_items}
-use Rattle.cbor_inspect.specs.Ends.{Shows}
-use Rattle.cbor_inspect.proofs.Sequences.{more_shown}
+use Rattle.cbor_inspect.specs.Shows.{Shows}
+use Rattle.cbor_paths.proofs.Sequences.{more_shown}
 use Rattle.cbor_inspect.proofs.stream.Stream.show_next.Goals as goal
 
 pub returns-else-show-clause-written : goal.returns-else-show-clause-written

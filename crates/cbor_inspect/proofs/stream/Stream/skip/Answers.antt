@@ -1,5 +1,5 @@
-use Rattle.cbor_inspect.proofs.Sequences.{items_then}
-use Rattle.cbor_inspect.proofs.Fronts.{rest_of_items, sequence_with}
+use Rattle.cbor_paths.proofs.Sequences.{items_then}
+use Rattle.cbor_paths.proofs.Fronts.{rest_of_items, sequence_with}
 use Rattle.cbor_inspect.proofs.stream.Stream.skip.Goals as goal
 
 pub returns-clause-joined : goal.returns-clause-joined

@@ -1,5 +1,5 @@
 use Rattle.std.proofs.Common.{◌≡◌, [], drop, ap, sym, ◌∙◌, inl, inr, rules}
-use Rattle.cbor_inspect.proofs.EndLemmas.{passes_one, one_shorter}
+use Rattle.cbor_paths.proofs.EndLemmas.{passes_one, one_shorter}
 use Rattle.cbor_bytes.specs.declared.skip.answer.Extent.TheVariants as extent
 use Rattle.cbor_inspect.proofs.StreamLemmas.{one_passed, later_passed, begins_so}
 use Rattle.cbor_inspect.proofs.stream.Stream.skip_next.Goals as goal

@@ -1,6 +1,6 @@
 use Rattle.std.proofs.Common.{◌≡◌, List, length, IsTrue}
 use Rattle.cbor_diag.specs.Item.{Item}
-use Rattle.cbor_inspect.specs.Sequence.{ItemsThen, IsSequence}
+use Rattle.cbor_paths.specs.Sequence.{ItemsThen, IsSequence}
 use Rattle.cbor_inspect.proofs.stream.Stream.skip_next.Given as goal
 
 -- items were passed; if all bytes are items, so are those that follow

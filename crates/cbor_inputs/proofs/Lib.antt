@@ -1,0 +1,2 @@
+pub mod LooseLemmas
+pub mod InputLemmas

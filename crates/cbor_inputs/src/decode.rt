@@ -1,0 +1,295 @@
+//! The forms of an input, and which form one has.
+
+ghost use Rattle.std.specs.Prelude.{◌≡◌, ◌≢◌, ◌↔◌, ◌⊎◌, ℕ, List, [], IfOk, IfErr, IfSome, None};
+ghost use Rattle.std.specs.Prelude.{IsTrue};
+ghost use Rattle.cbor_inputs.specs.declared.decode.Refusal.TheVariants as refusal;
+ghost use Rattle.cbor_paths.specs.Sequence.{IsSequence};
+ghost use Rattle.cbor_inputs.specs.Inputs.{is_blank, unblanked, Stands, Reads, MayBe};
+ghost use Rattle.cbor_inputs.specs.Inputs.{NoneBefore, NoneAfter, ComesAfter, IsWhy};
+ghost use Rattle.cbor_inputs.specs.Texts.{IsText, unmarked};
+
+use crate::loose::{HexFault, bytes_of_hex};
+use crate::text::{is_text, mark_len, unmarked};
+use cbor_bytes::utf8_fault;
+use cbor_edn::{EdnError, Expected, edn_to_bytes};
+use cbor_paths::{End, Shown, skip_items};
+use cbor_tokens::base64_any_decode;
+use std::alloc::{AllocError, Global};
+
+/// A form of an input. A text may have a byte order mark before it, which is no part of it.
+#[derive(Clone, Copy, PartialEq, Eq, Debug)]
+pub enum Input {
+    /// The bytes of items.
+    Bytes,
+    /// These bytes in hex, as people paste it.
+    Hex,
+    /// Items in EDN, none or more.
+    Diag,
+    /// The bytes in base 64, in either alphabet, with blanks and line ends between the digits.
+    Base64,
+}
+
+/// Why an input does not have a form.
+#[derive(Clone, Copy, PartialEq, Eq, Debug)]
+pub enum Refusal {
+    /// It is not hex.
+    Hex(HexFault),
+    /// It is not UTF-8: the place of the first byte with which no UTF-8 goes on.
+    Utf8 { at: usize },
+    /// It is not EDN: what is expected at a place.
+    Diag { expected: Expected, at: usize },
+    /// It is not base 64.
+    Base64,
+    /// It is bytes in this form, and they are no sequence of items.
+    Items { form: Input, shown: Shown },
+    /// Memory ran out.
+    Memory,
+}
+
+/// The form of an input.
+#[derive(Drop)]
+pub struct Recognized {
+    /// The first form that reads all of it.
+    pub form: Input,
+    /// The bytes that it stands for.
+    pub bytes: Vec<u8>,
+}
+
+impl Input {
+    /// Returns the bytes that an input of this form stands for.
+    pub fn decode(self, alloc: Global, text: &[u8]) -> Result<Vec<u8>, Refusal>
+        // These bytes, and no others.
+        ensures ok { IfOk result (λ bytes. Stands self text.now bytes.items) }
+        ensures one { IfOk result (λ bytes. (others : List ℕ) → Stands self text.now others
+            → others ≡ bytes.items) }
+
+        // An error, other than on memory, only where it stands for none.
+        ensures refused { IfErr result (λ e. e ≢ refusal.Memory
+            → (bytes : List ℕ) → ¬ (Stands self text.now bytes)) }
+        // The error is one of this form, and says why.
+        ensures why { IfErr result (IsWhy self text.now) }
+    {
+        match self {
+            Input::Bytes => match Vec::from_slice(alloc, text) {
+                Ok(bytes) => Ok(bytes),
+                Err(_) => Err(Refusal::Memory),
+            },
+            Input::Hex => match bytes_of_hex(alloc, text) {
+                Ok(bytes) => Ok(bytes),
+                Err(HexFault::Memory) => Err(Refusal::Memory),
+                Err(fault) => Err(Refusal::Hex(fault)),
+            },
+            Input::Diag => bytes_of_diag(alloc, text),
+            Input::Base64 => bytes_of_base64(alloc, text),
+        }
+    }
+
+    /// Returns what an input of this form stands for, if that is items one after the other.
+    fn read(self, alloc: Global, text: &[u8]) -> Result<Recognized, Refusal>
+        ensures form { IfOk result (λ found. found.form ≡ self) }
+        ensures ok { IfOk result (λ found. Stands self text.now found.bytes.items) }
+        ensures items { IfOk result (λ found. IsSequence found.bytes.items) }
+        ensures refused { IfErr result (λ e. e ≢ refusal.Memory → ¬ (Reads self text.now)) }
+        ensures why { IfErr result (IsWhy self text.now) }
+    {
+        let bytes = self.decode(alloc, text)?;
+        let shown = skip_items(&bytes, false);
+        if shown.end == End::Done {
+            Ok(Recognized { form: self, bytes })
+        } else {
+            Err(Refusal::Items { form: self, shown })
+        }
+    }
+
+    /// Whether an input of this form stands for items one after the other.
+    fn reads(self, alloc: Global, text: &[u8]) -> Result<bool, AllocError>
+        ensures { IfOk result (λ yes. IsTrue yes ↔ Reads self text.now) }
+    {
+        match self.read(alloc, text) {
+            Ok(_) => Ok(true),
+            Err(Refusal::Memory) => Err(AllocError),
+            Err(_) => Ok(false),
+        }
+    }
+}
+
+/// The bytes of items in EDN.
+fn bytes_of_diag(alloc: Global, text: &[u8]) -> Result<Vec<u8>, Refusal>
+    ensures ok { IfOk result (λ bytes. Stands Input.Diag text.now bytes.items) }
+    ensures one { IfOk result (λ bytes. (others : List ℕ) → Stands Input.Diag text.now others
+        → others ≡ bytes.items) }
+    ensures refused { IfErr result (λ e. e ≢ refusal.Memory
+        → (bytes : List ℕ) → ¬ (Stands Input.Diag text.now bytes)) }
+    ensures why { IfErr result (IsWhy Input.Diag text.now) }
+{
+    let mark = mark_len(text);
+    let rest = unmarked(text);
+    let Ok(notation) = str::from_utf8(rest) else {
+        let at = utf8_fault(rest).unwrap_or(0);
+        return Err(Refusal::Utf8 { at: mark + at });
+    };
+    match edn_to_bytes(alloc, notation) {
+        Ok(bytes) => Ok(bytes),
+        Err(EdnError::Memory) => Err(Refusal::Memory),
+        Err(EdnError::Wrong { place, expected }) => {
+            let at = mark + place;
+            Err(Refusal::Diag { expected, at })
+        }
+    }
+}
+
+/// Whether a byte is a blank or ends a line.
+fn is_blank(byte: u8) -> bool
+    ensures { result ≡ is_blank byte }
+{
+    byte == b' ' || byte == b'\t' || byte == b'\r' || byte == b'\n'
+}
+
+/// The digits of a text in base 64: what is no blank and no line end.
+fn digits_of(alloc: Global, text: &[u8]) -> Result<Vec<u8>, AllocError>
+    ensures { IfOk result (λ digits. digits.items ≡ unblanked text.now) }
+{
+    text.iter()
+        .copied()
+        .filter(|byte| !is_blank(*byte))
+        .collect(alloc)
+}
+
+/// The bytes of a text in base 64.
+fn bytes_of_base64(alloc: Global, text: &[u8]) -> Result<Vec<u8>, Refusal>
+    ensures ok { IfOk result (λ bytes. Stands Input.Base64 text.now bytes.items) }
+    ensures one { IfOk result (λ bytes. (others : List ℕ) → Stands Input.Base64 text.now others
+        → others ≡ bytes.items) }
+    ensures refused { IfErr result (λ e. e ≢ refusal.Memory
+        → (bytes : List ℕ) → ¬ (Stands Input.Base64 text.now bytes)) }
+    ensures why { IfErr result (IsWhy Input.Base64 text.now) }
+{
+    let Ok(digits) = digits_of(alloc, unmarked(text)) else {
+        return Err(Refusal::Memory);
+    };
+    match base64_any_decode(alloc, &digits) {
+        Ok(Some(bytes)) => Ok(bytes),
+        Ok(None) => Err(Refusal::Base64),
+        Err(_) => Err(Refusal::Memory),
+    }
+}
+
+/// Finds the form of an input: the first of hex, EDN and base 64 that reads all of it, as items one
+/// after the other. An input that no form of text reads is bytes, if it is not all text: nearly
+/// every text would be bytes of some items, which nobody meant.
+///
+/// If no form does, the error is that of the form that reads furthest, of the forms of text if the
+/// input is text. Returns `Memory` if an allocation fails.
+///
+/// ```rust
+/// use cbor_inputs::{Input, recognize};
+///
+/// let found = recognize(alloc, b"[1, 2]")?;
+/// assert_eq!(rt; found.form, Input::Diag);
+/// assert_eq!(rt; found.bytes.as_slice(), b"\x82\x01\x02".as_slice());
+/// ```
+pub fn recognize(alloc: Global, text: &[u8]) -> Result<Recognized, Refusal>
+    // The bytes that the form stands for are items, one after the other.
+    ensures reads { IfOk result (λ found. Stands found.form text.now found.bytes.items
+        × IsSequence found.bytes.items) }
+
+    // No form before it reads the input.
+    ensures first { IfOk result (λ found. NoneBefore found.form text.now) }
+
+    // No text is taken for bytes.
+    ensures no_text { IfOk result (λ found. found.form ≡ Input.Bytes → ¬ (IsText text.now)) }
+
+    // An error, other than on memory, only where there is no form that it may be.
+    ensures refused { IfErr result (λ e. e ≢ refusal.Memory
+        → (form : Input) → ¬ (MayBe form text.now)) }
+
+    // It says why the input does not have one of the forms.
+    ensures why { IfErr result (λ e. (form : Input) × IsWhy form text.now e) }
+{
+    let hex = match Input::Hex.read(alloc, text) {
+        Ok(found) => return Ok(found),
+        Err(Refusal::Memory) => return Err(Refusal::Memory),
+        Err(refusal) => refusal,
+    };
+    let diag = match Input::Diag.read(alloc, text) {
+        Ok(found) => return Ok(found),
+        Err(Refusal::Memory) => return Err(Refusal::Memory),
+        Err(refusal) => refusal,
+    };
+    let base64 = match Input::Base64.read(alloc, text) {
+        Ok(found) => return Ok(found),
+        Err(Refusal::Memory) => return Err(Refusal::Memory),
+        Err(refusal) => refusal,
+    };
+    let furthest = diag.or(hex, text).or(base64, text);
+    if is_text(text) {
+        return Err(furthest);
+    }
+    match Input::Bytes.read(alloc, text) {
+        Ok(found) => Ok(found),
+        Err(Refusal::Memory) => Err(Refusal::Memory),
+        Err(bytes) => Err(furthest.or(bytes, text)),
+    }
+}
+
+impl Recognized {
+    /// The next form of text that reads the input, too. That the input is bytes, too, is not told:
+    /// most texts are bytes of some items.
+    pub fn also(&self, alloc: Global, text: &[u8]) -> Result<Option<Input>, AllocError>
+        // What it names comes later, and reads the input.
+        ensures reads { IfOk result (λ found. IfSome found (λ other.
+            ComesAfter self.now.form other × Reads other text.now)) }
+
+        // None only if no later form does.
+        ensures none { IfOk result (λ found. found ≡ None → NoneAfter self.now.form text.now) }
+    {
+        let (diag, base64) = match self.form {
+            Input::Hex => (true, true),
+            Input::Diag => (false, true),
+            Input::Base64 | Input::Bytes => (false, false),
+        };
+        if diag && Input::Diag.reads(alloc, text)? {
+            Ok(Some(Input::Diag))
+        } else if base64 && Input::Base64.reads(alloc, text)? {
+            Ok(Some(Input::Base64))
+        } else {
+            Ok(None)
+        }
+    }
+}
+
+impl Refusal {
+    /// How far a form reads this text that it refuses so. Words with blanks between them are digits
+    /// of base 64 by chance.
+    fn reach(self, text: &[u8]) -> usize {
+        match self {
+            Refusal::Hex(HexFault::Digit(at)) => at,
+            Refusal::Hex(HexFault::Odd(at)) => at.saturating_add(1),
+            Refusal::Diag { at, .. } | Refusal::Utf8 { at } => at,
+            Refusal::Hex(HexFault::Memory) | Refusal::Base64 | Refusal::Memory => 0,
+            Refusal::Items {
+                form: Input::Bytes,
+                shown,
+            } => match shown.end {
+                End::Fault { end, .. } => shown.used.saturating_add(end),
+                _ => text.len(),
+            },
+            Refusal::Items {
+                form: Input::Base64,
+                ..
+            } if text.trim_ascii().contains(&b' ') => 0,
+            Refusal::Items { .. } => text.len(),
+        }
+    }
+
+    /// This refusal, or the other one if its form reads further.
+    fn or(self, other: Refusal, text: &[u8]) -> Refusal
+        ensures { (result ≡ self) ⊎ (result ≡ other) }
+    {
+        if other.reach(text) > self.reach(text) {
+            other
+        } else {
+            self
+        }
+    }
+}

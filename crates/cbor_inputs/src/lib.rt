@@ -1,0 +1,25 @@
+//! Which form an input has, and which bytes it stands for: bytes, hex as people paste it, EDN or
+//! base 64.
+//!
+//! [`recognize`] finds the form of an input, and [`Input::decode`] the bytes of one whose form is
+//! known. [`is_text`] and [`text_fault`] tell text from bytes, [`place_of_digit`] finds a digit of
+//! hex, and [`looks_like`] says what a text may be that no form reads.
+//!
+//! ```rust
+//! use cbor_inputs::{Input, recognize};
+//!
+//! let found = recognize(alloc, b"0x82 01 02 # two numbers")?;
+//! assert_eq!(rt; found.form, Input::Hex);
+//! assert_eq!(rt; found.bytes.as_slice(), b"\x82\x01\x02".as_slice());
+//! ```
+#![tactic(auto)]
+
+mod decode;
+mod loose;
+mod pasted;
+mod text;
+
+pub use decode::{Input, Recognized, Refusal, recognize};
+pub use loose::{HexFault, place_of_digit};
+pub use pasted::{Pasted, looks_like};
+pub use text::{is_text, text_fault};

@@ -1,0 +1,71 @@
+//! What else people paste, told by how it begins. It serves messages alone.
+
+use crate::text::unmarked;
+
+/// What people paste that no form of text is.
+#[derive(Clone, Copy, PartialEq, Eq, Debug)]
+pub enum Pasted {
+    /// A URL with its data: `data:application/cbor;base64,ogH5`.
+    DataUrl,
+    /// Hex with dashes or brackets: `82-01`, `82(01-02)`.
+    Dashes,
+    /// An array of numbers in C: `{0x82, 0x01}`.
+    Braces,
+    /// Bytes as a program has them: `b"\x82\x01"`.
+    Literal,
+    /// What `hexdump -C` prints.
+    Hexdump,
+    /// What `xxd` prints.
+    Xxd,
+}
+
+/// What a text that no form reads looks like, if that is known.
+///
+/// ```rust
+/// use cbor_inputs::{Pasted, looks_like};
+///
+/// assert_eq!(rt; looks_like(b"82-01"), Some(Pasted::Dashes));
+/// ```
+pub fn looks_like(text: &[u8]) -> Option<Pasted> {
+    let text = unmarked(text).trim_ascii();
+    if text.starts_with(b"data:") {
+        return Some(Pasted::DataUrl);
+    }
+    if text.starts_with(b"b\"") || text.starts_with(b"b'") {
+        return Some(Pasted::Literal);
+    }
+    match text.strip_prefix(b"{") {
+        Some(inside) if inside.trim_ascii_start().starts_with(b"0x") => Some(Pasted::Braces),
+        _ => dump_or_dashes(text),
+    }
+}
+
+/// Whether a byte is in hex with dashes and brackets.
+fn is_dashed(byte: u8) -> bool {
+    byte.is_ascii_hexdigit() || is_dash(byte) || byte.is_ascii_whitespace()
+}
+
+/// Whether a byte is a dash or a bracket.
+fn is_dash(byte: u8) -> bool {
+    matches!(byte, b'-' | b'(' | b')')
+}
+
+/// A dump, which begins with an address of eight digits, or hex with dashes.
+fn dump_or_dashes(text: &[u8]) -> Option<Pasted> {
+    let digits = text
+        .iter()
+        .take_while(|byte| byte.is_ascii_hexdigit())
+        .count();
+    if digits == 8 && text[digits..].starts_with(b": ") {
+        Some(Pasted::Xxd)
+    } else if digits == 8 && text[digits..].starts_with(b"  ") && text.contains(&b'|') {
+        Some(Pasted::Hexdump)
+    } else if digits > 0
+        && text.iter().all(|byte| is_dashed(*byte))
+        && text.iter().any(|byte| is_dash(*byte))
+    {
+        Some(Pasted::Dashes)
+    } else {
+        None
+    }
+}

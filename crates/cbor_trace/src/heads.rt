@@ -1,0 +1,96 @@
+//! For messages and searches, heads, one after the other, as items one after the other have them.
+//! What is an item is told by `extent`.
+ghost use Rattle.std.specs.Prelude.{◌≤◌};
+
+use cbor_bytes::utf8_fault;
+use cbor_grammar::Error;
+
+/// How many bytes after the head at this place the next one is: strings are passed.
+pub fn step(bytes: &[u8], at: usize) -> usize
+    ensures { 1 ≤ result }
+{
+    let byte = byte_at(bytes, at);
+    let head = 1 + argument_len(byte);
+    match byte {
+        0x40..=0x5b | 0x60..=0x7b => {
+            let content = usize::try_from(argument_at(bytes, at)).unwrap_or(usize::MAX);
+            head.saturating_add(content)
+        }
+        _ => head,
+    }
+}
+
+/// The byte at a place, or 0 past the end.
+fn byte_at(bytes: &[u8], at: usize) -> u8 {
+    match bytes.get(at) {
+        Some(byte) => *byte,
+        None => 0,
+    }
+}
+
+/// How many bytes follow the first of a head.
+fn argument_len(byte: u8) -> usize
+    ensures { result ≤ 8 }
+{
+    match byte & 31 {
+        24 => 1,
+        25 => 2,
+        26 => 4,
+        27 => 8,
+        _ => 0,
+    }
+}
+
+/// The argument of the head at this place.
+fn argument_at(bytes: &[u8], at: usize) -> u64 {
+    let byte = byte_at(bytes, at);
+    let mut argument = u64::from(byte & 31);
+    if argument < 24 {
+        return argument;
+    }
+    argument = 0;
+    for index in 0..argument_len(byte) {
+        let next = byte_at(bytes, at.saturating_add(index).saturating_add(1));
+        argument = (argument << 8) | u64::from(next);
+    }
+    argument
+}
+
+/// The place of the byte that is at fault in bytes that are no item, of which the first `end` have
+/// this error: the last of these; of a text that is not UTF-8, the first with which no UTF-8 goes
+/// on.
+///
+/// ```rust
+/// use cbor_grammar::Error;
+/// use cbor_trace::place_of_fault;
+///
+/// assert_eq!(rt; place_of_fault(b"\x63a\xffb", Error::Utf8, 4), 2);
+/// ```
+pub fn place_of_fault(bytes: &[u8], error: Error, end: usize) -> usize {
+    let last = end.saturating_sub(1);
+    if error != Error::Utf8 {
+        return last;
+    }
+    let mut at = 0usize;
+    'heads: while at < end {
+        let next = at.saturating_add(step(bytes, at));
+        if next >= end {
+            return last.min(first_wrong(bytes, at, end));
+        }
+        at = next;
+    }
+    last
+}
+
+/// The place of the first byte with which no UTF-8 goes on, in the text whose head is at a place
+/// and whose end at another; that end, if there is none.
+fn first_wrong(bytes: &[u8], at: usize, end: usize) -> usize {
+    let Some(first) = bytes.get(at) else {
+        return end;
+    };
+    let begins = at.saturating_add(argument_len(*first)).saturating_add(1);
+    match utf8_fault(bytes.get(begins..end).unwrap_or(b"")) {
+        Some(place) => begins.saturating_add(place),
+        None => end,
+    }
+}

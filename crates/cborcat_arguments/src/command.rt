@@ -1,0 +1,144 @@
+//! The options that `cborcat` takes, in tables, and `clap`'s command of them. What each does is
+//! said in `help.rt`.
+
+use crate::help::HELP;
+use crate::job::COLORS;
+use cbor_rules::{ENCODINGS, RULES};
+use clap::{Arg, ArgAction, Command};
+use std::alloc::{AllocError, Global};
+
+/// The forms of an input.
+static FROM: [&str; 4] = ["bytes", "hex", "diag", "base64"];
+
+/// The forms of the output.
+static TO: [&str; 8] = [
+    "pretty", "diag", "hex", "digits", "bytes", "json", "raw", "paths",
+];
+
+/// What an option takes.
+#[derive(Clone, Copy, PartialEq, Eq)]
+enum Takes {
+    /// Nothing.
+    Nothing,
+    /// Any text that begins with no hyphen.
+    Name,
+    /// Any text.
+    Text,
+    /// A number of bytes.
+    Bytes,
+    /// A number of bytes; 32 if it is left out.
+    Length,
+    /// A number of columns.
+    Columns,
+    /// A form of an input.
+    From,
+    /// A form of the output.
+    To,
+    /// When the output has colours.
+    When,
+    /// A set of rules; `rfc8949` if it is left out.
+    Rules,
+    /// A set of rules that items can be encoded by.
+    Encoding,
+}
+
+/// An option: its name, which `--` precedes, its letter, which `-` precedes, and what it takes.
+type Row<'a> = (&'a str, Option<char>, Takes);
+
+const OPTIONS: [Row<'static>; 22] = [
+    ("from", Some('f'), Takes::From),
+    ("text", Some('x'), Takes::Text),
+    ("one", Some('1'), Takes::Nothing),
+    ("offset", None, Takes::Bytes),
+    ("limit", None, Takes::Bytes),
+    ("to", Some('t'), Takes::To),
+    ("path", Some('p'), Takes::Text),
+    ("embedded", Some('e'), Takes::Nothing),
+    ("no-notes", None, Takes::Nothing),
+    ("widths", None, Takes::Nothing),
+    ("width", None, Takes::Columns),
+    ("strict", None, Takes::Nothing),
+    ("output", Some('o'), Takes::Name),
+    ("check", Some('c'), Takes::Rules),
+    ("encode", None, Takes::Encoding),
+    ("at", None, Takes::Bytes),
+    ("partial", None, Takes::Nothing),
+    ("color", None, Takes::When),
+    ("elide", None, Takes::Length),
+    ("as", None, Takes::Name),
+    ("names", None, Takes::Name),
+    ("no-names", None, Takes::Nothing),
+];
+
+/// Arguments that cannot stand together.
+const CONFLICTS: [(&str, &str); 11] = [
+    ("text", "file"),
+    ("encode", "check"),
+    ("at", "to"),
+    ("at", "path"),
+    ("at", "encode"),
+    ("at", "check"),
+    ("partial", "path"),
+    ("partial", "encode"),
+    ("partial", "check"),
+    ("no-names", "as"),
+    ("no-names", "names"),
+];
+
+/// The command, whose help is the text as written.
+pub(crate) fn command<'a>(alloc: Global) -> Result<Command<'a>, AllocError> {
+    let mut command = Command::new(alloc, "cborcat")
+        .version("0.1.0")
+        .override_help(HELP)
+        .override_usage("cborcat [OPTION]... [FILE]...");
+    for option in &OPTIONS {
+        command = command.arg(argument(alloc, *option)?)?;
+    }
+    let files = Arg::new(alloc, "file")
+        .action(ArgAction::Append)
+        .num_args(0..);
+    command.arg(files)
+}
+
+/// The argument of an option.
+fn argument<'a>(alloc: Global, option: Row<'a>) -> Result<Arg<'a>, AllocError> {
+    let (name, letter, takes) = option;
+    let mut argument = taking(Arg::new(alloc, name).long(name), takes);
+    if let Some(letter) = letter {
+        argument = argument.short(letter);
+    }
+    for (one, other) in &CONFLICTS {
+        if *one == name {
+            argument = argument.conflicts_with(other)?;
+        }
+    }
+    Ok(argument)
+}
+
+/// The same argument, which takes this.
+fn taking(argument: Arg<'_>, takes: Takes) -> Arg<'_> {
+    if takes == Takes::Nothing {
+        return argument.action(ArgAction::SetTrue);
+    }
+    let argument = argument.action(ArgAction::Set);
+    match takes {
+        Takes::Nothing | Takes::Name => argument,
+        Takes::Text => argument.allow_hyphen_values(true),
+        Takes::Bytes => argument.value_parser(clap::value_parser!(usize)),
+        Takes::Length => or(argument, "32").value_parser(clap::value_parser!(usize)),
+        Takes::Columns => argument.value_parser(clap::value_parser!(u16).range(20..=1000)),
+        Takes::From => argument.value_parser(FROM.as_slice()),
+        Takes::To => argument.value_parser(TO.as_slice()),
+        Takes::When => argument.value_parser(COLORS.as_slice()),
+        Takes::Rules => or(argument, "rfc8949").value_parser(RULES.as_slice()),
+        Takes::Encoding => argument.value_parser(ENCODINGS.as_slice()),
+    }
+}
+
+/// The same argument, whose value may be left out; it is this one then.
+fn or<'a>(argument: Arg<'a>, value: &'a str) -> Arg<'a> {
+    argument
+        .num_args(0..=1)
+        .require_equals(true)
+        .default_missing_value(value)
+}

@@ -1,0 +1,109 @@
+//! What the arguments of `cborcat` ask for.
+
+use cbor_inputs::Input;
+use cbor_inspect::{Form, Step, Style};
+use cbor_rules::RuleSet;
+
+/// Whether colours are asked for.
+#[derive(Clone, Copy, PartialEq, Eq)]
+pub enum Color {
+    /// If they are written to a terminal that shows them.
+    Auto,
+    /// Even if they are not.
+    Always,
+    /// In no case.
+    Never,
+}
+
+/// The words of these.
+pub(crate) static COLORS: [&str; 3] = ["auto", "always", "never"];
+
+impl Color {
+    /// Whether colours are asked for by a word.
+    pub(crate) fn named(word: Option<&str>) -> Color {
+        match word {
+            Some("always") => Color::Always,
+            Some("never") => Color::Never,
+            _ => Color::Auto,
+        }
+    }
+}
+
+/// What is looked for in an input.
+#[derive(Clone, Copy, PartialEq, Eq)]
+pub enum View {
+    /// Its items, or a part of each.
+    Items,
+    /// The same as JSON.
+    Json,
+    /// The same, of which each is a string: its content.
+    Raw,
+    /// The items that hold no other, and the paths to them.
+    Paths,
+    /// The item to which this byte of the data belongs.
+    At(usize),
+}
+
+/// What the arguments ask for.
+#[derive(Drop)]
+pub struct Job<'a> {
+    /// The form of the inputs, if it is named.
+    pub from: Option<Input>,
+    /// A text that is read in place of files.
+    pub text: Option<&'a str>,
+    /// How many bytes of the data are skipped.
+    pub offset: usize,
+    /// How long an item may be.
+    pub limit: usize,
+    /// What is looked for.
+    pub view: View,
+    /// Whether the output has colours.
+    pub color: Color,
+    /// How many bytes the longest strings have that are not cut, if others are.
+    pub elide: Option<usize>,
+    /// What is written of each item.
+    pub show: Wanted,
+    /// Whether names are shown where there are notes.
+    pub names: bool,
+    /// The type of what is shown.
+    pub outer: Option<&'a str>,
+    /// The file with further tables of names.
+    pub tables: Option<&'a str>,
+    /// The path as it was given.
+    pub path: &'a str,
+    /// Whether what is there of an item that is not whole is written.
+    pub partial: bool,
+    /// Whether what JSON does not keep is an error.
+    pub strict: bool,
+    /// The file that is written.
+    pub output: Option<&'a str>,
+    /// Whether inputs are checked alone.
+    pub check: bool,
+    /// The rules that a check asks for beyond those of RFC 8949's grammar.
+    pub rules: Option<RuleSet>,
+    /// The rules by which items are encoded again.
+    pub encode: Option<RuleSet>,
+    /// The files that are read; `-` for standard input.
+    pub files: Vec<&'a str>,
+}
+
+/// What is written of items.
+#[derive(Drop)]
+pub struct Wanted {
+    /// How each is written.
+    pub style: Style,
+    /// The path to the part that is written.
+    pub steps: Vec<Step>,
+    /// Whether at most one item is passed.
+    pub one: bool,
+}
+
+impl Job<'_> {
+    /// Whether items are shown with their names.
+    pub fn has_names(&self) -> bool {
+        let style = self.show.style;
+        let has_comments = matches!(style.form, Form::Pretty | Form::Hex);
+        let is_shown = self.view == View::Items && has_comments && !self.check;
+        is_shown && style.notes && self.names
+    }
+}

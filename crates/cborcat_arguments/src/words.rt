@@ -1,0 +1,178 @@
+//! The arguments, read: the job that they ask for, or why they ask for none.
+
+use crate::command::command;
+use crate::job::{Color, Job, View, Wanted};
+use cbor_inputs::Input;
+use cbor_inspect::{Form, Style, steps_of};
+use cbor_rules::RuleSet;
+use clap::ArgMatches;
+use clap::error::ErrorKind;
+use std::alloc::{AllocError, Global};
+
+/// What becomes of the arguments.
+#[derive(Drop)]
+pub enum Asked<'a> {
+    /// A run.
+    Job(Job<'a>),
+    /// Nothing more, with this status: help or the version was printed, or the arguments are wrong.
+    Ended(u8),
+}
+
+/// Reads the arguments.
+pub fn read_words<'a>(rt: &HostRuntime, words: &'a [String]) -> Asked<'a> {
+    let Ok(command) = command(rt.alloc()) else {
+        return out_of_memory(rt);
+    };
+    match command.try_get_matches_from(words) {
+        Ok(matches) => job_of(rt, &matches),
+        Err(error) if error.kind() == ErrorKind::OutOfMemory => out_of_memory(rt),
+        Err(error) => {
+            let _ = error.print(rt);
+            if error.kind() == ErrorKind::DisplayHelp || error.kind() == ErrorKind::DisplayVersion {
+                Asked::Ended(0)
+            } else {
+                Asked::Ended(2)
+            }
+        }
+    }
+}
+
+fn out_of_memory<'a>(rt: &HostRuntime) -> Asked<'a> {
+    let _ = eprintln!(rt; "cborcat: out of memory");
+    Asked::Ended(2)
+}
+
+/// The form of an input that a word names.
+fn input_of(word: &str) -> Option<Input> {
+    match word {
+        "bytes" => Some(Input::Bytes),
+        "hex" => Some(Input::Hex),
+        "diag" => Some(Input::Diag),
+        "base64" => Some(Input::Base64),
+        _ => None,
+    }
+}
+
+/// The form of the output that a word names.
+fn form_of(word: Option<&str>) -> Form {
+    match word {
+        Some("diag" | "paths") => Form::Diag,
+        Some("hex") => Form::Hex,
+        Some("digits") => Form::Digits,
+        // JSON and contents are made of the bytes of a part.
+        Some("bytes" | "json" | "raw") => Form::Bytes,
+        _ => Form::Pretty,
+    }
+}
+
+/// The columns of pretty notation, unless the arguments say so.
+const COLUMNS: u16 = 80;
+
+/// How the arguments ask for items to be written.
+fn style_of(matches: &ArgMatches) -> Style {
+    Style {
+        form: form_of(matches.get_str("to")),
+        embedded: matches.get_flag("embedded"),
+        notes: !matches.get_flag("no-notes"),
+        widths: matches.get_flag("widths"),
+        columns: matches.get_one::<u16>("width").unwrap_or(COLUMNS),
+    }
+}
+
+/// What the arguments ask to look for. A check shows nothing.
+fn view_of(matches: &ArgMatches) -> View {
+    if let Some(byte) = matches.get_one::<usize>("at") {
+        return View::At(byte);
+    }
+    match matches.get_str("to") {
+        _ if matches.get_str("check").is_some() => View::Items,
+        Some("json") => View::Json,
+        Some("raw") => View::Raw,
+        Some("paths") => View::Paths,
+        _ => View::Items,
+    }
+}
+
+/// Why what the arguments ask for is not to be had, if it is not.
+fn refusal(job: &Job, matches: &ArgMatches) -> Option<&'static str> {
+    let encoded = job.encode.is_some();
+    let is_notation = matches!(job.show.style.form, Form::Pretty | Form::Diag);
+    let has_width = matches.get_one::<u16>("width").is_some();
+    let has_tables = job.outer.is_some() || job.tables.is_some();
+    match job.view {
+        _ if has_tables && !job.has_names() => {
+            Some("--as and --names are for names, which pretty notation and dumps have, with notes")
+        }
+        _ if job.elide.is_some() && !is_notation => {
+            Some("--elide cuts strings of pretty, diag and paths alone")
+        }
+        _ if has_width && job.show.style.form != Form::Pretty => {
+            Some("--width is for pretty notation alone")
+        }
+        View::Paths if encoded || !job.path.is_empty() => {
+            Some("-t paths shows all paths as they are, and has no -p or --encode")
+        }
+        View::Json | View::Raw if encoded || job.partial => {
+            Some(
+                "-t json and -t raw show whole items as they are, \
+                 and have no --encode or --partial",
+            )
+        }
+        View::Json => None,
+        _ if job.strict => Some("--strict is for -t json"),
+        _ => None,
+    }
+}
+
+/// The files that the arguments name.
+fn files_of<'a>(alloc: Global, matches: &ArgMatches<'a>) -> Result<Vec<&'a str>, AllocError> {
+    let mut files = Vec::new(alloc);
+    if let Some(names) = matches.get_strs("file") {
+        files.extend_from_slice(names)?;
+    }
+    Ok(files)
+}
+
+/// How long an item may be that is not whole, unless the arguments say so.
+const LIMIT: usize = 256 * 1024 * 1024;
+
+/// What the arguments ask for.
+fn job_of<'a>(rt: &HostRuntime, matches: &ArgMatches<'a>) -> Asked<'a> {
+    let alloc = rt.alloc();
+    let path = matches.get_str("path").unwrap_or("");
+    let (Ok(steps), Ok(files)) = (steps_of(alloc, path), files_of(alloc, matches)) else {
+        return out_of_memory(rt);
+    };
+    let check = matches.get_str("check");
+    let show = Wanted {
+        style: style_of(matches),
+        steps,
+        one: matches.get_flag("one"),
+    };
+    let job = Job {
+        from: matches.get_str("from").and_then(input_of),
+        text: matches.get_str("text"),
+        offset: matches.get_one::<usize>("offset").unwrap_or(0),
+        limit: matches.get_one::<usize>("limit").unwrap_or(LIMIT),
+        view: view_of(matches),
+        color: Color::named(matches.get_str("color")),
+        elide: matches.get_one::<usize>("elide"),
+        show,
+        names: !matches.get_flag("no-names"),
+        outer: matches.get_str("as"),
+        tables: matches.get_str("names"),
+        path,
+        partial: matches.get_flag("partial"),
+        strict: matches.get_flag("strict"),
+        output: matches.get_str("output"),
+        check: check.is_some(),
+        rules: check.and_then(RuleSet::named),
+        encode: matches.get_str("encode").and_then(RuleSet::named),
+        files,
+    };
+    if let Some(why) = refusal(&job, matches) {
+        let _ = eprintln!(rt; "cborcat: {why}");
+        return Asked::Ended(2);
+    }
+    Asked::Job(job)
+}
