@@ -1,4 +1,5 @@
-//! Heads (RFC 7049 section 2): the first byte of an item, and the number that goes with it.
+//! Heads, read from bytes (RFC 7049 section 2): the first byte of an item, and the number that
+//! goes with it.
 ghost use Rattle.std.specs.Prelude.{◌≡◌, ◌≢◌, ◌<◌, ◌≤◌, length, IfOk, IfErr};
 ghost use Rattle.std.specs.Int.{w8, w16, w32, w64};
 ghost use Rattle.std.specs.Result.{result_map_both};

@@ -1,4 +1,4 @@
-//! Reads an item from hex with comments.
+//! Reads bytes from hex with blanks and comments. They may be no item.
 //!
 //! The text is read once, line by line: comments are skipped, and what is kept is gathered and then
 //! decoded.

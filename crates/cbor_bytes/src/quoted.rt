@@ -1,4 +1,4 @@
-//! Bytes between quotes, in hex or in base 64.
+//! Writes bytes between quotes, in hex or in base 64.
 #![tactic(auto, using(cbor_grammar::proofs::shared::Appending::appending_steps))]
 
 ghost use Rattle.cbor_tokens.specs.Appends.{AppendsText};

@@ -1,4 +1,5 @@
-//! Strings of definite length, and the chunks of indefinite ones (RFC 7049 sections 2.1 and 2.2.2).
+//! Strings of definite length, and the chunks of indefinite ones, read from bytes (RFC 7049
+//! sections 2.1 and 2.2.2).
 ghost use Rattle.std.specs.Prelude.{◌≡◌, ◌≢◌, ◌+◌, ◌*◌, ◌^◌, ◌<◌, ◌≤◌, length, IfOk};
 ghost use Rattle.std.specs.Prelude.{IfErr, map, option_map};
 ghost use Rattle.cbor_grammar.specs.mirror.MajorNumber.{major_number};

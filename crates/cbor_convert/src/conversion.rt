@@ -1,4 +1,4 @@
-//! Converts the bytes of an input to the bytes of its output.
+//! Reads an item in one form and writes it in another, for any program.
 ghost use Rattle.std.specs.Prelude.{◌≡◌, [], ◌∷◌, ◌++◌, Ok, Err, IfOk, IfErr};
 ghost use Rattle.std.specs.String.{string_bytes};
 ghost use Rattle.cbor_diag.specs.View.{view};

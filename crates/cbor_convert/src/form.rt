@@ -1,4 +1,4 @@
-//! The forms in which an item is read and written.
+//! The forms that are converted to one another: those that an item is read in and written in.
 
 /// The form in which an item is read.
 #[derive(Clone, Copy, PartialEq, Eq, Debug)]

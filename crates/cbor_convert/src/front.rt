@@ -1,4 +1,4 @@
-//! Converts the item at the front of bytes, after which more may follow.
+//! Converts the item at the front of bytes to another form. More may follow it.
 ghost use Rattle.std.specs.Prelude.{◌≡◌, ◌≢◌, [], ◌∷◌, ◌++◌, Ok, None};
 ghost use Rattle.std.specs.Prelude.{IfOk, IfErr, IfSome, OnErr};
 ghost use Rattle.std.specs.String.{string_bytes};

@@ -1,2 +1,2 @@
--- Definitions that mirror the code. Only the checker reads them: no contract of a public call needs them.
+-- Definitions for the checker alone, which follow the code that finds the decimal digits of big numbers.
 pub mod LowDigits

@@ -1,4 +1,4 @@
--- Definitions that mirror the code. Only the checker reads them: no contract of a public call needs them.
+-- Definitions for the checker alone, which follow the code that writes dumps.
 pub mod Dumped
 pub mod Widths
 pub mod ShownLines

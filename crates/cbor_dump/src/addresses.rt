@@ -1,4 +1,4 @@
-//! Network addresses (RFC 9164).
+//! The families of network addresses in notes of a dump (RFC 9164).
 
 /// A family of network addresses.
 #[derive(Clone, Copy)]

@@ -1,4 +1,4 @@
-//! What the definitions of `specs/` say of a few inputs: each is computed, or shown by a witness,
+//! What the definitions of dumps say of a few inputs: each is computed, or shown by a witness,
 //! when the crate is checked, so that a wrong definition does not pass. Nothing calls these
 //! functions.
 ghost use Rattle.std.specs.Prelude.{◌≡◌, [], ◌∷◌, ◌++◌, codes, length, map, replicate};

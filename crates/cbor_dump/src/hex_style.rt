@@ -1,4 +1,4 @@
-//! The digits of a line.
+//! The digits of a line of a dump.
 ghost use Rattle.std.specs.Prelude.{◌≡◌, ◌≤◌, ◌++◌, OnOk, length};
 ghost use Rattle.std.specs.String.{string_bytes};
 ghost use Rattle.cbor_dump.specs.Dump.{head_hex};

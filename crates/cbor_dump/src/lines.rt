@@ -1,4 +1,4 @@
-//! The lines of heads and of strings.
+//! The lines of a dump for heads and strings.
 ghost use Rattle.std.specs.Prelude.{◌≡◌, ◌<◌, ◌≤◌, ◌+◌, ◌*◌, ◌==◌, ◌++◌, ◌∷◌, [], length, OnOk};
 ghost use Rattle.std.specs.Prelude.{if◌then◌else◌, replicate};
 ghost use Rattle.std.specs.String.{string_bytes};

@@ -1,4 +1,4 @@
--- In EDN, the digits of a string, by the first apostrophe after them.
+-- By the definitions of EDN, the digits of a string, by the first apostrophe after them.
 use Rattle.std.proofs.Common.{◌≡◌, ℕ, ◌+◌, ◌==◌, List, drop, position, Some, None, sym, ap, subst, ◌∙◌}
 use Rattle.cbor_edn_grammar.specs.declared.error.Stop.{Stop}
 use Rattle.cbor_edn_grammar.specs.declared.opening.Base.{Base}

@@ -1,4 +1,4 @@
--- In EDN, digits as they are written, perhaps after a minus and before a width: the number that they are, which is no
+-- By the definitions of EDN, digits, perhaps after a minus and before a width: the number that they are, which is no
 -- float.
 use Rattle.std.proofs.Common.{◌≡◌, ℕ, ◌+◌, ◌-◌, ◌^◌, ◌<◌, ◌≤◌, ◌==◌, ◌&&◌, ◌||◌, not, Bool, true, false, List, []}
 use Rattle.std.proofs.Common.{◌∷◌, ◌++◌, length, position, Some, refl, sym, ap, ap₂, subst, ◌∙◌, arith, append-nil}

@@ -1,4 +1,4 @@
--- In EDN, what an item begins with, and what may follow it.
+-- By the definitions of EDN, what an item begins with, and what may follow it.
 use Rattle.std.proofs.Common.{◌≡◌, ℕ, List, [], ◌∷◌, Bool, true, false, ◌==◌, ◌||◌}
 use Rattle.cbor_edn_grammar.specs.Strings.{joined}
 use Rattle.cbor_edn_grammar.specs.Word.{is_digit, is_letter}

@@ -1,4 +1,4 @@
--- The number of a text of EDN, and its bits in a width, are what `cbor_floats` finds.
+-- By the definitions of EDN, the number of a text, and its bits in a width, are what `cbor_floats` finds.
 use Rattle.std.proofs.Common.{T, ◌≡◌, ◌⊎◌, inl, inr, ℕ, ◌^◌, ◌<◌, ◌%◌, ◌/◌, ◌∷◌, Bool, true, false, List, [], length}
 use Rattle.std.proofs.Common.{codes, Option, Some, None, MatchOption, IsTrue, IsFalse, if◌then◌else◌, ◌&&◌, ◌||◌, ◌==◌}
 use Rattle.std.proofs.Common.{nat_lt, nat_le, option_map, refl, sym, ap, ap₂, ◌∙◌, subst, arith, lit<}

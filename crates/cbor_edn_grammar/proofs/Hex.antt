@@ -1,4 +1,4 @@
--- In EDN, bytes in hex digits are read back, up to the apostrophe after them.
+-- By the definitions of EDN, which bytes hex digits are, up to the apostrophe after them.
 use Rattle.std.proofs.Common.{◌≡◌, ℕ, ◌/◌, ◌%◌, ◌<◌, ◌==◌, List, [], ◌∷◌, ◌++◌, length}
 use Rattle.std.proofs.Common.{codes, Some, None, true, false, refl, sym, ap, ◌∙◌, arith, slice_index}
 use Rattle.std.proofs.Math.Seq.{take-append_seam, drop-append-add}

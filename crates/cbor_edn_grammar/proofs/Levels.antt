@@ -1,5 +1,5 @@
--- In EDN, an item that is well formed at a level is so at each level above that; and what is read with so many levels
--- left.
+-- By the definitions of EDN, an item that is well formed at a level is so at each level above that; and what is read
+-- with this many levels left.
 use Rattle.std.proofs.Common.{◌≡◌, ℕ, zero, suc, true, false, if◌then◌else◌, ◌+◌, ◌≤◌, List, None}
 use Rattle.std.proofs.Common.{refl, ap, ◌∙◌, arith}
 use Rattle.cbor_grammar.specs.Item as spec

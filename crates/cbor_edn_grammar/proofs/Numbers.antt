@@ -1,4 +1,5 @@
--- In EDN, words that are numbers: their parts, and numbers past 2 ^ 64, which code counts as one more than that.
+-- By the definitions of EDN, words that are numbers: their parts, and numbers past 2 ^ 64, which code counts as one
+-- more than that.
 use Rattle.std.proofs.Common.{◌≡◌, ℕ, zero, suc, ◌-◌, ◌^◌, ◌<◌, ◌==◌, List, [], ◌∷◌, length, take, drop}
 use Rattle.std.proofs.Common.{position, Option, Some, None, refl, sym, ap, ◌∙◌, arith, min}
 use Rattle.std.proofs.lemmas.Bool.Decides.{nat_tests}

@@ -1,4 +1,4 @@
--- In EDN, a text that is read turn after turn, piece by piece.
+-- By the definitions of EDN, a text that is read turn after turn, piece by piece.
 use Rattle.std.proofs.Common.{◌≡◌, ℕ, zero, suc, ◌<◌, List, [], ◌++◌, length, Option, Some, None, Bool, true}
 use Rattle.std.proofs.Common.{false, refl, sym, ap, ◌∙◌, append_assoc, length-append, arith}
 use Rattle.cbor_edn_grammar.specs.Reading.{Read, ◌>>=◌, with_later, turns, repeated}

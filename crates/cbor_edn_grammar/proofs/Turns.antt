@@ -1,4 +1,4 @@
--- In EDN, reading turn after turn, as a loop does: what the turns before gave, and what the later ones give.
+-- By the definitions of EDN, reading turn after turn: what the turns before gave, and what the later ones give.
 use Rattle.std.proofs.Common.{◌≡◌, ℕ, zero, suc, ◌<◌, List, [], ◌++◌, length, Option, Some, None, Bool, true}
 use Rattle.std.proofs.Common.{false}
 use Rattle.std.proofs.Common.{refl, sym, ap, subst, ◌∙◌, append_assoc, arith}

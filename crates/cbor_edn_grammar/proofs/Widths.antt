@@ -1,4 +1,4 @@
--- In EDN, the width that is read beside a number: the number fits it.
+-- By the definitions of EDN, the width that is read beside a number: the number fits it.
 use Rattle.std.proofs.Common.{◌≡◌, ℕ, ◌^◌, ◌<◌, true}
 use Rattle.std.proofs.lemmas.Bool.{lt-ltb}
 use Rattle.cbor_grammar.specs.declared.width.IntegerWidth.{IntegerWidth}

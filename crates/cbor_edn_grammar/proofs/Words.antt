@@ -1,4 +1,4 @@
--- In EDN, a word is read whole where the text after it does not go on with a word or a number.
+-- By the definitions of EDN, a word is read whole where the text after it does not go on with a word or a number.
 use Rattle.std.proofs.Common.{◌≡◌, ℕ, suc, ◌+◌, ◌<◌, ◌==◌, ◌&&◌, ◌||◌, not, if◌then◌else◌, Bool, true, false, List}
 use Rattle.std.proofs.Common.{[], ◌∷◌, ◌++◌, length, position, Some, None, refl, sym, ap, ◌∙◌, arith, append-nil}
 use Rattle.std.proofs.Common.{length-append}

@@ -78,7 +78,7 @@ prefix_item six text digits = address_bytes six text >>= λ bytes. bit_count six
 
 -- ---- the content of `ip'..'`
 
--- an address, or a prefix where there is a slash at this index; so many levels are left for the items in it
+-- an address, or a prefix where there is a slash at this index; this many levels are left for the items in it
 abbrev pub parted_item : ℕ → List ℕ → Option ℕ → Option Item
 parted_item left content None = address_item (is_ipv6 content) content
 parted_item zero content (Some n) = None

@@ -47,7 +47,7 @@ pub record Dyadic : Type 0 where
 unfoldable pub rounded : Format → Dyadic → Float
 rounded f x = round f x.negative (x.digits * 2 ^ x.up) (2 ^ x.down)
 
--- a number with so many of its digits after the point, times 2 to an exponent of this sign and size
+-- a number with this many of its digits after the point, times 2 to an exponent of this sign and size
 abbrev pub with_exponent : Bool → ℕ → ℕ → Bool → ℕ → Dyadic
 with_exponent negative n places below size = record {
   negative = negative;

@@ -109,7 +109,7 @@ read_tagged read n width text =
 abbrev pub integer_item : List ℕ → Option Item
 integer_item word = integer_of word >>= λ a. Some (atom a)
 
--- a number that is an item by itself: by its form a float or an integer; so many levels are left for items in it
+-- a number that is an item by itself: by its form a float or an integer; this many levels are left for items in it
 abbrev pub number_item : ℕ → List ℕ → Option Item
 number_item left word = if is_float word then (float_word word >>= λ a. Some (atom a))
     else option_or (integer_item word) (big_item left word)

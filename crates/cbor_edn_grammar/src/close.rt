@@ -1,4 +1,4 @@
-//! In EDN, what closes a list.
+//! What may close a list of EDN: the type, which errors name too.
 ghost use Rattle.std.specs.Prelude.{◌≡◌};
 ghost use Rattle.cbor_edn_grammar.specs.Expectations.{missing};
 

@@ -1,4 +1,4 @@
-//! In EDN, what a piece of a string begins with.
+//! What a piece of a string of EDN may begin with: the type.
 ghost use Rattle.std.specs.Prelude.{◌≡◌};
 ghost use Rattle.cbor_edn_grammar.specs.Strings.{kind_of};
 ghost use Rattle.cbor_edn_grammar.specs.Digits.{slashes_in};

@@ -1,4 +1,4 @@
-//! In EDN, words, and the widths that they state.
+//! Which texts are words of EDN, by their bytes, and the widths that they state.
 ghost use Rattle.std.specs.Prelude.{◌≡◌, ◌≤◌, length, true, option_map};
 ghost use Rattle.std.specs.List.{list_all};
 ghost use Rattle.std.specs.Str.Parse.{IsNumeral};

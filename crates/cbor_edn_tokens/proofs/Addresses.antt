@@ -1,4 +1,4 @@
--- The bytes of addresses in EDN are those of std's parser, and a prefix cut off a zero at a time.
+-- In tokens of EDN, the bytes of addresses are those of std's parser, and a prefix is cut off a zero at a time.
 use Rattle.std.proofs.Common.{◌≡◌, ℕ, zero, suc, List, [], ◌∷◌, ◌++◌, length, Some, None, refl, sym, ap, subst}
 use Rattle.std.proofs.Common.{◌+◌, ◌<◌, ◌==◌, if◌then◌else◌, take, drop, position}
 use Rattle.std.proofs.Common.{◌∙◌, append-nil, lit≤, ne_eqb, arith}
@@ -52,7 +52,7 @@ pub ruleset address_laws = (ipv4_yes, ipv4_no, ipv6_yes, ipv6_no)
 
 -- ---- zeros at the end
 
--- how many bytes there are up to the last that is not 0, where so many were passed, and that last one was among them
+-- how many bytes there are up to the last that is not 0, where this many were passed, and that last one was among them
 -- at `found`, and there are `later` from there on
 abbrev pub used_so_far : ℕ → ℕ → ℕ → ℕ
 used_so_far found passed later = if later == 0 then found else passed + later

@@ -1,4 +1,4 @@
--- In EDN, the first apostrophe, as a search for many bytes at once finds it.
+-- In tokens of EDN, the first apostrophe, as a search for many bytes at once finds it.
 use Rattle.std.proofs.Common.{◌≡◌, ℕ, ◌<◌, ◌==◌, Bool, true, false, List, length, get_or, position, Option, Some, None}
 use Rattle.std.proofs.Common.{refl, sym, ap, ◌∙◌, arith}
 use Rattle.std.specs.List.{position_or_len}

@@ -1,4 +1,4 @@
--- In EDN, a blank, passed one space or comment after the other.
+-- In tokens of EDN, a blank, passed one space or comment after the other.
 use Rattle.std.proofs.Common.{◌≡◌, ℕ, zero, suc, ◌<◌, ◌≤◌, List, length, Some, None, Bool, ap, ◌∙◌, arith}
 use Rattle.cbor_edn_grammar.specs.Blank.{after_space, or_here, after_spaces}
 

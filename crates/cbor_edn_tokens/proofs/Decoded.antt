@@ -1,4 +1,4 @@
--- In EDN, digits that are decoded are decoded as the definition does.
+-- In tokens of EDN, digits that are decoded are decoded as the definition does.
 use Rattle.std.proofs.Common.{◌≡◌, ◌≢◌, ℕ, ◌⊎◌, List, Option, Some, None, Result, Ok, Err, Vec, Global, refl}
 use Rattle.std.proofs.Common.{IfOk}
 use Rattle.std.specs.Option.{ok_or, IfSome, IfNone, option_map}

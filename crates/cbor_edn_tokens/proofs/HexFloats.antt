@@ -1,4 +1,4 @@
--- In EDN, numbers in base 16: their digits one by one, and their sign.
+-- In tokens of EDN, numbers in base 16: their digits one by one, and their sign.
 use Rattle.std.proofs.Common.{◌≡◌, ℕ, ◌+◌, ◌-◌, ◌*◌, ◌^◌, ◌<◌, Bool, true, false, List, [], ◌∷◌, length, take, drop}
 use Rattle.std.proofs.Common.{position, Some}
 use Rattle.std.proofs.Math.Seq.{take-length}

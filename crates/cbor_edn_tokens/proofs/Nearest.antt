@@ -1,4 +1,4 @@
--- In EDN, rounding by the digits at the front of a number.
+-- In tokens of EDN, rounding by the digits at the front of a number.
 use Rattle.std.proofs.Common.{◌≡◌, ◌⊎◌, inl, inr, ℕ, zero, suc, ◌+◌, ◌-◌, ◌*◌, ◌/◌, ◌%◌, ◌^◌, ◌<◌, ◌≤◌, min}
 use Rattle.std.proofs.Common.{true≢false, Bool, true, false, cond, T, ltb, refl, sym, ap, ap₂, ◌∙◌, subst, arith}
 use Rattle.std.proofs.Common.{lit<, lit≤, mul_assoc, mul_right_comm, mul-one, mul-pos}
@@ -245,7 +245,7 @@ nearest_is f d b t n up down size_d lift scale least high less is size_is lift_i
     positive : (n d b t : ℕ) → 0 < d → n ≡ d * 2 ^ b + t → 0 < n
     positive n d b t some is = let m = mul-pos some (pow_pos b) in omega (arith, m, is)
 
--- ---- the float of so many units, by its bits
+-- ---- the float of this many units, by its bits
 
 bits_of_value : (f : Format) (x : Float) (a : ℕ) → HasValue x false a (2 ^ low f)
     → to_bits f x ≡ 0 + (size a - prec f) * hid f + a / 2 ^ (size a - prec f)

@@ -1,4 +1,4 @@
--- Hex digits of EDN with no blanks between them.
+-- In tokens of EDN, hex digits with no blanks between them.
 use Rattle.std.proofs.Common.{◌≡◌, ℕ, List, [], ◌∷◌, Some, true, ap, ◌∙◌, arith}
 use Rattle.std.specs.List.{AllByRecursion, list_all}
 use Rattle.std.proofs.lemmas.Bool.{and_parts}

@@ -1,4 +1,4 @@
--- In EDN, content up to the first quote or backslash, which turns take byte by byte.
+-- In tokens of EDN, content up to the first quote or backslash, which turns take byte by byte.
 use Rattle.std.proofs.Common.{◌≡◌, ℕ, ◌<◌, ◌==◌, Bool, true, false, List, [], ◌∷◌, ◌++◌, length, take, drop}
 use Rattle.std.proofs.Common.{Some, None, suc, refl, sym, ap, subst, ◌∙◌, append_assoc, arith}
 use Rattle.std.proofs.lemmas.List.{take-append-drop}

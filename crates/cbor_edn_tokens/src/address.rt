@@ -1,4 +1,4 @@
-//! In EDN, network addresses in text, and the bits of a prefix.
+//! Reads tokens of EDN: network addresses in text, and the bits of a prefix.
 ghost use Rattle.std.specs.Prelude.{◌≡◌, ◌==◌, ◌-◌, ◌%◌, ◌^◌, ◌≤◌, length};
 ghost use Rattle.cbor_edn_grammar.specs.Reading.{Gives};
 ghost use Rattle.cbor_edn_grammar.specs.Address.{is_ipv6, ipv4_bytes, ipv6_bytes, address_bytes};

@@ -1,4 +1,4 @@
-//! In EDN, what opens, separates and closes lists.
+//! Reads tokens of EDN: what opens, separates and closes lists.
 ghost use Rattle.std.specs.Prelude.{◌≡◌, ◌≤◌, length, option_map, IfSome};
 ghost use Rattle.cbor_notation.specs.mirror.Cursor.{Takes};
 ghost use Rattle.cbor_edn_grammar.specs.Reading.{Gives};

@@ -1,4 +1,4 @@
-//! In EDN, what is still to be read of a text, and what is taken from its front.
+//! Reads tokens of EDN: what is still to be read of a text, and what is taken from its front.
 //!
 //! A function that reads at a cursor leaves it behind what it read. Where it stops for an error,
 //! the cursor is at the place of the error.

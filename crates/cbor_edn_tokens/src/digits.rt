@@ -1,4 +1,5 @@
-//! In EDN, digits between apostrophes: base 16, 32 and 64, with blanks between them.
+//! Reads tokens of EDN: digits between apostrophes, in base 16, 32 and 64, with blanks between
+//! them.
 ghost use Rattle.std.specs.Prelude.{◌≡◌, ◌<◌, ◌≤◌, ◌==◌, drop, true, length, option_map};
 ghost use Rattle.std.specs.Prelude.{position, IfOk, IfErr, IfSome};
 ghost use Rattle.cbor_tokens.specs.Base32.{standard, extended_hex};

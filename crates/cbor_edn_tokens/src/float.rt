@@ -1,4 +1,4 @@
-//! In EDN, floats: the words that they are, and their bits.
+//! Reads tokens of EDN: floats, the words that they are, and their bits.
 ghost use Rattle.std.specs.Prelude.{◌≡◌, ◌<◌, ◌≤◌, ◌==◌, ◌||◌, true, false, length, position};
 ghost use Rattle.std.specs.Prelude.{option_map, IfOk, IfSome};
 ghost use Rattle.cbor_grammar.specs.Item.{float};

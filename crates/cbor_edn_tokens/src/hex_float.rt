@@ -1,4 +1,4 @@
-//! In EDN, numbers in base 16 times a power of 2, as C writes floats: `0x1.8p3`.
+//! Reads tokens of EDN: numbers in base 16 times a power of 2, as C writes floats: `0x1.8p3`.
 mod nearest;
 
 ghost use Rattle.std.specs.Prelude.{◌≡◌, ◌==◌, ◌||◌, ℕ, ◌+◌, ◌^◌, ◌<◌, ◌≤◌, length, position};
@@ -146,7 +146,7 @@ fn exponent(text: &[u8]) -> Result<u64, Stop>
     small_run(digits)
 }
 
-/// A number with so many of its digits after the point, times 2 to an exponent of this sign and
+/// A number with this many of its digits after the point, times 2 to an exponent of this sign and
 /// size.
 fn with_exponent(negative: bool, digits: (Front, usize), below: bool, size: u64) -> HexNumber
     requires fits { FitsFront digits.0 }

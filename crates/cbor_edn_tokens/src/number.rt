@@ -1,4 +1,4 @@
-//! In EDN, integers, and the widths that they state.
+//! Reads tokens of EDN: integers, and the widths that they state.
 ghost use Rattle.std.specs.Prelude.{◌≡◌, ◌==◌, ◌<◌, ◌≤◌, ℕ, length, position, IfSome, IfNone, IfOk};
 ghost use Rattle.std.specs.Prelude.{Some, None};
 ghost use Rattle.cbor_tokens.specs.Token.{capped};

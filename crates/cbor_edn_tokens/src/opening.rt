@@ -1,4 +1,4 @@
-//! In EDN, what a piece of a string begins with.
+//! Reads tokens of EDN: what a piece of a string begins with.
 ghost use Rattle.std.specs.Prelude.{◌≡◌, ◌<◌, length, option_map, IfSome};
 ghost use Rattle.cbor_edn_grammar.specs.Strings.{may_open, opening_of, begins_string};
 

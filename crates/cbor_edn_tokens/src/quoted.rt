@@ -1,4 +1,4 @@
-//! In EDN, what is between quotes: text with JSON's escapes.
+//! Reads tokens of EDN: what is between quotes, which is text with JSON's escapes.
 ghost use Rattle.std.specs.Prelude.{◌≡◌, ◌<◌, ◌≤◌, ◌^◌, ◌++◌, true, length, take, drop, IfOk};
 ghost use Rattle.std.specs.Prelude.{IfSome};
 ghost use Rattle.std.specs.Prelude.{option_map};

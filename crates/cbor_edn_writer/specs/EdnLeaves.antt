@@ -136,7 +136,7 @@ argument_bytes width.ThirtyTwo = 4
 argument_bytes width.SixtyFour = 8
 argument_bytes w = 0
 
--- how many bytes remain after a byte string with this head, where so many remain from it on
+-- how many bytes remain after a byte string with this head, where this many remain from it on
 abbrev pub after_string : Argument → ℕ → ℕ
 after_string (Number n w) here = here - (1 + argument_bytes w) - n
 after_string Indefinite here = here

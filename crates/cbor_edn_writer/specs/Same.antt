@@ -38,7 +38,7 @@ abbrev pub go_on : (List ℕ → Bool) → Option (List ℕ) → Bool
 go_on go (Some rest) = go rest
 go_on go None = false
 
--- the bytes are so many heads at most, none of them of such a value
+-- the bytes are this many heads at most, none of them of such a value
 unfoldable pub are_heads : ℕ → List ℕ → Bool
 are_heads n [] = true
 are_heads zero (b ∷ bs) = false

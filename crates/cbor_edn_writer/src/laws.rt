@@ -1,4 +1,4 @@
-//! Laws of the definitions, as contracts of functions that nobody calls.
+//! Laws of what is written as EDN, as contracts of functions that nobody calls.
 ghost use Rattle.std.specs.Prelude.{◌≡◌, ℕ, List, Some};
 ghost use Rattle.std.specs.List.{AllByRecursion};
 ghost use Rattle.cbor_grammar.specs.Item.{Item, items_of};

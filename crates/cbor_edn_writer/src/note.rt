@@ -1,4 +1,4 @@
-//! Notes in EDN that a caller has on items, by the place of each item.
+//! Notes in written EDN that a caller has on items, by the place of each item.
 
 /// What to write at an item of the bytes that are shown.
 ///

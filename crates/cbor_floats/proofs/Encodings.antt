@@ -1,4 +1,4 @@
--- What is an encoding of a number.
+-- Which floats are an encoding of a number.
 use Rattle.std.proofs.Common.{◌≡◌, ℕ, ◌*◌, ◌<◌, Bool, false, not, T, inl, inr, refl, sym, ap, ◌∙◌, subst}
 use lib.Ieee.{Float, Format, nan, binary32, binary64, fits, is_nan, of_bits, to_bits, top}
 use lib.Ieee.Bits.{of_bits-to_bits, of_bits-fits, to_bits-lt, to_bits-of_bits}

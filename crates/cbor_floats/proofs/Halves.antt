@@ -1,4 +1,4 @@
--- The number of a half, and the half of a number.
+-- The number of a float of 16 bits, and the float of 16 bits of a number.
 use Rattle.std.proofs.Common.{◌≡◌, ◌⊎◌, inl, inr, ℕ, ◌+◌, ◌-◌, ◌*◌, ◌/◌, ◌%◌, ◌^◌, ◌<◌, Bool, true, false, cond, pos}
 use Rattle.std.proofs.Common.{zero, suc, refl, sym, ap, ◌∙◌, subst, arith, true≢false, nat_le, eqb, eqb-true, ne_eqb}
 use Rattle.std.proofs.Common.{lit<, lit≤, mul_assoc, mul_comm, mul-pos, lt_of_lt_of_le, pow-add, pow_mono, shl_lt}

@@ -1,4 +1,4 @@
--- Rounding to a half: it depends on the fraction alone, and what becomes of its digits.
+-- Rounding a float to 16 bits: it depends on the fraction alone, and what becomes of its digits.
 use Rattle.std.proofs.Common.{◌≡◌, ◌⊎◌, inl, inr, ℕ, ℤ, zero, suc, ◌+◌, ◌-◌, ◌*◌, ◌/◌, ◌%◌, ◌^◌, ◌<◌, ◌≤◌, min, max}
 use Rattle.std.proofs.Common.{Bool, true, false, not, cond, T, ltb, refl, sym, ap, ap₂, ◌∙◌, subst, arith, true≢false}
 use Rattle.std.proofs.Common.{lit<, lit≤, mul_assoc, mul_right_comm, mul-one, one-mul, mul-pos, mul-le-mul_right}

@@ -1,4 +1,4 @@
-//! Laws of the definitions, as contracts of functions that nobody calls.
+//! Laws of floats as numbers, as contracts of functions that nobody calls.
 ghost use Rattle.std.specs.Prelude.{◌≡◌, ℕ, List};
 ghost use Rattle.std.specs.Float.Ieee.{Float};
 ghost use Rattle.cbor_floats.specs.Decimal.{IsNumber, IsReadAs};

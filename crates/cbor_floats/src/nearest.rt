@@ -1,4 +1,4 @@
-//! The half that is nearest to a number, and the half that is the number.
+//! The float of 16 bits that is nearest to a number, and the one that is the number.
 ghost use Rattle.std.specs.Prelude.{◌≡◌, ◌+◌, ◌*◌, ◌^◌, ◌<◌, ◌≤◌, ℕ, MatchOption};
 ghost use Rattle.std.specs.Float.{is_sign_negative, NotNan};
 ghost use Rattle.std.specs.Float.Ieee.Nearest.{closest};

@@ -1,4 +1,4 @@
--- When two items are the same: if all their fields are, widths included. `==` tests this.
+-- The definition of items that are the same: all their fields are, widths included. `==` tests this.
 use Rattle.std.specs.Prelude.{Bool, true, false, ◌&&◌, nat_eq, Option, Some, None}
 use Rattle.std.specs.Cmp.Lexicographic.{pointwise}
 use Rattle.cbor_grammar.specs.declared.width.IntegerWidth.{IntegerWidth}

@@ -1,4 +1,4 @@
--- The chunk that a `ByteString` and a `TextString` is.
+-- What types of strings are: the chunk that a `ByteString` and a `TextString` is.
 use Rattle.std.specs.Prelude.{string_bytes}
 use Rattle.cbor_grammar.specs.Item.{Chunk}
 use Rattle.cbor_grammar.specs.declared.strings.ByteString.{ByteString}

@@ -1,4 +1,4 @@
--- Definitions that mirror the code. Only the checker reads them: no contract of a public call needs them.
+-- Definitions for the checker alone, which follow the code of types, and that of readers in the crates above.
 pub mod Counting
 pub mod AtLevel
 pub mod MajorNumber

@@ -1,4 +1,4 @@
-//! How the bytes of a byte string are written.
+//! A type: how the bytes of a byte string are written in notation.
 
 /// How bytes are written between quotes (RFC 4648).
 #[derive(Clone, Copy)]

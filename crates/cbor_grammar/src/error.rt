@@ -1,4 +1,4 @@
-//! Errors.
+//! `Error`: why bytes, hex or notation are no item.
 ghost use Rattle.std.specs.Prelude.{◌≡◌, Some};
 ghost use Rattle.cbor_grammar.specs.Refusals.{text_of, number_of};
 ghost use Rattle.cbor_grammar.specs.declared.error.Error.TheVariants.{Memory};

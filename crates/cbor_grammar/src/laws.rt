@@ -1,5 +1,5 @@
-//! Laws of the definitions of `specs/` alone: what holds of all bytes, whatever reads them. Nothing
-//! calls these functions.
+//! Laws between the definitions of `specs/` alone: what holds of all bytes, whether they are an
+//! item, are cut or have a fault. Nothing calls these functions.
 ghost use Rattle.std.specs.Prelude.{◌≡◌, ℕ, ◌+◌, ◌<◌, ◌≤◌, List, slice_index};
 ghost use Rattle.cbor_grammar.specs.WellFormed.{deepest};
 ghost use Rattle.cbor_grammar.specs.Embedded.{EmbedsExactly, RejectsExactly};

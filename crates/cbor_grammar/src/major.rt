@@ -1,4 +1,4 @@
-//! Major types (RFC 7049 section 2.1).
+//! A type: major types (RFC 7049 section 2.1).
 ghost use Rattle.std.specs.Prelude.{◌≡◌, ◌≤◌, ◌*◌, ◌/◌};
 ghost use Rattle.cbor_grammar.specs.mirror.MajorNumber.{major_number};
 

@@ -1,5 +1,5 @@
-//! The tags that have a name here: those of RFC 7049, RFC 8742, RFC 8746, RFC 8943 and RFC 9164,
-//! and some of the IANA registry of CBOR tags.
+//! The types of tags and of simple values. The tags with a name are those of RFC 7049, RFC 8742,
+//! RFC 8746, RFC 8943 and RFC 9164, and some of the IANA registry.
 
 /// The number of a tag, which gives a meaning to the item below it (RFC 7049 section 2.4).
 ///

@@ -1,4 +1,4 @@
-//! Widths: which numbers fit, which is the shortest, and which one a number is written in.
+//! Types: widths, which numbers fit, which is the shortest, and which one a number is written in.
 ghost use Rattle.std.specs.Prelude.{◌≡◌, ◌↔◌, IsTrue};
 ghost use Rattle.cbor_grammar.specs.Head.{FitsWidth, FitsStated, shortest, stated};
 ghost use Rattle.cbor_grammar.specs.WellFormed.{FitsFloat, FitsCount};

@@ -1,3 +1,3 @@
--- Definitions that mirror the code. Only the checker reads them: no contract of a public call needs them.
+-- Definitions for the checker alone, which follow the code that finds what JSON does not keep.
 pub mod Clashing
 pub mod Losing

@@ -1,4 +1,4 @@
-//! Rows of tables: a member, a key or a value is one line.
+//! Rows of the tables of COSE and its like: a member, a key or a value is one line.
 
 /// A member of an array.
 macro_rules! member {

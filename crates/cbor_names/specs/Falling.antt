@@ -1,4 +1,4 @@
--- The places of notes, which are counted from the end of the bytes.
+-- The places of notes with names, which are counted from the end of the bytes.
 use Rattle.std.specs.Prelude.{ℕ, ◌<◌, ◌≤◌, List, [], ◌∷◌, suc}
 use Rattle.cbor_names.specs.declared.note.Note.{Note}
 use Rattle.cbor_names.specs.declared.note.Notes.{Notes}

@@ -1,4 +1,4 @@
--- The texts of tables, which are parts of one text.
+-- The texts of tables of names, which are parts of one text.
 use Rattle.std.specs.Prelude.{ℕ, List, slice_range}
 use Rattle.std.specs.String.{string_bytes}
 use Rattle.cbor_names.specs.declared.table.Names.{Names}

@@ -1,4 +1,4 @@
-//! Tables that are made: types and their parts become rows.
+//! Tables of names that are made: types and their parts become rows.
 
 use crate::part::{Definition, Key, Part, Shape, What};
 use crate::table::{KeyRow, Names, PartRow, ShapeRow, TextRange, Type, WhatRow};

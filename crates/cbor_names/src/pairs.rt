@@ -1,5 +1,5 @@
-//! The pairs of a map, looked at before they are walked: what its keys are, and whether it has the
-//! signs of a type.
+//! For names, the pairs of a map, looked at before they are walked: what its keys are, and whether
+//! it has the signs of a type.
 
 ghost use Rattle.std.specs.Prelude.{◌<◌, length, IfSome};
 

@@ -1,4 +1,5 @@
-//! Types as the author of a table writes them: what a type is, and what its parts are called.
+//! Types as the author of a table of names writes them: what a type is, and what its parts are
+//! called.
 
 /// A type of items. Its parts follow, as [`Names::push`](crate::Names::push) takes them.
 #[derive(Clone, Copy)]

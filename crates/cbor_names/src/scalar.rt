@@ -1,4 +1,5 @@
-//! Integers and texts at the front of bytes, and the keys and values of tables that they are.
+//! Integers and texts at the front of bytes, and the keys and values of tables of names that they
+//! are.
 
 use crate::part::Kind;
 use crate::table::{KeyRow, Names, PartRow};

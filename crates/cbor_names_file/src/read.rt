@@ -1,4 +1,4 @@
-//! The words, names and keys of a file.
+//! The words, names and keys of a file of names.
 
 use crate::fault::Fault;
 use cbor_names::{Key, Kind, Part, What};

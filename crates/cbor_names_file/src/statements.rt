@@ -16,7 +16,7 @@ enum Within {
     Short(u8),
     /// A backslash in a string that ends with one `"`.
     ShortEscape,
-    /// A string that ends with three of this quote, up to so many of them.
+    /// A string that ends with three of this quote, up to this many of them.
     Long(u8, u8),
     /// A backslash in a string that ends with three `"`.
     LongEscape,

@@ -1,4 +1,4 @@
-//! The types of a file, added to tables.
+//! The types of a file of names, added to tables.
 
 use crate::fault::Fault;
 use crate::read::{by, key, member, name, part, tag, text};

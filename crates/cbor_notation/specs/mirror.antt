@@ -1,4 +1,4 @@
--- Definitions that mirror the code. Only the checker reads them: no contract of a public call needs them.
+-- Definitions for the checker alone, which follow the code that reads notation: the function and the `Cursor`.
 pub mod NotationReading
 pub mod OpenTokens
 pub mod Cursor

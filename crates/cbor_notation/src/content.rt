@@ -1,4 +1,5 @@
-//! What is between quotes: text with escapes, and digits with blanks.
+//! What a `Cursor` takes from between the quotes of notation: text with escapes, and digits with
+//! blanks.
 ghost use Rattle.std.specs.Prelude.{◌≡◌, ◌⊎◌, ◌<◌, length, true, false, option_map, IfOk, IfErr};
 ghost use Rattle.std.specs.Prelude.{IfSome, Some, None, Err, position};
 ghost use Rattle.cbor_grammar.specs.Reading.{Gives};

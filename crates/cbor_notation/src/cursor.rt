@@ -1,4 +1,5 @@
-//! What is still to be read of a text, and the tokens that are taken from its front.
+//! `Cursor`: what is still to be read of a text in notation, and the tokens that are taken from
+//! its front.
 ghost use Rattle.std.specs.Prelude.{◌≡◌, ◌⊎◌, ◌↔◌, ◌<◌, ◌≤◌, length, None, Some, IfOk, [], IsTrue};
 ghost use Rattle.cbor_grammar.specs.Reading.{Gives};
 ghost use Rattle.cbor_notation.specs.mirror.Cursor.{Takes, TakesComma};

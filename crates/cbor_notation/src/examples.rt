@@ -1,6 +1,6 @@
-//! What the definitions of `specs/` say of a few inputs: each is computed, or shown by a witness,
-//! when the crate is checked, so that a wrong definition does not pass. Nothing calls these
-//! functions.
+//! What the definitions of reading notation say of a few inputs: each is computed, or shown by a
+//! witness, when the crate is checked, so that a wrong definition does not pass. Nothing calls
+//! these functions.
 ghost use Rattle.std.specs.Prelude.{[], ◌∷◌, codes, Some};
 ghost use Rattle.std.specs.List.{AllByRecursion};
 ghost use Rattle.cbor_grammar.specs.declared.width.IntegerWidth.TheVariants.{Unknown, Zero, Eight};

@@ -1,5 +1,5 @@
-//! Laws of the definitions of `specs/` alone: what holds of all bytes, whatever reads them. Nothing
-//! calls these functions.
+//! Laws of reading notation: what holds of the function and of what the grammar has, whatever
+//! reads a text. Nothing calls these functions.
 ghost use Rattle.std.specs.Prelude.{◌≡◌, ℕ, List};
 ghost use Rattle.cbor_grammar.specs.Item.{Item};
 ghost use Rattle.cbor_notation.specs.mirror.NotationReading.{notation_of};

@@ -1,4 +1,4 @@
-//! Numbers, and the widths that they state.
+//! Numbers that a `Cursor` takes from notation, and the widths that they state.
 ghost use Rattle.std.specs.Prelude.{◌≡◌, ◌≢◌, ◌<◌, ℕ, length, IfOk, Ok, Err, MatchResult};
 ghost use Rattle.cbor_tokens.specs.Token.{capped};
 ghost use Rattle.cbor_grammar.specs.Head.{FitsWidth};

@@ -1,4 +1,5 @@
-//! What separates the items of a text: blanks, commas, and what closes a list.
+//! What separates the items of notation as a `Cursor` passes it: blanks, commas, and what closes a
+//! list.
 ghost use Rattle.std.specs.Prelude.{◌≡◌, ◌⊎◌, ◌<◌, ◌≤◌, length, position, not, IfOk, IfSome};
 ghost use Rattle.std.specs.Prelude.{option_map};
 ghost use Rattle.cbor_tokens.specs.Token.{is_whitespace};

@@ -1,4 +1,4 @@
-//! What begins with which byte.
+//! In notation, what begins with which byte.
 ghost use Rattle.std.specs.Prelude.{◌≡◌, ◌≤◌, length};
 ghost use Rattle.cbor_notation.specs.mirror.NotationReading.{begins_piece, begins_string};
 ghost use Rattle.cbor_notation.specs.mirror.NotationReading.{first_start};

@@ -124,7 +124,7 @@ Listed d p c l ms = Between d p c l (listed (d.start c l) (d.end c l) ms)
 
 -- ---- items, the items in them written by `write`
 
--- the length of a container of so many members whose count has this width
+-- the length of a container of this many members whose count has this width
 abbrev pub count_of : Option IntegerWidth → ℕ → Argument
 count_of (Some w) n = Number n w
 count_of None n = Indefinite

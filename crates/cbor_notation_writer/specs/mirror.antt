@@ -1,4 +1,4 @@
--- Definitions that mirror the code. Only the checker reads them: no contract of a public call needs them.
+-- Definitions for the checker alone, which follow the code that writes notation straight from bytes.
 pub mod Straight
 pub mod Ahead
 pub mod LayoutView

@@ -1,4 +1,5 @@
-//! Where in a text an item is: what decides how it is written, beside the item itself.
+//! Where in notation that is written an item is: what decides how it is written, beside the item
+//! itself.
 ghost use Rattle.std.specs.Prelude.{◌≡◌, ◌+◌, ◌≤◌};
 ghost use Rattle.cbor_grammar.specs.declared.encoding.Encoding.TheVariants.{Base16};
 ghost use Rattle.cbor_grammar.specs.WellFormed.{deepest};

@@ -1,5 +1,5 @@
-//! What holds no item: numbers, strings, floats and simple values (RFC 7049 section 6). Each is
-//! written by a function of its own, which isn't inlined where the kinds of items are told apart.
+//! Writes numbers, strings, floats and simple values in notation (RFC 7049 section 6), each by a
+//! function of its own, which isn't inlined where the kinds of items are told apart.
 #![tactic(auto, using(cbor_grammar::proofs::shared::Appending::appending_steps))]
 
 ghost use Rattle.std.specs.Prelude.{◌≡◌, ◌+◌, ◌++◌, codes};

@@ -1,4 +1,4 @@
--- Network addresses as text. IPv6 is written as RFC 5952, sections 4 and 5, recommends.
+-- Network addresses as text in comments. IPv6 is written as RFC 5952, sections 4 and 5, recommends.
 use Rattle.std.specs.Prelude.{◌≡◌, ℕ, ◌+◌, ◌≤◌, ◌==◌, nat_le, max, Bool, false, List, [], ◌∷◌, ◌++◌, length, take, drop}
 use Rattle.std.specs.Prelude.{map, replicate, if◌then◌else◌, codes, decimal, bytes_eq}
 use Rattle.std.specs.Fmt.{digits}

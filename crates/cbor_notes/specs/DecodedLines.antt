@@ -1,4 +1,4 @@
--- The lines that show what a text in base 64 encodes.
+-- In comments, the lines that show what a text in base 64 encodes.
 use Rattle.std.specs.Prelude.{ℕ, ◌-◌, ◌*◌, Bool, Option, option_map, List, ◌++◌, map, min, length, replicate, codes}
 use Rattle.std.specs.Int.{div_ceil}
 use Rattle.std.specs.List.{range_with_len}

@@ -1,4 +1,4 @@
--- A few lines, for examples.
+-- A few lines of a dump in columns, for examples.
 use Rattle.std.specs.Prelude.{[], codes}
 use Rattle.cbor_notes.specs.Layout.{DumpLine}
 

@@ -1,4 +1,4 @@
--- The lines of a tree of lines, and which trees are laid out.
+-- In the columns of a dump, the lines of a tree of lines, and which trees are laid out.
 use Rattle.std.specs.Prelude.{ℕ, ◌+◌, ◌<◌, ◌≤◌, List, ◌∷◌, length, string_bytes, flat_map}
 use Rattle.std.specs.List.{AllByRecursion}
 use Rattle.std.specs.Str.{IsAscii}

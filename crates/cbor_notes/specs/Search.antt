@@ -1,4 +1,4 @@
--- The first number of several for which something is found.
+-- Of dates, the first number of several for which something is found.
 use Rattle.std.specs.Prelude.{ℕ, zero, suc, Option, None}
 use Rattle.std.specs.Option.{option_or}
 

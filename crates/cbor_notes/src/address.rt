@@ -1,4 +1,4 @@
-//! Network addresses as text.
+//! Network addresses as text in comments.
 
 ghost use Rattle.std.specs.Prelude.{◌≡◌, IfOk};
 ghost use Rattle.std.specs.String.{string_bytes};

@@ -1,5 +1,5 @@
-//! What the definitions of `specs/` say of a few inputs: each is computed when the crate is
-//! checked, so that a wrong definition does not pass. Nothing calls these functions.
+//! What the definitions of comments and dates say of a few inputs: each is computed when the crate
+//! is checked, so that a wrong definition does not pass. Nothing calls these functions.
 ghost use Rattle.std.specs.Prelude.{◌≡◌, [], ◌∷◌, ◌++◌, map, replicate, codes, true, false, Some};
 ghost use Rattle.std.specs.Prelude.{None, pos, negsuc, neg_ℤ};
 ghost use Rattle.cbor_notes.specs.Address.{ipv4_text, ipv6_text, mac_text};

@@ -1,5 +1,5 @@
-//! Laws of the definitions of `specs/` alone: what holds of all days and texts, whatever a call
-//! returns. Nothing calls these functions.
+//! Laws of the definitions of comments and dates alone: what holds of all days and texts, whatever
+//! a call returns. Nothing calls these functions.
 ghost use Rattle.std.specs.Prelude.{◌≡◌, ℕ, ◌<◌, ℤ, pos, List, IfSome};
 ghost use Rattle.std.specs.Prelude.{IsSome};
 ghost use Rattle.std.specs.Int.{int_div_euclid};

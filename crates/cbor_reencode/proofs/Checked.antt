@@ -1,4 +1,4 @@
--- What was checked is read again without an error, part by part.
+-- Encoding again: what was checked is read again without an error, part by part.
 use Rattle.std.proofs.Common.{◌≡◌, ℕ, zero, suc, ◌+◌, ◌-◌, ◌<◌, ◌≤◌, Bool, true, false}
 use Rattle.std.proofs.Common.{cond, List, [], ◌∷◌, length, take}
 use Rattle.std.proofs.Common.{drop, Option, Some, None, Ok, Err, refl, sym, ap, subst, ◌∙◌, arith}

@@ -1,4 +1,4 @@
--- The next chunk of a string, or its break, is what is read by its length.
+-- Encoding again: the next chunk of a string, or its break, is what is read by its length.
 use Rattle.std.proofs.Common.{◌≡◌, ℕ, List, ◌∷◌, ◌++◌, length, Some, None, Ok, sym, ap, subst, ◌∙◌}
 use Rattle.cbor_grammar.specs.declared.width.IntegerWidth.{IntegerWidth}
 use Rattle.cbor_grammar.specs.declared.strings.StringKind.{StringKind}

@@ -1,4 +1,4 @@
--- Items that keep rules keep rules that ask for less, and are the same as themselves.
+-- Encoding again: items that keep rules keep rules that ask for less, and are the same as themselves.
 use Rattle.std.proofs.Common.{◌≡◌, ℕ, ◌+◌, Bool, true, false, List, [], ◌∷◌, Option, Some, None, refl}
 use Rattle.std.proofs.Common.{sym, subst, ◌∙◌, ◌≤◌, ◌⊎◌, inl, inr}
 use Rattle.std.specs.Prelude.{IsTrue}

@@ -1,4 +1,5 @@
--- A permutation of a list has each element of it: each can be taken out in turn until none is left.
+-- Sorting the keys of maps: a permutation of a list has each element of it, and each can be taken out in turn until
+-- none is left.
 use Rattle.std.proofs.Common.{◌≡◌, ℕ, zero, suc, ◌<◌, ◌⊎◌, List, [], ◌∷◌, ◌++◌, length, get_or, inl, inr, refl, sym, ap}
 use Rattle.std.proofs.Common.{subst, ◌∙◌, append_assoc, arith}
 use Rattle.std.proofs.Math.ListN.{set}

@@ -1,4 +1,5 @@
--- Two neighbours among sorted pairs whose keys are the same bytes are two keys of the map that become one.
+-- Sorting the keys of maps: two neighbours among sorted pairs whose keys are the same bytes are two keys of the map
+-- that become one.
 use Rattle.std.proofs.Common.{◌≡◌, ◌≢◌, ℕ, ◌+◌, ◌≤◌, ◌<◌, false, List, [], ◌∷◌, length, get_or, map}
 use Rattle.std.proofs.Common.{inl, inr, refl, sym, ap, subst, ◌∙◌, arith}
 use Rattle.std.proofs.lemmas.Bool.{cases_eq, eqb-false, ne_eqb}

@@ -1,5 +1,5 @@
--- Numbers in the one form that rules leave them: floats that are integers as integers, one NaN, and big numbers as
--- integers where they fit, else without zero bytes in front.
+-- Encoding again: numbers in the one form that rules leave them. Floats that are integers are integers, there is one
+-- NaN, and big numbers are integers where they fit, else without zero bytes in front.
 use Rattle.std.specs.Prelude.{ℕ, ◌+◌, ◌-◌, ◌*◌, ◌^◌, Bool, ◌&&◌, ◌||◌, ◌==◌, nat_lt, if◌then◌else◌, is_nan, List}
 use Rattle.std.specs.Prelude.{[], ◌∷◌}
 use Rattle.std.specs.Prelude.{Option, Some, None}

@@ -1,4 +1,5 @@
-//! The choices that rules leave or take: widths of heads, widths of floats and kinds of length.
+//! Encoding again: the choices that rules leave or take, which are widths of heads, widths of
+//! floats and kinds of length.
 ghost use Rattle.std.specs.Prelude.{◌≡◌};
 ghost use Rattle.cbor_grammar.specs.Head.{FitsStated};
 ghost use Rattle.cbor_grammar.specs.WellFormed.{FitsCount};

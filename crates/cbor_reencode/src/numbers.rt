@@ -1,4 +1,5 @@
-//! Numbers in the form that rules leave them: floats that are integers, and big numbers.
+//! Encoding again: numbers in the form that rules leave them, floats that are integers, and big
+//! numbers.
 ghost use Rattle.std.specs.Prelude.{◌≡◌, ◌≤◌, ◌^◌, ◌++◌, IfOk, MatchOption, option_map};
 ghost use Rattle.cbor_grammar.specs.Head.{FitsStated, shortest};
 ghost use Rattle.cbor_grammar.specs.Written.{encoded_head};

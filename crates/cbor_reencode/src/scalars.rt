@@ -1,4 +1,4 @@
-//! Items that hold no item.
+//! Items that hold no item, as they are encoded again.
 ghost use Rattle.std.specs.Prelude.{◌≡◌, ℕ, List, ◌+◌, ◌<◌, ◌≤◌, ◌++◌, ◌∷◌, length, Ok, None};
 ghost use Rattle.std.specs.Prelude.{IfOk, MatchOption};
 ghost use Rattle.cbor_grammar.specs.Head.{FitsStated, break_byte};

@@ -32,7 +32,7 @@ struct Beside<'n> {
 }
 
 impl<'n> Beside<'n> {
-    /// What is written in the next line, which has this comment and so many bytes.
+    /// What is written in the next line, which has this comment and this many bytes.
     fn next(&mut self, comment: &[u8], len: usize) -> Words<'n> {
         let at = self.remaining;
         self.remaining = at.saturating_sub(len);
@@ -46,7 +46,7 @@ impl<'n> Beside<'n> {
         Words { name, meaning }
     }
 
-    /// The name and the meaning of the item from which on so many bytes remain. Notes of items
+    /// The name and the meaning of the item from which on this many bytes remain. Notes of items
     /// before it are passed.
     fn note(&mut self, at: usize) -> (&'n str, &'n str) {
         let notes = self.notes;

@@ -1,4 +1,4 @@
-//! Strings between quotes, and comments, where they are in a line.
+//! For colours, strings between quotes, and comments, where they are in a line.
 ghost use Rattle.std.specs.Prelude.{◌≡◌, ◌+◌, ◌≤◌, length};
 
 /// The byte at a place, or 0 past the end.

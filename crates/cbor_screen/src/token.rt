@@ -1,4 +1,4 @@
-//! The tokens of a line.
+//! For colours, the tokens of a line.
 ghost use Rattle.std.specs.Prelude.{◌≡◌, ◌+◌, ◌<◌, ◌≤◌, length};
 
 use crate::kind::Kind;

@@ -1,4 +1,4 @@
--- Numbers that are bytes.
+-- For all crates: numbers that are bytes.
 use Rattle.std.specs.Prelude.{List, ℕ}
 use Rattle.std.specs.Int.Digits.{AllBelowBase}
 

@@ -1,4 +1,4 @@
--- The characters of ASCII that texts here give a meaning, by name.
+-- For all crates: the characters of ASCII that texts give a meaning, by name.
 use Rattle.std.specs.Prelude.{ℕ}
 
 abbrev pub tab : ℕ

@@ -1,4 +1,4 @@
--- Hex digits with blanks and comments.
+-- What hex digits are left without blanks and comments, for all who read hex.
 use Rattle.std.specs.Prelude.{◌≢◌, ℕ, ◌==◌, not, List, filter, flat_map}
 use Rattle.std.specs.List.{All, before_first}
 use Rattle.std.specs.Str.Lines.{lines}

@@ -1,4 +1,4 @@
--- Which alphabet and base the code's own enums are.
+-- Which alphabet of base 32 and which base of numbers the code's own enums are.
 use Rattle.cbor_tokens.specs.declared.base32.Alphabet.TheVariants as own_alphabet
 use Rattle.cbor_tokens.specs.declared.token.number.Base.TheVariants as own_base
 use Rattle.cbor_tokens.specs.declared.base32.Alphabet as declared_alphabet

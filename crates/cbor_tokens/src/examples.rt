@@ -1,5 +1,5 @@
-//! What the definitions of `specs/` say of a few inputs: each is computed when the crate is
-//! checked, so that a wrong definition does not pass. Nothing calls these functions.
+//! What the definitions of tokens and digits say of a few inputs: each is computed when the crate
+//! is checked, so that a wrong definition does not pass. Nothing calls these functions.
 ghost use Rattle.std.specs.Prelude.{◌≡◌, [], ◌∷◌, map, codes, true, false, Some};
 ghost use Rattle.std.specs.Prelude.{None, ◌+◌, ◌^◌, List, ℕ};
 ghost use Rattle.cbor_tokens.specs.Base32.{base32, base32hex};

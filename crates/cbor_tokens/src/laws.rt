@@ -1,4 +1,4 @@
-//! Laws of the definitions of `specs/` alone. Nothing calls these functions.
+//! Laws of the definitions of tokens and digits alone. Nothing calls these functions.
 ghost use Rattle.std.specs.Prelude.{◌≡◌, ℕ, ◌++◌, Bool, true, List, Some};
 ghost use Rattle.std.specs.Prelude.{codes};
 ghost use Rattle.std.specs.List.{range_with_len};

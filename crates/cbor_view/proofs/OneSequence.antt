@@ -1,4 +1,4 @@
--- Bytes are a sequence of items in one way, so they have one output.
+-- Bytes are a sequence of items in one way, so a run of the filter has one output.
 use Rattle.std.proofs.Common.{◌≡◌, ℕ, List, [], ◌∷◌, ◌++◌, Ok, Err, inl, inr, refl, sym, ap, ◌∙◌, subst}
 use Rattle.std.proofs.Common.{append-nil, arith}
 use Rattle.std.specs.List.{flat_map}

@@ -1,4 +1,4 @@
--- The word of each form.
+-- The word of each form, as an argument of the filter.
 use Rattle.std.specs.Prelude.{ℕ, List, codes}
 use Rattle.cbor_convert.specs.declared.form.Source.{Source}
 use Rattle.cbor_convert.specs.declared.form.Source.TheVariants as source

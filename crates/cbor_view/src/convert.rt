@@ -1,4 +1,4 @@
-//! Converts the bytes of an input to the bytes of its output.
+//! Converts the input of a run of the filter to its output.
 ghost use Rattle.std.specs.Prelude.{Ok, Err, IfOk};
 ghost use Rattle.cbor_diag.specs.Answer.{RefusedSo};
 ghost use Rattle.cbor_convert.specs.Output.{IsOutput};

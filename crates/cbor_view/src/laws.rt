@@ -1,5 +1,5 @@
-//! Laws of the definitions of `specs/` alone: which output bytes have, without regard to the code.
-//! Nothing calls these functions.
+//! Laws of the definitions of `specs/` alone: which output of the filter bytes have, without
+//! regard to the code. Nothing calls these functions.
 ghost use Rattle.std.specs.Prelude.{◌≡◌, ℕ, List, ◌++◌};
 ghost use Rattle.cbor_grammar.specs.declared.error.Error.{Error};
 ghost use Rattle.cbor_convert.specs.declared.form.To.{To};

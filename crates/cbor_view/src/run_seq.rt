@@ -1,4 +1,4 @@
-//! A run of the program for a sequence of items, one after the other (RFC 8742).
+//! A run of the filter for a sequence of items, one after the other (RFC 8742).
 ghost use Rattle.std.specs.Prelude.{◌≡◌, ℕ, ◌<◌, ◌≤◌, List, ◌++◌, length, drop, IfOk, OnOk, OnErr};
 ghost use Rattle.cbor_diag.specs.Answer.{RefusedSo};
 ghost use Rattle.cbor_view.specs.Running.{HadAll, NoFailure, OneFailure, ReadsAll};

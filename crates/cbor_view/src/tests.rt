@@ -1,4 +1,5 @@
-//! Runs over memory, by the arguments of the command line, and the calls of a `Counted`.
+//! Runs of the filter over memory, by the arguments of the command line, and the calls of a
+//! `Counted`.
 use crate::counted::Counted;
 use crate::fakes::{COMMENTED, Full, ITEM, Noting, first_difference};
 use crate::run::run;

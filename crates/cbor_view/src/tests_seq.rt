@@ -1,4 +1,5 @@
-//! Runs over sequences of items, over memory, and in which pieces what they write is written.
+//! Runs of the filter over sequences of items, over memory, and in which pieces what they write is
+//! written.
 use crate::counted::Counted;
 use crate::fakes::{Noting, first_difference};
 use crate::run_seq::run_seq;

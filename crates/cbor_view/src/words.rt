@@ -1,4 +1,4 @@
-//! The words of the command line.
+//! The words of the command line of the filter, `FROM` and `TO`.
 ghost use Rattle.std.specs.Prelude.{◌≡◌, Some, IfSome};
 ghost use Rattle.cbor_view.specs.Words.{source_word, target_word};
 

@@ -1,4 +1,5 @@
--- Bytes that spell an item spell it strictly if no two of them that follow each other are a simple value below 24.
+-- What `strict.rt` tests: bytes that spell an item spell it strictly if no two of them that follow each other are a
+-- simple value below 24.
 use Rattle.std.proofs.Common.{◌≡◌, ℕ, zero, suc, ◌+◌, ◌≤◌, true, List, [], ◌∷◌, ◌++◌, length, drop}
 use Rattle.std.proofs.Common.{◌∙◌, get_or, Option, Some, None, inl, inr, refl, sym, ap, subst, arith}
 use Rattle.std.proofs.lemmas.Bool.{cases_lt, eq-eqb}

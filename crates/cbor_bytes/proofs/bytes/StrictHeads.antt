@@ -1,4 +1,4 @@
--- Bytes that spell an item spell it strictly if no head in them takes a byte too many.
+-- What `strict.rt` tests: bytes that spell an item spell it strictly if no head in them takes a byte too many.
 use Rattle.std.proofs.Common.{◌≡◌, ◌≢◌, ℕ, zero, suc, ◌+◌, ◌-◌, ◌/◌, ◌%◌, ◌^◌, ◌<◌, ◌≤◌, ◌⊎◌, Bool, false, cond, ltb}
 use Rattle.std.proofs.Common.{List, [], ◌∷◌, ◌++◌}
 use Rattle.std.proofs.Common.{length, take, drop, Option}

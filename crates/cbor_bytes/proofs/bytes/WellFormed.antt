@@ -1,4 +1,4 @@
--- Items that are spelled are well formed.
+-- For all who read bytes: items that are spelled are well formed.
 use Rattle.std.proofs.Common.{ℕ, List, ◌++◌}
 use Rattle.std.proofs.Common.{subst}
 use Rattle.cbor_grammar.specs.Item.{Items, no_items, item}

@@ -1,4 +1,4 @@
--- What a search by `memchr` says, in the words of the definitions of lines.
+-- In hex with comments, what a search by `memchr` says, in the words of the definitions of lines.
 use Rattle.std.proofs.Common.{◌≡◌, ◌≢◌, ℕ, ◌<◌, List, length, get_or, Bool, true, ◌||◌, ◌==◌, Some, None, arith, inl}
 use Rattle.std.proofs.Common.{inr}
 use Rattle.std.specs.List.{position_or_len}

@@ -1,4 +1,4 @@
--- Reading a chunk in two steps, its length and then its content.
+-- For all who read bytes: a chunk, read in two steps, its length and then its content.
 use Rattle.std.proofs.Common.{◌≡◌, ◌==◌, ℕ, ◌/◌, ◌%◌, Bool, true, false, cond, List, [], ◌∷◌}
 use Rattle.std.proofs.Common.{Option, Some, None, Ok, Err, refl}
 use Rattle.cbor_grammar.specs.declared.error.Error.TheVariants as refusal

@@ -1,4 +1,4 @@
--- What a loop over the chunks of a string has read: the walks over bytes keep it.
+-- For all who read bytes: what a loop over the chunks of a string has read.
 use Rattle.std.proofs.Common.{◌≡◌, ℕ, ◌+◌, ◌<◌, ◌≤◌, List, [], ◌∷◌, ◌++◌, length, Some, None, Ok, ap, ◌∙◌, arith}
 use Rattle.cbor_grammar.specs.declared.error.Error.{Error}
 use Rattle.cbor_grammar.specs.Item.{Chunk}

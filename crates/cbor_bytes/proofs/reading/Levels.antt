@@ -1,4 +1,4 @@
--- What reading gives at a level, by what it gives after a head.
+-- For all who read bytes: what reading gives at a level, by what it gives after a head.
 use Rattle.std.proofs.Common.{◌≡◌, ℕ, ◌+◌, ◌<◌, ◌≤◌, List, Ok, Err, sym, ap, subst, ◌∙◌, arith, inl, inr}
 use Rattle.std.proofs.lemmas.Bool.{cases_lt}
 use Rattle.cbor_grammar.specs.declared.error.Error.{Error}

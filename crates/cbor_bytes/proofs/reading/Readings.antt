@@ -1,4 +1,4 @@
--- What reading gives after a head, and of containers part by part, its turns left aside.
+-- For all who read bytes: what reading gives after a head, and of containers part by part, its turns left aside.
 use Rattle.std.proofs.Common.{◌≡◌, ◌≢◌, ℕ, suc, ◌+◌, ◌-◌, ◌≤◌, List, [], Some, None, Result, Ok, Err, refl, sym, ap}
 use Rattle.std.proofs.Common.{subst, ◌∙◌, arith}
 use Rattle.cbor_grammar.specs.declared.width.IntegerWidth.{IntegerWidth}

@@ -1,4 +1,4 @@
--- The open containers, in an array of kinds and an array of numbers.
+-- For a `Scanner`: the open containers, in an array of kinds and an array of numbers.
 use Rattle.std.proofs.Common.{◌≡◌, ℕ, ◌+◌, ◌<◌, ◌≤◌, List, [], ◌∷◌, ◌++◌, length, get_or, take, refl, sym, ap, ◌∙◌}
 use Rattle.std.proofs.Common.{arith}
 use Rattle.std.proofs.Math.ListN.{set}

@@ -1,4 +1,4 @@
--- What is still to come in open containers, where the bytes come in pieces.
+-- For a `Scanner`: what is still to come in open containers, where the bytes come in pieces.
 use Rattle.std.proofs.Common.{◌≡◌, ℕ, ◌+◌, ◌-◌, ◌<◌, ◌≤◌, List, ◌∷◌, ◌++◌, length, None, Ok, Err, refl, ap, ◌∙◌}
 use Rattle.std.proofs.Common.{append_assoc, arith}
 use Rattle.std.proofs.lemmas.List.{length-append}

@@ -1,4 +1,4 @@
-//! How bytes begin.
+//! How bytes begin, as `extent` and a `Scanner` report it.
 use cbor_grammar::Error;
 
 /// How bytes begin, as [`extent`] reports it.

@@ -1,4 +1,4 @@
-//! The open containers while the bytes of an item come in pieces.
+//! In a `Scanner`, the open containers while the bytes of an item come in pieces.
 ghost use Rattle.std.specs.Prelude.{◌≡◌, ◌<◌, ◌+◌, ◌*◌, [], length, Some, None, IfOk, IfErr};
 ghost use Rattle.cbor_bytes.specs.mirror.Scanning.{Pauses, skip_from};
 ghost use Rattle.cbor_grammar.specs.Item.{no_items};

@@ -1,4 +1,4 @@
-//! The open containers around the innermost one, on a stack of fixed size.
+//! In `extent`, the open containers around the innermost one, on a stack of fixed size.
 ghost use Rattle.std.specs.Prelude.{◌≡◌, ◌<◌, ◌≤◌, [], ◌∷◌, ◌++◌, length, replicate};
 ghost use Rattle.std.specs.Prelude.{IfSome, Some, None};
 ghost use Rattle.cbor_grammar.specs.WellFormed.{deepest};

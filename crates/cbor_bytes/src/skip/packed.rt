@@ -1,5 +1,5 @@
-//! The open containers around the innermost one, on a stack of fixed size that takes little room: a
-//! third of that of [`Outer`], which is faster.
+//! In a `Scanner`, the open containers around the innermost one, on a stack of fixed size that
+//! takes little room: a third of that of [`Outer`], which is faster.
 //!
 //! [`Outer`]: super::outer::Outer
 ghost use Rattle.std.specs.Prelude.{◌≡◌, ◌<◌, ◌≤◌, [], ◌∷◌, ◌++◌, length, IfSome, Some, None};

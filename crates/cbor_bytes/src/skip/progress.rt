@@ -1,4 +1,4 @@
-//! How far the bytes of an item have come, in pieces.
+//! In a `Scanner`, how far the bytes of an item have come, in pieces.
 ghost use Rattle.std.specs.Prelude.{◌≡◌, ◌≤◌, ℕ, List, [], ◌++◌, length, IfOk, IfErr};
 
 use super::Stop;

@@ -1,4 +1,4 @@
-//! What is still to come in an open container.
+//! In `extent` and a `Scanner`, what is still to come in an open container.
 ghost use Rattle.std.specs.Prelude.{◌≡◌, Some, option_map};
 ghost use Rattle.cbor_grammar.specs.Item.{no_items};
 ghost use Rattle.cbor_grammar.specs.Reading.{items_in, put, after_members, after_end, one_less};

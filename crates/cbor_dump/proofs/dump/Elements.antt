@@ -1,4 +1,4 @@
--- The elements of typed arrays: how long they are.
+-- In the notes of a dump, the elements of typed arrays: how long they are.
 use Rattle.std.proofs.Common.{ℕ, ◌≤◌, true, false, cond, min, List, length, Option, Some, None, arith}
 use Rattle.cbor_notes.specs.Element.{element_size, is_typed_array, size}
 use Rattle.cbor_notes.proofs.texts.ElementLemmas.{size_small}

@@ -1,4 +1,4 @@
--- The bytes of a head and of a chunk's head, where they were read.
+-- In the lines of a dump, the bytes of a head and of a chunk's head, where they were read.
 use Rattle.std.proofs.Common.{◌≡◌, ◌≢◌, ℕ, ◌+◌, ◌-◌, ◌≤◌, List, [], ◌∷◌, ◌++◌, length, take, Ok, Some, refl, sym, ap}
 use Rattle.std.proofs.Common.{◌∙◌, arith}
 use Rattle.std.specs.Int.{w16, w32, w64, to_be_bytes}

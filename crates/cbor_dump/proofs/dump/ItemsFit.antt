@@ -1,4 +1,4 @@
--- The lines of an item can be laid out.
+-- The lines of the dump of an item can be laid out.
 use Rattle.std.proofs.Common.{◌≡◌, ℕ, zero, suc, ◌+◌, ◌<◌, List, ◌++◌, codes, refl, arith}
 use Rattle.std.specs.List.{AllByRecursion}
 use Rattle.cbor_notes.specs.Layout.{DumpLine}

@@ -1,4 +1,4 @@
--- What the walk does with an item, its notes, a container and its members.
+-- What the walk that dumps does with an item, its notes, a container and its members.
 use Rattle.std.proofs.Common.{◌≡◌, ℕ, suc, ◌+◌, ◌-◌, ◌==◌, ◌≤◌, true, false, cond, List, ◌++◌, Option, Some}
 use Rattle.std.proofs.Common.{None, refl, sym, ap, subst, append-nil, append_assoc, inl, inr, ◌∙◌, arith}
 use Rattle.std.proofs.lemmas.Bool.{cases_lt}

@@ -1,4 +1,4 @@
--- Where a string is cut into pieces, and what the pieces are.
+-- In a dump, where a string is cut into pieces, and what the pieces are.
 use lib.Utf8.{encodes}
 use Rattle.std.proofs.Common.{◌≡◌, ℕ, zero, suc, ◌+◌, ◌<◌, ◌≤◌, ◌==◌, true, false, min, List, [], ◌∷◌, length, take}
 use Rattle.std.proofs.Common.{drop, slice_index, nat_le, inl, inr, refl, sym, ap, ◌∙◌, arith, length-drop}

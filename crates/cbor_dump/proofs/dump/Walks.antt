@@ -1,4 +1,4 @@
--- What a writer does with one line after the other, with the pieces of a string, and with its chunks.
+-- What the writer of a dump does with one line after the other, with the pieces of a string, and with its chunks.
 use Rattle.std.proofs.Common.{◌≡◌, ℕ, ◌<◌, ◌≤◌, List, [], ◌∷◌, ◌++◌, map, length, take, drop, refl, sym, ap, ◌∙◌}
 use Rattle.std.proofs.Common.{◌*◌, codes, append_assoc, append-nil, arith}
 use Rattle.std.specs.List.{flat_map}

@@ -1,4 +1,4 @@
--- The notes, values, zones and address families of the code, as the definitions have them.
+-- The notes of a dump, values, zones and address families of the code, as the definitions have them.
 use Rattle.std.specs.Prelude.{◌≡◌, ℕ, zero, suc, List, map, Option, Some, None, Ok, IsSome}
 use Rattle.std.specs.String.{string_bytes}
 use Rattle.cbor_dump.specs.declared.notes.Note as declared_note

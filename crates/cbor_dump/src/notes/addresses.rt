@@ -1,4 +1,4 @@
-//! Network addresses (RFC 9164).
+//! Notes of a dump on network addresses (RFC 9164).
 ghost use Rattle.std.specs.Prelude.{ℕ, ◌≡◌, ◌≢◌, ◌++◌, List, codes, decimal, length, IfOk, OnOk};
 ghost use Rattle.std.specs.Prelude.{IfSome, IfNone};
 ghost use Rattle.std.specs.String.{string_bytes};

@@ -1,4 +1,5 @@
-//! Dates and times, as texts and as numbers (RFC 7049 section 2.4.1 and RFC 8943).
+//! Notes of a dump on dates and times, as texts and as numbers (RFC 7049 section 2.4.1 and RFC
+//! 8943).
 ghost use Rattle.std.specs.Prelude.{◌≡◌, codes, option_map, IfOk};
 ghost use Rattle.std.specs.String.{string_bytes};
 ghost use Rattle.cbor_notes.specs.Date as dates;

@@ -1,4 +1,5 @@
-//! Values that are shared, and references to them (the IANA registry of CBOR tags).
+//! Notes of a dump on values that are shared, and on references to them (the IANA registry of CBOR
+//! tags).
 ghost use Rattle.std.specs.Prelude.{◌≡◌, IfOk};
 ghost use Rattle.std.specs.String.{string_bytes};
 ghost use Rattle.cbor_dump.specs.Notes as spec;

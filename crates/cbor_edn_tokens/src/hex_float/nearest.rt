@@ -1,4 +1,5 @@
-//! In EDN, the float that is nearest to a number in base 16, by the digits at its front.
+//! Reads tokens of EDN: the float that is nearest to a number in base 16, by the digits at its
+//! front.
 ghost use Rattle.std.specs.Prelude.{◌≡◌, ◌⊎◌, ℕ, ◌+◌, ◌*◌, ◌/◌, ◌^◌, ◌<◌, ◌≤◌, ◌||◌, nat_lt, false};
 ghost use Rattle.std.specs.Prelude.{from_bits};
 ghost use Rattle.std.specs.Float.Ieee.{round, units, prec, low, hid, ones};

@@ -1,4 +1,4 @@
--- In EDN, the bytes of a decimal number as it is written: digits, points and signs. They are one word, and mark no
+-- In EDN that is written, the bytes of a decimal number: digits, points and signs. They are one word, and mark no
 -- width.
 use Rattle.std.proofs.Common.{◌≡◌, ℕ, ◌+◌, ◌<◌, ◌==◌, ◌||◌, ◌&&◌, Bool, true, false, if◌then◌else◌}
 use Rattle.std.proofs.Common.{List, [], ◌∷◌, ◌++◌, length, position}

@@ -1,5 +1,5 @@
--- In EDN, a word that begins with a letter is read as a name, or as a prefix where an apostrophe or a parenthesis
--- follows.
+-- In EDN, a name that is written is read back: a word that begins with a letter, or a prefix where an apostrophe or a
+-- parenthesis follows.
 use Rattle.std.proofs.Common.{◌≡◌, ℕ, suc, ◌<◌, ◌==◌, ◌&&◌, ◌||◌, not, Bool, true, false, List, [], ◌∷◌, ◌++◌, codes}
 use Rattle.std.proofs.Common.{Some, refl, sym, ap, ap₂, ◌∙◌, arith, bytes_eq}
 use Rattle.std.proofs.lemmas.Bool.{cond-false, agree_below, agree_below_at, not-true}

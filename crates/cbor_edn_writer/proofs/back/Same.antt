@@ -125,7 +125,7 @@ module _ (n first : ℕ) (b more : List ℕ)
       subst (λ (f : ℕ). StrictHeads (f ∷ (b ++ more))) (sym (eqb-true first break_byte e)) (a_break (later b is))
   with_first false e is = with_read (read_head (first ∷ b)) refl is
 
--- bytes that are so many heads, before strict heads
+-- bytes that are this many heads, before strict heads
 heads_strict : (n : ℕ) (b more : List ℕ) → are_heads n b ≡ true → StrictHeads more → StrictHeads (b ++ more)
 unfolding are_heads after_head
 heads_strict n [] more is s = s

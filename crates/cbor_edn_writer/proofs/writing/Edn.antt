@@ -1,4 +1,4 @@
--- What the dialect writes is EDN of the item, and the same bytes are read back.
+-- What the dialect EDN writes is EDN of the item, and the same bytes are read back.
 use Rattle.std.proofs.Common.{◌≡◌, ℕ, suc, List, [], ◌∷◌, ◌++◌, true, false, Bool, Result, Ok, Err, IfOk, MatchResult}
 use Rattle.std.proofs.Common.{Some, Global, refl, sym, ap, subst, ◌∙◌}
 use Rattle.std.specs.String.{string_bytes}

@@ -1,4 +1,4 @@
--- For EDN: heads one after the other, and items one after the other, as the loops pass them.
+-- Writing EDN: heads one after the other, and items one after the other, as the loops pass them.
 use Rattle.std.proofs.Common.{◌≡◌, ℕ, zero, suc, ◌<◌, ◌≤◌, List, [], ◌∷◌, length, Option, Some, None, Bool, true, false}
 use Rattle.std.proofs.Common.{Err, refl, sym, ap, ◌∙◌, arith}
 use Rattle.std.proofs.Common.{◌≢◌, ◌+◌, ◌-◌, ◌==◌, ◌&&◌, take, drop, slice_index, nat_le, if◌then◌else◌}

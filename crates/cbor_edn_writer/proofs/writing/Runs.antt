@@ -1,4 +1,4 @@
--- In EDN, texts in which no character is hidden, and line feeds are outside of quotes and comments.
+-- In EDN that is written, texts in which no character is hidden, and line feeds are outside of quotes and comments.
 use Rattle.std.proofs.Common.{◌≡◌, inl, inr, ℕ, zero, suc, ◌≤◌, List, [], ◌∷◌, ◌++◌}
 use Rattle.std.proofs.Common.{Bool, true, false, Option, Some, None, ◌==◌, ◌&&◌, ◌||◌, if◌then◌else◌, nat_le, not}
 use Rattle.std.proofs.Common.{refl, sym, ap, subst, ◌∙◌, arith, replicate}

@@ -1,4 +1,4 @@
--- In EDN, the texts of an item: no character in them is hidden, and line feeds are outside of quotes and comments.
+-- In EDN that is written of an item, no character is hidden, and line feeds are outside of quotes and comments.
 use Rattle.std.proofs.Common.{◌≡◌, ℕ, zero, suc, ◌+◌, ◌<◌, ◌≤◌, List, [], ◌∷◌, ◌++◌, length, codes}
 use Rattle.std.proofs.Common.{Bool, true, false, Option, Some, None, if◌then◌else◌, refl, sym, subst, arith, ◌^◌}
 use Rattle.std.specs.Prelude.{nat_lt}

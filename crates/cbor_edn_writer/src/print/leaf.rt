@@ -1,4 +1,4 @@
-//! In EDN, what holds no item, with notes.
+//! Writes EDN: what holds no item, with notes.
 #![tactic(auto, using(cbor_grammar::proofs::shared::Appending::appending_steps))]
 
 ghost use Rattle.std.specs.Prelude.{◌+◌, ◌++◌, codes};

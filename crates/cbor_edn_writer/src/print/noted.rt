@@ -1,4 +1,4 @@
-//! EDN with the notes of a caller.
+//! Writes EDN with the notes of a caller.
 #![tactic(auto, using(cbor_grammar::proofs::shared::Appending::appending_steps))]
 
 ghost use Rattle.std.specs.Prelude.{◌<◌, ◌^◌};

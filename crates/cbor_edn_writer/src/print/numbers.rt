@@ -1,4 +1,4 @@
-//! In EDN, widths beside numbers, and floats.
+//! Writes EDN: widths beside numbers, and floats.
 #![tactic(auto, using(cbor_grammar::proofs::shared::Appending::appending_steps))]
 
 ghost use Rattle.std.specs.Prelude.{◌≡◌};

@@ -66,7 +66,7 @@ impl<'a> EdnPlace<'a> {
         }
     }
 
-    /// The same place with the note on the item, from which on so many bytes are read; nothing if
+    /// The same place with the note on the item, from which on this many bytes are read; nothing if
     /// there are no notes.
     #[inline(always)]
     pub(crate) fn at(&self, remaining: usize) -> Option<EdnPlace<'a>>
@@ -78,7 +78,7 @@ impl<'a> EdnPlace<'a> {
         Some(self.with_note(self.behind.saturating_add(remaining as u64)))
     }
 
-    /// The same place with the note on the item, from which on there are so many of the outermost
+    /// The same place with the note on the item, from which on there are this many of the outermost
     /// bytes.
     fn with_note(&self, here: u64) -> EdnPlace<'a>
         ensures { FoundAt self.now here result }
@@ -160,7 +160,8 @@ impl<'a> EdnPlace<'a> {
     }
 }
 
-/// How many bytes there are after a byte string with this length, from which on there are so many.
+/// How many bytes there are after a byte string with this length, from which on there are that
+/// many.
 fn after_string(len: Argument, here: u64) -> u64
     ensures { result ≡ behind_string len here }
 {
@@ -189,7 +190,7 @@ fn argument_bytes(width: IntegerWidth) -> u64
 /// How many notes are looked at one after the other before the others are searched.
 const NEAR: usize = 16;
 
-/// How many notes are on items before the one from which on there are so many bytes. The first
+/// How many notes are on items before the one from which on there are this many bytes. The first
 /// `passed` notes are; the others come in the order of the items, so the wanted one is mostly near.
 #[inline(never)]
 fn notes_before(notes: &[Note<'_>], passed: usize, here: u64) -> usize {

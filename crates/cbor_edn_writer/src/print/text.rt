@@ -1,4 +1,4 @@
-//! In EDN, strings between quotes.
+//! Writes EDN: strings between quotes.
 #![tactic(auto, using(cbor_grammar::proofs::shared::Appending::appending_steps))]
 
 ghost use Rattle.std.specs.Prelude.{◌≡◌, ◌++◌, codes};

@@ -1,4 +1,5 @@
--- Strings: a content, a chunk or chunks that were read are what the bytes begin with, and the other way round.
+-- By the definitions, a content, a chunk or chunks of a string that were read are what the bytes begin with, and the
+-- other way round.
 use Rattle.std.proofs.Common.{◌≡◌, ℕ, zero, suc, ◌+◌, ◌*◌, ◌/◌, ◌%◌, ◌<◌, ◌≤◌, ◌≢◌, false, ltb, List, [], ◌∷◌, ◌++◌}
 use Rattle.std.proofs.Common.{length, take, drop, Option, Some, None, Ok, Err, ◌⊎◌, inl, inr, refl, sym, ap, subst, ◌∙◌}
 use Rattle.std.proofs.Common.{append_assoc, arith}

@@ -1,4 +1,5 @@
--- What was read of an open container is what the bytes before its next part spell, and is read again from them.
+-- By the definitions, what was read of an open container is what the bytes before its next part spell, and is read
+-- again from them.
 use Rattle.std.proofs.Common.{◌≡◌, ℕ, zero, suc, ◌+◌, ◌<◌, List, [], ◌++◌, length, Option, Some, None, Ok, Err, ◌⊎◌}
 use Rattle.std.proofs.Common.{inl, inr, refl, sym, ap, subst, ◌∙◌, append_assoc, append-nil, arith}
 use Rattle.cbor_grammar.specs.declared.argument.Argument.{Argument}

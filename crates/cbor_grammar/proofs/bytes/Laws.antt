@@ -1,4 +1,4 @@
--- The encoding of a well formed item is made of bytes.
+-- By the definitions, the encoding of a well formed item is made of bytes.
 use Rattle.std.proofs.Common.{◌≡◌, ℕ, ◌+◌, ◌<◌, ◌≤◌, true, false, nat_lt, inl, inr, List, [], ◌∷◌, ◌++◌, length}
 use Rattle.std.proofs.Common.{zero, suc, Option, Some, None, arith, lit<}
 use Rattle.std.specs.List.{AllByRecursion, flat_map}

@@ -1,4 +1,4 @@
--- From what reading gives to what an input is.
+-- By the definitions, from what reading bytes gives to what an input is.
 use Rattle.std.proofs.Common.{◌≡◌, ◌≢◌, ℕ, ◌+◌, ◌-◌, ◌*◌, ◌/◌, ◌%◌, ◌<◌, ◌≤◌, List, [], ◌∷◌, length, take, Ok}
 use Rattle.std.proofs.Common.{refl}
 use Rattle.std.proofs.Common.{ap}

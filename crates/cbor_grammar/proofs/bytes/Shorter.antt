@@ -1,4 +1,4 @@
--- What is left after an item that was read is shorter than the bytes that it was read from.
+-- By the definitions, what is left after an item that was read is shorter than the bytes that it was read from.
 use Rattle.std.proofs.Common.{◌≡◌, ℕ, zero, suc, ◌/◌, ◌%◌, ◌<◌, ◌≤◌, cond, ltb, eqb, List, [], ◌∷◌, length, take, drop}
 use Rattle.std.proofs.Common.{Option, Some, None, Result, Ok, Err, refl, ap, subst, arith}
 use Rattle.std.specs.Int.{Width, byte_len, from_be_bytes}

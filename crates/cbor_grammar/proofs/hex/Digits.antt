@@ -1,4 +1,5 @@
--- Why digits are not decoded, and what that says of the text that they are from.
+-- By the definitions of hex with comments, why digits are not decoded, and what that says of the text that they are
+-- from.
 use Rattle.std.proofs.Common.{◌≡◌, ℕ, ◌%◌, List, length, Result, Ok, ◌⊎◌, inl, inr, arith, subst}
 use Rattle.std.specs.List.{AllPass}
 use Rattle.hex.specs.Hex.{decode_of, is_hex_digit}

@@ -1,4 +1,4 @@
--- Which bytes of a text are kept, one after the other, and their places.
+-- By the definitions of hex with comments, which bytes of a text are kept, one after the other, and their places.
 use Rattle.std.proofs.Common.{◌≡◌, ◌≢◌, ℕ, zero, suc, ◌+◌, ◌-◌, ◌%◌, ◌<◌, ◌≤◌, inl, inr, List, [], ◌∷◌, ◌++◌, length}
 use Rattle.std.proofs.Common.{take, drop, get_or, Bool, true, false, refl, sym, ap, subst, ◌∙◌, ◌==◌, ◌||◌, not, arith}
 use Rattle.std.proofs.Common.{append_assoc, cond}

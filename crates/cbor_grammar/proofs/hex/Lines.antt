@@ -1,4 +1,5 @@
--- What is kept of lines: a space, another byte, a line without `#`, and one with it.
+-- By the definitions of hex with comments, what is kept of lines: a space, another byte, a line without `#`, and one
+-- with it.
 use Rattle.std.proofs.Common.{◌≡◌, ◌≢◌, ℕ, suc, ◌+◌, ◌-◌, ◌<◌, ◌≤◌, List, [], ◌∷◌, ◌++◌, length, take, drop, get_or}
 use Rattle.std.proofs.Common.{false, refl, sym, ap, ◌∙◌, ◌==◌, arith, append-nil, inl, inr, take-take, drop-drop}
 use Rattle.std.proofs.Common.{get_or-take, length-drop, get_or-drop, nat_eq, not, true, codes}

@@ -1,4 +1,4 @@
--- What is in memory after calls that append.
+-- For clauses on items that are written: what is in memory after calls that append.
 use Rattle.std.specs.Prelude.{Result, Ok, Err, is_ok, if◌then◌else◌}
 use Rattle.std.specs.Io.{StartsWith}
 use Rattle.std.specs.String.{string_bytes, string_len}

@@ -1,4 +1,4 @@
--- Lists that are compared element by element.
+-- By the definitions of items, lists that are compared element by element.
 use Rattle.std.proofs.Common.{◌≡◌, ◌↔◌, Bool, IsTrue, List, [], ◌∷◌, map, refl}
 use Rattle.std.specs.Cmp.Lexicographic.{pointwise}
 use Rattle.std.proofs.lemmas.Bool.{false≢true, and_parts, and_from}

@@ -1,4 +1,4 @@
--- A test of all elements of a list, beside the fact that it tests.
+-- By the definitions of items, a test of all elements of a list, beside the fact that it tests.
 use Rattle.std.proofs.Common.{◌↔◌, ℕ, ◌<◌, Bool, true, false, IsTrue, MatchBool, List, [], ◌∷◌, length, map, refl}
 use Rattle.std.proofs.Common.{arith}
 use Rattle.std.specs.List.{AllByRecursion, AllWithin, HoldsAt}

@@ -1,4 +1,4 @@
--- The test of UTF-8, from what a reader of text says.
+-- By the definitions of strings, the test of UTF-8, from what a reader of text says.
 use Rattle.std.proofs.Common.{◌≡◌, ℕ, Bool, true, false, List, refl}
 use Rattle.std.specs.Str.{IsUtf8, is_utf8}
 use Rattle.std.proofs.lemmas.Str.{IsUtf8-from_is_utf8, is_utf8-from_IsUtf8}

@@ -1,4 +1,4 @@
--- From what reading gives to the clauses of the calls that print from bytes.
+-- By the definitions, from what reading gives to the clauses of the calls that print from bytes.
 use Rattle.std.proofs.Common.{◌≡◌, ◌≢◌, ℕ, ◌-◌, List, ◌++◌, length, Some, Result}
 use Rattle.std.proofs.Common.{Ok, Err, IfOk, refl, sym, subst, ◌∙◌, arith, inl, inr}
 use Rattle.std.specs.Prelude.{MatchResult}

@@ -1,4 +1,4 @@
--- The text of an item, put together from its parts.
+-- By the definitions of notation, the text of an item, put together from its parts.
 use Rattle.std.specs.Prelude.{Result}
 use Rattle.std.proofs.Common.{◌≡◌, ℕ, suc, ◌+◌, ◌≤◌, List, ◌++◌, codes, Option, Some}
 use Rattle.std.proofs.Common.{None, sym, ap, subst, ◌∙◌, append_assoc, arith}

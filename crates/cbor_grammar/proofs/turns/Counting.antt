@@ -1,4 +1,4 @@
--- All the containers that are open, and the turns of what is read in them.
+-- By the definitions of turns, all the containers that are open, and the turns of what is read in them.
 use Rattle.std.proofs.Common.{◌≡◌, ℕ, zero, suc, ◌-◌, ◌≤◌, List, [], ◌∷◌, length, Option, Some, None, Err, refl, ap}
 use Rattle.std.proofs.Common.{◌∙◌, arith}
 use Rattle.cbor_grammar.specs.declared.error.Error.{Error}

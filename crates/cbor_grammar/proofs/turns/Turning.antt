@@ -1,4 +1,4 @@
--- What one turn does: it closes a container, or reads a head.
+-- By the definitions of turns, what one turn does: it closes a container, or reads a head.
 use Rattle.std.proofs.Common.{◌≡◌, ℕ, zero, suc, ◌+◌, ◌-◌, ◌<◌, List, [], ◌∷◌, length, Option, Some, None, Ok, Err}
 use Rattle.std.proofs.Common.{refl, sym, ap, subst, ◌∙◌, arith}
 use Rattle.std.specs.Prelude.{IsSome, drop}

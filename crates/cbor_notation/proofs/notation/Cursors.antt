@@ -1,4 +1,4 @@
--- What the first byte shows of a blank.
+-- Reading notation, as a function: what the first byte shows of a blank.
 use Rattle.std.proofs.Common.{◌≡◌, ◌≢◌, ◌==◌, ℕ, ◌<◌, List, ◌∷◌, None, true, false, nat_le}
 use Rattle.std.proofs.Common.{suc, length, refl, arith}
 use Rattle.std.proofs.lemmas.Bool.Decides.{nat_tests}

@@ -1,4 +1,4 @@
--- Digits that are read as bytes are the encoding of these bytes.
+-- Reading notation, as a function: digits that are read as bytes are the encoding of these bytes.
 use Rattle.std.proofs.Common.{◌≡◌, ◌≢◌, ℕ, ◌-◌, ◌*◌, ◌/◌, ◌^◌, ◌<◌, ◌==◌, ◌||◌, ◌⊎◌, inl, inr, Bool, true, false}
 use Rattle.std.proofs.Common.{if◌then◌else◌, List, [], ◌∷◌, length, map, take, zero, suc, position, unwrap_or, bytes_eq}
 use Rattle.std.proofs.Common.{codes, Vec, Global, Option, Some, None, refl, sym, ap, subst, ◌∙◌, arith, lit<}

@@ -1,4 +1,4 @@
--- What may be after an item of notation, and what it begins with: all by tests of one byte.
+-- Reading notation, as a function: what may be after an item, and what it begins with, by tests of one byte.
 use Rattle.std.proofs.Common.{◌≡◌, ℕ, Bool, true, not, ◌==◌, ◌||◌, ◌&&◌, nat_le, List, [], ◌∷◌, ◌++◌, codes, None, refl}
 use Rattle.std.proofs.Common.{sym, ap, ◌∙◌, subst, inl, inr, IsTrue}
 use Rattle.std.specs.List.{list_any, list_all}

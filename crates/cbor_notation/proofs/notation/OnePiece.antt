@@ -1,4 +1,4 @@
--- Strings of notation of one piece: what the rules of pieces give of them.
+-- Reading notation, as a function: strings of one piece, and what the rules of pieces give of them.
 use Rattle.std.proofs.Common.{◌≡◌, ◌⊎◌, inl, inr, ℕ, suc, Bool, true, false, List, [], ◌∷◌, ◌++◌, ◌==◌, nat_eq, length}
 use Rattle.std.proofs.Common.{take, drop, position, codes, Option, Some, None, Result, Ok, Err, refl, sym, ap, ◌∙◌}
 use Rattle.std.proofs.Common.{rules, tests}

@@ -1,5 +1,5 @@
--- What the limits on levels change: a text is at most one item, and what one limit reads is read under any
--- other, or is TooDeep there.
+-- Reading notation, as a function: what the limits on levels change. A text is at most one item, and what one limit
+-- reads is read under any other, or is TooDeep there.
 use Rattle.std.proofs.Common.{◌≡◌, ℕ, ◌-◌, ◌≤◌, List, [], Ok, Err, ◌⊎◌, inl, inr, refl, sym, ap, ◌∙◌, subst, arith}
 use Rattle.std.proofs.lemmas.Bool.{cases_lt}
 use Rattle.cbor_grammar.specs.declared.error.Error.TheVariants as refusal

@@ -1,4 +1,4 @@
--- Hex digits of notation with no blanks between them.
+-- Reading notation, as a function: hex digits with no blanks between them.
 use Rattle.std.proofs.Common.{◌≡◌, ℕ, ◌+◌, ◌<◌, true, List, [], ◌∷◌, ◌++◌, length, get_or, take, drop, IsTrue}
 use Rattle.std.proofs.Common.{Ok, inl, inr, refl, sym, ap, ◌∙◌, arith, Some, ◌-◌}
 use Rattle.std.specs.List.{list_all}

@@ -1,4 +1,4 @@
--- What the calls of `cbor_tokens` return, beside what reading gives.
+-- Reading notation, as a function: what the calls of `cbor_tokens` return, beside what it gives.
 use Rattle.std.proofs.Common.{◌≡◌, ℕ, ◌≤◌, List, [], ◌∷◌, ◌++◌, ◌+◌, ◌-◌, ◌*◌, ◌^◌, ◌<◌, ◌≢◌, Bool, false, not, nat_lt}
 use Rattle.std.proofs.Common.{◌==◌, if◌then◌else◌, true, option_and_then, length, take, drop, position, Option, Some}
 use Rattle.std.proofs.Common.{None, Ok, Err, refl, sym, ap, ◌∙◌, arith}

@@ -1,5 +1,5 @@
--- Tokens that are not read, but with more text behind them, as `parse/notation/tokens.rt` of `cbor_diag` finds
--- them. No public clause names these.
+-- Reading notation, as a function: tokens that are not read, but with more text behind them, as
+-- `parse/notation/tokens.rt` of `cbor_diag` finds them. No public clause names these.
 use Rattle.std.specs.Prelude.{ℕ, zero, suc, ◌^◌, Bool, true, false, ◌==◌, ◌&&◌, ◌||◌, nat_lt, List, [], ◌∷◌, Option}
 use Rattle.std.specs.Prelude.{Some, None, length}
 use Rattle.std.specs.List.{list_all}

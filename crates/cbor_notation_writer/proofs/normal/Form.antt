@@ -1,4 +1,4 @@
--- The normal form of a well-formed item is well formed, and its encoding is no longer.
+-- For notation that is read back: heads and numbers of normal forms fit their widths, and are no longer.
 use Rattle.std.proofs.Common.{◌≡◌, ℕ, ◌^◌, ◌<◌, ◌≤◌, length, inl, inr, refl, arith, nat_lt}
 use Rattle.std.proofs.lemmas.Bool.{cond_both, cases_lt, lt-ltb, le-ltb}
 use Rattle.cbor_grammar.specs.declared.width.IntegerWidth.{IntegerWidth}

@@ -1,4 +1,4 @@
--- What is written of numbers, strings, floats and simple values is read as these.
+-- What is written in notation of numbers, strings, floats and simple values is read back as these.
 use Rattle.std.proofs.Common.{◌≡◌, ℕ, zero, suc, ◌+◌, ◌*◌, ◌/◌, ◌%◌, ◌^◌, ◌<◌, ◌≤◌, ◌==◌, Bool, true, false, cond}
 use Rattle.std.proofs.Common.{List, [], ◌∷◌, ◌++◌, length, replicate, slice_index, codes, Option, Some, None, ◌⊎◌, inl}
 use Rattle.std.proofs.Common.{IsTrue, inr, refl, sym, ap, subst, ◌∙◌, arith}

@@ -1,4 +1,5 @@
--- The text of an item is that of its normal form, and the normal form of a normal form is itself.
+-- For notation that is read back: the text of an item is that of its normal form, and the normal form of a normal form
+-- is itself.
 use Rattle.std.proofs.Common.{◌≡◌, ℕ, zero, suc, ◌+◌, ◌≤◌, List, [], ◌∷◌, ◌++◌, length, codes, Option, Some, None, ◌⊎◌}
 use Rattle.std.proofs.Common.{inl, inr, refl, sym, ap, ◌∙◌, arith, nat_lt}
 use Rattle.std.proofs.lemmas.Bool.{cond_both, cases_lt, lt-ltb, le-ltb}

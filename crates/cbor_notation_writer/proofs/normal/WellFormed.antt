@@ -1,4 +1,4 @@
--- The normal form of a well-formed item is well formed, and its encoding is no longer.
+-- For notation that is read back: the normal form of a well-formed item is well formed, and its encoding is no longer.
 use Rattle.std.proofs.Common.{◌≡◌, ℕ, zero, suc, ◌+◌, ◌≤◌, List, [], ◌∷◌, ◌++◌, length, map, Option, Some, None, ◌⊎◌}
 use Rattle.std.proofs.Common.{inl, inr, eqb, false, refl, ap, arith, nat_lt}
 use Rattle.std.specs.List.{AllByRecursion, flat_map}

@@ -1,4 +1,4 @@
--- An indefinite string that is written chunk by chunk.
+-- Notation, written straight from bytes: an indefinite string, chunk by chunk.
 use Rattle.std.proofs.Common.{◌≡◌, ℕ, zero, suc, ◌+◌, true, false, List, [], ◌∷◌, ◌++◌, length, refl, sym, ap}
 use Rattle.std.proofs.Common.{subst, ◌∙◌, append_assoc, arith}
 use Rattle.std.proofs.lemmas.List.{append-nil, length-append}

@@ -1,4 +1,4 @@
--- Printing items that are embedded in bytes one after the other from these bytes.
+-- Notation, written straight from bytes: items that are embedded in bytes, one after the other.
 use Rattle.std.proofs.Common.{◌≡◌, ◌≢◌, ℕ, zero, suc, ◌+◌, ◌<◌, ◌≤◌, List, [], ◌∷◌, ◌++◌, length, Option, Some}
 use Rattle.std.proofs.Common.{None, Result, Ok, Err, refl, sym, ap, subst, ◌∙◌, append_assoc, arith}
 use Rattle.std.specs.Io.{StartsWith}

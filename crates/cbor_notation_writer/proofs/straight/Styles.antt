@@ -1,4 +1,4 @@
--- The style of a container by its estimated length and the limit.
+-- Notation, written straight from bytes: the style of a container by its estimated length and the limit.
 use Rattle.std.proofs.Common.{◌≡◌, ℕ, refl, ap, ◌∙◌}
 use Rattle.cbor_grammar.specs.declared.layout.Layout.{Layout}
 use Rattle.cbor_grammar.specs.declared.layout.Layout.TheVariants.{Compact, Pretty}

@@ -1,4 +1,5 @@
--- The context that the printer's own is, as the definitions have it, and the texts of what is there.
+-- Notation that is written: the context that the printer's own is, as the definitions have it, and the texts of what
+-- is there.
 use Rattle.std.specs.Prelude.{ℕ, ◌+◌, ◌*◌, ◌≤◌, List, [], codes, Bool, if◌then◌else◌}
 use Rattle.cbor_notation_writer.specs.declared.context.NotationContext.{NotationContext}
 use Rattle.cbor_grammar.specs.declared.layout.Content.{Content}

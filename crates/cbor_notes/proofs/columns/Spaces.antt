@@ -1,4 +1,4 @@
--- A number of spaces.
+-- In the columns of a dump, a number of spaces.
 use Rattle.std.proofs.Common.{◌≡◌, ℕ, ◌+◌, ◌-◌, ◌<◌, ◌≤◌, List, ◌++◌, length, slice_index, slice_range, replicate, take}
 use Rattle.std.proofs.Common.{ap, ◌∙◌, append_assoc, arith, refl, sym, codes}
 use Rattle.std.proofs.lemmas.List.{length-append, take_at, drop_at}

@@ -1,4 +1,4 @@
--- The lines of trees, one after the other.
+-- In the columns of a dump, the lines of trees, one after the other.
 use Rattle.std.proofs.Common.{◌≡◌, ℕ, ◌+◌, ◌≤◌, ◌<◌, List, [], ◌∷◌, ◌++◌, map, max, length, drop, get_or, refl, sym, ap}
 use Rattle.std.proofs.Common.{◌∙◌, arith, subst, append_assoc, ◌↔◌}
 use Rattle.std.proofs.lemmas.Bool.Decides.{nat_tests}

@@ -1,4 +1,4 @@
--- What holds of the first thing found, and when anything is found.
+-- In the texts of dates, what holds of the first thing found, and when anything is found.
 use Rattle.std.proofs.Common.{◌≡◌, ℕ, zero, suc, ◌<◌, ◌⊎◌, inl, inr, Bool, true, cond, Option, Some, None, IfSome}
 use Rattle.std.proofs.Common.{IsSome, refl, arith}
 use Rattle.std.specs.Option.{option_or}

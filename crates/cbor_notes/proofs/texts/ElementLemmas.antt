@@ -1,4 +1,4 @@
--- Numbers of bytes, and halves of their range.
+-- Elements of typed arrays: numbers of bytes, and halves of their range.
 use Rattle.std.proofs.Common.{Bool, Option, Some, None, lit<, ◌/◌, zero, [], ◌∷◌, get_or, ◌≡◌, ℕ, suc, ◌+◌, ◌-◌, ◌*◌}
 use Rattle.std.proofs.Common.{◌%◌, ◌^◌, ◌<◌, ◌≤◌, true, false, List, length, take, refl, sym, ap, ◌∙◌, arith}
 use Rattle.std.proofs.Math.Nat.{pow-le-pow_right, pow-suc, two-pow-succ}

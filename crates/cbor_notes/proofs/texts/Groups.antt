@@ -1,4 +1,4 @@
--- Digits with commas are groups of three, but for the first, which may have fewer.
+-- In comments, digits with commas are groups of three, but for the first, which may have fewer.
 use Rattle.std.proofs.Common.{◌≡◌, ◌≢◌, ℕ, ◌+◌, ◌*◌, ◌%◌, ◌^◌, ◌<◌, Bool, List, [], ◌∷◌, ◌++◌, length, refl, ap, ◌∙◌}
 use Rattle.std.proofs.Common.{arith, inl, inr, eq-eqb, decimal}
 use Rattle.std.specs.List.{AllByRecursion, concat}

@@ -1,4 +1,4 @@
--- A text in which no byte begins an escape is written as it is.
+-- In comments, a text in which no byte begins an escape is written as it is.
 use Rattle.std.proofs.Common.{◌≡◌, ℕ, ◌+◌, ◌/◌, ◌<◌, ◌≤◌, true, false, List, [], ◌∷◌, refl, sym, ap, ◌∙◌}
 use Rattle.std.proofs.Common.{inl, inr, arith}
 use Rattle.std.proofs.Math.Utf8.{encode, encodes}

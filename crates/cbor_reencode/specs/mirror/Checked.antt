@@ -1,4 +1,4 @@
--- Bytes that were found to be items which keep the rules that last.
+-- Encoding again: bytes that were found to be items which keep the rules that last.
 use Rattle.std.specs.Prelude.{◌≡◌, ℕ, ◌-◌, ◌≤◌, List, length, take, drop, Option, None, Ok}
 use Rattle.cbor_grammar.specs.declared.argument.Argument.{Argument}
 use Rattle.cbor_grammar.specs.declared.head.ItemHead.{ItemHead}

@@ -1,4 +1,4 @@
--- What was read, and what was written for it.
+-- Encoding again: what was read, and what was written for it.
 use Rattle.std.specs.Prelude.{◌≡◌, ◌≢◌, slice_index_or, ℕ, ◌+◌, ◌<◌, List, [], ◌∷◌, ◌++◌, length}
 use Rattle.std.specs.List.{AllByRecursion, flat_map}
 use Rattle.std.specs.List.Sorted.{IsSortedBy}

@@ -1,4 +1,4 @@
--- Keys that become one, in what is at the front of the last of all bytes.
+-- Encoding again: keys that become one, in what is at the front of the last of all bytes.
 use Rattle.std.specs.Prelude.{◌≡◌, ◌≢◌, ◌⊎◌, ℕ, ◌+◌, IsTrue, List, [], ◌++◌}
 use Rattle.cbor_grammar.specs.declared.argument.Argument.{Argument}
 use Rattle.cbor_grammar.specs.Item.{Item, Items, item_count, Pairs, pair_count}

@@ -1,4 +1,4 @@
--- The encoding of bytes, group by group.
+-- In base 32, the encoding of bytes, group by group.
 use Rattle.std.proofs.Common.{◌≡◌, ℕ, zero, suc, ◌+◌, ◌-◌, ◌*◌, ◌%◌, ◌^◌, ◌<◌, ◌≤◌, List, [], ◌∷◌, ◌++◌, map, length}
 use Rattle.std.proofs.Common.{take, drop, replicate, slice_index, Some, refl, sym, ap, ◌∙◌, arith, lit<}
 use Rattle.std.proofs.lemmas.List.{length-append, length-map, length-take-le, length-replicate, length-drop}

@@ -1,4 +1,4 @@
--- What holds of the digits of one group.
+-- In base 32, what holds of the digits of one group.
 use Rattle.std.proofs.Common.{◌≡◌, ℕ, ◌+◌, ◌-◌, ◌*◌, ◌/◌, ◌%◌, ◌^◌, ◌<◌, ◌≤◌, List, [], ◌∷◌, ◌++◌, map, length, take}
 use Rattle.std.proofs.Common.{drop, replicate, slice_index, refl, sym, ap, ◌∙◌, inl, inr, arith, lit<}
 use Rattle.std.proofs.lemmas.List.{length-map, length-take-le, take_at, drop_at, get_or-take, get_or-drop}

@@ -1,4 +1,4 @@
--- How many digits a group may have before its padding.
+-- In base 32, how many digits a group may have before its padding.
 use Rattle.std.proofs.Common.{◌≡◌, ℕ, zero, suc, ◌-◌, ◌<◌, ◌≤◌, ◌⊎◌, nat_eq, true, false, List, drop, length, ◌∙◌, inl}
 use Rattle.std.proofs.Common.{inr, arith}
 use Rattle.std.specs.List.{ends_with}

@@ -1,4 +1,4 @@
--- Which digits have bytes.
+-- Which hex digits have bytes.
 use Rattle.std.proofs.Common.{◌≡◌, ℕ, ◌%◌, List, length, Some, None, Result, Ok, Err, ap}
 use Rattle.std.specs.List.{AllPass}
 use Rattle.hex.specs.Hex.{decode_of, is_hex_digit}

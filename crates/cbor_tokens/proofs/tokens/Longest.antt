@@ -1,4 +1,4 @@
--- Fronts of a text, and the longest of them.
+-- Tokens of notation, fronts of a text, and the longest of them.
 use Rattle.std.proofs.Common.{◌≡◌, ℕ, List, ◌++◌, length, take, refl, sym, ap, ◌∙◌, arith}
 use Rattle.std.proofs.lemmas.List.{append_cancel_left, take_at}
 use Rattle.cbor_tokens.specs.Token.{IsLongest}

@@ -1,4 +1,4 @@
--- decimal_base digits as they are written, and then an indicator, are a number.
+-- Tokens of notation, decimal digits as they are written, and then an indicator: they are a number.
 use Rattle.std.proofs.Common.{ℕ, ◌^◌, ◌≤◌, List, ◌++◌, Option, refl, sym, arith}
 use Rattle.std.proofs.lemmas.Fmt.{decimal_is_IsNumeral_wide}
 use Rattle.std.specs.Fmt.{decimal}
