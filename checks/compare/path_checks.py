@@ -14,6 +14,7 @@ def check(run, same, examples):
     """All of it: run runs the program, and same compares."""
     steps_at(run, same, examples)
     each_member(run, same)
+    keys_in_notation(run, same)
     nowhere(run, same)
     any_paths(run, same)
 
@@ -56,6 +57,27 @@ def each_member(run, same):
          (b"1\n2\n", "", 0))
 
 
+def keys_in_notation(run, same):
+    """Keys of all kinds in one map: each line of `-t paths` has the path that leads to its value."""
+    keys = [
+        ("1", "01"), ("-1", "20"), ("a", "6161"), ('"1"', "6131"), ("h'01'", "4101"), ("1.5", "f93e00"),
+        ("2.5_3", "fb4004000000000000"), ("true", "f5"), ("simple(16)", "f0"), ("[1]", "8101"), ("[2_0]", "811802"),
+        ("[_ 1]", "9f01ff"), ('["a/b", {}]', "8263612f62a0"), ("{1: 2}", "a10102"), ("1(0)", "c100"),
+        ("24(0)", "d81800"), ("24_1(0)", "d9001800"), ("24(<<256>>)", "d81843190100"), ("(_ h'01')", "5f4101ff"),
+        ("2(h'010000000000000000')", "c249010000000000000000"), ('32("a:")', "d82062613a"),
+    ]
+    digits = f"b5{''.join(f'{key}{place:02x}' for place, (_, key) in enumerate(keys))}"
+    out, said, status = run("-t", "paths", "-f", "hex", "-x", digits)
+    lines = [line.split("  ", 1)[1] for line in out.decode().splitlines()]
+    same("the paths of all keys", (lines, said, status),
+         ([f"{path}  {place}" for place, (path, _) in enumerate(keys)], "", 0))
+    for place, (path, _) in enumerate(keys):
+        same(f"the value of {path}", run("-p", path, "-t", "diag", "-f", "hex", "-x", digits),
+             (f"{place}\n".encode(), "", 0))
+    same("a number of another width in an array", run("-p", "[1]", "-t", "diag", "-f", "hex", "-x", "a1 811801 05"),
+         (b"", "cborcat: -x: [1]: no such key; the map has [1_0]\n", 1))
+
+
 def nowhere(run, same):
     """What is said where a path leads nowhere."""
     rows = [
@@ -74,7 +96,8 @@ def nowhere(run, same):
         ("@0", "h'1f'", "@0: no item begins at that byte of the 1 byte"),
         ("@18446744073709551616", "h'01'", "@18446744073709551616: no item begins at that byte of the 1 byte"),
         ("1", "5", "1: no array or map is there"),
-        ("3", "[5]", "3: no such index; the array has 1 items"),
+        ("3", "[5]", "3: no such index; the array has 1 item"),
+        ("3", "[5, 6]", "3: no such index; the array has 2 items"),
         ("a//b", '{"a": {"c": 1}}', 'a//b: no such key; the map at a has "c"'),
         ("/a", '{"c": 1}', '/a: no such key; the map has "c"'),
         ("//a//b/c/", '{"a": {"b": 5}}', "//a//b/c: no array or map is at //a//b"),

@@ -1,13 +1,13 @@
 //! Paths as they are read: the steps that a text names.
 
-use cbor_diag::{DataItem, Error, IntegerWidth, TextString};
+use cbor_diag::{DataItem, Error, IntegerWidth, TextString, parse_bytes};
 use cbor_edn::{EdnError, parse_edn};
 use cbor_paths::Step;
 use std::alloc::Global;
 
 /// Reads a path: steps joined by `/`. A step is `@`, `@` and a decimal number, `*`, EDN, or a plain
 /// word, which is a text. A `/` between quotes joins nothing. An empty step is none, so the empty
-/// path has no steps.
+/// path has no steps. The only error is `Memory`.
 ///
 /// ```rust
 /// use cbor_inspect::steps_of;
@@ -68,10 +68,11 @@ fn mark_of(word: &str) -> Option<Step> {
     }
 }
 
-/// The key that a word is: EDN, or else a text.
+/// The key that a word is: EDN, or else a text. EDN is read as the item that its bytes are, because
+/// the keys of data have widths.
 fn key_of(alloc: Global, word: &str) -> Result<DataItem, Error> {
     match parse_edn(alloc, word) {
-        Ok(key) => Ok(key),
+        Ok(key) => parse_bytes(alloc, &key.to_bytes(alloc)?),
         Err(EdnError::Memory) => Err(Error::Memory),
         Err(_) => Ok(DataItem::TextString(TextString {
             content: String::from_str(alloc, word)?,

@@ -51,7 +51,8 @@ fn say_no_member(
         }
         DataItem::Array { content, .. } => {
             let count = content.len();
-            format!(in alloc; "{path}: no such index; the array{there} has {count} items")
+            let what = if count == 1 { "item" } else { "items" };
+            format!(in alloc; "{path}: no such index; the array{there} has {count} {what}")
         }
         _ => {
             let place = nowhere(there);
