@@ -1,4 +1,5 @@
 //! Paths as they are read: the steps that a text names.
+ghost use Rattle.std.specs.Prelude.{◌≡◌, IfErr};
 
 use cbor_diag::{DataItem, Error, IntegerWidth, TextString, parse_bytes};
 use cbor_edn::{EdnError, parse_edn};
@@ -15,7 +16,9 @@ use std::alloc::Global;
 /// assert_eq!(rt; steps_of(alloc, "2/@/1")?.len(), 3);
 /// assert_eq!(rt; steps_of(alloc, "authData/@71")?.len(), 2);
 /// ```
-pub fn steps_of(alloc: Global, path: &str) -> Result<Vec<Step>, Error> {
+pub fn steps_of(alloc: Global, path: &str) -> Result<Vec<Step>, Error>
+    ensures refused { IfErr result (λ e. e ≡ Error.Memory) }
+{
     let mut steps = Vec::new(alloc);
     let mut word = String::new(alloc);
     let mut quoted = false;
@@ -35,7 +38,9 @@ pub fn steps_of(alloc: Global, path: &str) -> Result<Vec<Step>, Error> {
 }
 
 /// Appends the step that a word is; the empty word is none.
-fn push_step(alloc: Global, steps: &mut Vec<Step>, word: &str) -> Result<(), Error> {
+fn push_step(alloc: Global, steps: &mut Vec<Step>, word: &str) -> Result<(), Error>
+    ensures refused { IfErr result (λ e. e ≡ Error.Memory) }
+{
     if word.is_empty() {
         return Ok(());
     }
@@ -70,7 +75,9 @@ fn mark_of(word: &str) -> Option<Step> {
 
 /// The key that a word is: EDN, or else a text. EDN is read as the item that its bytes are, because
 /// the keys of data have widths.
-fn key_of(alloc: Global, word: &str) -> Result<DataItem, Error> {
+fn key_of(alloc: Global, word: &str) -> Result<DataItem, Error>
+    ensures refused { IfErr result (λ e. e ≡ Error.Memory) }
+{
     match parse_edn(alloc, word) {
         Ok(key) => parse_bytes(alloc, &key.to_bytes(alloc)?),
         Err(EdnError::Memory) => Err(Error::Memory),
