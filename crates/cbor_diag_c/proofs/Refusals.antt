@@ -9,6 +9,7 @@ use Rattle.cbor_diag.specs.DeadEnd.{IsDeadEnd, IsDiagFault}
 use Rattle.cbor_tokens.specs.Token.{nothing}
 use Rattle.cbor_grammar.specs.Item.{Item, atom, simple}
 use Rattle.cbor_diag.specs.Notation.{IsNotation, Reads}
+use Rattle.cbor_grammar.specs.NotationRefused.{IsNoNotation}
 use Rattle.cbor_diag.specs.Facts.{HasFault, IsCut, IsNoItem}
 use Rattle.cbor_diag.specs.Extent.{FaultEnds}
 use Rattle.cbor_diag.specs.HexText.{IsHexRefused}
@@ -48,33 +49,34 @@ some_end : (text : List ℕ) (end : ℕ) → IsDeadEnd (take end text) → 0 < e
 some_end text zero dead = absurd (dead (codes "null") (atom (simple 22)) null_is)
 some_end text (suc n) dead = omega arith
 
-some_bytes : (text : List ℕ) (e : Error) (end : ℕ) → IsDiagFault text e end → e ≢ refusal.CutShort → 0 < end
-some_bytes text refusal.CutShort end h other = absurd (other refl)
-some_bytes text refusal.Memory end h other = some_end text end h.2
-some_bytes text refusal.Head end h other = some_end text end h.2
-some_bytes text refusal.Utf8 end h other = some_end text end h.2
-some_bytes text refusal.TooDeep end h other = some_end text end h.2
-some_bytes text refusal.Remaining end h other = some_end text end h.2
-some_bytes text refusal.OddHex end h other = some_end text end h.2
-some_bytes text refusal.BadHex end h other = some_end text end h.2
-some_bytes text refusal.Notation end h other = some_end text end h.2
-some_bytes text refusal.PastWidth end h other = some_end text end h.2
+-- an error other than that of a cut text says why the text is none
+other_fault : (text : List ℕ) (e : Error) (end : ℕ) → IsDiagFault text e end → e ≢ refusal.CutShort
+    → IsNoNotation text e × (end ≤ length text) × IsDeadEnd (take end text)
+other_fault text refusal.CutShort end h other = absurd (other refl)
+other_fault text refusal.Memory end h other = h
+other_fault text refusal.Head end h other = h
+other_fault text refusal.Utf8 end h other = h
+other_fault text refusal.TooDeep end h other = h
+other_fault text refusal.Remaining end h other = h
+other_fault text refusal.OddHex end h other = h
+other_fault text refusal.BadHex end h other = h
+other_fault text refusal.Notation end h other = h
+other_fault text refusal.PastWidth end h other = h
+
+pub diag_refused : (text : List ℕ) (e : Error) (end : ℕ) → IsDiagFault text e end → e ≢ refusal.CutShort
+    → IsNoNotation text e
+diag_refused text e end h other = (other_fault text e end h other).0
 
 -- before the last of the bytes that have the fault
 pub fault_byte : (text : List ℕ) (e : Error) (end : ℕ) → IsDiagFault text e end → e ≢ refusal.CutShort
     → IsDiagPlace text (end - 1)
 fault_byte text e end h other =
-    let some : 0 < end = some_bytes text e end h other in
+    let some : 0 < end = some_end text end (other_fault text e end h other).2 in
     let same : end - 1 + 1 ≡ end = omega arith in
     inr (e, other, subst (λ (k : ℕ). IsDiagFault text e k) (sym same) h)
 
--- the end of a text that is cut short
-pub cut_place : (text : List ℕ) (end : ℕ) → IsDiagFault text refusal.CutShort end → IsDiagPlace text (length text)
-cut_place text end h = inl (refl, (refl, h.1))
+pub ruleset diag_laws = (diag_refused, fault_byte)
 
--- a text that is no notation is none
-pub no_place : (text : List ℕ) → ((i : Item) → ¬ (IsNotation text i)) → ((i : Item) × IsNotation text i)
-    → IsDiagPlace text (length text)
-no_place text none some = absurd (none some.0 some.1)
-
-pub ruleset place_laws = (fault_byte, cut_place)
+-- the end of a text that is none
+pub end_place : (text : List ℕ) (e : Error) → IsNoNotation text e → IsDiagPlace text (length text)
+end_place text e h = inl (refl, (refl, h.none))

@@ -79,7 +79,24 @@ fn in_hex(alloc: Global, text: &str) -> Result<Fault, Error>
 }
 
 /// The fault of notation. The only error is `Memory`.
+#[tactic(auto, using(crate::proofs::Refusals::diag_laws))]
 fn in_diag(alloc: Global, text: &str) -> Result<Fault, Error>
+    ensures none { IfOk result (λ f. f ≡ None → (i : Item) × IsNotation text.now i) }
+    ensures refused { IfOk result (λ f. IfSome f (λ x. IsNoNotation text.now x.0)) }
+    ensures place { IfOk result (λ f. IfSome f (λ x. IsDiagPlace text.now x.1)) }
+    ensures memory { IfErr result (λ e. e ≡ Error.Memory) }
+{
+    match diag_fault(alloc, text)? {
+        None => Ok(None),
+        Some((Error::CutShort, _)) => in_cut_diag(alloc, text),
+        Some((error, end)) => Ok(Some((error, end.saturating_sub(1)))),
+    }
+}
+
+/// The fault of notation that may only be cut short: what `parse_diag` calls it, at its end. The
+/// only error is `Memory`.
+#[tactic(auto, using(crate::proofs::Refusals::end_place))]
+fn in_cut_diag(alloc: Global, text: &str) -> Result<Fault, Error>
     ensures none { IfOk result (λ f. f ≡ None → (i : Item) × IsNotation text.now i) }
     ensures refused { IfOk result (λ f. IfSome f (λ x. IsNoNotation text.now x.0)) }
     ensures place { IfOk result (λ f. IfSome f (λ x. IsDiagPlace text.now x.1)) }
@@ -88,35 +105,7 @@ fn in_diag(alloc: Global, text: &str) -> Result<Fault, Error>
     match parse_diag(alloc, text) {
         Ok(_) => Ok(None),
         Err(Error::Memory) => Err(Error::Memory),
-        Err(error) => Ok(Some((error, diag_place(alloc, text)?))),
-    }
-}
-
-/// The place before the last of the first bytes that have this fault, or the end of a text that may
-/// only be cut short.
-#[tactic(auto, using(crate::proofs::Refusals::place_laws))]
-fn place_before(text: &str, error: Error, end: usize) -> usize
-    requires { IsDiagFault text.now error end }
-    ensures { IsDiagPlace text.now result }
-{
-    match error {
-        Error::CutShort => text.len(),
-        _ => end.saturating_sub(1),
-    }
-}
-
-/// The place of the fault in notation, or the end of a text that may only be cut short. The only
-/// error is `Memory`.
-#[tactic(auto, using(crate::proofs::Refusals::no_place))]
-fn diag_place(alloc: Global, text: &str) -> Result<usize, Error>
-    requires { (i : Item) → ¬ (IsNotation text.now i) }
-    ensures place { IfOk result (λ place. IsDiagPlace text.now place) }
-    ensures memory { IfErr result (λ e. e ≡ Error.Memory) }
-{
-    match diag_fault(alloc, text)? {
-        // There is a fault, since the text is no notation.
-        None => Ok(text.len()),
-        Some((error, end)) => Ok(place_before(text, error, end)),
+        Err(error) => Ok(Some((error, text.len()))),
     }
 }
 
