@@ -2,7 +2,6 @@
 ghost use Rattle.std.specs.Prelude.{◌≡◌, ◌≢◌, negsuc, None, IfSome, IfOk, IfErr};
 ghost use Rattle.cbor_diag.specs.Item.{Item};
 ghost use Rattle.cbor_diag.specs.Facts.{IsItem, IsNoItem};
-ghost use Rattle.cbor_diag.specs.DeadEnd.{IsDiagFault};
 ghost use Rattle.cbor_diag.specs.HexText.{IsHexOf, IsHexRefused};
 ghost use Rattle.cbor_diag.specs.Notation.{IsNotation};
 ghost use Rattle.cbor_diag.specs.NotationRefused.{IsNoNotation};
