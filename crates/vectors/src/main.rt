@@ -1,0 +1,59 @@
+//! Runs the vectors: `vectors FILE..` makes the call of each row of these files, and prints each row
+//! whose result differs, and how many rows each file has.
+//!
+//! The form of the files is in docs/VECTORS.md, and [`row`] reads it. What a call gives is made into
+//! a text by the subject that knows the call, one module each; the crates that they call are proved,
+//! so a row shows that a definition says what a standard says.
+//!
+//! The exit status is 0 if each row gives what it has to, and 1 if not, or if a file cannot be read.
+#![tactic(auto)]
+
+mod report;
+mod row;
+mod rules;
+mod texts;
+
+use crate::report::{Report, Tally};
+use crate::row::{Row, rows_of};
+use std::alloc::{AllocError, Global};
+use std::process::ExitCode;
+use std::{env, fs, io};
+
+/// What the call of a row gives, as a text; none if no subject knows the call.
+fn answer(alloc: Global, row: &Row) -> Result<Option<String>, AllocError> {
+    rules::answer(alloc, row)
+}
+
+/// Runs the rows of a file.
+fn run_file(rt: &HostRuntime, name: &str) -> io::Result<Tally> {
+    let alloc = rt.alloc();
+    let text = fs::read_to_string(rt, name)?;
+    let rows = rows_of(alloc, text.as_str())?;
+    let mut report = Report::new(name);
+    for row in rows.iter() {
+        let found = answer(alloc, row)?;
+        report.row(rt, row, found.as_deref())?;
+    }
+    report.end(rt)
+}
+
+/// Runs the files that the arguments name; returns whether each row gave what it has to.
+fn run(rt: &HostRuntime) -> io::Result<bool> {
+    let mut all = Tally::NONE;
+    for name in env::args(rt)?.skip(1) {
+        all = all.and(run_file(rt, name.as_str())?);
+    }
+    println!(rt; "{} rows, {} of them wrong", all.rows, all.wrong)?;
+    Ok(all.wrong == 0 && all.rows > 0)
+}
+
+fn main(rt: HostRuntime) -> ExitCode {
+    match run(&rt) {
+        Ok(true) => ExitCode::SUCCESS,
+        Ok(false) => ExitCode::FAILURE,
+        Err(error) => {
+            let _ = eprintln!(rt; "vectors: {error}");
+            ExitCode::FAILURE
+        }
+    }
+}
