@@ -41,10 +41,10 @@ COMPLETIONS = $(PROGRAMS:%=$(DIST)/share/bash-completion/completions/%)
 sources = $(if $(AS_BUILT),,crates.txt \
     $(shell find $(wildcard $(1:%=crates/%/src) $(1:%=crates/%/specs) $(1:%=crates/%/proofs)) -type f))
 # The crates that a program or the library for C may stand on.
-BELOW := $(filter-out %_tests cbor_extent cbor_diag_c $(PROGRAMS),$(shell sed -n 's/^\(cbor[a-z0-9_]*\).*:.*/\1/p' crates.txt))
+BELOW := $(filter-out %_tests cbor_diag_c $(PROGRAMS),$(shell sed -n 's/^\(cbor[a-z0-9_]*\).*:.*/\1/p' crates.txt))
 
-.PHONY: all program library install try quick gate test planted check check-pages check-commands check-docs check-cat \
-    check-allocations check-bindings check-packages tarball deb wheel release compare bench clean
+.PHONY: all program library install try quick test gate planted check check-pages check-commands check-docs check-cat \
+    check-allocations check-bindings check-packages tarball deb wheel vectors release compare bench clean
 
 all: program library $(MANUALS) $(COMPLETIONS)
 
@@ -55,6 +55,7 @@ library: $(STATIC) $(SHARED) $(HEADER) $(PKGCONFIG)
 # Without a gate that passed: the kit proves a program, builds it and runs it. A sequence of no items has no output.
 .SECONDEXPANSION:
 $(PROGRAM_FILES): $(DIST)/bin/%: $$(call sources,$$(BELOW) $$*)
+	@echo "$*: the kit proves it and what it stands on, and then builds it; make gate does so with all processors"
 	cd crates/$* && $(PROGRESS) rt run -- $(RUN_$*) < /dev/null
 	install -D -m 755 crates/$*/out/$* $@
 
@@ -107,7 +108,7 @@ install: all
 # The main job before any proof: cborcat, on these arguments. The kit gives it a copy of each file that they name.
 ARGS = examples/log.cbor
 try:
-	@echo "Nothing is proved yet: the kit runs the code as it stands, and checks it only while it runs. make test proves it."
+	@echo "Nothing is proved yet: the kit runs the code as it stands, and checks it only while it runs. make gate proves it."
 	@files=; for word in $(ARGS); do \
 	    if test -f "$$word"; then files="$$files --data $$word=$(CURDIR)/$$word"; fi; \
 	done; cd crates/cborcat && rt try $$files -- $(ARGS)
@@ -119,16 +120,18 @@ quick:
 	    (cd crates/$$crate && rt test) || exit 1; \
 	done
 
-# The gate: all proofs, tests and must-fail edits. One check for each processor runs at a time, and no more than there
-# are 4 GB of free memory for; without the number rt counts on more memory for a large crate, and runs fewer at a time.
+# All tests, without a proof: minutes.
+test:
+	@checks/tests
+
+# The gate: all proofs, tests and must-fail edits. It leaves what it built in dist/, so that make has little left to do;
+# with LEFT= it leaves nothing. One check for each processor runs at a time, and no more than there are 4 GB of free
+# memory for; without the number rt counts on more memory for a large crate, and runs fewer at a time.
 JOBS = $(shell awk -v most="$$(nproc)" '/^MemAvailable/ { n = int($$2 / 4000000); print n < 1 ? 1 : n < most ? n : most }' \
     /proc/meminfo)
+LEFT = $(PROGRAMS)
 gate:
-	@RT_JOBS=$${RT_JOBS:-$(JOBS)} $(PROGRESS) rt ci
-
-# The gate, and then what it built in dist/, so that make has little left to do.
-test:
-	@RT_JOBS=$${RT_JOBS:-$(JOBS)} checks/gate $(PROGRAMS)
+	@RT_JOBS=$${RT_JOBS:-$(JOBS)} checks/gate $(LEFT)
 
 # The wrong bodies that the gate does not try.
 planted:
@@ -137,7 +140,7 @@ planted:
 # All that needs no proof. It takes what is in dist/ as it is.
 check: check-pages
 	@for file in $(PROGRAM_FILES) $(ARCHIVE); do \
-	    test -e $$file || { echo "$$file is not there: make test builds it, or make"; exit 1; }; \
+	    test -e $$file || { echo "$$file is not there: make gate builds it, or make"; exit 1; }; \
 	done
 	@$(MAKE) --no-print-directory -q $(PROGRAM_FILES) $(ARCHIVE) || \
 	    echo "note: files of the crates are newer than dist/: make builds it again"
@@ -146,6 +149,7 @@ check: check-pages
 # The links, names and Rust examples of all pages, and the examples of doc comments, which the tests run; the second
 # implementation, alone.
 check-pages:
+	checks/vectors
 	checks/links
 	checks/names
 	checks/examples
@@ -167,8 +171,8 @@ check-cat: $(DIST)/bin/cborcat
 # Failing allocations in the programs, and in single calls, which tests make that the gate builds.
 check-allocations: $(PROGRAM_FILES)
 	checks/allocations/faults $(DIST)/bin
-	@if test -x crates/cbor_diag_tests/out/cbor_diag_tests_tests; then checks/allocations/failing_calls; \
-	    else echo "no single call was tried, because the tests are not built: make test builds them"; fi
+	@if test -x crates/cbor_tests/out/cbor_tests_tests; then checks/allocations/failing_calls; \
+	    else echo "no single call was tried, because the tests are not built: make gate builds them"; fi
 
 check-bindings: library
 	CC='$(CC)' PYTHON='$(PYTHON)' CARGO='$(CARGO)' bindings/check
@@ -187,11 +191,15 @@ wheel: library
 	mkdir -p $(PACKAGES)
 	cd bindings/python && $(PYTHON) -B -c 'import backend; print(backend.build_wheel("$(abspath $(PACKAGES))"))'
 
+# The vectors, for other implementations.
+vectors:
+	packages/vectors $(PACKAGES)
+
 # Installs each package outside of the repository, runs the commands of its pages, and removes it again.
 check-packages: tarball deb wheel
 	CC='$(CC)' CARGO='$(CARGO)' packages/check $(PACKAGES)
 
-release: check-packages
+release: check-packages vectors
 	packages/version
 	cd $(PACKAGES) && sha256sum *$(VERSION)* > SHA256SUMS && cat SHA256SUMS
 

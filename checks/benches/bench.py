@@ -9,7 +9,7 @@ least time in milliseconds, the megabytes of input per second and the peak memor
 ratio of the two times. A dash means that a run failed. The inputs are the same on every machine. They are
 kept in FOLDER, or in a folder that is removed at the end. The last lines compare records in a sequence with
 the same records in an array. With --status, the programs take no arguments: each reads bytes and reports by
-its exit status alone, as `crates/cbor_extent/out/cbor_extent` does. The script needs only Python and its
+its exit status alone, as `checks/benches/extent.c` does. The script needs only Python and its
 standard library.
 """
 import argparse

@@ -4,7 +4,7 @@ from dataclasses import replace
 
 from item import (
     DEEPEST, OPEN, Array, Bytes, Float, IndefiniteBytes, IndefiniteText, Integer, Map, Negative,
-    Refused, Simple, Tagged, Text, shortest, stated, utf8,
+    Refused, Simple, Tagged, Text, stated, utf8,
 )
 
 BREAK = 0xFF
@@ -102,7 +102,7 @@ def item_at(data, at, level):
         value, at = item_at(data, at, level + 1)
         return Tagged(number, width, value), at
     if info <= 24:
-        return Simple(number), at
+        return Simple(number, info == 24), at
     return Float(number, width), at
 
 

@@ -11,7 +11,7 @@ import binascii
 from bytes_form import to_bytes
 from item import (
     DEEPEST, OPEN, Array, Bytes, Float, IndefiniteBytes, IndefiniteText, Integer, Map, Negative,
-    Refused, Simple, Tagged, Text, fits,
+    Simple, Tagged, Text, fits,
 )
 
 WHITESPACE = " \t\r\n"
@@ -267,25 +267,21 @@ class Reader:
 
     def chunks(self, at, level):
         """The chunks of an indefinite string, all of bytes or all of text."""
+        kinds = set()
 
         def chunk(at):
             at = self.blank(at)
+            is_text = self.starts(at, '"')
+            if {not is_text} & kinds or not (is_text or self.is_notation(at)):
+                raise NoReading
             if self.starts(at, "''_") or self.starts(at, '""_'):
                 raise NoReading
-            if self.starts(at, '"'):
-                string, at = self.joined_text(at, level)
-            elif self.is_notation(at):
-                string, at = self.joined_bytes(at, level)
-            else:
-                raise NoReading
+            kinds.add(is_text)
+            string, at = (self.joined_text if is_text else self.joined_bytes)(at, level)
             return string, self.blank(at)
 
         chunks, at = self.members(at, ")", chunk)
-        if all(isinstance(string, Bytes) for string in chunks):
-            return IndefiniteBytes(chunks), at
-        if all(isinstance(string, Text) for string in chunks):
-            return IndefiniteText(chunks), at
-        raise NoReading
+        return (IndefiniteText if kinds == {True} else IndefiniteBytes)(chunks), at
 
     def float(self, at):
         end = self.run(at, DIGITS["h"][0])

@@ -5,12 +5,12 @@ from typing import NamedTuple
 
 from bytes_form import float_width, head, parse_bytes, sequence
 from item import (
-    TEXTS, Array, Bytes, Float, IndefiniteBytes, IndefiniteText, Integer, Map, Negative, Refused,
+    TEXTS, Array, Bytes, Float, IndefiniteBytes, IndefiniteText, Integer, Negative, Refused,
     Simple, Tagged, Text, utf8,
 )
 from notes import (
     STANDARD, URL_SAFE, base64_lines, date_of_epoch, datetime_of_epoch, epoch_of_date,
-    epoch_of_datetime, escaped_bytes, escaped_text, grouped, ipv4_text, ipv6_text, mac_text, pieces,
+    epoch_of_datetime, escaped_text, grouped, ipv4_text, ipv6_text, mac_text, pieces,
     quoted_bytes, uuid_lines,
 )
 from tags import ELEMENTS, NAMES

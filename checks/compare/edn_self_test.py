@@ -1,14 +1,16 @@
-"""Holds this reading of EDN against the examples, and against itself on items made at random."""
+"""Holds this reading of EDN against the vectors, the examples, and itself on items made at random."""
 
 import random
 import sys
 
+import calls_edn
 import cases
 from bytes_form import sequence, to_bytes
-from edn_examples import APPENDIX_A, LINES, TEXTS, WRITTEN
+from edn_examples import LINES, REFUSED
 from edn_form import edn_to_bytes
 from edn_text import Writer
 from item import Refused
+from tally import rows_give
 
 
 def answer(text):
@@ -24,21 +26,19 @@ def check(wanted, found, at):
 
 
 def run(seed=1, count=2000):
-    for digits, text in APPENDIX_A:
-        check(digits, answer(text), text)
-        items, _ = sequence(bytes.fromhex(digits), 1)
-        check(WRITTEN.get(digits, text), Writer().item(items[0]), digits)
+    rows = rows_give(calls_edn.CALLS)
     for columns, line, text in LINES:
         items, _ = sequence(edn_to_bytes(line.encode()), 1)
         check(text, Writer(columns=columns).item(items[0]), line)
-    for text, digits in TEXTS:
-        check(digits, answer(text), text)
+    for text in REFUSED:
+        check(None, answer(text), text)
     for number in range(count):
         chance = random.Random(f"{seed} edn {number}")
         item = cases.any_item(chance)
         for writer in (Writer(), Writer(widths=True), Writer(embedded=True), Writer(True, True), Writer(columns=20)):
             text = writer.item(sequence(to_bytes(item), 1)[0][0])
             check(to_bytes(item).hex(), answer(text), text)
+    print(f"self-test of EDN: {rows} rows, all examples, and {count} items by seed {seed}")
 
 
 if __name__ == "__main__":

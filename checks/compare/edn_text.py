@@ -1,10 +1,8 @@
 """Items written in EDN, so that the same bytes are read back: docs/EDN.md."""
 
-import struct
-
 from bytes_form import sequence, to_bytes
 from diag_text import estimate
-from edn_form import FORMATS, USUAL, nearest_or_none, value_of
+from edn_numbers import FORMATS, nearest_or_none, value_of
 from fractions import Fraction
 from item import (
     Array, Bytes, Float, IndefiniteBytes, IndefiniteText, Integer, Map, Negative, Simple, Tagged, Text,

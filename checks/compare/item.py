@@ -4,7 +4,7 @@ A width says how a number is written: by the number of bytes that follow the fir
 OPEN is not such a number: it is the shortest that fits (of a float: 8).
 """
 
-from dataclasses import dataclass
+from dataclasses import dataclass, field
 from typing import Optional
 
 OPEN = -1
@@ -78,14 +78,16 @@ class Float:
 @dataclass(frozen=True)
 class Simple:
     value: int
+    # whether it was read from two bytes, which is no part of what an item is
+    two_bytes: bool = field(default=False, compare=False)
 
 
 class Refused(Exception):
-    """The error of an input: one of the names below."""
+    """The error of an input: one of the names below; and its place, where that is known."""
 
-    def __init__(self, name):
+    def __init__(self, name, place=None):
         super().__init__(name)
-        self.name = name
+        self.name, self.place = name, place
 
 
 TEXTS = {

@@ -183,6 +183,12 @@ def epoch_of_date(text):
 
 def epoch_of_datetime(text):
     """Seconds from 1970, with what is left of a fraction cut to nine digits; or None."""
+    found = seconds_of_datetime(text)
+    return found and with_fraction(found[0], (found[1] or "")[:9].ljust(9, "0"))
+
+
+def seconds_of_datetime(text):
+    """Whole seconds from 1970, and the digits of a fraction, or None in place of these; None of another text."""
     found = re.fullmatch(
         r"([0-9]{4})-([0-9]{2})-([0-9]{2})[Tt]([0-9]{2}):([0-9]{2}):([0-9]{2})(?:\.([0-9]+))?"
         r"(?:[Zz]|([+-])([0-9]{2}):([0-9]{2}))",
@@ -200,8 +206,7 @@ def epoch_of_datetime(text):
         if int(offset_hours) > 23 or int(offset_minutes) > 59:
             return None
         offset = int(sign + "1") * (3600 * int(offset_hours) + 60 * int(offset_minutes))
-    total = 86400 * day + 3600 * hours + 60 * minutes + seconds - offset
-    return with_fraction(total, (fraction or "")[:9].ljust(9, "0"))
+    return 86400 * day + 3600 * hours + 60 * minutes + seconds - offset, fraction
 
 
 def with_fraction(seconds, nanoseconds):

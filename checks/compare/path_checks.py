@@ -2,9 +2,10 @@
 items of `cases.py`, and what is said where a path leads nowhere."""
 import random
 
-from bytes_form import item_at, to_bytes
+from bytes_form import to_bytes
 from cases import any_item
-from item import Array, Bytes, Integer, Map, Refused, Tagged
+from item import Array, Bytes, Integer, Map, Tagged
+from path_form import next_items, untagged
 
 KEY = ("a50102032620012158" "20143329cce7868e416927599cf65a34f3ce2ffda55a7eca69ed8919a394d42f0f"
        "225820" "60f7f1a780d8a783bfb7a2dd6b2796e8128dbbcef9d3d168db9529971a36e7b9")
@@ -105,39 +106,6 @@ def nowhere(run, same):
     for path, text, said in rows:
         same(f"{path} of {text}", run("-p", path, "-t", "diag", "-f", "diag", "-x", text),
              (b"", f"cborcat: -x: {said}\n", 1))
-
-
-def untagged(item):
-    while isinstance(item, Tagged):
-        item = item.value
-    return item
-
-
-def next_items(item, step):
-    """Where one step leads: to one item or none, but for `*`."""
-    item = untagged(item)
-    if step == "*":
-        if isinstance(item, Array):
-            return list(item.members)
-        return [value for _, value in item.pairs] if isinstance(item, Map) else []
-    if step.startswith("@"):
-        return items_inside(item, step[1:])
-    if isinstance(item, Array):
-        return list(item.members[int(step):][:1])
-    values = [value for key, value in item.pairs if isinstance(key, Integer) and key.value == int(step)] \
-        if isinstance(item, Map) else []
-    return values[:1]
-
-
-def items_inside(item, digits):
-    """The item at a byte of a byte string, or with no digits the one that it is."""
-    if not isinstance(item, Bytes) or int(digits or 0) >= len(item.content):
-        return []
-    try:
-        inner, end = item_at(item.content, int(digits or 0), 1)
-    except Refused:
-        return []
-    return [inner] if digits or end == len(item.content) else []
 
 
 def nested(chance, depth):

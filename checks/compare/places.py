@@ -1,78 +1,147 @@
-"""Where in an item bytes are cut or at fault, and the paths of an item, for `checks/cborcat`: a decoder written from
-RFC 8949, section 3, of items without strings of indefinite length, whose keys are numbers, or texts without quotes."""
+"""Where in an item bytes are cut or at fault, and the paths of an item: a decoder written from RFC 8949, section 3, and
+docs/DECISIONS.md. Steps of paths are those of share/man/cborcat.1."""
+
+import re
+
+from bytes_form import parse_bytes
+from edn_form import edn_to_bytes
+from edn_text import HIDDEN, Writer
+from item import Refused, Text
+
+# the longest key that a message names; in lines of paths 1,024 bytes are
+LONGEST = 40
 
 
 class Stop(Exception):
     """Bytes are cut or at fault: what cborcat says, without the name of the input."""
 
 
-def there(count):
-    return "none is there" if count == 0 else f"{count} {'is' if count == 1 else 'are'} there"
+def there(count, noun=""):
+    if count == 0:
+        return f"no {noun} is there" if noun else "none is there"
+    noun = noun and f" {noun}{'' if count == 1 else 's'}"
+    return f"{count}{noun} {'is' if count == 1 else 'are'} there"
 
 
 def joined(path, word):
     return f"{path}/{word}" if path else word
 
 
-class Decoder:
-    """Reads one item after the other from data, and gathers the lines of -t paths."""
+def is_notation(text):
+    try:
+        edn_to_bytes(text.encode())
+        return True
+    except Refused:
+        return False
 
-    def __init__(self, data):
-        self.data, self.at, self.leaves = data, 0, []
+
+def is_plain(text):
+    """Whether a step can be the text as it stands: it is read as no other step."""
+    odd = any(one in "\"'/ \t\r\n" or ord(one) in HIDDEN for one in text)
+    return not (text == "" or odd or is_notation(text) or re.fullmatch(r"\*|@[0-9]*", text))
+
+
+class Decoder:
+    """Reads one item after the other from data that begins at a byte of an input. It gathers the lines of -t paths and
+    the spots of all items: where each begins and ends, its path, whether it is in a key, and the line that says so."""
+
+    def __init__(self, data, begins=0, longest=LONGEST):
+        self.data, self.begins, self.longest = data, begins, longest
+        self.at, self.leaves, self.spots = 0, [], []
 
     def take(self, count):
         part = self.data[self.at:self.at + count]
         self.at += len(part)
         return part
 
+    def byte(self, place):
+        return f"byte {self.begins + place}"
+
     def cut(self, noun, path, in_key, start, rest):
         words = f"the {noun}{' in a key' if in_key else ''}{f' at {path}' if path else ''}"
-        words += f" (byte {start})" if in_key or path else f" at byte {start}"
+        words += f" ({self.byte(start)})" if in_key or path else f" at {self.byte(start)}"
         raise Stop(f"cut short: {words} has {rest}\n")
+
+    def fault(self, place, line):
+        at = self.begins + place
+        raise Stop(f"byte {at} (0x{at:x}): no item can have this head\n{line}")
 
     def items(self):
         while self.at < len(self.data):
             self.item("", False, "")
 
     def item(self, path, in_key, line, begins=None):
-        """Reads an item; returns it, if it is a number or a text. The line says where it is; its tags begin there."""
+        """Reads an item. The line says where it is; its tags begin at a place."""
         start = self.at
         begins = start if begins is None else begins
+        number = len(self.spots)
+        self.spots.append((start, None, path, in_key, line))
+        if self.content(path, in_key, line, begins) and not in_key:
+            self.leaves.append((begins, path or "/", self.data[begins:self.at]))
+        self.spots[number] = (start, self.at, path, in_key, line)
+
+    def content(self, path, in_key, line, begins):
+        """Reads what an item is; returns whether it is a line of paths."""
+        start = self.at
         first = self.take(1)[0]
         major, info = first >> 5, first & 31
-        if 28 <= info <= 30 or (info == 31 and major not in (4, 5)):
-            raise Stop(f"byte {start} (0x{start:x}): no item can have this head\n{line}")
+        if 28 <= info <= 30 or (info == 31 and major not in (2, 3, 4, 5)):
+            self.fault(start, line)
         size = 1 << info - 24 if 24 <= info <= 27 else 0
         argument = self.take(size)
         if len(argument) < size:
             self.cut("head", path, in_key, start, f"{size + 1} bytes, {there(len(argument) + 1)}")
         number = None if info == 31 else int.from_bytes(argument, "big") if size else info
         if major in (4, 5) and (number or (number is None and self.data[self.at:self.at + 1] != b"\xff")):
-            return self.container(path, in_key, (start, major == 5, number))
+            self.container(path, in_key, line, (start, major == 5, number))
+            return False
         if major == 6:
             if self.at == len(self.data):
                 self.cut(f"tag {number}", path, in_key, start, "no item")
-            return self.item(path, in_key, line, begins)
-        value = None
+            self.item(path, in_key, line, begins)
+            return False
         if major in (4, 5) and number is None:
             self.at += 1
         if major in (2, 3):
+            self.string(path, in_key, line, (start, "text" if major == 3 else "byte string", number))
+        return True
+
+    def string(self, path, in_key, line, head):
+        start, noun, number = head
+        if number is not None:
             content = self.take(number)
             if len(content) < number:
-                noun = "text" if major == 3 else "byte string"
                 bytes_ = "byte" if number == 1 else "bytes"
                 self.cut(noun, path, in_key, start, f"{number} {bytes_}, {there(len(content))}")
-            value = content.decode() if major == 3 else None
-        elif major < 2:
-            value = number if major == 0 else -1 - number
-        if not in_key:
-            self.leaves.append((begins, path or "/", self.data[begins:self.at]))
-        return value
+            return
+        chunks = 0
+        while self.data[self.at:self.at + 1] != b"\xff":
+            place = self.at
+            for byte in self.data[place:place + 1]:
+                if byte >> 5 != self.data[start] >> 5 or byte & 31 > 27:
+                    self.fault(place, line)
+            try:
+                self.content("", False, "", place)
+            except (Stop, IndexError):
+                self.cut(f"{noun} of indefinite length", path, in_key, start, f"no end, {there(chunks, 'chunk')}")
+            chunks += 1
+        self.at += 1
 
-    def container(self, path, in_key, head):
+    def key_name(self, start):
+        """The key that begins at a place, as a step of a path."""
+        item = parse_bytes(self.data[start:self.at])
+        if isinstance(item, Text) and is_plain(item.content):
+            text = item.content
+        else:
+            # a path is split at each slash outside of two quotes
+            text = re.sub(r"\\(.)", lambda found: found[0].replace('\\"', "\\u0022"), Writer().item(item))
+        return text if len(text.encode()) <= self.longest else f"(key at {self.byte(start)})"
+
+    def container(self, path, in_key, outer, head):
+        """Reads the parts of a container. In a key the line is that of the key."""
         start, is_map, count = head
         noun = "map" if is_map else "array"
-        of = "of indefinite length" if count is None else f"of {count}"
+        of = f"{noun} {'of indefinite length' if count is None else f'of {count}'} at {self.byte(start)}"
         index = 0
         while count is None or index < count:
             if count is None and self.data[self.at:self.at + 1] == b"\xff":
@@ -80,19 +149,20 @@ class Decoder:
                 break
             self.part_is_there(path, in_key, head, there(index))
             if not is_map:
-                place = joined(path, str(index))
-                line = f"    at {place}, in the array {of} at byte {start}, of which {there(index)}\n"
-                self.item(path if in_key else place, in_key, line)
+                place = path if in_key else joined(path, str(index))
+                self.item(place, in_key, outer if in_key else self.line(place, False, of, there(index)))
             else:
-                where = f"at {path}, " if path else ""
-                line = f"    {where}in a key of the map {of} at byte {start}, of which {there(index)}\n"
-                key = self.item(path, True, line)
+                key = self.at
+                self.item(path, True, outer if in_key else self.line(path, True, of, there(index)))
                 count_there = f"{index} and a key are there" if index else "a key is there"
                 self.part_is_there(path, in_key, head, count_there)
-                place = joined(path, str(key))
-                line = f"    at {place}, in the {noun} {of} at byte {start}, of which {count_there}\n"
-                self.item(path if in_key else place, in_key, line)
+                place = path if in_key else joined(path, self.key_name(key))
+                self.item(place, in_key, outer if in_key else self.line(place, False, of, count_there))
             index += 1
+
+    def line(self, path, in_key, of, count_there):
+        where = f"at {path}, " if path else ""
+        return f"    {where}in {'a key of ' if in_key else ''}the {of}, of which {count_there}\n"
 
     def part_is_there(self, path, in_key, head, words):
         start, is_map, count = head
@@ -105,10 +175,10 @@ class Decoder:
         self.cut(noun, path, in_key, start, f"{count} {parts}, {words}")
 
 
-def said(data):
+def said(data, begins=0):
     """What cborcat says of these bytes, without the name of the input and the excerpt; nothing of whole items."""
     try:
-        Decoder(data).items()
+        Decoder(data, begins).items()
     except Stop as stop:
         return str(stop)
     return ""
@@ -125,13 +195,6 @@ def starts(data):
 
 def heads(data):
     """The places of the heads of items."""
-    places, decoder = [], Decoder(data)
-    take_first = decoder.item
-
-    def item(*words):
-        places.append(decoder.at)
-        return take_first(*words)
-
-    decoder.item = item
+    decoder = Decoder(data)
     decoder.items()
-    return places
+    return [start for start, *_ in decoder.spots]

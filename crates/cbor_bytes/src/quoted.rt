@@ -1,5 +1,5 @@
 //! Writes bytes between quotes, in hex or in base 64.
-#![tactic(auto, using(cbor_grammar::proofs::shared::Appending::appending_steps))]
+#![tactic(auto, using(cbor_tokens::proofs::texts::Appending::appending_steps))]
 
 ghost use Rattle.cbor_tokens.specs.Appends.{AppendsText};
 ghost use Rattle.cbor_tokens.specs.Base64.{standard, url_safe};

@@ -1,6 +1,6 @@
 //! Heads as they are written (RFC 7049 section 2), and the opening byte and the break in their
 //! place.
-#![tactic(auto, using(cbor_grammar::proofs::shared::Appending::appending_steps))]
+#![tactic(auto, using(cbor_tokens::proofs::texts::Appending::appending_steps))]
 
 ghost use Rattle.cbor_tokens.specs.Appends.{Appends};
 ghost use Rattle.cbor_grammar.specs.Head.{FitsWidth};

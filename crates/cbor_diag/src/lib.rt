@@ -20,6 +20,7 @@
 //! `HostRuntime` of a test, and `alloc` is `rt.alloc()`.
 #![tactic(auto)]
 
+mod conversion;
 mod encode;
 mod parse;
 mod rewrite;
@@ -34,6 +35,7 @@ pub use cbor_notation_writer::{
     bytes_to_diag, bytes_to_diag_pretty, hex_to_diag, hex_to_diag_pretty, push_bytes_to_diag,
     push_bytes_to_diag_partial, push_bytes_to_diag_pretty, push_bytes_to_diag_pretty_partial,
 };
+pub use conversion::{Source, To, convert, push_front, read_item, write_item};
 pub use parse::{
     diag_fault, parse_bytes, parse_bytes_counted, parse_bytes_partial, parse_diag, parse_hex,
 };

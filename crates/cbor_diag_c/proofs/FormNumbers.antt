@@ -2,11 +2,11 @@
 use Rattle.std.proofs.Common.{◌≡◌, ◌≢◌, ℕ, List, true, false, refl, arith}
 use Rattle.cbor_grammar.specs.declared.error.Error.{Error}
 use Rattle.cbor_grammar.specs.declared.error.Error.TheVariants as refusal
-use Rattle.cbor_diag.specs.Facts.{IsNoItem}
-use Rattle.cbor_diag.specs.Refusals.{number_of}
-use Rattle.cbor_convert.specs.declared.form.Source.TheVariants as source
-use Rattle.cbor_convert.specs.declared.form.To.{To}
-use Rattle.cbor_convert.specs.declared.form.To.TheVariants as target
+use Rattle.cbor_grammar.specs.Facts.{IsNoItem}
+use Rattle.cbor_grammar.specs.Refusals.{number_of}
+use Rattle.cbor_diag.specs.declared.conversion.form.Source.TheVariants as source
+use Rattle.cbor_diag.specs.declared.conversion.form.To.{To}
+use Rattle.cbor_diag.specs.declared.conversion.form.To.TheVariants as target
 use Rattle.cbor_diag_c.specs.declared.form.Form.{Form}
 use Rattle.cbor_diag_c.specs.declared.form.Form.TheVariants as form
 use Rattle.cbor_diag_c.specs.declared.form.Text.TheVariants as text

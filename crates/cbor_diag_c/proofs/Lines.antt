@@ -5,7 +5,7 @@ use Rattle.cbor_grammar.specs.Written.{resolve}
 use Rattle.cbor_grammar.specs.Facts.{IsItem}
 use Rattle.cbor_grammar.proofs.bytes.Resolved.{resolved}
 use Rattle.cbor_edn_writer.specs.declared.style.EdnStyle.{EdnStyle}
-use Rattle.cbor_edn.specs.Written.{IsEdnText}
+use Rattle.cbor_edn_writer.specs.Written.{IsEdnText}
 use Rattle.cbor_json.specs.declared.style.JsonStyle.{JsonStyle}
 use Rattle.cbor_json.specs.Written.{IsJsonText}
 

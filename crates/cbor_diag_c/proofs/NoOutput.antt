@@ -4,11 +4,11 @@ use Rattle.hex.specs.Hex.{decode_of}
 use Rattle.cbor_tokens.specs.Uncommented.{uncommented}
 use Rattle.cbor_grammar.specs.declared.error.Error.{Error}
 use Rattle.cbor_grammar.specs.declared.error.Error.TheVariants as refusal
-use Rattle.cbor_diag.specs.Item.{Item}
-use Rattle.cbor_diag.specs.Written.{encoded}
-use Rattle.cbor_convert.specs.declared.form.Source.TheVariants as source
-use Rattle.cbor_convert.specs.declared.form.To.TheVariants as target
-use Rattle.cbor_convert.specs.Output.{Reads}
+use Rattle.cbor_grammar.specs.Item.{Item}
+use Rattle.cbor_grammar.specs.Written.{encoded}
+use Rattle.cbor_diag.specs.declared.conversion.form.Source.TheVariants as source
+use Rattle.cbor_diag.specs.declared.conversion.form.To.TheVariants as target
+use Rattle.cbor_diag.specs.Output.{Reads}
 use Rattle.cbor_json.specs.declared.error.JsonError.{JsonError}
 use Rattle.cbor_json.specs.declared.error.JsonError.TheVariants.{Cbor, NotKept, SameKeys}
 use Rattle.cbor_json.specs.Written.{IsNoJson}

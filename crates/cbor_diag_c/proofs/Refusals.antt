@@ -8,11 +8,11 @@ use Rattle.cbor_grammar.specs.declared.error.Error.TheVariants as refusal
 use Rattle.cbor_diag.specs.DeadEnd.{IsDeadEnd, IsDiagFault}
 use Rattle.cbor_tokens.specs.Token.{nothing}
 use Rattle.cbor_grammar.specs.Item.{Item, atom, simple}
-use Rattle.cbor_diag.specs.Notation.{IsNotation, Reads}
+use Rattle.cbor_grammar.specs.Notation.{IsNotation, Reads}
 use Rattle.cbor_grammar.specs.NotationRefused.{IsNoNotation}
-use Rattle.cbor_diag.specs.Facts.{HasFault, IsCut, IsNoItem}
-use Rattle.cbor_diag.specs.Extent.{FaultEnds}
-use Rattle.cbor_diag.specs.HexText.{IsHexRefused}
+use Rattle.cbor_grammar.specs.Facts.{HasFault, IsCut, IsNoItem}
+use Rattle.cbor_bytes.specs.Extent.{FaultEnds}
+use Rattle.cbor_grammar.specs.HexText.{IsHexRefused}
 use Rattle.cbor_grammar.proofs.bytes.Outcomes.{fault_refusal}
 use Rattle.cbor_diag_c.specs.Places.{IsDiagPlace}
 

@@ -1,7 +1,7 @@
 -- What an export returns, a length or minus the number of an error, and what its buffer holds then.
 use Rattle.std.specs.Prelude.{◌≡◌, ◌⊎◌, ⊤, ℕ, ◌+◌, ◌<◌, ℤ, pos, negsuc, List, ◌++◌, length, take, drop, codes}
 use Rattle.cbor_grammar.specs.declared.error.Error.{Error}
-use Rattle.cbor_diag.specs.Refusals.{text_of, number_of}
+use Rattle.cbor_grammar.specs.Refusals.{text_of, number_of}
 
 -- a fact of the length that was returned
 abbrev pub IfLength : ℤ → (ℕ → Type 0) → Type 0

@@ -4,8 +4,8 @@ use Rattle.cbor_grammar.specs.declared.error.Error.{Error}
 use Rattle.cbor_grammar.specs.declared.error.Error.TheVariants.{CutShort}
 use Rattle.cbor_bytes.specs.declared.skip.answer.Extent.{Extent}
 use Rattle.cbor_bytes.specs.declared.skip.answer.Extent.TheVariants.{Item, Cut, Fault}
-use Rattle.cbor_diag.specs.Extent.{IsExtent}
-use Rattle.cbor_diag.specs.Refusals.{number_of}
+use Rattle.cbor_bytes.specs.Extent.{IsExtent}
+use Rattle.cbor_grammar.specs.Refusals.{number_of}
 use Rattle.cbor_diag_c.specs.Answers.{IsLength, IsMinus}
 
 -- an item of this length, which ends here

@@ -1,7 +1,7 @@
 -- What C is told of where bytes first break a set of rules.
 use Rattle.std.specs.Prelude.{◌≡◌, ◌⊎◌, ℕ, List, Option, Some, None, IsTrue}
 use Rattle.std.specs.Prelude.{◌==◌, if◌then◌else◌}
-use Rattle.cbor_diag.specs.Refusals.{number_of}
+use Rattle.cbor_grammar.specs.Refusals.{number_of}
 use Rattle.cbor_rules.specs.declared.rules.Rules.{Rules}
 use Rattle.cbor_rules.specs.declared.rules.TheConstants.Rules.{RFC_8949, VALID, PREFERRED, CORE, LENGTH_FIRST, CTAP2}
 use Rattle.cbor_rules.specs.declared.rules.TheConstants.Rules.{DCBOR}

@@ -5,15 +5,15 @@ use Rattle.cbor_grammar.specs.declared.error.Error.TheVariants as refusal
 use Rattle.cbor_grammar.specs.Item.{Item}
 use Rattle.cbor_grammar.specs.Written.{resolve}
 use Rattle.cbor_diag.specs.View.{view}
-use Rattle.cbor_convert.specs.declared.form.Source.{Source}
-use Rattle.cbor_convert.specs.declared.form.Source.TheVariants as source
-use Rattle.cbor_convert.specs.declared.form.To.{To}
-use Rattle.cbor_convert.specs.declared.form.To.TheVariants as target
-use Rattle.cbor_convert.specs.Output.{Reads, Refuses, output_of}
+use Rattle.cbor_diag.specs.declared.conversion.form.Source.{Source}
+use Rattle.cbor_diag.specs.declared.conversion.form.Source.TheVariants as source
+use Rattle.cbor_diag.specs.declared.conversion.form.To.{To}
+use Rattle.cbor_diag.specs.declared.conversion.form.To.TheVariants as target
+use Rattle.cbor_diag.specs.Output.{Reads, Refuses, output_of}
 use Rattle.cbor_edn_writer.specs.declared.style.EdnStyle.{EdnStyle}
 use Rattle.cbor_edn_grammar.specs.declared.error.EdnError.{EdnError}
-use Rattle.cbor_edn.specs.Edn.{item_of_edn, Answers}
-use Rattle.cbor_edn.specs.Written.{IsEdnText, line_style, pretty_style}
+use Rattle.cbor_edn_grammar.specs.Edn.{item_of_edn, Answers}
+use Rattle.cbor_edn_writer.specs.Written.{IsEdnText, line_style, pretty_style}
 use Rattle.cbor_json.specs.declared.style.JsonStyle.{JsonStyle}
 use Rattle.cbor_json.specs.declared.style.TheConstants.JsonStyle.{PLAIN, STRICT}
 use Rattle.cbor_json.specs.Written.{IsJsonText}

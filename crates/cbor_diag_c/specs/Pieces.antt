@@ -1,6 +1,6 @@
 -- What a scanner of C has scanned.
 use Rattle.std.specs.Prelude.{◌≡◌, ℕ, ◌+◌, ◌^◌, ◌<◌, List, ◌++◌, length}
-use Rattle.cbor_diag.specs.Scanning as library
+use Rattle.cbor_bytes.specs.Scanning as library
 use Rattle.cbor_diag_c.specs.declared.scanner.CountedScanner.{CountedScanner}
 
 -- the scanner was fed these bytes

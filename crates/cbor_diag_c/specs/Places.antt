@@ -5,14 +5,14 @@ use Rattle.hex.specs.Hex.{decode_of}
 use Rattle.cbor_tokens.specs.Uncommented.{uncommented}
 use Rattle.cbor_grammar.specs.declared.error.Error.{Error}
 use Rattle.cbor_grammar.specs.declared.error.Error.TheVariants as refusal
-use Rattle.cbor_diag.specs.Item.{Item}
-use Rattle.cbor_diag.specs.Facts.{BeginsWithItem, IsCut}
+use Rattle.cbor_grammar.specs.Item.{Item}
+use Rattle.cbor_grammar.specs.Facts.{BeginsWithItem, IsCut}
 use Rattle.cbor_diag.specs.DeadEnd.{IsDiagFault}
-use Rattle.cbor_diag.specs.Extent.{FaultEnds}
-use Rattle.cbor_diag.specs.HexText.{IsKeptByte, IsHexFault}
-use Rattle.cbor_diag.specs.Refusals.{number_of}
-use Rattle.cbor_convert.specs.declared.form.Source.{Source}
-use Rattle.cbor_convert.specs.declared.form.Source.TheVariants as source
+use Rattle.cbor_bytes.specs.Extent.{FaultEnds}
+use Rattle.cbor_grammar.specs.HexText.{IsKeptByte, IsHexFault}
+use Rattle.cbor_grammar.specs.Refusals.{number_of}
+use Rattle.cbor_diag.specs.declared.conversion.form.Source.{Source}
+use Rattle.cbor_diag.specs.declared.conversion.form.Source.TheVariants as source
 use Rattle.cbor_diag_c.specs.declared.form.Form.{Form}
 use Rattle.cbor_diag_c.specs.declared.form.Form.TheVariants as form
 use Rattle.cbor_diag_c.specs.Forms.{form_number, read_as, IsNoForm, ReadsIn, IsRefusedIn}

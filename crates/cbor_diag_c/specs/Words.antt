@@ -3,10 +3,10 @@ use Rattle.std.specs.Prelude.{◌≡◌, ◌⊎◌, ℕ, List, [], codes, IsUtf8
 use Rattle.cbor_grammar.specs.declared.error.Error.{Error}
 use Rattle.cbor_grammar.specs.declared.error.Error.TheVariants as refusal
 use Rattle.cbor_grammar.specs.Item.{Item}
-use Rattle.cbor_diag.specs.Refusals.{text_of}
+use Rattle.cbor_grammar.specs.Refusals.{text_of}
 use Rattle.cbor_edn_grammar.specs.declared.error.Expected.{Expected}
-use Rattle.cbor_edn.specs.Edn.{item_of_edn}
-use Rattle.cbor_edn.specs.Expectations as edn
+use Rattle.cbor_edn_grammar.specs.Edn.{item_of_edn}
+use Rattle.cbor_edn_grammar.specs.Expectations as edn
 use Rattle.cbor_diag_c.specs.declared.form.Form.{Form}
 use Rattle.cbor_diag_c.specs.declared.form.Form.TheVariants as form
 use Rattle.cbor_diag_c.specs.Forms.{form_number, IsEdn, IsNoForm, ReadsIn, IsRefusedIn}

@@ -1,9 +1,9 @@
 //! What a call returns to C, and what it writes for the caller.
 ghost use Rattle.std.specs.Prelude.{◌≡◌, pos, length};
-ghost use Rattle.cbor_diag.specs.Refusals.{number_of};
+ghost use Rattle.cbor_grammar.specs.Refusals.{number_of};
 ghost use Rattle.cbor_diag_c.specs.Answers.{IsMinus, written};
 
-use cbor_diag::Error;
+use cbor_grammar::Error;
 
 /// Writes as much of a text as fits the output, and returns the length of the whole text.
 pub(crate) fn write(text: &[u8], output: &mut [u8]) -> i64

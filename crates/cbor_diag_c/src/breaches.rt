@@ -11,7 +11,7 @@ ghost use Rattle.cbor_diag_c.specs.Places.{no_place};
 
 use crate::answer::{refused, write};
 use crate::faults::NO_PLACE;
-use cbor_diag::Error;
+use cbor_grammar::Error;
 use cbor_messages::{kind_number, kind_text};
 use cbor_rules::{Breach, BreachKind, Rules, breach, breach_in};
 use std::alloc::{AllocError, Global};

@@ -13,8 +13,9 @@ use crate::edn::read_edn;
 use crate::faults::NO_PLACE;
 use crate::form::{Form, NO_FORM, Text, read_as};
 use crate::text::{item_line, text_line};
-use cbor_convert::{Source, To, convert, read_item, write_item};
-use cbor_diag::{Error, hex_bytes};
+use cbor_bytes::hex_bytes;
+use cbor_diag::{Source, To, convert, read_item, write_item};
+use cbor_grammar::Error;
 use cbor_json::{JsonError, LossKind};
 use std::alloc::Global;
 

@@ -1,15 +1,18 @@
 //! EDN, as an input and an output of the calls for C.
 ghost use Rattle.std.specs.Prelude.{◌≡◌, IfOk, IfErr, MatchResult};
 ghost use Rattle.cbor_diag.specs.View.{view};
-ghost use Rattle.cbor_diag.specs.Answer.{RefusedSo};
-ghost use Rattle.cbor_diag.specs.Facts.{IsItem, IsNoItem, IsWellFormed};
-ghost use Rattle.cbor_diag.specs.Item.{Item};
+ghost use Rattle.cbor_grammar.specs.Answer.{RefusedSo};
+ghost use Rattle.cbor_grammar.specs.Facts.{IsItem, IsNoItem, IsWellFormed};
+ghost use Rattle.cbor_grammar.specs.Item.{Item};
 ghost use Rattle.cbor_grammar.specs.Written.{resolve};
 ghost use Rattle.cbor_diag_c.specs.Forms.{IsEdn, IsNoEdn, IsEdnError, IsEdnLine};
 
 use crate::form::edn_style;
-use cbor_diag::{DataItem, Error};
-use cbor_edn::{EdnError, parse_edn, push_bytes_to_edn};
+use cbor_diag::DataItem;
+use cbor_edn::parse_edn;
+use cbor_edn_grammar::error::EdnError;
+use cbor_edn_writer::push_bytes_to_edn;
+use cbor_grammar::Error;
 use std::alloc::Global;
 
 /// Reads one item from EDN. Each error but `Utf8` and `Memory` is `Notation`.

@@ -1,11 +1,11 @@
 //! The texts of errors, for C.
 ghost use Rattle.std.specs.Prelude.{◌≡◌, ◌⊎◌, ◌<◌, ℕ, List, length, None, IfSome};
-ghost use Rattle.cbor_diag.specs.Refusals.{number_of};
+ghost use Rattle.cbor_grammar.specs.Refusals.{number_of};
 ghost use Rattle.cbor_diag_c.specs.Answers.{IfLength, IfError, no_form, no_rules, IsTextOf};
 ghost use Rattle.cbor_diag_c.specs.Answers.{written};
 
 use crate::answer::write;
-use cbor_diag::Error;
+use cbor_grammar::Error;
 
 /// Returns the error with this number.
 fn error(number: u32) -> Option<Error>

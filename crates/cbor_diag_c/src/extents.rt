@@ -1,12 +1,13 @@
 //! The call for C that reports how bytes begin.
 ghost use Rattle.std.specs.Prelude.{◌≡◌, ◌<◌, ◌^◌, ℕ, List, length};
-ghost use Rattle.cbor_diag.specs.Extent.{IfItem, IsExtent};
+ghost use Rattle.cbor_bytes.specs.Extent.{IfItem, IsExtent};
 ghost use Rattle.cbor_bytes.specs.declared.skip.answer.Extent.{Extent as Beginning};
 ghost use Rattle.cbor_diag_c.specs.Beginnings.{IsItemOf, IsCutOrFault, IsReturned};
 ghost use Rattle.cbor_diag_c.specs.Answers.{IfLength, IfError};
 
 use crate::answer::refused;
-use cbor_diag::{Error, Extent, extent};
+use cbor_bytes::{Extent, extent};
+use cbor_grammar::Error;
 
 /// Returns what C is told of a beginning of `len` bytes, and sets `end` to how many decide it. An
 /// item is shorter than 2^63 bytes.

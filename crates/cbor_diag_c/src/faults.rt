@@ -1,11 +1,11 @@
 //! The call for C that reports where an input is no item.
 ghost use Rattle.std.specs.Prelude.{◌≡◌, ◌≢◌, negsuc, None, IfSome, IfOk, IfErr};
-ghost use Rattle.cbor_diag.specs.Item.{Item};
-ghost use Rattle.cbor_diag.specs.Facts.{IsItem, IsNoItem};
-ghost use Rattle.cbor_diag.specs.HexText.{IsHexOf, IsHexRefused};
-ghost use Rattle.cbor_diag.specs.Notation.{IsNotation};
-ghost use Rattle.cbor_diag.specs.NotationRefused.{IsNoNotation};
-ghost use Rattle.cbor_convert.specs.Output.{Reads, Refuses};
+ghost use Rattle.cbor_grammar.specs.Item.{Item};
+ghost use Rattle.cbor_grammar.specs.Facts.{IsItem, IsNoItem};
+ghost use Rattle.cbor_grammar.specs.HexText.{IsHexOf, IsHexRefused};
+ghost use Rattle.cbor_grammar.specs.Notation.{IsNotation};
+ghost use Rattle.cbor_grammar.specs.NotationRefused.{IsNoNotation};
+ghost use Rattle.cbor_diag.specs.Output.{Reads, Refuses};
 ghost use Rattle.cbor_diag_c.specs.Forms.{form_number, IsEdn, IsNoEdn, IsNoForm, IsRefusedIn};
 ghost use Rattle.cbor_diag_c.specs.Forms.{ReadsIn};
 ghost use Rattle.cbor_diag_c.specs.Answers.{IfLength, IfError};
@@ -16,9 +16,10 @@ ghost use Rattle.cbor_diag_c.specs.Places.{IsPlace, IsItemIn, IsFaultIn};
 use crate::answer::refused;
 use crate::edn::edn_error;
 use crate::form::{Form, NO_FORM, read_as};
-use cbor_convert::Source;
-use cbor_diag::{Error, Extent, diag_fault, extent, hex_bytes, hex_fault, hex_place, parse_diag};
-use cbor_edn::EdnError;
+use cbor_bytes::{Extent, extent, hex_bytes, hex_fault, hex_place};
+use cbor_diag::{Source, diag_fault, parse_diag};
+use cbor_edn_grammar::error::EdnError;
+use cbor_grammar::Error;
 use std::alloc::Global;
 
 /// Why an input is no item, and how many of its bytes come before the fault; `None` if it is one.

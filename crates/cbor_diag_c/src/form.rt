@@ -2,8 +2,8 @@
 ghost use Rattle.std.specs.Prelude.{◌≡◌, None, IfSome};
 ghost use Rattle.cbor_diag_c.specs.Forms.{form_number, read_as, edn_style, json_style, IsNoForm};
 
-use cbor_convert::{Source, To};
-use cbor_edn::EdnStyle;
+use cbor_diag::{Source, To};
+use cbor_edn_writer::EdnStyle;
 use cbor_json::JsonStyle;
 
 /// What is returned for the number of no form.
@@ -12,7 +12,7 @@ pub(crate) const NO_FORM: i64 = -11;
 /// The form of an input or of an output.
 #[derive(Clone, Copy)]
 pub(crate) enum Form {
-    /// One that `cbor_convert` has.
+    /// One that `cbor_diag` has.
     Plain(To),
     /// One that is written straight from bytes. An input is read as EDN, of which JSON is a part.
     Text(Text),

@@ -3,13 +3,14 @@ ghost use Rattle.std.specs.Prelude.{◌≡◌, ℕ, List, negsuc, length, IfOk, 
 ghost use Rattle.cbor_diag_c.specs.Forms.{IsNoForm, IsRefusedIn};
 ghost use Rattle.cbor_diag_c.specs.Answers.{IfLength, IfError, written};
 ghost use Rattle.cbor_diag_c.specs.Messages.{IsFaultMessage, IsFaultPath, IsMemoryOrNoForm};
-ghost use Rattle.cbor_diag.specs.HexText.{IsHexRefused};
+ghost use Rattle.cbor_grammar.specs.HexText.{IsHexRefused};
 
 use crate::answer::{refused, write};
 use crate::form::{Form, NO_FORM};
 use crate::words::words;
-use cbor_convert::To;
-use cbor_diag::{Error, hex_bytes};
+use cbor_bytes::hex_bytes;
+use cbor_diag::To;
+use cbor_grammar::Error;
 use cbor_places::{Fault, fault_of};
 use std::alloc::Global;
 

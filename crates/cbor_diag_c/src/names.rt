@@ -1,15 +1,14 @@
 //! The call for C that says what a part of an item is called.
 ghost use Rattle.std.specs.Prelude.{◌≡◌, ℕ, List, length, IfOk, IfErr};
-ghost use Rattle.cbor_diag.specs.Item.{Item};
-ghost use Rattle.cbor_diag.specs.Facts.{IsItem};
+ghost use Rattle.cbor_grammar.specs.Item.{Item};
+ghost use Rattle.cbor_grammar.specs.Facts.{IsItem};
 ghost use Rattle.cbor_diag_c.specs.Answers.{IfLength, IfError, written};
 ghost use Rattle.cbor_diag_c.specs.Names.{IsNoName, IsNoNamed};
 
 use crate::answer::{refused, write};
-use cbor_diag::Error;
+use cbor_grammar::Error;
 use cbor_inspect::{NameError, Naming, name_at, steps_of};
-use cbor_known_names::known_names;
-use cbor_names::{Names, Type};
+use cbor_names::{Names, Type, known_names};
 use std::alloc::Global;
 
 /// What is returned for a path that leads to no part of the item.

@@ -13,7 +13,7 @@ ghost use Rattle.cbor_diag_c.specs.Reencodings.{IsToldWhy, IsToldWhyNot, IsToldW
 use crate::answer::{refused, write};
 use crate::breaches::{NO_RULES, rules_of, told};
 use crate::faults::NO_PLACE;
-use cbor_diag::Error;
+use cbor_grammar::Error;
 use cbor_messages::kind_number;
 use cbor_reencode::{ReencodeError, reencoded};
 use cbor_rules::{BreachKind, Rules};

@@ -6,7 +6,7 @@ ghost use Rattle.std.specs.Prelude.{◌≡◌, ◌≢◌, ◌<◌, ◌^◌, List
 ghost use Rattle.std.specs.Borrow.{full_share, sem};
 ghost use Rattle.std.specs.Ptr.{lies_at, room_at};
 ghost use Rattle.cbor_bytes.specs.declared.skip.answer.Extent.{Extent as Beginning};
-ghost use Rattle.cbor_diag.specs.Extent.{IsExtent};
+ghost use Rattle.cbor_bytes.specs.Extent.{IsExtent};
 ghost use Rattle.cbor_diag_c.specs.declared.scanner.CountedScanner.{CountedScanner as Scanning};
 ghost use Rattle.cbor_diag_c.specs.contracts.scanner.CountedScanner.{the_row as scanner_row};
 ghost use Rattle.cbor_diag_c.specs.Answers.{IfLength, IfError};
@@ -14,7 +14,7 @@ ghost use Rattle.cbor_diag_c.specs.Beginnings.{IsItemOf, IsCutOrFault, IsReturne
 ghost use Rattle.cbor_diag_c.specs.Pieces.{HasScanned, IfFed};
 
 use crate::extents::answer;
-use cbor_diag::{Extent, Scanner};
+use cbor_bytes::{Extent, Scanner};
 
 /// The memory for a scanner, which C has: more than one takes today.
 #[repr(C)]

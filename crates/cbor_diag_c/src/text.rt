@@ -2,9 +2,9 @@
 ghost use Rattle.std.specs.Prelude.{◌≡◌, ◌∷◌, ◌++◌, [], IfOk, IfErr, MatchResult};
 ghost use Rattle.std.specs.String.{string_bytes};
 ghost use Rattle.cbor_diag.specs.View.{view};
-ghost use Rattle.cbor_diag.specs.Facts.{IsItem, IsWellFormed};
-ghost use Rattle.cbor_diag.specs.Item.{Item};
-ghost use Rattle.cbor_diag.specs.Written.{encoded};
+ghost use Rattle.cbor_grammar.specs.Facts.{IsItem, IsWellFormed};
+ghost use Rattle.cbor_grammar.specs.Item.{Item};
+ghost use Rattle.cbor_grammar.specs.Written.{encoded};
 ghost use Rattle.cbor_grammar.specs.Written.{resolve};
 ghost use Rattle.cbor_json.specs.Written.{IsNoJson, IsErrorOf};
 ghost use Rattle.cbor_diag_c.specs.Forms.{json_style, IsJsonLine, IsTextLine};
@@ -12,7 +12,8 @@ ghost use Rattle.cbor_diag_c.specs.Outputs.{RefusedAs, IsNoText, IsTextErrorOf};
 
 use crate::edn::edn_line;
 use crate::form::{Text, json_style};
-use cbor_diag::{DataItem, Error};
+use cbor_diag::DataItem;
+use cbor_grammar::Error;
 use cbor_json::{JsonError, bytes_to_json};
 use std::alloc::Global;
 

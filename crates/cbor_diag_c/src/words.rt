@@ -7,8 +7,8 @@ use crate::answer::write;
 use crate::edn::edn_error;
 use crate::faults::fault;
 use crate::form::Form;
-use cbor_diag::Error;
-use cbor_edn::EdnError;
+use cbor_edn_grammar::error::EdnError;
+use cbor_grammar::Error;
 use std::alloc::Global;
 
 /// What an input in EDN is wrong in.

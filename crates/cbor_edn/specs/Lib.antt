@@ -6,6 +6,6 @@ pub use Rattle.cbor_edn_grammar.specs.Expectations
 pub use Rattle.cbor_edn_grammar.specs.Items
 pub use Rattle.cbor_edn_grammar.specs.Lists
 pub use Rattle.cbor_edn_grammar.specs.Strings
-pub use Rattle.cbor_escapes.specs.Hidden
+pub use Rattle.cbor_tokens.specs.Hidden
 pub use Rattle.cbor_edn_writer.specs.Lines
 pub use Rattle.cbor_edn_writer.specs.Written

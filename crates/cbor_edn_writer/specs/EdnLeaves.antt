@@ -31,7 +31,7 @@ use Rattle.cbor_notation_writer.specs.declared.parts.Container.TheVariants.{Arra
 use Rattle.cbor_notation_writer.specs.mirror.LayoutView.{before_member, after_member}
 use Rattle.cbor_edn_writer.specs.declared.note.Note.{Note}
 use Rattle.cbor_edn_writer.specs.declared.print.place.EdnPlace.{EdnPlace}
-use Rattle.cbor_escapes.specs.Escapes.{escaped_text}
+use Rattle.cbor_tokens.specs.Escapes.{escaped_text}
 use Rattle.cbor_edn_writer.specs.Same.{is_empty, is_strict, is_sequence}
 
 -- ---- widths

@@ -12,7 +12,7 @@ use Rattle.cbor_edn_writer.specs.declared.style.EdnStyle.{EdnStyle}
 use Rattle.cbor_edn_writer.specs.Breaks.{Nothing, BreaksApart}
 use Rattle.cbor_edn_grammar.specs.Edn.{bytes_of_edn}
 use Rattle.cbor_edn_writer.specs.EdnLeaves.{edn_leaves, layout_of}
-use Rattle.cbor_escapes.specs.Hidden.{IsShown}
+use Rattle.cbor_tokens.specs.Hidden.{IsShown}
 
 -- on one line without notes, and over several lines of 80 columns with notes
 abbrev pub line_style : EdnStyle

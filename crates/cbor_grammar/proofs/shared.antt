@@ -1,5 +1,4 @@
 pub mod Utf8
 pub mod Compared
-pub mod Appending
 pub mod Fitting
 pub mod EmbeddedItems

@@ -4,7 +4,7 @@ use Rattle.std.specs.Prelude.{Ok, Some, None}
 use Rattle.hex.specs.Hex.{decode_of}
 use Rattle.cbor_tokens.specs.AreBytes.{AreBytes}
 use Rattle.cbor_tokens.specs.Base64.{standard, url_safe}
-use Rattle.cbor_edn.specs.Edn.{bytes_of_edn}
+use Rattle.cbor_edn_grammar.specs.Edn.{bytes_of_edn}
 use Rattle.cbor_inputs.specs.declared.decode.Input.{Input}
 use Rattle.cbor_inputs.specs.declared.decode.Input.TheVariants as input
 use Rattle.cbor_inputs.specs.declared.decode.Refusal.{Refusal}

@@ -14,8 +14,8 @@ use Rattle.cbor_grammar.proofs.bytes.Resolved.{resolved, spells_well}
 use Rattle.cbor_grammar.proofs.bytes.Sizes.{one_byte}
 use Rattle.cbor_grammar.proofs.bytes.Strict.{strict_any, strict_only}
 use Rattle.cbor_edn_writer.specs.declared.style.EdnStyle.{EdnStyle}
-use Rattle.cbor_edn.specs.Edn.{bytes_of_edn}
-use Rattle.cbor_edn.specs.Written.{IsNotedText}
+use Rattle.cbor_edn_grammar.specs.Edn.{bytes_of_edn}
+use Rattle.cbor_edn_writer.specs.Written.{IsNotedText}
 use Rattle.cbor_edn_writer.proofs.back.Lines.{AreTextsOf, lines_of, lines_back}
 use Rattle.cbor_edn_writer.proofs.back.Lines as edn
 use Rattle.cbor_inspect.specs.declared.form.Form.{Form}

@@ -7,9 +7,9 @@ use Rattle.std.proofs.lemmas.List.{take_at, drop_at}
 use Rattle.cbor_grammar.specs.mirror.StrictHeads.{NoLongSimple, StrictHeads}
 use Rattle.cbor_grammar.proofs.bytes.Resolved.{resolved}
 use Rattle.cbor_bytes.proofs.bytes.StrictHeads.{strict_is}
-use Rattle.cbor_diag.specs.Item.{Item, items_of}
-use Rattle.cbor_diag.specs.Facts.{IsItem, BeginsWithItem}
-use Rattle.cbor_diag.specs.Written.{encoded, encoded_items, resolve}
+use Rattle.cbor_grammar.specs.Item.{Item, items_of}
+use Rattle.cbor_grammar.specs.Facts.{IsItem, BeginsWithItem}
+use Rattle.cbor_grammar.specs.Written.{encoded, encoded_items, resolve}
 use Rattle.cbor_paths.specs.declared.path.Step.{Step}
 use Rattle.cbor_inspect.specs.Forms.{IsForm}
 use Rattle.cbor_paths.specs.Parts.{AppendsParts}

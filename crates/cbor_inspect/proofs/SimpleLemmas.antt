@@ -7,17 +7,17 @@ use Rattle.memchr.specs.Find.{IsFirstByte, is_byte}
 use Rattle.std.specs.declared.alloc.AllocError.{AllocError}
 use Rattle.cbor_grammar.specs.declared.width.IntegerWidth.{IntegerWidth}
 use Rattle.cbor_grammar.specs.Head.{head, opening}
-use Rattle.cbor_diag.specs.Item as spec
-use Rattle.cbor_diag.specs.Item.{integer, negative, string, chunked_string, float, simple, Item, atom}
-use Rattle.cbor_diag.specs.Item.{array, tagged, Items, no_items, item, Pairs, no_pairs, pair, item_count, pair_count}
-use Rattle.cbor_diag.specs.Bytes.{any, MembersThen, Spells, SpellsItems, SpellsPairs}
+use Rattle.cbor_grammar.specs.Item as spec
+use Rattle.cbor_grammar.specs.Item.{integer, negative, string, chunked_string, float, simple, Item, atom}
+use Rattle.cbor_grammar.specs.Item.{array, tagged, Items, no_items, item, Pairs, no_pairs, pair, item_count, pair_count}
+use Rattle.cbor_grammar.specs.Bytes.{any, MembersThen, Spells, SpellsItems, SpellsPairs}
 use Rattle.cbor_grammar.specs.mirror.StrictHeads.{LongSimple, NoLongSimple}
 use Rattle.cbor_bytes.proofs.bytes.NoLongSimple.{plainly_spelled}
-use Rattle.cbor_diag.specs.Facts.{IsItem, BeginsWithItem}
+use Rattle.cbor_grammar.specs.Facts.{IsItem, BeginsWithItem}
 use Rattle.cbor_inspect.specs.Simple.{NoneReserved, NoneReservedItems, NoneReservedPairs, NoPair}
 use Rattle.cbor_bytes.specs.declared.skip.answer.Extent.{Extent}
 use Rattle.cbor_bytes.specs.declared.skip.answer.Extent.TheVariants as extent
-use Rattle.cbor_diag.specs.Extent.{IsExtent}
+use Rattle.cbor_bytes.specs.Extent.{IsExtent}
 use Rattle.cbor_inspect.specs.Simple.{Is8949, ItemsThen8949, IsSequence8949}
 use Rattle.cbor_inspect.specs.Simple.{BeginsNo8949}
 use Rattle.cbor_paths.proofs.Fronts.{front_length, take_front, drop_front, same_rest}

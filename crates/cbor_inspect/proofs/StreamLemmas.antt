@@ -7,11 +7,11 @@ use Rattle.std.specs.declared.alloc.AllocError.{AllocError}
 use Rattle.cbor_bytes.specs.declared.skip.scanner.Scanner.{Scanner}
 use Rattle.cbor_bytes.specs.declared.skip.answer.Extent.{Extent}
 use Rattle.cbor_bytes.specs.declared.skip.answer.Extent.TheVariants as extent
-use Rattle.cbor_diag.specs.Extent.{IsExtent}
-use Rattle.cbor_diag.specs.Item.{Item}
-use Rattle.cbor_diag.specs.Scanning.{HasScanned}
-use Rattle.cbor_diag.specs.Facts.{BeginsWithItem, IsCut}
-use Rattle.cbor_diag.specs.Extent.{IfItem, IfFault, FaultEnds}
+use Rattle.cbor_bytes.specs.Extent.{IsExtent}
+use Rattle.cbor_grammar.specs.Item.{Item}
+use Rattle.cbor_bytes.specs.Scanning.{HasScanned}
+use Rattle.cbor_grammar.specs.Facts.{BeginsWithItem, IsCut}
+use Rattle.cbor_bytes.specs.Extent.{IfItem, IfFault, FaultEnds}
 use Rattle.std.specs.Prelude.{◌↔◌}
 use Rattle.std.proofs.Common.{◌<◌, refl}
 use Rattle.cbor_paths.specs.Sequence.{ItemsThen, IsSequence, IsShownOfFirst}

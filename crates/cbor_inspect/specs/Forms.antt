@@ -1,12 +1,12 @@
 -- For viewers, what is written of one item, in each form.
 use Rattle.std.specs.Prelude.{◌≡◌, ◌&&◌, ℕ, Bool, true, false, List, [], ◌∷◌, ◌++◌, Option, Some, None}
 use Rattle.hex.specs.Hex.{encode_lower}
-use Rattle.cbor_diag.specs.Item.{Item}
-use Rattle.cbor_diag.specs.Dump.{dump}
-use Rattle.cbor_diag.specs.Written.{encoded}
+use Rattle.cbor_grammar.specs.Item.{Item}
+use Rattle.cbor_dump.specs.Dump.{dump}
+use Rattle.cbor_grammar.specs.Written.{encoded}
 use Rattle.cbor_edn_writer.specs.declared.style.EdnStyle.{EdnStyle}
 use Rattle.cbor_edn_writer.specs.declared.note.Note.{Note}
-use Rattle.cbor_edn.specs.Written.{IsNotedText}
+use Rattle.cbor_edn_writer.specs.Written.{IsNotedText}
 use Rattle.cbor_inspect.specs.declared.form.Form.{Form}
 use Rattle.cbor_inspect.specs.declared.form.Form.TheVariants as form
 use Rattle.cbor_inspect.specs.declared.form.Style.{Style}

@@ -1,7 +1,7 @@
 -- Why there is no item, at the end of a path, whose name is looked for.
 use Rattle.std.specs.Prelude.{ℕ, List}
-use Rattle.cbor_diag.specs.Item.{Item}
-use Rattle.cbor_diag.specs.Facts.{IsItem, IsNoItem}
+use Rattle.cbor_grammar.specs.Item.{Item}
+use Rattle.cbor_grammar.specs.Facts.{IsItem, IsNoItem}
 use Rattle.cbor_grammar.specs.declared.error.Error.TheVariants as refusal
 use Rattle.cbor_paths.specs.Parts.{HasNoPart}
 use Rattle.cbor_paths.specs.declared.path.Step.{Step}

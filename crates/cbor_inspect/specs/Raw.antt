@@ -1,8 +1,8 @@
 -- For viewers, the content of a string.
 use Rattle.std.specs.Prelude.{◌≡◌, ℕ, List, Option, Some, None}
 use Rattle.std.specs.List.{flat_map}
-use Rattle.cbor_diag.specs.Item.{Chunk, Item, atom, string, chunked_string}
-use Rattle.cbor_diag.specs.Facts.{IsItem, IsNoItem}
+use Rattle.cbor_grammar.specs.Item.{Chunk, Item, atom, string, chunked_string}
+use Rattle.cbor_grammar.specs.Facts.{IsItem, IsNoItem}
 use Rattle.cbor_grammar.specs.declared.error.Error.TheVariants as refusal
 use Rattle.cbor_paths.specs.Paths.{untagged}
 use Rattle.cbor_inspect.specs.declared.raw.RawError.{RawError}

@@ -1,7 +1,7 @@
 -- What is written of an item, or of its part, and what the end of a check says.
 use Rattle.std.specs.Prelude.{◌≢◌, ℕ, List, [], map}
-use Rattle.cbor_diag.specs.Item.{Item}
-use Rattle.cbor_diag.specs.Written.{resolve}
+use Rattle.cbor_grammar.specs.Item.{Item}
+use Rattle.cbor_grammar.specs.Written.{resolve}
 use Rattle.cbor_paths.specs.declared.end.End.{End}
 use Rattle.cbor_paths.specs.declared.end.End.TheVariants as end
 use Rattle.cbor_inspect.specs.declared.items.Show.{Show}

@@ -1,11 +1,11 @@
 -- For viewers, simple values in two bytes. RFC 8949 section 3.3 forbids the byte 0xf8 before a byte below 32, which
 -- RFC 7049 allows.
 use Rattle.std.specs.Prelude.{◌≡◌, ◌⊎◌, ℕ, ◌+◌, ◌<◌, ◌≤◌, List, [], ◌∷◌, ◌++◌, length, take, slice_index}
-use Rattle.cbor_diag.specs.Item as spec
-use Rattle.cbor_diag.specs.Item.{Atom, integer, negative, string, chunked_string, float, simple, Item, atom, array}
-use Rattle.cbor_diag.specs.Item.{tagged}
-use Rattle.cbor_diag.specs.Item.{Items, no_items, item, Pairs, no_pairs, pair}
-use Rattle.cbor_diag.specs.Facts.{IsItem, IsStrictItem, BeginsWithItem}
+use Rattle.cbor_grammar.specs.Item as spec
+use Rattle.cbor_grammar.specs.Item.{Atom, integer, negative, string, chunked_string, float, simple, Item, atom, array}
+use Rattle.cbor_grammar.specs.Item.{tagged}
+use Rattle.cbor_grammar.specs.Item.{Items, no_items, item, Pairs, no_pairs, pair}
+use Rattle.cbor_grammar.specs.Facts.{IsItem, IsStrictItem, BeginsWithItem}
 
 -- no simple value from 24 to 31, which has no spelling but in two bytes
 abbrev pub NotReserved : Atom → Type 0

@@ -2,7 +2,7 @@
 ghost use Rattle.std.specs.Prelude.{◌≡◌};
 ghost use Rattle.cbor_inspect.specs.Forms.{edn_style};
 
-use cbor_edn::EdnStyle;
+use cbor_edn_writer::EdnStyle;
 
 /// The form in which an item is written.
 #[derive(Clone, Copy, PartialEq, Eq, Debug)]

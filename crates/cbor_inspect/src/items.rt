@@ -4,12 +4,12 @@ ghost use Rattle.std.specs.Prelude.{IfOk, IfErr, IfSome, OnOk, OnErr, IsTrue, tr
 ghost use Rattle.std.specs.Prelude.{None, Some};
 ghost use Rattle.std.specs.String.{string_bytes};
 ghost use Rattle.hex.specs.Hex.{encode_lower};
-ghost use Rattle.cbor_diag.specs.Item.{Item};
+ghost use Rattle.cbor_grammar.specs.Item.{Item};
 ghost use Rattle.cbor_diag.specs.View.{view};
-ghost use Rattle.cbor_diag.specs.Answer.{RefusedSo};
-ghost use Rattle.cbor_diag.specs.Dump.{dump};
-ghost use Rattle.cbor_diag.specs.Facts.{IsItem, IsWellFormed, BeginsWithItem, IsCut, HasFault};
-ghost use Rattle.cbor_diag.specs.Written.{encoded};
+ghost use Rattle.cbor_grammar.specs.Answer.{RefusedSo};
+ghost use Rattle.cbor_dump.specs.Dump.{dump};
+ghost use Rattle.cbor_grammar.specs.Facts.{IsItem, IsWellFormed, BeginsWithItem, IsCut, HasFault};
+ghost use Rattle.cbor_grammar.specs.Written.{encoded};
 ghost use Rattle.cbor_inspect.specs.Forms.{IsForm};
 ghost use Rattle.cbor_paths.specs.declared.path.Step.{Step};
 ghost use Rattle.cbor_paths.specs.Sequence.{IsShownOfFirst, ShowsFront, OneAtMost};
@@ -21,10 +21,11 @@ use crate::naming::Naming;
 use crate::notation::{Work, push_notation};
 use crate::part::push_part;
 use cbor_bytes::strict::is_strict;
-use cbor_diag::{
-    DataItem, Error, Extent, extent, parse_bytes, parse_bytes_partial, push_bytes_to_hex_partial,
-};
-use cbor_edn::EdnStyle;
+use cbor_bytes::{Extent, extent};
+use cbor_diag::{DataItem, parse_bytes, parse_bytes_partial};
+use cbor_dump::push_bytes_to_hex_partial;
+use cbor_edn_writer::EdnStyle;
+use cbor_grammar::Error;
 use cbor_paths::{End, Shown, Step};
 use cbor_tokens::push_hex;
 use std::alloc::{AllocError, Global};
@@ -315,7 +316,7 @@ fn first_len(bytes: &[u8], known: Option<usize>) -> Result<usize, End>
 }
 
 /// The length of the item at the front that was written straight from the bytes, or why none was.
-pub(crate) fn len_of(bytes: &[u8], found: cbor_diag::Result<Option<usize>>) -> Result<usize, End>
+pub(crate) fn len_of(bytes: &[u8], found: cbor_grammar::Result<Option<usize>>) -> Result<usize, End>
     requires cut { found ≡ Ok None → IsCut bytes.now }
     requires refused { RefusedSo found (HasFault bytes.now) }
     ensures found { IfOk result (λ used. found ≡ Ok (Some used)) }

@@ -1,9 +1,9 @@
 //! Laws of what viewers show, as contracts of a function that nobody calls.
 ghost use Rattle.std.specs.Prelude.{◌≡◌, ◌++◌, ℕ, ◌<◌, List, [], Some};
 ghost use Rattle.std.specs.List.{AllByRecursion};
-ghost use Rattle.cbor_diag.specs.Item.{Item, items_of};
-ghost use Rattle.cbor_diag.specs.Written.{encoded_items};
-ghost use Rattle.cbor_edn.specs.Edn.{bytes_of_edn};
+ghost use Rattle.cbor_grammar.specs.Item.{Item, items_of};
+ghost use Rattle.cbor_grammar.specs.Written.{encoded_items};
+ghost use Rattle.cbor_edn_grammar.specs.Edn.{bytes_of_edn};
 ghost use Rattle.cbor_inspect.specs.Shows.{Shows, steps_of};
 ghost use Rattle.cbor_inspect.specs.Forms.{IsEdn};
 ghost use Rattle.cbor_paths.specs.Sequence.{IsShownOfFirst, IsStrictSequence};

@@ -1,4 +1,4 @@
-//! What a viewer of CBOR data needs beside the conversions of `cbor_convert`: items one after the
+//! What a viewer of CBOR data needs beside the conversions of `cbor_diag`: items one after the
 //! other as they arrive, parts of items by a path, and EDN with notes and names, in which no
 //! control character is.
 //!

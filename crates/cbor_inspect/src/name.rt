@@ -1,7 +1,7 @@
 //! For viewers, the name of an item at a path.
 ghost use Rattle.std.specs.Prelude.{IfOk, IfErr};
-ghost use Rattle.cbor_diag.specs.Item.{Item};
-ghost use Rattle.cbor_diag.specs.Facts.{IsItem};
+ghost use Rattle.cbor_grammar.specs.Item.{Item};
+ghost use Rattle.cbor_grammar.specs.Facts.{IsItem};
 ghost use Rattle.cbor_inspect.specs.Named.{HasNoName};
 ghost use Rattle.cbor_paths.specs.Paths.{LeadsTo};
 
@@ -9,7 +9,8 @@ use crate::naming::Naming;
 use cbor_bytes::head::read_head;
 use cbor_bytes::skip::after_front;
 use cbor_bytes::strings::split_at;
-use cbor_diag::{DataItem, Error, parse_bytes, parse_bytes_partial};
+use cbor_diag::{DataItem, parse_bytes, parse_bytes_partial};
+use cbor_grammar::Error;
 use cbor_grammar::argument::Argument;
 use cbor_grammar::head::ItemHead;
 use cbor_grammar::strings::StringKind;

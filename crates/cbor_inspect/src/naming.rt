@@ -1,6 +1,6 @@
 //! For viewers, names beside items, and where in bytes items begin that may have one.
 
-use cbor_edn::Note;
+use cbor_edn_writer::Note;
 use cbor_names::{Names, Notes, Type, notes};
 use std::alloc::{AllocError, Global};
 

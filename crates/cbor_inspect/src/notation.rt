@@ -1,17 +1,17 @@
 //! For viewers, items as EDN, with their names.
 ghost use Rattle.std.specs.Prelude.{◌≡◌, ◌++◌, [], List, IfOk, IfErr, IfSome};
 ghost use Rattle.std.specs.String.{string_bytes};
-ghost use Rattle.cbor_diag.specs.Item.{Item};
-ghost use Rattle.cbor_diag.specs.Facts.{BeginsWithItem};
+ghost use Rattle.cbor_grammar.specs.Item.{Item};
+ghost use Rattle.cbor_grammar.specs.Facts.{BeginsWithItem};
 ghost use Rattle.cbor_edn_writer.specs.declared.note.Note.{Note};
-ghost use Rattle.cbor_edn.specs.Written.{IsNotedText};
+ghost use Rattle.cbor_edn_writer.specs.Written.{IsNotedText};
 ghost use Rattle.cbor_paths.specs.Ends.{StopsSo};
 ghost use Rattle.cbor_inspect.specs.Forms.{AreBeside, IsLineOf, edn_style};
 ghost use Rattle.cbor_paths.specs.declared.path.Step.{Step};
 
 use crate::items::{Show, len_of};
 use crate::naming::{Naming, edn_notes};
-use cbor_edn::{EdnStyle, Note, NotedStyle, push_bytes_to_edn_noted_partial};
+use cbor_edn_writer::{EdnStyle, Note, NotedStyle, push_bytes_to_edn_noted_partial};
 use cbor_paths::End;
 use std::alloc::Global;
 

@@ -1,13 +1,14 @@
 //! For viewers, the content of a string.
 ghost use Rattle.std.specs.Prelude.{◌≡◌, IfOk, IfErr, option_map, map, Some};
 ghost use Rattle.std.specs.List.{flat_map};
-ghost use Rattle.cbor_diag.specs.Item.{Chunk, Item};
-ghost use Rattle.cbor_diag.specs.Facts.{IsItem};
+ghost use Rattle.cbor_grammar.specs.Item.{Chunk, Item};
+ghost use Rattle.cbor_grammar.specs.Facts.{IsItem};
 ghost use Rattle.cbor_diag.specs.View.{view};
-ghost use Rattle.cbor_diag.specs.Strings.{byte_chunk, text_chunk};
+ghost use Rattle.cbor_grammar.specs.Strings.{byte_chunk, text_chunk};
 ghost use Rattle.cbor_inspect.specs.Raw.{raw_content as content_of, IsNoRaw};
 
-use cbor_diag::{ByteString, DataItem, Error, TextString, parse_bytes};
+use cbor_diag::{DataItem, parse_bytes};
+use cbor_grammar::{ByteString, Error, TextString};
 use cbor_paths::untagged;
 use std::alloc::{AllocError, Global};
 

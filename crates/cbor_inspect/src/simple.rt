@@ -2,13 +2,14 @@
 //! 7049 allows.
 ghost use Rattle.std.specs.Prelude.{◌↔◌, ◌+◌, ◌<◌, ◌≤◌, length, drop, IsTrue};
 ghost use Rattle.std.specs.Prelude.{IfOk, IfSome, IfNone};
-ghost use Rattle.cbor_diag.specs.Item.{Item};
+ghost use Rattle.cbor_grammar.specs.Item.{Item};
 ghost use Rattle.cbor_diag.specs.View.{view, items_view, pairs_view};
-ghost use Rattle.cbor_diag.specs.Facts.{IsItem};
+ghost use Rattle.cbor_grammar.specs.Facts.{IsItem};
 ghost use Rattle.cbor_inspect.specs.Simple.{NoneReserved, NoneReservedItems, NoneReservedPairs};
 ghost use Rattle.cbor_inspect.specs.Simple.{Is8949, IsTwoByteSimple, NoPair};
 
-use cbor_diag::{DataItem, Error, parse_bytes};
+use cbor_diag::{DataItem, parse_bytes};
+use cbor_grammar::Error;
 use cbor_trace::heads::step;
 use memchr::memchr;
 use std::alloc::Global;

@@ -1,8 +1,10 @@
 //! Paths as they are read: the steps that a text names.
 ghost use Rattle.std.specs.Prelude.{◌≡◌, IfErr};
 
-use cbor_diag::{DataItem, Error, IntegerWidth, TextString, parse_bytes};
-use cbor_edn::{EdnError, parse_edn};
+use cbor_diag::{DataItem, parse_bytes};
+use cbor_edn::parse_edn;
+use cbor_edn_grammar::error::EdnError;
+use cbor_grammar::{Error, IntegerWidth, TextString};
 use cbor_paths::Step;
 use std::alloc::Global;
 

@@ -1,11 +1,11 @@
 //! For viewers, items one after the other that come in pieces.
 ghost use Rattle.std.specs.Prelude.{◌≡◌, ◌↔◌, ◌⊎◌, ℕ, ◌<◌, ◌≤◌, ◌++◌, List, length, take, drop};
 ghost use Rattle.std.specs.Prelude.{false, IfOk, IfErr, IfSome, IfNone, OnOk, OnErr, IsTrue};
-ghost use Rattle.cbor_diag.specs.Facts.{BeginsWithItem};
+ghost use Rattle.cbor_grammar.specs.Facts.{BeginsWithItem};
 ghost use Rattle.cbor_inspect.specs.Simple.{ItemsThen8949, IsSequence8949, Is8949, BeginsNo8949};
 ghost use Rattle.cbor_bytes.specs.declared.skip.answer.Extent.{Extent};
-ghost use Rattle.cbor_diag.specs.Item.{Item};
-ghost use Rattle.cbor_diag.specs.Extent.{IsExtent};
+ghost use Rattle.cbor_grammar.specs.Item.{Item};
+ghost use Rattle.cbor_bytes.specs.Extent.{IsExtent};
 ghost use Rattle.cbor_inspect.specs.declared.items.Show.{Show};
 ghost use Rattle.cbor_paths.specs.declared.path.Step.{Step};
 ghost use Rattle.cbor_paths.specs.Sequence.{ItemsThen, IsSequence, IsShownOfFirst, OneThen};
@@ -16,7 +16,8 @@ ghost use Rattle.cbor_inspect.specs.Shows.{ChecksSo, Shows, steps_of};
 use crate::items::{Show, show_first, show_items};
 use crate::notation::Work;
 use crate::simple::fault_8949;
-use cbor_diag::{Error, Extent, Scanner, extent};
+use cbor_bytes::{Extent, Scanner, extent};
+use cbor_grammar::Error;
 use cbor_paths::{End, bytes_from};
 use std::alloc::{AllocError, Global};
 use std::marker::Model;
@@ -39,7 +40,7 @@ pub struct Stream {
 // Clauses see the bytes that came and were not passed.
 impl Model for Stream {
     ghost use Rattle.std.specs.Prelude.{ℕ, List, take, drop, length, ◌≤◌};
-    ghost use Rattle.cbor_diag.specs.Scanning.{HasScanned};
+    ghost use Rattle.cbor_bytes.specs.Scanning.{HasScanned};
 
     ghost Value = { List ℕ };
 

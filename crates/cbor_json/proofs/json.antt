@@ -1,5 +1,6 @@
 pub mod Fills
 pub mod Digits
+pub mod BigDigits
 pub mod Strings
 pub mod Tokens
 pub mod Numbers

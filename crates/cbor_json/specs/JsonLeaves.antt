@@ -7,12 +7,12 @@ use Rattle.std.specs.Float.{float_is_finite}
 use Rattle.std.specs.Float.Ieee.{Float}
 use Rattle.std.specs.Fmt.{sign_text}
 use Rattle.hex.specs.Hex.{encode_lower}
-use Rattle.cbor_digits.specs.Decimal.{number_of, if_more, IsDecimal}
+use Rattle.cbor_json.specs.Decimal.{number_of, if_more, IsDecimal}
 use Rattle.cbor_floats.specs.declared.float.EncodedFloat.{EncodedFloat}
 use Rattle.cbor_floats.specs.declared.float.EncodedFloat.TheVariants.{Half, Single, Double}
 use Rattle.cbor_floats.specs.Decimal.{IsTextOf}
 use Rattle.cbor_floats.specs.Value.{value_of, IsEncodingOf}
-use Rattle.cbor_escapes.specs.Escapes.{escaped_text}
+use Rattle.cbor_tokens.specs.Escapes.{escaped_text}
 use Rattle.cbor_grammar.specs.declared.encoding.Encoding.TheVariants.{Base16}
 use Rattle.cbor_grammar.specs.declared.layout.Content.{Content}
 use Rattle.cbor_grammar.specs.declared.layout.Content.TheVariants as shown

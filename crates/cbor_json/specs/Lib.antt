@@ -1,3 +1,4 @@
+pub mod Decimal
 pub mod Spots
 pub mod JsonLeaves
 pub mod Kept

@@ -3,7 +3,7 @@ use Rattle.std.specs.Prelude.{◌≡◌, ◌⊎◌, List, ℕ, ◌++◌, false, 
 use Rattle.std.specs.String.{string_bytes}
 use Rattle.json.specs.Json.{Json, document}
 use Rattle.json.specs.Strict.{HasUniqueKeys}
-use Rattle.cbor_escapes.specs.Hidden.{IsShown}
+use Rattle.cbor_tokens.specs.Hidden.{IsShown}
 use Rattle.cbor_grammar.specs.Facts.{IsItem, IsNoItem}
 use Rattle.cbor_json.specs.declared.error.JsonError.{JsonError}
 use Rattle.cbor_json.specs.declared.error.JsonError.TheVariants.{Cbor, NotKept, SameKeys}

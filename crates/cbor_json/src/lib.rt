@@ -3,6 +3,7 @@
 #![tactic(auto)]
 
 mod clash;
+mod digits;
 mod error;
 mod judge;
 mod loss;
@@ -10,6 +11,7 @@ mod print;
 mod style;
 mod write;
 
+pub use digits::decimal;
 pub use error::{Clash, JsonError, Loss, LossKind};
 pub use style::JsonStyle;
 pub use write::{bytes_to_json, push_bytes_to_json, push_bytes_to_json_partial};

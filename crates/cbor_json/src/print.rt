@@ -1,5 +1,5 @@
 //! JSON as a dialect of notation, which is written straight from bytes.
-#![tactic(auto, using(cbor_grammar::proofs::shared::Appending::appending_steps))]
+#![tactic(auto, using(cbor_tokens::proofs::texts::Appending::appending_steps))]
 
 mod leaf;
 mod lists;

@@ -3,7 +3,7 @@
 use crate::kind::{kind_number, kind_text};
 use crate::widths::{major_of, push_integer_float, push_long_float, push_long_head};
 use crate::words::{Message, TWO_BYTES, Words};
-use cbor_diag::Error;
+use cbor_grammar::Error;
 use cbor_grammar::major::Major;
 use cbor_places::Piece;
 use cbor_reencode::ReencodeError;

@@ -1,7 +1,7 @@
 //! What is said, in words, of items that are not written as JSON.
 
 use crate::words::{Message, Words};
-use cbor_diag::Error;
+use cbor_grammar::Error;
 use cbor_grammar::head::ItemHead;
 use cbor_json::{Clash, JsonError, Loss, LossKind};
 use cbor_places::Piece;

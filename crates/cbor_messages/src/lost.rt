@@ -1,7 +1,8 @@
 //! What is said, in words, where a path leads nowhere.
 
-use cbor_diag::{DataItem, Error, parse_bytes_partial};
-use cbor_edn::{EdnStyle, push_bytes_to_edn};
+use cbor_diag::{DataItem, parse_bytes_partial};
+use cbor_edn_writer::{EdnStyle, push_bytes_to_edn};
+use cbor_grammar::Error;
 use cbor_paths::{Step, lost_at};
 use std::alloc::{AllocError, Global};
 

@@ -1,7 +1,8 @@
 //! A message on items, as it is written.
 
-use cbor_diag::{Error, Extent, extent};
-use cbor_edn::bytes_to_edn;
+use cbor_bytes::{Extent, extent};
+use cbor_edn_writer::bytes_to_edn;
+use cbor_grammar::Error;
 use cbor_places::Piece;
 use std::alloc::{AllocError, Global};
 use std::fmt::Write;

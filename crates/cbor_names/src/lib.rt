@@ -1,5 +1,6 @@
-//! Names for what is in CBOR data: of members, keys, tags and values, by tables. `cbor_known_names`
-//! has those of COSE, CWT and their like. docs/NAMES.md has the rules.
+//! Names for what is in CBOR data: of members, keys, tags and values, by tables.
+//! [`known_names`] are those of COSE, CWT and their like, and [`with_file`] adds those of a file.
+//! docs/NAMES.md has the rules.
 //!
 //! [`notes`] gives the names and meanings of the items in an item, each with its place:
 //!
@@ -19,6 +20,8 @@
 #![tactic(auto)]
 
 mod define;
+mod file;
+mod known;
 mod note;
 mod pairs;
 mod part;
@@ -26,6 +29,8 @@ mod scalar;
 mod table;
 mod walk;
 
+pub use file::{Fault, FileError, with_file};
+pub use known::known_names;
 pub use note::{Note, Notes};
 pub use part::{Definition, Key, Kind, Part, Shape, What};
 pub use table::{Names, Type};

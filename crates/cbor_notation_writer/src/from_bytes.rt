@@ -5,7 +5,7 @@
 //! Each function takes the remaining bytes and returns those after what it wrote. What was written
 //! before an error stays. Items that are embedded in a byte string are written by the same
 //! functions; what was written of them is cut back where they can't be read.
-#![tactic(auto, using(cbor_grammar::proofs::shared::Appending::appending_steps))]
+#![tactic(auto, using(cbor_tokens::proofs::texts::Appending::appending_steps))]
 
 ghost use Rattle.std.specs.Prelude.{◌≡◌, ◌+◌, ◌*◌, ◌<◌, ◌≤◌, ◌^◌, IfOk, IfErr, OnErr, true, false};
 ghost use Rattle.std.specs.Prelude.{unwrap_or};

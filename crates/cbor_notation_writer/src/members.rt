@@ -1,6 +1,6 @@
 //! What is written round the members of containers and the chunks of strings, as their style
 //! has it. What is short and called at each member is inlined.
-#![tactic(auto, using(cbor_grammar::proofs::shared::Appending::appending_steps))]
+#![tactic(auto, using(cbor_tokens::proofs::texts::Appending::appending_steps))]
 
 ghost use Rattle.std.specs.Prelude.{◌≡◌, ◌∷◌, [], ◌++◌, ◌<◌, ◌≤◌, ◌^◌, map};
 ghost use Rattle.cbor_tokens.specs.Appends.{AppendsText};

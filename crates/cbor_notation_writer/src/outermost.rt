@@ -1,6 +1,6 @@
 //! Writes the text of an item at the outermost level straight from bytes and hex, in any layout.
 //! The public calls of `convert.rt` are these functions in their layouts.
-#![tactic(auto, using(cbor_grammar::proofs::shared::Appending::appending_steps))]
+#![tactic(auto, using(cbor_tokens::proofs::texts::Appending::appending_steps))]
 
 ghost use Rattle.std.specs.Prelude.{◌≡◌, ◌≤◌, ◌++◌, IfOk, IfErr, IfSome, OnOk, OnErr};
 ghost use Rattle.std.specs.Prelude.{MatchResult, None, Ok};

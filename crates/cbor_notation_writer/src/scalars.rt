@@ -1,6 +1,6 @@
 //! Writes numbers, strings, floats and simple values in notation (RFC 7049 section 6), each by a
 //! function of its own, which isn't inlined where the kinds of items are told apart.
-#![tactic(auto, using(cbor_grammar::proofs::shared::Appending::appending_steps))]
+#![tactic(auto, using(cbor_tokens::proofs::texts::Appending::appending_steps))]
 
 ghost use Rattle.std.specs.Prelude.{◌≡◌, ◌+◌, ◌++◌, codes};
 ghost use Rattle.std.specs.Fmt.{decimal};

@@ -1,8 +1,8 @@
 -- For viewers, ends of calls, and how many items they passed.
 use Rattle.std.proofs.Common.{◌≡◌, ℕ, ◌<◌, List, length, take, drop, inl, inr, refl, sym, ap, subst}
 use Rattle.std.proofs.Common.{arith, length-append, take-append-drop}
-use Rattle.cbor_diag.specs.Item.{Item}
-use Rattle.cbor_diag.specs.Facts.{BeginsWithItem}
+use Rattle.cbor_grammar.specs.Item.{Item}
+use Rattle.cbor_grammar.specs.Facts.{BeginsWithItem}
 use Rattle.cbor_paths.specs.declared.end.End.{End}
 use Rattle.cbor_paths.specs.declared.end.End.TheVariants as end
 use Rattle.cbor_paths.specs.declared.path.Step.{Step}

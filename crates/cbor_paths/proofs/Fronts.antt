@@ -9,12 +9,12 @@ use Rattle.cbor_grammar.specs.declared.width.IntegerWidth.TheVariants.{Unknown, 
 use Rattle.cbor_grammar.specs.declared.width.IntegerWidth.TheVariants.{SixtyFour}
 use Rattle.cbor_grammar.specs.declared.width.FloatWidth.{FloatWidth}
 use Rattle.cbor_grammar.specs.declared.width.FloatWidth.TheVariants as float_width
-use Rattle.cbor_diag.specs.Item as spec
-use Rattle.cbor_diag.specs.Item.{integer, negative, string, chunked_string, float, simple, Item, atom, array}
-use Rattle.cbor_diag.specs.Item.{tagged}
-use Rattle.cbor_diag.specs.Head.{HeadThen}
-use Rattle.cbor_diag.specs.Bytes.{any, SpellsFloat, SpellsSimple, MembersThen}
-use Rattle.cbor_diag.specs.Facts.{IsItem, BeginsWithItem}
+use Rattle.cbor_grammar.specs.Item as spec
+use Rattle.cbor_grammar.specs.Item.{integer, negative, string, chunked_string, float, simple, Item, atom, array}
+use Rattle.cbor_grammar.specs.Item.{tagged}
+use Rattle.cbor_grammar.specs.Head.{HeadThen}
+use Rattle.cbor_grammar.specs.Bytes.{any, SpellsFloat, SpellsSimple, MembersThen}
+use Rattle.cbor_grammar.specs.Facts.{IsItem, BeginsWithItem}
 use Rattle.cbor_grammar.specs.Reading.{read_item}
 use Rattle.cbor_grammar.proofs.bytes.Heads.{ok_is}
 use Rattle.cbor_grammar.proofs.bytes.FoundAgain.{item_again}

@@ -6,7 +6,7 @@ use Rattle.std.proofs.lemmas.List.Elements.{Contains-append_left, Contains-appen
 use Rattle.std.proofs.lemmas.List.{take_more}
 use Rattle.std.proofs.lemmas.Option.{slice_get_within, get_or_from_slice_get}
 use Rattle.std.proofs.Common.{ap, ◌∙◌}
-use Rattle.cbor_diag.specs.Item.{Item}
+use Rattle.cbor_grammar.specs.Item.{Item}
 use Rattle.cbor_diag.specs.declared.syntax.DataItem.{DataItem}
 use Rattle.cbor_diag.specs.View.{view}
 use Rattle.cbor_grammar.specs.declared.error.Error.{Error}

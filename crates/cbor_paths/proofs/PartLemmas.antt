@@ -11,11 +11,11 @@ use Rattle.cbor_grammar.proofs.bytes.FoundAgain.{item_again}
 use Rattle.cbor_grammar.proofs.bytes.Heads.{ok_is}
 use Rattle.cbor_grammar.proofs.bytes.Sizes.{one_byte}
 use Rattle.cbor_grammar.proofs.bytes.Strict.{strict_any, strict_encoded}
-use Rattle.cbor_diag.specs.Item as spec
-use Rattle.cbor_diag.specs.Item.{Item, atom, string, array, tagged, items_of}
+use Rattle.cbor_grammar.specs.Item as spec
+use Rattle.cbor_grammar.specs.Item.{Item, atom, string, array, tagged, items_of}
 use Rattle.cbor_grammar.specs.declared.strings.StringKind.TheVariants.{Bytes, Text}
-use Rattle.cbor_diag.specs.Facts.{IsItem, IsWellFormed, BeginsWithItem}
-use Rattle.cbor_diag.specs.Written.{encoded, encoded_items, resolve}
+use Rattle.cbor_grammar.specs.Facts.{IsItem, IsWellFormed, BeginsWithItem}
+use Rattle.cbor_grammar.specs.Written.{encoded, encoded_items, resolve}
 use Rattle.cbor_diag.specs.declared.syntax.DataItem.{DataItem}
 use Rattle.cbor_diag.specs.View.{view}
 use Rattle.cbor_paths.specs.declared.path.Step.{Step}

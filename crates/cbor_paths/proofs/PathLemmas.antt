@@ -8,14 +8,14 @@ use Rattle.std.proofs.lemmas.Option.{slice_get-map, slice_get_past, slice_get_re
 use Rattle.cbor_diag.specs.declared.syntax.DataItem.{DataItem}
 use Rattle.cbor_grammar.specs.declared.width.IntegerWidth.{IntegerWidth}
 use Rattle.cbor_diag.specs.View.{view, items_view, pairs_view}
-use Rattle.cbor_diag.specs.Item as spec
-use Rattle.cbor_diag.specs.Item.{integer, negative, string, chunked_string, float, simple, Item, atom, array}
-use Rattle.cbor_diag.specs.Item.{tagged, Items, no_items, item, Pairs, no_pairs, pair}
-use Rattle.cbor_diag.specs.Item.{items_of, pairs_of}
-use Rattle.cbor_diag.specs.Facts.{IsWellFormed}
+use Rattle.cbor_grammar.specs.Item as spec
+use Rattle.cbor_grammar.specs.Item.{integer, negative, string, chunked_string, float, simple, Item, atom, array}
+use Rattle.cbor_grammar.specs.Item.{tagged, Items, no_items, item, Pairs, no_pairs, pair}
+use Rattle.cbor_grammar.specs.Item.{items_of, pairs_of}
+use Rattle.cbor_grammar.specs.Facts.{IsWellFormed}
 use Rattle.cbor_grammar.specs.WellFormed.{WellFormed, WellFormedItems, WellFormedPairs}
 use Rattle.cbor_edn_grammar.proofs.Levels.{well_above}
-use Rattle.cbor_diag.specs.Notation.{list_of, pairs_list}
+use Rattle.cbor_grammar.specs.Notation.{list_of, pairs_list}
 use Rattle.cbor_paths.specs.Paths.{untagged, plain_key, IsKey, IsValue, element_of, IsMember}
 use Rattle.cbor_paths.specs.Paths.{pair_views, values_of, members_of}
 

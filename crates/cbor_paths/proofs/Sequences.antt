@@ -1,8 +1,8 @@
 -- For viewers, what is written of items one after the other.
 use Rattle.std.proofs.Common.{ℕ, List, [], ◌∷◌, ◌++◌, take, drop, refl, sym, ap, subst, ◌∙◌}
 use Rattle.std.proofs.Common.{append-nil, append_assoc, take-append-drop}
-use Rattle.cbor_diag.specs.Item.{Item}
-use Rattle.cbor_diag.specs.Facts.{IsItem}
+use Rattle.cbor_grammar.specs.Item.{Item}
+use Rattle.cbor_grammar.specs.Facts.{IsItem}
 use Rattle.cbor_paths.specs.Sequence.{ItemsThen, ShowsEach, IsShownOfFirst}
 
 -- the item at the front

@@ -1,9 +1,9 @@
 -- Of items one after the other, why no further one is written or passed.
 use Rattle.std.specs.Prelude.{◌≡◌, ◌≢◌, ℕ, ◌<◌, List, [], take}
 use Rattle.cbor_grammar.specs.declared.error.Error.{Error}
-use Rattle.cbor_diag.specs.Item.{Item}
-use Rattle.cbor_diag.specs.Facts.{IsCut, BeginsWithItem}
-use Rattle.cbor_diag.specs.Extent.{FaultEnds}
+use Rattle.cbor_grammar.specs.Item.{Item}
+use Rattle.cbor_grammar.specs.Facts.{IsCut, BeginsWithItem}
+use Rattle.cbor_bytes.specs.Extent.{FaultEnds}
 use Rattle.cbor_paths.specs.declared.end.End.{End}
 use Rattle.cbor_paths.specs.declared.end.End.TheVariants as end
 use Rattle.cbor_paths.specs.declared.path.Step.{Step}

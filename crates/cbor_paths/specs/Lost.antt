@@ -1,7 +1,7 @@
 -- How far steps of a path lead that lead nowhere in the end.
 use Rattle.std.specs.Prelude.{◌≡◌, ℕ, suc, ◌<◌, ◌≤◌, List, length, take}
 use Rattle.std.specs.List.{Contains}
-use Rattle.cbor_diag.specs.Item.{Item}
+use Rattle.cbor_grammar.specs.Item.{Item}
 use Rattle.cbor_paths.specs.declared.path.Step.{Step}
 use Rattle.cbor_paths.specs.Paths.{untagged, LeadsTo}
 use Rattle.cbor_paths.specs.Parts.{HasNoPart}

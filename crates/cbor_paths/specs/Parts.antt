@@ -1,9 +1,9 @@
 -- The parts of an item that the steps of a path lead to, and their encodings.
 use Rattle.std.specs.Prelude.{◌≡◌, ℕ, List, [], ◌∷◌, ◌++◌}
 use Rattle.std.specs.List.{AllByRecursion}
-use Rattle.cbor_diag.specs.Item.{Item, items_of}
-use Rattle.cbor_diag.specs.Written.{encoded_items}
-use Rattle.cbor_diag.specs.Facts.{IsWellFormed}
+use Rattle.cbor_grammar.specs.Item.{Item, items_of}
+use Rattle.cbor_grammar.specs.Written.{encoded_items}
+use Rattle.cbor_grammar.specs.Facts.{IsWellFormed}
 use Rattle.cbor_paths.specs.declared.path.Step.{Step}
 use Rattle.cbor_paths.specs.declared.path.Step.TheVariants as step
 use Rattle.cbor_paths.specs.Paths.{untagged, members_of, StepsTo, LeadsTo}

@@ -2,13 +2,13 @@
 use Rattle.std.specs.Prelude.{◌≡◌, ◌⊎◌, ℕ, List, [], ◌∷◌, map, drop, Option, Some, None, slice_get}
 use Rattle.std.specs.List.{Contains}
 use Rattle.cbor_grammar.specs.declared.width.IntegerWidth.TheVariants.{Unknown}
-use Rattle.cbor_diag.specs.Item as spec
-use Rattle.cbor_diag.specs.Item.{Item, atom, integer, negative, string, array, tagged}
+use Rattle.cbor_grammar.specs.Item as spec
+use Rattle.cbor_grammar.specs.Item.{Item, atom, integer, negative, string, array, tagged}
 use Rattle.cbor_grammar.specs.declared.strings.StringKind.TheVariants.{Bytes}
 use Rattle.cbor_diag.specs.declared.syntax.DataItem.{DataItem}
 use Rattle.cbor_diag.specs.View.{view}
-use Rattle.cbor_diag.specs.Facts.{IsItem, BeginsWithItem}
-use Rattle.cbor_diag.specs.Notation.{list_of, pairs_list}
+use Rattle.cbor_grammar.specs.Facts.{IsItem, BeginsWithItem}
+use Rattle.cbor_grammar.specs.Notation.{list_of, pairs_list}
 use Rattle.cbor_paths.specs.declared.path.Step.{Step}
 use Rattle.cbor_paths.specs.declared.path.Step.TheVariants as step
 

@@ -1,7 +1,7 @@
 -- For viewers, items one after the other (RFC 8742), what is written of them, and where they end.
 use Rattle.std.specs.Prelude.{◌≡◌, ◌⊎◌, ℕ, List, [], ◌∷◌, ◌++◌}
-use Rattle.cbor_diag.specs.Item.{Item}
-use Rattle.cbor_diag.specs.Facts.{IsItem, IsStrictItem, BeginsWithItem}
+use Rattle.cbor_grammar.specs.Item.{Item}
+use Rattle.cbor_grammar.specs.Facts.{IsItem, IsStrictItem, BeginsWithItem}
 
 -- the input is these items, each after the one before it, and then the rest
 abbrev pub ItemsThen : List ℕ → List Item → List ℕ → Type 0

@@ -1,6 +1,6 @@
 //! Why no further item is written or passed.
 
-use cbor_diag::Error;
+use cbor_grammar::Error;
 
 /// Why no further item is written or passed.
 #[derive(Clone, Copy, PartialEq, Eq, Debug)]

@@ -1,7 +1,7 @@
 //! Laws of paths and of parts by a path, as contracts of a function that nobody calls.
 ghost use Rattle.std.specs.Prelude.{◌≡◌, ◌↔◌, ◌∷◌, List, []};
 ghost use Rattle.std.specs.List.{Contains};
-ghost use Rattle.cbor_diag.specs.Item.{Item};
+ghost use Rattle.cbor_grammar.specs.Item.{Item};
 ghost use Rattle.cbor_paths.specs.Parts.{AreParts, NoneEach};
 ghost use Rattle.cbor_paths.specs.Paths.{LeadsTo};
 ghost use Rattle.cbor_paths.specs.declared.path.Step.{Step};

@@ -3,17 +3,19 @@ ghost use Rattle.std.specs.Prelude.{◌≡◌, ◌↔◌, ℕ, IsTrue, IfOk, IfS
 ghost use Rattle.std.specs.Prelude.{map};
 ghost use Rattle.std.specs.Prelude.{length, slice_get, ◌∷◌, [], ◌+◌, ◌^◌, ◌<◌, ◌≤◌, ◌⊎◌};
 ghost use Rattle.std.specs.Prelude.{MatchOption};
-ghost use Rattle.cbor_diag.specs.Item.{Item};
+ghost use Rattle.cbor_grammar.specs.Item.{Item};
 ghost use Rattle.cbor_diag.specs.View.{view};
 ghost use Rattle.cbor_paths.specs.Paths.{untagged, IsKey, IsValue, element_of, IsMember};
 ghost use Rattle.cbor_paths.specs.Paths.{IsInside, IsInsideAt, LeadsTo, StepsTo, members_of};
 ghost use Rattle.cbor_paths.specs.Paths.{pair_views};
 ghost use Rattle.cbor_paths.specs.Parts.{AppendsParts, AppendsEach, HasNoPart};
 ghost use Rattle.cbor_paths.specs.Lost.{LeadAsFar, LeadAsFarFrom};
-ghost use Rattle.cbor_diag.specs.Facts.{IsWellFormed};
+ghost use Rattle.cbor_grammar.specs.Facts.{IsWellFormed};
 
 use crate::skip::bytes_from;
-use cbor_diag::{DataItem, Error, Extent, extent, parse_bytes};
+use cbor_bytes::{Extent, extent};
+use cbor_diag::{DataItem, parse_bytes};
+use cbor_grammar::Error;
 use std::alloc::Global;
 
 /// A step of a path. Tags need no step.

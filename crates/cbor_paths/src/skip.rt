@@ -1,12 +1,12 @@
 //! Items one after the other, which are passed and not written.
 ghost use Rattle.std.specs.Prelude.{◌≡◌, ◌↔◌, ℕ, ◌≤◌, List, length, drop, IsTrue, false};
-ghost use Rattle.cbor_diag.specs.Item.{Item};
+ghost use Rattle.cbor_grammar.specs.Item.{Item};
 ghost use Rattle.cbor_paths.specs.Sequence.{IsSequence, ItemsThen, OneAtMost};
 ghost use Rattle.cbor_paths.specs.Ends.{EndsSo};
 ghost use Rattle.cbor_paths.specs.declared.path.Step.{Step};
 
 use crate::end::{End, Shown};
-use cbor_diag::{Extent, extent};
+use cbor_bytes::{Extent, extent};
 
 /// The bytes from a place on; none are past the end.
 pub fn bytes_from(bytes: &[u8], start: usize) -> &[u8]

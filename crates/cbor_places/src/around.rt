@@ -3,7 +3,7 @@
 use crate::nouns::{count_of, noun_of_open, push_there};
 use crate::path::Path;
 use crate::piece::{Piece, Places};
-use cbor_diag::{Extent, extent};
+use cbor_bytes::{Extent, extent};
 use cbor_grammar::argument::Argument;
 use cbor_trace::{Open, Part, Spot, part_at};
 use std::alloc::{AllocError, Global};

@@ -5,8 +5,8 @@ ghost use Rattle.cbor_places.specs.Heads.{counted, head_digits, kind_word, IsHea
 
 use crate::around::{Around, item_with};
 use crate::piece::Piece;
-use cbor_diag::Error;
-use cbor_edn::bytes_to_edn;
+use cbor_edn_writer::bytes_to_edn;
+use cbor_grammar::Error;
 use cbor_grammar::argument::Argument;
 use cbor_grammar::head::ItemHead;
 use cbor_grammar::strings::StringKind;

@@ -1,11 +1,12 @@
 //! Where in an item its fault is, and why the bytes are no item.
 ghost use Rattle.std.specs.Prelude.{◌≡◌, IfOk, IfErr, IfSome, None};
-ghost use Rattle.cbor_diag.specs.Item.{Item};
-ghost use Rattle.cbor_diag.specs.Facts.{IsItem, IsNoItem};
+ghost use Rattle.cbor_grammar.specs.Item.{Item};
+ghost use Rattle.cbor_grammar.specs.Facts.{IsItem, IsNoItem};
 
 use crate::around::Around;
 use crate::piece::{ByteNumbers, Piece};
-use cbor_diag::{Error, Extent, extent};
+use cbor_bytes::{Extent, extent};
+use cbor_grammar::Error;
 use cbor_trace::place_of_fault;
 use std::alloc::Global;
 use std::fmt::Write;

@@ -2,8 +2,9 @@
 
 use crate::path::Path;
 use crate::piece::Piece;
-use cbor_diag::{Error, Extent, extent};
-use cbor_edn::{EdnStyle, push_bytes_to_edn};
+use cbor_bytes::{Extent, extent};
+use cbor_edn_writer::{EdnStyle, push_bytes_to_edn};
+use cbor_grammar::Error;
 use cbor_grammar::argument::Argument;
 use cbor_grammar::head::ItemHead;
 use cbor_trace::head_at;

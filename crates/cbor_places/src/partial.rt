@@ -16,8 +16,8 @@ mod edn;
 mod lines;
 
 use cbor_bytes::skip::after_front;
-use cbor_diag::Error;
-use cbor_edn::EdnStyle;
+use cbor_edn_writer::EdnStyle;
+use cbor_grammar::Error;
 use cbor_trace::{Open, Spot};
 use dump::PartialDump;
 use edn::PartialEdn;

@@ -1,11 +1,13 @@
 //! Where an item is: its path, written as `-p` reads it.
 
-use cbor_diag::Error;
-use cbor_edn::{EdnError, bytes_to_edn, parse_edn};
-use cbor_escapes::is_shown;
+use cbor_edn::parse_edn;
+use cbor_edn_grammar::error::EdnError;
+use cbor_edn_writer::bytes_to_edn;
+use cbor_grammar::Error;
 use cbor_grammar::argument::Argument;
 use cbor_grammar::head::ItemHead;
 use cbor_grammar::strings::StringKind;
+use cbor_tokens::is_shown;
 use cbor_trace::head_at;
 use std::alloc::{AllocError, Global};
 use std::fmt::Write;

@@ -1,3 +1,4 @@
 pub mod bases
 pub mod tokens
 pub mod texts
+pub mod escaping

@@ -1,4 +1,5 @@
 pub mod Fronts
+pub mod Appending
 pub mod HexDecoded
 pub mod HexLemmas
 pub mod HexTables

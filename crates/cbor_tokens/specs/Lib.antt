@@ -3,7 +3,9 @@ pub mod AreBytes
 pub mod Ascii
 pub mod Base32
 pub mod Base64
+pub mod Escapes
 pub mod HexDigits
+pub mod Hidden
 pub mod Token
 pub mod TokenReading
 pub mod Uncommented

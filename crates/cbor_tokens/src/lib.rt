@@ -1,5 +1,5 @@
 //! What needs no item and stands below all: the tokens of diagnostic notation, base 32, base 64 and
-//! hex digits. `cbor_notes` re-exports the calls.
+//! hex digits; escapes and hidden characters. `cbor_notes` re-exports the calls of the bases.
 //!
 //! A call that allocates takes an allocator first and returns `AllocError` if an allocation fails.
 //! Every other result depends on its arguments alone. In the examples of this crate, `rt` is the
@@ -8,6 +8,7 @@
 
 mod base32;
 pub mod base64_text;
+mod escapes;
 mod examples;
 mod hex_digits;
 mod laws;
@@ -15,6 +16,7 @@ mod token;
 
 pub use base32::{base32_decode, base32hex_decode};
 pub use base64_text::base64_any_decode;
+pub use escapes::{is_shown, push_escaped, push_shown};
 pub use hex_digits::{decode_hex, push_hex};
 pub use token::{
     blank_end, blank_len, digits_at, digits_front, number_at, number_front, quoted_at, quoted_front,

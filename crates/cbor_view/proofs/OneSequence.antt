@@ -12,8 +12,8 @@ use Rattle.cbor_diag.specs.Reading.{Read, read_item}
 use Rattle.cbor_grammar.proofs.bytes.FoundAgain.{item_again}
 use Rattle.cbor_grammar.proofs.bytes.CutShort.{cut_again, fault_no_cut}
 use Rattle.cbor_grammar.proofs.bytes.Faults.{fault_refuses}
-use Rattle.cbor_convert.specs.declared.form.To.{To}
-use Rattle.cbor_convert.specs.Output.{output_of}
+use Rattle.cbor_diag.specs.declared.conversion.form.To.{To}
+use Rattle.cbor_diag.specs.Output.{output_of}
 use Rattle.cbor_view.specs.Sequence.{ItemsThen, IsOutputOfFirst, IsOutputOfAll, EndsTheItems, IsOutputBefore}
 
 -- ---- what reading returns at the front

@@ -8,11 +8,11 @@ use Rattle.std.specs.Result.{IsErrAnd}
 use Rattle.std.proofs.KnownBytes.{Appends-trans}
 use Rattle.cbor_diag.specs.Item.{Item}
 use Rattle.cbor_diag.specs.Facts.{IsItem}
-use Rattle.cbor_convert.specs.declared.form.To.{To}
+use Rattle.cbor_diag.specs.declared.conversion.form.To.{To}
 use Rattle.cbor_view.specs.declared.counted.Counted.{Counted}
 use Rattle.cbor_view.specs.declared.error.ViewError.{ViewError}
 use Rattle.cbor_view.specs.declared.error.ViewError.TheVariants as view_error
-use Rattle.cbor_convert.specs.Output.{output_of}
+use Rattle.cbor_diag.specs.Output.{output_of}
 use Rattle.cbor_view.specs.Running.{Gains, NoFailure, Stops, Writes, WritesPart, IfWriteFailed}
 use Rattle.cbor_view.specs.Running.{OnRefused, OnOutOfMemory, OnWriteFailed}
 use Rattle.cbor_view.specs.Sequence.{ItemsThen, IsOutputOfFirst, EndsTheItems, IsOutputBefore}

@@ -5,8 +5,8 @@ use Rattle.cbor_grammar.specs.declared.error.Error.{Error}
 use Rattle.cbor_grammar.specs.declared.error.Error.TheVariants as refusal
 use Rattle.cbor_diag.specs.Item.{Item}
 use Rattle.cbor_diag.specs.Facts.{IsItem, IsCut, HasFault}
-use Rattle.cbor_convert.specs.declared.form.To.{To}
-use Rattle.cbor_convert.specs.Output.{output_of}
+use Rattle.cbor_diag.specs.declared.conversion.form.To.{To}
+use Rattle.cbor_diag.specs.Output.{output_of}
 
 -- the input is these items, each after the one before it, and then the rest
 abbrev pub ItemsThen : List ℕ → List Item → List ℕ → Type 0

@@ -1,9 +1,9 @@
 -- The word of each form, as an argument of the filter.
 use Rattle.std.specs.Prelude.{ℕ, List, codes}
-use Rattle.cbor_convert.specs.declared.form.Source.{Source}
-use Rattle.cbor_convert.specs.declared.form.Source.TheVariants as source
-use Rattle.cbor_convert.specs.declared.form.To.{To}
-use Rattle.cbor_convert.specs.declared.form.To.TheVariants as target
+use Rattle.cbor_diag.specs.declared.conversion.form.Source.{Source}
+use Rattle.cbor_diag.specs.declared.conversion.form.Source.TheVariants as source
+use Rattle.cbor_diag.specs.declared.conversion.form.To.{To}
+use Rattle.cbor_diag.specs.declared.conversion.form.To.TheVariants as target
 
 abbrev pub source_word : Source → List ℕ
 source_word source.Bytes = codes "bytes"

@@ -1,10 +1,9 @@
 //! Converts the input of a run of the filter to its output.
 ghost use Rattle.std.specs.Prelude.{Ok, Err, IfOk};
 ghost use Rattle.cbor_diag.specs.Answer.{RefusedSo};
-ghost use Rattle.cbor_convert.specs.Output.{IsOutput};
+ghost use Rattle.cbor_diag.specs.Output.{IsOutput};
 
-use cbor_convert::{Source, To, read_item, write_item};
-use cbor_diag::{Error, bytes_to_bytes};
+use cbor_diag::{Error, Source, To, bytes_to_bytes, read_item, write_item};
 use std::alloc::Global;
 
 /// Returns the output for an input. The encoding of bytes is the input itself, in its memory. Of
@@ -20,7 +19,7 @@ pub(crate) fn convert(alloc: Global, from: Source, to: To, input: Vec<u8>) -> Re
     match (from, to) {
         (Source::Bytes, To::Bytes) => bytes_to_bytes(alloc, input),
         (Source::Diag, _) => from_notation(alloc, to, input),
-        _ => cbor_convert::convert(alloc, from, to, &input),
+        _ => cbor_diag::convert(alloc, from, to, &input),
     }
 }
 

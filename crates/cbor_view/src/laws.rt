@@ -2,7 +2,7 @@
 //! regard to the code. Nothing calls these functions.
 ghost use Rattle.std.specs.Prelude.{◌≡◌, ℕ, List, ◌++◌};
 ghost use Rattle.cbor_grammar.specs.declared.error.Error.{Error};
-ghost use Rattle.cbor_convert.specs.declared.form.To.{To};
+ghost use Rattle.cbor_diag.specs.declared.conversion.form.To.{To};
 ghost use Rattle.cbor_view.specs.Sequence.{IsOutputOfFirst, IsOutputOfAll, IsOutputBefore};
 
 /// Bytes have one output as a sequence of items, and one error or none. The output of some first

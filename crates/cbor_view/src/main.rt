@@ -20,22 +20,10 @@
 
 mod convert;
 mod counted;
-#[cfg(test)]
-mod doc_examples;
 mod error;
-#[cfg(test)]
-mod fakes;
 mod laws;
-#[cfg(test)]
-mod refused_memory;
 mod run;
 mod run_seq;
-#[cfg(test)]
-mod tests;
-#[cfg(test)]
-mod tests_failing;
-#[cfg(test)]
-mod tests_seq;
 mod words;
 
 use crate::counted::Counted;

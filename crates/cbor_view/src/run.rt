@@ -3,7 +3,7 @@ ghost use Rattle.std.specs.Prelude.{◌≡◌, ℕ, ◌+◌, ◌<◌, ◌≤◌,
 ghost use Rattle.std.specs.Prelude.{Ok, Err, IfOk, IfErr, OnOk, OnErr, ◌⊎◌};
 ghost use Rattle.std.specs.Io.KnownBytes.{Consumes};
 ghost use Rattle.cbor_grammar.specs.declared.error.Error.TheVariants as refusal;
-ghost use Rattle.cbor_convert.specs.Output.{IsOutput};
+ghost use Rattle.cbor_diag.specs.Output.{IsOutput};
 ghost use Rattle.cbor_view.specs.Counting.{inner_of};
 ghost use Rattle.cbor_view.specs.Running.{IsReadOut, NoFailure, OneFailure, ReadsAll};
 ghost use Rattle.cbor_view.specs.Running.{Writes, WritesPart};

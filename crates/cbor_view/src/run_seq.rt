@@ -11,8 +11,7 @@ use crate::counted::Counted;
 use crate::error::ViewError;
 use crate::run::{read_to_end, write_whole};
 use crate::words::To;
-use cbor_convert::push_front;
-use cbor_diag::Error;
+use cbor_diag::{Error, push_front};
 use std::alloc::Global;
 use std::io::{Read, Write};
 

@@ -2,7 +2,7 @@
 ghost use Rattle.std.specs.Prelude.{◌≡◌, Some, IfSome};
 ghost use Rattle.cbor_view.specs.Words.{source_word, target_word};
 
-pub use cbor_convert::{Source, To};
+pub use cbor_diag::{Source, To};
 
 /// Returns the form that an argument names for the input: `bytes`, `hex` or `diag`; `None` for any
 /// other.

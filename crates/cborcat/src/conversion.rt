@@ -12,7 +12,7 @@ use crate::run::Runner;
 use crate::screen::{Screen, language_of};
 use crate::shown::show_of;
 use crate::status::{Next, Status};
-use cbor_diag::Error;
+use cbor_grammar::Error;
 use cbor_inspect::{End, Form, Stream, two_byte_simple};
 use cbor_messages::{TWO_BYTES, first_breach};
 use cbor_places::{Leaves, Piece, lines_at, partial_dump, partial_edn};

@@ -1,7 +1,7 @@
 //! In the program, dumps, as they are shown.
 
 use crate::naming::Tables;
-use cbor_diag::Error;
+use cbor_grammar::Error;
 use cbor_screen::{push_embedded, push_named};
 use std::alloc::Global;
 

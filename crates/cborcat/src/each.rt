@@ -1,7 +1,7 @@
 //! In the program, items that are shown one by one, each from its bytes.
 
 use crate::status::Status;
-use cbor_diag::Error;
+use cbor_grammar::Error;
 use cbor_inspect::{End, Stream};
 use cbor_places::Piece;
 

@@ -5,7 +5,7 @@ use crate::messages::{Place, report_byte, report_lost};
 use crate::naming::Tables;
 use crate::shown::show_of;
 use crate::status::Status;
-use cbor_diag::Error;
+use cbor_grammar::Error;
 use cbor_inspect::{End, show_items};
 use cbor_messages::not_encoded;
 use cbor_places::Piece;

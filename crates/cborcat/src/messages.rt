@@ -2,12 +2,12 @@
 
 use crate::screen::say_excerpt;
 use crate::status::Status;
-use cbor_diag::Error;
-use cbor_escapes::is_shown;
+use cbor_grammar::Error;
 use cbor_inputs::{HexFault, Input, Pasted, Refusal, looks_like, place_of_digit};
 use cbor_inspect::{End, Shown};
 use cbor_messages::{Excerpt, Position, TWO_BYTES, lost_words, position_of};
 use cbor_places::{Around, Piece, Places, item_with};
+use cbor_tokens::is_shown;
 use cbor_trace::place_of_fault;
 use cborcat_arguments::{Color, Job};
 use std::alloc::AllocError;

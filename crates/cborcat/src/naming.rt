@@ -1,12 +1,10 @@
-//! The names that the program shows, by the tables of `cbor_known_names` and those of a file.
+//! The names that the program shows, by the tables of `cbor_names` and those of a file.
 
 use crate::messages::{label, say};
 use crate::status::Status;
-use cbor_escapes::is_shown;
 use cbor_inspect::Naming;
-use cbor_known_names::known_names;
-use cbor_names::{Names, Type};
-use cbor_names_file::with_file;
+use cbor_names::{Names, Type, known_names, with_file};
+use cbor_tokens::is_shown;
 use cborcat_arguments::Job;
 use std::fs;
 

@@ -2,10 +2,10 @@
 //! colour of the marks in messages.
 
 use crate::output::{Target, Written, write};
-use cbor_escapes::{is_shown, push_shown};
 use cbor_inspect::Form;
 use cbor_messages::Excerpt;
 use cbor_screen::{Kind, Language, push_colored, push_elided, push_in_color};
+use cbor_tokens::{is_shown, push_shown};
 use cborcat_arguments::{Color, Job};
 use std::alloc::{AllocError, Global};
 use std::env;

@@ -1,7 +1,7 @@
 //! What the program writes of items, as `cbor_inspect` is told it.
 
 use crate::naming::Tables;
-use cbor_diag::Error;
+use cbor_grammar::Error;
 use cbor_inspect::{Show, steps_of};
 use cborcat_arguments::Job;
 use std::alloc::Global;

@@ -1,17 +1,39 @@
-//! Runs the vectors: `vectors FILE..` makes the call of each row of these files, and prints each row
-//! whose result differs, and how many rows each file has.
+//! Runs the vectors: `vectors FILE..` makes the call of each row of these files, and prints each
+//! row whose result differs, and how many rows each file has.
 //!
-//! The form of the files is in docs/VECTORS.md, and [`row`] reads it. What a call gives is made into
-//! a text by the subject that knows the call, one module each; the crates that they call are proved,
-//! so a row shows that a definition says what a standard says.
+//! The form of the files is in docs/VECTORS.md, and [`row`] reads it. What a call gives is made
+//! into a text by the subject that knows the call, one module each; the crates that they call are
+//! proved, so a row shows that a definition says what a standard says.
 //!
-//! The exit status is 0 if each row gives what it has to, and 1 if not, or if a file cannot be read.
+//! The exit status is 0 if each row gives what it has to, and 1 if not, or if a file cannot be
+//! read.
 #![tactic(auto)]
 
+mod bytes;
+mod conversions;
+mod dump;
+mod edn;
+mod floats;
+mod hex_digits;
+mod inputs;
+mod item;
+mod json;
+mod lines;
+mod messages;
+mod names;
+mod notation;
+mod notes;
+mod paths;
+mod places;
+mod reencode;
 mod report;
 mod row;
 mod rules;
+mod screen;
+mod tags;
 mod texts;
+mod tokens;
+mod trace;
 
 use crate::report::{Report, Tally};
 use crate::row::{Row, rows_of};
@@ -19,9 +41,41 @@ use std::alloc::{AllocError, Global};
 use std::process::ExitCode;
 use std::{env, fs, io};
 
+/// What the first of these subjects gives that knows the call.
+macro_rules! first_answer {
+    ($alloc:expr, $row:expr; $($subject:ident)*) => {{
+        $(if let Some(text) = $subject::answer($alloc, $row)? {
+            return Ok(Some(text));
+        })*
+        Ok(None)
+    }};
+}
+
 /// What the call of a row gives, as a text; none if no subject knows the call.
 fn answer(alloc: Global, row: &Row) -> Result<Option<String>, AllocError> {
-    rules::answer(alloc, row)
+    first_answer!(alloc, row;
+        bytes
+        conversions
+        dump
+        edn
+        floats
+        hex_digits
+        inputs
+        item
+        json
+        messages
+        names
+        notation
+        notes
+        paths
+        places
+        reencode
+        rules
+        screen
+        tags
+        tokens
+        trace
+    )
 }
 
 /// Runs the rows of a file.

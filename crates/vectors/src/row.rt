@@ -112,7 +112,7 @@ fn push_hex(bytes: &mut Vec<u8>, text: &[u8]) -> Result<(), AllocError> {
         match (upper, digit(*byte)) {
             (None, Some(value)) => upper = Some(value),
             (Some(value), Some(lower)) => {
-                bytes.push(value * 16 + lower)?;
+                bytes.push(value.saturating_mul(16).saturating_add(lower))?;
                 upper = None;
             }
             (None, None) if *byte == b' ' || *byte == b'\n' => {}

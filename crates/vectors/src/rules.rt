@@ -1,27 +1,33 @@
-//! Rules of an encoding: `breach RULES`, `breach_in RULES`. RULES is the name of a set, as `core`,
-//! or names of single rules, as `shortest_heads`, which are kept besides the grammar of RFC 8949.
+//! Rules of an encoding: `breach RULES`, `breach_in RULES`, and `breaches`, which gives a line for
+//! each set of rules that is broken. RULES is the name of a set, as `core`, or names of single
+//! rules, as `shortest_heads`, which are kept besides the grammar of RFC 8949 or that set.
 
+use crate::lines::{lines_or, push_line};
 use crate::row::Row;
 use cbor_floats::EncodedFloat;
-use cbor_rules::{Breach, BreachKind, KeyOrder, RuleSet, Rules, breach, breach_in};
+use cbor_rules::{Breach, BreachKind, KeyOrder, RULES, RuleSet, Rules, breach, breach_in};
 use std::alloc::{AllocError, Global};
 
 /// What the call of a row gives; none if it is no call of this subject.
 pub fn answer(alloc: Global, row: &Row) -> Result<Option<String>, AllocError> {
-    let rules = rules_of(row.argument);
+    let Some(rules) = rules_of(row.argument) else {
+        return Ok(None);
+    };
     let found = match row.call {
-        "breach" => breach(&row.bytes, rules),
-        "breach_in" => breach_in(alloc, &row.bytes, rules)?,
+        "breach" => found_text(alloc, breach(&row.bytes, rules)),
+        "breach_in" => found_text(alloc, breach_in(alloc, &row.bytes, rules)?),
+        "breaches" => breaches(alloc, &row.bytes),
         _ => return Ok(None),
     };
-    Ok(Some(breach_text(alloc, found)?))
+    Ok(Some(found?))
 }
 
-/// The rules of these words.
-fn rules_of(words: &str) -> Rules {
+/// The rules of these words; none if one of the words is no rule.
+pub fn rules_of(words: &str) -> Option<Rules> {
     let mut rules = Rules::RFC_8949;
     for word in words.split_whitespace() {
         match word {
+            "rfc8949" => rules = Rules::RFC_8949,
             "shortest_heads" => rules.shortest_heads = true,
             "shortest_floats" => rules.shortest_floats = true,
             "definite_lengths" => rules.definite_lengths = true,
@@ -31,27 +37,43 @@ fn rules_of(words: &str) -> Rules {
             "keys_by_bytes" => rules.key_order = KeyOrder::Bytes,
             "keys_by_length" => rules.key_order = KeyOrder::Length,
             "keys_by_major_type" => rules.key_order = KeyOrder::MajorType,
-            word => {
-                if let Some(set) = RuleSet::named(word) {
-                    rules = set.rules;
-                }
-            }
+            word => rules = RuleSet::named(word)?.rules,
         }
     }
-    rules
+    Some(rules)
+}
+
+/// The sets of rules that bytes break, and where and how they break each.
+fn breaches(alloc: Global, bytes: &[u8]) -> Result<String, AllocError> {
+    let mut text = String::new(alloc);
+    for name in RULES.iter() {
+        let rules = rules_of(name).unwrap_or(Rules::RFC_8949);
+        if let Some(found) = breach_in(alloc, bytes, rules)? {
+            let words = breach_text(alloc, found)?;
+            push_line(&mut text, &format!(in alloc; "{name} {words}")?)?;
+        }
+    }
+    lines_or(text, "kept")
 }
 
 /// The place of a breach and what is wrong there, or `kept`.
-fn breach_text(alloc: Global, found: Option<Breach>) -> Result<String, AllocError> {
-    let Some(Breach { place, kind }) = found else {
-        return String::from_str(alloc, "kept");
-    };
+fn found_text(alloc: Global, found: Option<Breach>) -> Result<String, AllocError> {
+    match found {
+        Some(found) => breach_text(alloc, found),
+        None => String::from_str(alloc, "kept"),
+    }
+}
+
+/// The place of a breach and what is wrong there.
+pub fn breach_text(alloc: Global, found: Breach) -> Result<String, AllocError> {
+    let Breach { place, kind } = found;
     match kind {
         BreachKind::LongFloat { float, shortest } => {
-            format!(in alloc; "{place} LongFloat {:x} {:x}", bits(float), bits(shortest))
+            let (long, short) = (bits(alloc, float)?, bits(alloc, shortest)?);
+            format!(in alloc; "{place} LongFloat {long} {short}")
         }
         BreachKind::OtherNan { float } => {
-            format!(in alloc; "{place} OtherNan {:x}", bits(float))
+            format!(in alloc; "{place} OtherNan {}", bits(alloc, float)?)
         }
         BreachKind::IntegerFloat { negative, size, .. } => {
             let sign = if negative { "-" } else { "" };
@@ -68,11 +90,11 @@ fn breach_text(alloc: Global, found: Option<Breach>) -> Result<String, AllocErro
     }
 }
 
-/// The bits of a float.
-fn bits(float: EncodedFloat) -> u64 {
+/// The bits of a float, in as many hex digits as it has.
+fn bits(alloc: Global, float: EncodedFloat) -> Result<String, AllocError> {
     match float {
-        EncodedFloat::Half(bits) => u64::from(bits),
-        EncodedFloat::Single(bits) => u64::from(bits),
-        EncodedFloat::Double(bits) => bits,
+        EncodedFloat::Half(bits) => format!(in alloc; "{bits:04x}"),
+        EncodedFloat::Single(bits) => format!(in alloc; "{bits:08x}"),
+        EncodedFloat::Double(bits) => format!(in alloc; "{bits:016x}"),
     }
 }

@@ -1,5 +1,6 @@
 //! Results as texts.
 
+use cbor_diag::Error;
 use std::alloc::{AllocError, Global};
 
 /// Bytes in hex digits.
@@ -13,4 +14,22 @@ pub fn lines_text(alloc: Global, text: &str) -> Result<String, AllocError> {
         Some(lines) => String::from_str(alloc, lines),
         None => format!(in alloc; "{text} (without a line feed at its end)"),
     }
+}
+
+/// The text that bytes are.
+pub fn text_of(bytes: &[u8]) -> &str {
+    match std::str::from_utf8(bytes) {
+        Ok(text) => text,
+        Err(_) => "not UTF-8",
+    }
+}
+
+/// An error, in the words of its text.
+pub fn refused_text(alloc: Global, error: Error) -> Result<String, AllocError> {
+    format!(in alloc; "refused: {}", error.text())
+}
+
+/// The number that a word is; the greatest if it is none.
+pub fn number_of(word: &str) -> usize {
+    word.parse::<usize>().unwrap_or(usize::MAX)
 }

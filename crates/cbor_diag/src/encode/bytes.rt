@@ -2,7 +2,7 @@
 //!
 //! What writes strings and containers isn't inlined where the kinds of items are told apart: it
 //! keeps values over calls, and room for these would be made for each integer, too.
-#![tactic(auto, using(cbor_grammar::proofs::shared::Appending::appending_steps))]
+#![tactic(auto, using(cbor_tokens::proofs::texts::Appending::appending_steps))]
 
 ghost use Rattle.std.specs.Prelude.{◌≡◌, ◌++◌, if◌then◌else◌, ℕ, List, ◌↔◌, length, map, OnOk};
 ghost use Rattle.std.specs.Prelude.{OnErr, IfOk, IfErr};

@@ -2,7 +2,7 @@
 //! one text.
 //!
 //! Compact and pretty text are written by the same functions: they differ in their `Layout` alone.
-#![tactic(auto, using(cbor_grammar::proofs::shared::Appending::appending_steps))]
+#![tactic(auto, using(cbor_tokens::proofs::texts::Appending::appending_steps))]
 
 mod estimate;
 

@@ -13,8 +13,8 @@ use Rattle.std.specs.List.{flat_map}
 use Rattle.std.specs.Str.{IsUtf8, chars}
 use Rattle.hex.specs.Hex.{encode_lower, encode_with, lower_digits}
 use Rattle.cbor_edn_grammar.specs.Reading.{Read, ◌>>=◌}
-use Rattle.cbor_escapes.specs.Escapes.{is_hidden, escaped_char, escaped_text, unit_escape}
-use Rattle.cbor_escapes.proofs.High.{High, high_encode}
+use Rattle.cbor_tokens.specs.Escapes.{is_hidden, escaped_char, escaped_text, unit_escape}
+use Rattle.cbor_tokens.proofs.escaping.High.{High, high_encode}
 use Rattle.cbor_edn_grammar.specs.Quoted.{two_hex, four_hex, is_first_half, is_second_half, second_half, character}
 use Rattle.cbor_edn_grammar.specs.Quoted.{unicode_escape, content_turn, quoted}
 use Rattle.cbor_edn_grammar.proofs.Pieces.{Taken, taken_nothing, taken_then, taken_turn, taken_all}

@@ -22,7 +22,7 @@ use Rattle.cbor_edn_grammar.specs.declared.opening.Opening.{Opening}
 use Rattle.cbor_edn_grammar.specs.declared.opening.Opening.TheVariants.{Quote, Apostrophe, Digits}
 use Rattle.cbor_edn_writer.specs.declared.print.place.EdnPlace.{EdnPlace}
 use Rattle.cbor_edn_writer.specs.EdnLeaves.{longer, length_mark, AnyNote, NoteAfter, Noted, quoted_string}
-use Rattle.cbor_escapes.specs.Escapes.{escaped_text}
+use Rattle.cbor_tokens.specs.Escapes.{escaped_text}
 use Rattle.cbor_edn_grammar.specs.Items.{kind_from, read_embedded, read_item}
 use Rattle.cbor_edn_grammar.specs.Quoted.{quoted}
 use Rattle.cbor_edn_grammar.specs.Reading.{Read, ◌>>=◌, repeated}

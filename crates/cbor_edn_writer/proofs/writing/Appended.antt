@@ -12,7 +12,7 @@ use Rattle.cbor_grammar.specs.declared.width.IntegerWidth.{IntegerWidth}
 use Rattle.cbor_grammar.specs.declared.width.IntegerWidth.TheVariants.{Unknown, Zero, Eight, Sixteen, ThirtyTwo}
 use Rattle.cbor_grammar.specs.declared.width.IntegerWidth.TheVariants.{SixtyFour}
 use Rattle.cbor_grammar.specs.NotationText.{indicator}
-use Rattle.cbor_grammar.proofs.shared.Appending.{begins_through, begins_still, begins_same, appends_after}
+use Rattle.cbor_tokens.proofs.texts.Appending.{begins_through, begins_still, begins_same, appends_after}
 use Rattle.cbor_notation_writer.specs.Dialect.{Texts, Wrote}
 use Rattle.cbor_edn_writer.specs.EdnLeaves.{Noted, NoteAfter, with_gap, gap, encoded_float, float_indicator, FloatText}
 use Rattle.cbor_edn_writer.specs.EdnLeaves.{note_before, note_after, Beside, After}

@@ -9,8 +9,8 @@ use Rattle.std.specs.List.{AllByRecursion}
 use Rattle.cbor_grammar.specs.NotationText.{line}
 use Rattle.cbor_edn_writer.specs.Breaks.{Within, Nothing, Text, TextEscape, Bytes, BytesEscape, Comment, after}
 use Rattle.cbor_edn_writer.specs.Breaks.{BreaksApart}
-use Rattle.cbor_escapes.specs.Hidden.{IsShown}
-use Rattle.cbor_escapes.proofs.Shown.{IsShownChar, is_shown as shown_text}
+use Rattle.cbor_tokens.specs.Hidden.{IsShown}
+use Rattle.cbor_tokens.proofs.escaping.Shown.{IsShownChar, is_shown as shown_text}
 
 -- ---- what a text is within
 

@@ -31,8 +31,8 @@ use Rattle.cbor_grammar.specs.declared.strings.StringKind.{StringKind}
 use Rattle.cbor_grammar.specs.declared.strings.StringKind.TheVariants as kind
 use Rattle.cbor_grammar.proofs.bytes.Laws.{AllBytes, wide_bytes}
 use Rattle.cbor_edn_writer.specs.Breaks.{Nothing, Text, Bytes, Comment, after, BreaksApart}
-use Rattle.cbor_escapes.specs.Escapes.{is_hidden, escaped_char, unit_escape}
-use Rattle.cbor_escapes.proofs.High.{High, high_encode}
+use Rattle.cbor_tokens.specs.Escapes.{is_hidden, escaped_char, unit_escape}
+use Rattle.cbor_tokens.proofs.escaping.High.{High, high_encode}
 use Rattle.cbor_edn_writer.specs.EdnLeaves.{longer, marked, length_mark, ends_note, IsNote, AnyNote, NoteAfter, Noted}
 use Rattle.cbor_edn_writer.specs.EdnLeaves.{comment_before, text_before, note_before, note_after, Beside, After}
 use Rattle.cbor_edn_writer.specs.EdnLeaves.{FloatText, float_indicator, quoted_string}

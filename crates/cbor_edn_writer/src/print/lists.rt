@@ -1,5 +1,5 @@
 //! In EDN, what is written round the members of a list.
-#![tactic(auto, using(cbor_grammar::proofs::shared::Appending::appending_steps))]
+#![tactic(auto, using(cbor_tokens::proofs::texts::Appending::appending_steps))]
 
 ghost use Rattle.std.specs.Prelude.{◌≡◌, ◌∷◌, [], ◌++◌, ◌<◌, codes};
 ghost use Rattle.cbor_tokens.specs.Appends.{AppendsText};

@@ -1,5 +1,5 @@
 //! Writes EDN with the notes of a caller.
-#![tactic(auto, using(cbor_grammar::proofs::shared::Appending::appending_steps))]
+#![tactic(auto, using(cbor_tokens::proofs::texts::Appending::appending_steps))]
 
 ghost use Rattle.std.specs.Prelude.{◌<◌, ◌^◌};
 ghost use Rattle.cbor_grammar.specs.NotationText.{style_indent};

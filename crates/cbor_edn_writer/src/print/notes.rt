@@ -1,6 +1,6 @@
 //! Notes of EDN: comments after an item that say what date, address or number it is, and those that
 //! a caller has on an item, before and after it.
-#![tactic(auto, using(cbor_grammar::proofs::shared::Appending::appending_steps))]
+#![tactic(auto, using(cbor_tokens::proofs::texts::Appending::appending_steps))]
 
 ghost use Rattle.std.specs.Prelude.{◌≡◌};
 ghost use Rattle.std.specs.List.{list_any};

@@ -1,5 +1,5 @@
 //! Writes EDN: widths beside numbers, and floats.
-#![tactic(auto, using(cbor_grammar::proofs::shared::Appending::appending_steps))]
+#![tactic(auto, using(cbor_tokens::proofs::texts::Appending::appending_steps))]
 
 ghost use Rattle.std.specs.Prelude.{◌≡◌};
 ghost use Rattle.cbor_floats.specs.Decimal.{IsTextOf};

@@ -1,19 +1,19 @@
 //! Writes EDN: strings between quotes.
-#![tactic(auto, using(cbor_grammar::proofs::shared::Appending::appending_steps))]
+#![tactic(auto, using(cbor_tokens::proofs::texts::Appending::appending_steps))]
 
 ghost use Rattle.std.specs.Prelude.{◌≡◌, ◌++◌, codes};
 ghost use Rattle.cbor_grammar.specs.mirror.StringView.{kind_of, borrowed_chunk};
 ghost use Rattle.cbor_tokens.specs.Appends.{AppendsText};
 ghost use Rattle.cbor_grammar.specs.StringKind.{no_chunks};
 ghost use Rattle.cbor_edn_writer.specs.EdnLeaves.{quoted_string};
-ghost use Rattle.cbor_escapes.specs.Escapes.{escaped_text};
+ghost use Rattle.cbor_tokens.specs.Escapes.{escaped_text};
 
 use crate::print::numbers::push_length_mark;
 use cbor_bytes::quoted::push_quoted;
-use cbor_escapes::push_escaped;
 use cbor_grammar::IntegerWidth;
 use cbor_grammar::encoding::Encoding;
 use cbor_grammar::strings::{StringContent, StringKind};
+use cbor_tokens::push_escaped;
 use std::alloc::AllocError;
 
 /// Writes a string between quotes, and the width of its length where that is longer than it has to

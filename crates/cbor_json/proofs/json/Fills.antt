@@ -11,8 +11,8 @@ use Rattle.std.specs.List.{AllByRecursion}
 use Rattle.json.specs.Lex.{Lexeme, Mode, lex, lex_byte, in_string, operator, space, other}
 use Rattle.json.specs.Text.{content, plain, prepend}
 use Rattle.json.specs.Word.{is_operator, is_space}
-use Rattle.cbor_escapes.specs.Escapes.{is_hidden}
-use Rattle.cbor_escapes.proofs.High.{High, high_encode}
+use Rattle.cbor_tokens.specs.Escapes.{is_hidden}
+use Rattle.cbor_tokens.proofs.escaping.High.{High, high_encode}
 
 -- ---- characters
 

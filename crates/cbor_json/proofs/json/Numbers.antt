@@ -12,7 +12,7 @@ use Rattle.std.specs.List.{prefix_len}
 use Rattle.std.specs.Str.Parse.{AllDigits}
 use Rattle.std.proofs.lemmas.Str.Parse.{digit_from_value}
 use Rattle.json.specs.Word.{head}
-use Rattle.cbor_digits.specs.Decimal.{IsDecimal}
+use Rattle.cbor_json.specs.Decimal.{IsDecimal}
 use Rattle.json.specs.Print.{IsNumber}
 use Rattle.json.specs.Word.{after_whole, after_fraction, after_exponent, after_number}
 use Rattle.json.proofs.Printed.Decimals.{IsNumber-decimal}

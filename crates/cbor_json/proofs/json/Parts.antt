@@ -8,7 +8,7 @@ use Rattle.std.specs.List.{AllByRecursion, flat_map}
 use Rattle.hex.specs.Hex.{encode_lower}
 use Rattle.cbor_floats.specs.declared.float.EncodedFloat.{EncodedFloat}
 use Rattle.cbor_floats.specs.Value.{value_of}
-use Rattle.cbor_escapes.specs.Escapes.{escaped_text}
+use Rattle.cbor_tokens.specs.Escapes.{escaped_text}
 use Rattle.cbor_grammar.specs.declared.encoding.Encoding.TheVariants.{Base16}
 use Rattle.cbor_grammar.specs.declared.layout.ContainerStyle.{ContainerStyle}
 use Rattle.cbor_grammar.specs.declared.strings.StringKind.{StringKind}
@@ -25,7 +25,7 @@ use Rattle.cbor_notation_writer.specs.Dialect.{listed, ChunksText, ChunkTexts}
 use Rattle.cbor_notation_writer.specs.declared.parts.Container.{Container}
 use Rattle.cbor_notation_writer.specs.declared.parts.Container.TheVariants.{Array, Map, Chunks, Embedded}
 use Rattle.cbor_json.specs.JsonLeaves.{json_leaves, LeafAt, ValueLeaf, EdnLeaf, EdnFloat, NumberIf, json_simple}
-use Rattle.cbor_digits.specs.Decimal.{IsDecimal}
+use Rattle.cbor_json.specs.Decimal.{IsDecimal}
 use Rattle.cbor_json.specs.JsonLeaves.{integer_text, negative_text, string_at, is_value, is_bytes, is_big_tag, is_big}
 use Rattle.cbor_json.specs.JsonLeaves.{is_negative_tag, BigText, StringIf, StringAt}
 use Rattle.cbor_json.specs.JsonLeaves.{part_at, edn_opening, edn_closing, key_opening, key_closing, opening_at}

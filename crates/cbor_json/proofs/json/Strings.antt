@@ -12,7 +12,7 @@ use Rattle.hex.specs.Hex.{encode_lower, encode_with, lower_digits}
 use Rattle.json.specs.Lex.{token, string_token, lex, between, in_string}
 use Rattle.json.specs.Text.{content, plain, prepend, code_unit, short_escape, is_high_surrogate, is_low_surrogate}
 use Rattle.json.specs.Token.{string}
-use Rattle.cbor_escapes.specs.Escapes.{is_hidden, escaped_char, unit_escape, escaped_text}
+use Rattle.cbor_tokens.specs.Escapes.{is_hidden, escaped_char, unit_escape, escaped_text}
 use Rattle.cbor_json.specs.JsonLeaves.{in_quotes}
 use Rattle.cbor_json.proofs.json.Fills.{Shows, shows_then, shows_byte, Fills, fills_nothing, fills_then, plain_char}
 use Rattle.cbor_json.proofs.json.Fills.{calm_fills}

@@ -4,8 +4,8 @@ use Rattle.std.proofs.Common.{◌≢◌, ◌⊎◌, ◌↔◌, ◌∙◌, ap, in
 use Rattle.std.specs.List.{AllByRecursion}
 use Rattle.json.specs.Json.{Json, document}
 use Rattle.json.specs.Strict.{HasUniqueKeys}
-use Rattle.cbor_escapes.specs.Hidden.{IsShown}
-use Rattle.cbor_escapes.proofs.Shown.{IsShownChar, is_shown}
+use Rattle.cbor_tokens.specs.Hidden.{IsShown}
+use Rattle.cbor_tokens.proofs.escaping.Shown.{IsShownChar, is_shown}
 use Rattle.cbor_grammar.proofs.bytes.Found.{item_takes}
 use Rattle.cbor_grammar.proofs.bytes.Heads.{IsBytes}
 use Rattle.cbor_grammar.proofs.bytes.Laws.{AllBytes, all_bytes-front, bytes_at}

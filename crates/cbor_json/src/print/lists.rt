@@ -1,5 +1,5 @@
 //! In JSON, what is written round the members of a list, and of a tag.
-#![tactic(auto, using(cbor_grammar::proofs::shared::Appending::appending_steps))]
+#![tactic(auto, using(cbor_tokens::proofs::texts::Appending::appending_steps))]
 
 ghost use Rattle.cbor_tokens.specs.Appends.{AppendsText};
 ghost use Rattle.cbor_json.specs.JsonLeaves.{edn_opening, edn_closing, key_opening, key_closing};

@@ -1,8 +1,8 @@
 //! In JSON, strings.
-#![tactic(auto, using(cbor_grammar::proofs::shared::Appending::appending_steps))]
+#![tactic(auto, using(cbor_tokens::proofs::texts::Appending::appending_steps))]
 
 ghost use Rattle.std.specs.Prelude.{◌≡◌};
-ghost use Rattle.cbor_escapes.specs.Escapes.{escaped_text};
+ghost use Rattle.cbor_tokens.specs.Escapes.{escaped_text};
 ghost use Rattle.cbor_grammar.specs.declared.encoding.Encoding.TheVariants.{Base16};
 ghost use Rattle.cbor_grammar.specs.declared.strings.StringKind.TheVariants.{Bytes};
 ghost use Rattle.cbor_grammar.specs.mirror.StringView.{kind_of, borrowed_chunk};
@@ -15,16 +15,15 @@ ghost use Rattle.cbor_json.specs.JsonLeaves.{wants_bytes, is_big as is_big_numbe
 ghost use Rattle.cbor_json.specs.JsonLeaves.{is_negative_tag, StringAt};
 ghost use Rattle.cbor_notation_writer.specs.Dialect.{Writes};
 
+use crate::digits::decimal;
 use crate::print::place::{JsonPlace, Spot};
 use base64::engine::general_purpose::{STANDARD, URL_SAFE_NO_PAD};
 use cbor_bytes::quoted::push_quoted;
-use cbor_digits::decimal;
-use cbor_escapes::push_escaped;
 use cbor_grammar::IntegerWidth;
 use cbor_grammar::encoding::Encoding;
 use cbor_grammar::layout::Content;
 use cbor_grammar::strings::StringContent;
-use cbor_tokens::push_hex;
+use cbor_tokens::{push_escaped, push_hex};
 use std::alloc::{AllocError, Global};
 
 /// Whether bytes begin as an array, a map or a tagged item does.

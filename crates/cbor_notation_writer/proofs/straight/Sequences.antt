@@ -19,7 +19,7 @@ use Rattle.cbor_notation_writer.specs.Dialect.{EmbeddedText, Wrote, style_within
 use Rattle.cbor_notation_writer.specs.mirror.Straight.{TextsBelow, ContentThere}
 use Rattle.cbor_grammar.proofs.bytes.FoundAgain.{joined-none, joined_one}
 use Rattle.cbor_grammar.proofs.bytes.Shorter.{item_shorter}
-use Rattle.cbor_grammar.proofs.shared.Appending.{begins_same, begins_still, begins_two, begins_through}
+use Rattle.cbor_tokens.proofs.texts.Appending.{begins_same, begins_still, begins_two, begins_through}
 use Rattle.cbor_notation_writer.proofs.straight.Styles.{style_there}
 use Rattle.cbor_notation_writer.proofs.straight.Wrote.{wrote_begins, wrote_last}
 use Rattle.cbor_notation_writer.proofs.straight.Texts.{ItemsWritten, items_written}

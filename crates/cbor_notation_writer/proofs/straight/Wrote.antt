@@ -7,7 +7,7 @@ use Rattle.cbor_tokens.specs.Appends.{Appends}
 use Rattle.cbor_notation_writer.specs.declared.parts.Container.TheVariants.{Chunks}
 use Rattle.cbor_notation_writer.specs.Dialect.{Leaves, Texts, Wrote}
 use Rattle.cbor_notation_writer.specs.mirror.Straight.{BeforeChunk}
-use Rattle.cbor_grammar.proofs.shared.Appending.{begins_same, begins_still, begins_through}
+use Rattle.cbor_tokens.proofs.texts.Appending.{begins_same, begins_still, begins_through}
 
 -- what was written begins with what was there
 pub wrote_begins : (old new : List ℕ) (texts : Texts) → (t : List ℕ) × texts t × (new ≡ old ++ t) → StartsWith new old

@@ -12,7 +12,7 @@ use Rattle.cbor_grammar.specs.NotationText.{members, bracketed, opened, chunks_l
 use Rattle.cbor_grammar.specs.declared.layout.ContainerStyle.TheVariants as style
 use Rattle.cbor_grammar.specs.declared.layout.ContainerStyle.{ContainerStyle}
 use Rattle.cbor_grammar.specs.declared.layout.ContainerStyle.TheVariants.{OneLine, MultiLine}
-use Rattle.cbor_grammar.proofs.shared.Appending.{appending_steps}
+use Rattle.cbor_tokens.proofs.texts.Appending.{appending_steps}
 use Rattle.cbor_grammar.proofs.text.DigitCounts.{power_below}
 use Rattle.cbor_notation_writer.specs.mirror.LayoutView.{before_member, after_member}
 

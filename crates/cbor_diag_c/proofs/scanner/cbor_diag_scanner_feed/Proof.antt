@@ -37,7 +37,7 @@ use denote.Triple.Walked.{Stays, walk_of, stay_dropped, Goes-dropped, gave_ref, 
 use denote.Triple.Table.{framed}
 use Rattle.cbor_bytes.specs.declared.skip.answer.Extent.{Extent}
 use Rattle.cbor_bytes.specs.declared.skip.answer.Extent.TheVariants.{Cut}
-use Rattle.cbor_diag.specs.Extent.{IsExtent}
+use Rattle.cbor_bytes.specs.Extent.{IsExtent}
 use Rattle.cbor_diag_c.specs.Answers.{IfLength, IfError}
 use Rattle.cbor_diag_c.specs.Beginnings.{IsItemOf, IsCutOrFault, IsReturned}
 use Rattle.cbor_diag_c.specs.Pieces.{HasScanned, IfFed}

@@ -1,7 +1,7 @@
 use Rattle.std.proofs.Common.{◌≡◌, ◌++◌, drop, map}
 use Rattle.std.specs.List.{flat_map}
-use Rattle.cbor_diag.specs.Item.{Chunk}
-use Rattle.cbor_diag.specs.Strings.{text_chunk}
+use Rattle.cbor_grammar.specs.Item.{Chunk}
+use Rattle.cbor_grammar.specs.Strings.{text_chunk}
 use Rattle.cbor_inspect.proofs.raw.joined_texts.Given as goal
 
 -- what was joined, and the contents that are left, are those of all chunks

@@ -1,5 +1,5 @@
 use Rattle.std.proofs.Common.{◌↔◌, IsTrue, sym, ap, subst, ◌∙◌}
-use Rattle.cbor_diag.specs.Item.{Item}
+use Rattle.cbor_grammar.specs.Item.{Item}
 use Rattle.cbor_diag.specs.View.{view}
 use Rattle.cbor_diag.proofs.shared.Views.{view-Map}
 use Rattle.cbor_inspect.specs.Simple.{NoneReserved}

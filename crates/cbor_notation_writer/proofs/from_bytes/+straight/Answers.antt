@@ -14,8 +14,8 @@ use Rattle.cbor_grammar.specs.mirror.AtLevel.{read_at}
 use Rattle.cbor_grammar.specs.mirror.Lengths.{left_of}
 use Rattle.cbor_grammar.specs.mirror.StringView.{kind_of, borrowed_chunk}
 use Rattle.cbor_grammar.proofs.bytes.Shorter.{item_shorter}
-use Rattle.cbor_grammar.proofs.shared.Appending.{cut_back, begins_through, begins_still, begins_two}
-use Rattle.cbor_grammar.proofs.shared.Appending.{begins_after_member}
+use Rattle.cbor_tokens.proofs.texts.Appending.{cut_back, begins_through, begins_still, begins_two}
+use Rattle.cbor_tokens.proofs.texts.Appending.{begins_after_member}
 use Rattle.cbor_notation_writer.specs.declared.parts.Container.TheVariants.{Array, Map}
 use Rattle.cbor_notation_writer.specs.Dialect.{embedding}
 use Rattle.cbor_notation_writer.specs.mirror.Straight.{TextsBelow, chunk, ContentThere}

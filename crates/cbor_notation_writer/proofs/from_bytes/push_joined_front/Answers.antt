@@ -6,7 +6,7 @@ use Rattle.std.specs.String.{string_bytes}
 use Rattle.cbor_grammar.specs.declared.strings.StringKind.TheVariants.{Bytes}
 use Rattle.cbor_grammar.specs.Item.{atom, chunked_string}
 use Rattle.cbor_grammar.specs.mirror.StringView.{borrowed_chunk}
-use Rattle.cbor_grammar.proofs.shared.Appending.{begins_same}
+use Rattle.cbor_tokens.proofs.texts.Appending.{begins_same}
 use Rattle.cbor_bytes.proofs.reading.Readings.{fails_then, ok_then}
 use Rattle.cbor_bytes.proofs.reading.ChunksRead.{none_read, one_read, all_read, not_read}
 use Rattle.cbor_notation_writer.specs.Dialect.{joined}

@@ -5,7 +5,7 @@ use Rattle.std.specs.String.{string_bytes}
 use Rattle.cbor_grammar.specs.Item.{atom, chunked_string}
 use Rattle.cbor_grammar.specs.Estimate.{estimated_chunks}
 use Rattle.cbor_grammar.specs.mirror.StringView.{borrowed_chunk}
-use Rattle.cbor_grammar.proofs.shared.Appending.{begins_same, begins_after_member}
+use Rattle.cbor_tokens.proofs.texts.Appending.{begins_same, begins_after_member}
 use Rattle.cbor_bytes.proofs.reading.Readings.{fails_then, ok_then}
 use Rattle.cbor_notation_writer.proofs.straight.Styles.{style_there}
 use Rattle.cbor_notation_writer.proofs.straight.ChunkTexts.{no_chunks_written, one_chunk_written, chunks_written}

@@ -6,7 +6,7 @@ use Rattle.cbor_grammar.specs.Item.{Chunk}
 use Rattle.cbor_grammar.specs.StringKind.{no_chunks}
 use Rattle.cbor_grammar.specs.NotationText.{string_text, chunks_listed}
 use Rattle.cbor_grammar.specs.mirror.StringView.{bytes_of}
-use Rattle.cbor_grammar.proofs.shared.Appending.{begins_after_member, appends_last}
+use Rattle.cbor_tokens.proofs.texts.Appending.{begins_after_member, appends_last}
 use Rattle.cbor_notation_writer.proofs.text.Scalars.{drop_here, member_more, members_end, chunks_written}
 use Rattle.cbor_grammar.proofs.text.Parts.{bracketed_written}
 use Rattle.cbor_notation_writer.proofs.members.push_chunks.Goals as goal

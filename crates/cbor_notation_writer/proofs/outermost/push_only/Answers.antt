@@ -4,7 +4,7 @@ use Rattle.std.proofs.lemmas.Bool.{eqb-true, eqb-false}
 use Rattle.std.proofs.lemmas.Result.{err_from_is_err_and}
 use Rattle.std.specs.String.{string_bytes}
 use Rattle.cbor_notation_writer.specs.mirror.Straight.{text_in}
-use Rattle.cbor_grammar.proofs.shared.Appending.{begins_still, begins_same, cut_back}
+use Rattle.cbor_tokens.proofs.texts.Appending.{begins_still, begins_same, cut_back}
 use Rattle.cbor_grammar.specs.Answer.{IsRefused}
 use Rattle.cbor_grammar.proofs.bytes.Outcomes.{whole_found, more_found, whole_refusal, unless_memory}
 use Rattle.cbor_notation_writer.proofs.outermost.push_only.Goals as goal

@@ -1,5 +1,5 @@
 -- The place where an error cuts the text back is a boundary between characters.
-use Rattle.cbor_grammar.proofs.shared.Appending.{cut_back}
+use Rattle.cbor_tokens.proofs.texts.Appending.{cut_back}
 use Rattle.cbor_notation_writer.proofs.outermost.push_outermost.Goals as goal
 
 pub truncate-requires : goal.truncate-requires

@@ -3,7 +3,7 @@ use Rattle.std.proofs.Common.{◌∷◌, [], ◌++◌, ap, sym, ◌∙◌, arith
 use Rattle.std.proofs.lemmas.Fmt.{decimal_digit}
 use Rattle.std.specs.Prelude.{encode_utf8}
 use Rattle.std.specs.String.{string_bytes}
-use Rattle.cbor_grammar.proofs.shared.Appending.{appends_as, appends_of}
+use Rattle.cbor_tokens.proofs.texts.Appending.{appends_as, appends_of}
 use Rattle.cbor_notation_writer.proofs.scalars.push_decimal.Goals as goal
 
 pub returns-then-value-lt10 : goal.returns-then-value-lt10

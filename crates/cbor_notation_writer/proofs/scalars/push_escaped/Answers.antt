@@ -5,7 +5,7 @@ use Rattle.cbor_tokens.specs.Ascii.{quote}
 use Rattle.cbor_tokens.specs.Token.{in_quotes, is_special}
 use Rattle.std.proofs.lemmas.Str.{IsCharBoundary-start, IsCharBoundary-before_ascii}
 use Rattle.std.specs.String.{string_bytes}
-use Rattle.cbor_grammar.proofs.shared.Appending.{begins_same, begins_still, appends_of, appends_as}
+use Rattle.cbor_tokens.proofs.texts.Appending.{begins_same, begins_still, appends_of, appends_as}
 use Rattle.cbor_notation_writer.proofs.text.Scalars.{escaped_ascii, plain_text, plain_more, special_more}
 use Rattle.cbor_notation_writer.proofs.scalars.push_escaped.Goals as goal
 use Rattle.cbor_notation_writer.proofs.scalars.push_escaped.Goals.{then-is_escaped+in_ok-push_str+in_ok-push}

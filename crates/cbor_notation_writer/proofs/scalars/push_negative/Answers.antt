@@ -3,7 +3,7 @@ use Rattle.std.proofs.Common.{◌≡◌, ◌∷◌, [], ◌++◌, ◌+◌, ap, �
 use Rattle.std.specs.Fmt.{decimal}
 use Rattle.std.specs.String.{string_bytes}
 use Rattle.cbor_grammar.specs.NotationText.{indicator}
-use Rattle.cbor_grammar.proofs.shared.Appending.{begins_two, appends_last}
+use Rattle.cbor_tokens.proofs.texts.Appending.{begins_two, appends_last}
 use Rattle.cbor_notation_writer.proofs.scalars.push_negative.Goals as goal
 
 pub returns-in_ok-push_str-in-None : goal.returns-in_ok-push_str-in-None

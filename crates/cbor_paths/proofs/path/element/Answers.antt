@@ -1,5 +1,5 @@
 use Rattle.std.proofs.Common.{◌≡◌, map, ◌∙◌, rules}
-use Rattle.cbor_diag.specs.Item.{atom, integer}
+use Rattle.cbor_grammar.specs.Item.{atom, integer}
 use Rattle.cbor_diag.specs.declared.syntax.DataItem.{the_lemmas}
 use Rattle.cbor_diag.specs.View.{view}
 use Rattle.cbor_paths.proofs.PathLemmas.{got, at_index}

@@ -1,10 +1,10 @@
 use Rattle.std.proofs.Common.{◌≡◌, ◌↔◌, IsTrue, refl, rules, sym, subst, map}
 use Rattle.cbor_diag.specs.declared.syntax.DataItem.{the_lemmas}
-use Rattle.cbor_diag.specs.Item as spec
-use Rattle.cbor_diag.specs.Item.{Item, atom, chunked_string, array, tagged}
+use Rattle.cbor_grammar.specs.Item as spec
+use Rattle.cbor_grammar.specs.Item.{Item, atom, chunked_string, array, tagged}
 use Rattle.cbor_grammar.specs.declared.strings.StringKind.TheVariants.{Bytes, Text}
 use Rattle.cbor_diag.specs.View.{view, items_view, pairs_view}
-use Rattle.cbor_diag.specs.Strings.{byte_chunk, text_chunk}
+use Rattle.cbor_grammar.specs.Strings.{byte_chunk, text_chunk}
 use Rattle.cbor_paths.specs.Paths.{plain_key}
 use Rattle.cbor_paths.proofs.PathLemmas.{IsOther, key_is}
 use Rattle.cbor_paths.proofs.path.is_key.Goals as goal

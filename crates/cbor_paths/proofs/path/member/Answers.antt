@@ -1,6 +1,6 @@
 use Rattle.std.proofs.Common.{◌≡◌, rules, map}
-use Rattle.cbor_diag.specs.Item as spec
-use Rattle.cbor_diag.specs.Item.{array}
+use Rattle.cbor_grammar.specs.Item as spec
+use Rattle.cbor_grammar.specs.Item.{array}
 use Rattle.cbor_diag.specs.declared.syntax.DataItem.{the_lemmas}
 use Rattle.cbor_diag.specs.View.{view, items_view, pairs_view}
 use Rattle.cbor_paths.proofs.PathLemmas.{some_element, no_element, some_value, no_value}

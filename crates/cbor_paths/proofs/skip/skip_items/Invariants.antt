@@ -1,6 +1,6 @@
 -- The items so far are those of the bytes before.
 use Rattle.std.proofs.Common.{◌≡◌, List, ◌-◌, ◌≤◌, length, drop, IsTrue}
-use Rattle.cbor_diag.specs.Item.{Item}
+use Rattle.cbor_grammar.specs.Item.{Item}
 use Rattle.cbor_paths.specs.Sequence.{ItemsThen, IsSequence}
 use Rattle.cbor_paths.proofs.skip.skip_items.Given as goal
 

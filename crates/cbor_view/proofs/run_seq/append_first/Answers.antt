@@ -1,4 +1,4 @@
-use Rattle.cbor_convert.specs.Output.{output_of}
+use Rattle.cbor_diag.specs.Output.{output_of}
 use Rattle.cbor_view.proofs.Sequences.{one_written}
 use Rattle.cbor_view.proofs.run_seq.append_first.Goals as goal
 

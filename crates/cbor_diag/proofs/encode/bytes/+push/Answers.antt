@@ -7,7 +7,7 @@ use Rattle.cbor_diag.specs.View.{items_view, pairs_view}
 use Rattle.cbor_grammar.specs.WellFormed.{WellFormedItems, WellFormedPairs, FitsCount}
 use Rattle.cbor_grammar.specs.Written.{encoded_items, encoded_pairs, encoded_open, encoded_close}
 use Rattle.cbor_diag.specs.declared.syntax.DataItem.{the_lemmas}
-use Rattle.cbor_grammar.proofs.shared.Appending.{begins_still, begins_through, begins_two, appends_after, appends_last}
+use Rattle.cbor_tokens.proofs.texts.Appending.{begins_still, begins_through, begins_two, appends_after, appends_last}
 use Rattle.cbor_diag.proofs.shared.Views.{item_count_view, pair_count_view}
 use Rattle.cbor_notation_writer.proofs.text.Scalars.{drop_here}
 use Rattle.cbor_diag.proofs.encode.bytes.+push.Goals as goal

@@ -15,7 +15,7 @@ use Rattle.cbor_grammar.specs.NotationText.{text, inside, members, members_layou
 use Rattle.cbor_grammar.specs.NotationText.{array_text, map_text, below}
 use Rattle.cbor_grammar.specs.NotationText.{text_at_level}
 use Rattle.cbor_grammar.specs.WellFormed.{WellFormedItems, WellFormedPairs}
-use Rattle.cbor_grammar.proofs.shared.Appending.{begins_two, begins_after_member, appends_last}
+use Rattle.cbor_tokens.proofs.texts.Appending.{begins_two, begins_after_member, appends_last}
 use Rattle.cbor_diag.proofs.shared.Views.{view-Integer, view-Negative, view-ByteString, view-TextString}
 use Rattle.cbor_diag.proofs.shared.Views.{view-IndefiniteByteString, view-IndefiniteTextString, view-Float, view-Simple}
 use Rattle.cbor_notation_writer.proofs.text.Scalars.{members_left, drop_here, member_more, members_end}

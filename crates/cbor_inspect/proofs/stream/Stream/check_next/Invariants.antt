@@ -1,5 +1,5 @@
 use Rattle.std.proofs.Common.{◌≡◌, List, length, IsTrue}
-use Rattle.cbor_diag.specs.Item.{Item}
+use Rattle.cbor_grammar.specs.Item.{Item}
 use Rattle.cbor_inspect.specs.Simple.{ItemsThen8949, IsSequence8949}
 use Rattle.cbor_inspect.proofs.stream.Stream.check_next.Given as goal
 

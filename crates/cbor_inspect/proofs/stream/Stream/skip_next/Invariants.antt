@@ -1,5 +1,5 @@
 use Rattle.std.proofs.Common.{◌≡◌, List, length, IsTrue}
-use Rattle.cbor_diag.specs.Item.{Item}
+use Rattle.cbor_grammar.specs.Item.{Item}
 use Rattle.cbor_paths.specs.Sequence.{ItemsThen, IsSequence}
 use Rattle.cbor_inspect.proofs.stream.Stream.skip_next.Given as goal
 

@@ -1,7 +1,7 @@
 -- The digits or the word are a text of the number.
 use Rattle.std.specs.String.{string_bytes}
 use Rattle.cbor_floats.specs.Decimal.{IsTextOf}
-use Rattle.cbor_grammar.proofs.shared.Appending.{appends_of}
+use Rattle.cbor_tokens.proofs.texts.Appending.{appends_of}
 use Rattle.cbor_notation_writer.proofs.straight.Wrote.{appends_wrote}
 use Rattle.cbor_json.proofs.print.numbers.push_number.Goals as goal
 

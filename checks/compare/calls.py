@@ -1,0 +1,22 @@
+"""The calls of the vectors that the second implementation has.
+
+Each takes a row, and returns the text that the row has to give; or None if it cannot tell.
+"""
+
+import calls_bytes
+import calls_edn
+import calls_inputs
+import calls_notes
+import calls_places
+import calls_rules
+
+SUBJECTS = [calls_bytes, calls_edn, calls_inputs, calls_notes, calls_places, calls_rules]
+CALLS = {name: call for subject in SUBJECTS for name, call in subject.CALLS.items()}
+
+# The calls that it does not have, so that a call that nobody knows is found: tables of names, what a screen shows, and
+# messages, whose words are the library's own.
+WITHOUT = {
+    "encoded", "excerpt_of_bytes", "excerpt_of_text", "first_breach", "looks_like", "lost_words", "meanings",
+    "meanings_by", "name_before", "names", "names_at", "names_by", "not_encoded", "not_json", "partial_dump",
+    "partial_edn", "position_of", "push_colored", "push_elided", "push_embedded", "push_named", "with_file",
+}

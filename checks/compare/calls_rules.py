@@ -1,0 +1,24 @@
+"""Calls on rules of an encoding, on encoding again, and on the containers that are open at a byte."""
+
+import reencode_form
+import rules_form
+import trace_form
+
+
+def traced(row):
+    return trace_form.called(row.call, row.bytes(), map(int, row.argument.split()))
+
+
+CALLS = {
+    "breach": lambda row: rules_form.breach(row.bytes(), rules_form.rules_of(row.argument)),
+    "breach_in": lambda row: rules_form.breach_in(row.bytes(), rules_form.rules_of(row.argument)),
+    "breaches": lambda row: rules_form.breaches(row.bytes()),
+    "reencode": lambda row: reencode_form.reencode(row.bytes(), rules_form.rules_of(row.argument)),
+    "paths": lambda row: trace_form.paths(row.bytes()),
+    "cuts": lambda row: trace_form.cuts(row.bytes()),
+    "part_at": traced,
+    "innermost": traced,
+    "end_at": traced,
+    "head_at": traced,
+    "chunk_at": traced,
+}

@@ -1,0 +1,55 @@
+//! The examples of the doc comments of `cbor_screen`, line for line: `checks/examples` compares.
+
+use cbor_names::{Definition, Names, Shape};
+use cbor_screen::{Kind, Language, push_colored, push_elided, push_in_color, push_named};
+use std::test::Fail;
+
+#[test]
+fn crate_example(rt: HostRuntime) -> Result<(), Fail> {
+    let alloc = rt.alloc();
+    let mut out = Vec::new(alloc);
+    push_colored(&mut out, b"{1: true}\n", Language::Edn)?;
+    let wanted = b"{\x1b[1;34m1\x1b[0m: \x1b[36mtrue\x1b[0m}\n";
+    assert_eq!(rt; out.as_slice(), wanted.as_slice());
+    Ok(())
+}
+
+#[test]
+fn push_in_color_example(rt: HostRuntime) -> Result<(), Fail> {
+    let alloc = rt.alloc();
+    let mut out = Vec::new(alloc);
+    push_in_color(&mut out, Kind::Fault, b"^^")?;
+    assert_eq!(rt; out.as_slice(), b"\x1b[1;31m^^\x1b[0m".as_slice());
+    Ok(())
+}
+
+#[test]
+fn push_colored_example(rt: HostRuntime) -> Result<(), Fail> {
+    let alloc = rt.alloc();
+    let mut out = Vec::new(alloc);
+    push_colored(&mut out, b"01 # unsigned(1)\n", Language::Dump)?;
+    let wanted = b"\x1b[33m01 \x1b[0m\x1b[90m# unsigned(1)\x1b[0m\n";
+    assert_eq!(rt; out.as_slice(), wanted.as_slice());
+    Ok(())
+}
+
+#[test]
+fn push_elided_example(rt: HostRuntime) -> Result<(), Fail> {
+    let alloc = rt.alloc();
+    let mut out = Vec::new(alloc);
+    push_elided(&mut out, b"[h'3082024101', \"no\"]", Language::Edn, 2)?;
+    let wanted = b"[h'3082...' /5 bytes/, \"no\"]";
+    assert_eq!(rt; out.as_slice(), wanted.as_slice());
+    Ok(())
+}
+
+#[test]
+fn push_named_example(rt: HostRuntime) -> Result<(), Fail> {
+    let alloc = rt.alloc();
+    let mut names = Names::new(alloc);
+    names.define(Definition::new("Frame", Shape::Map))?;
+    let mut out = Vec::new(alloc);
+    push_named(&mut out, "a0 # map(0)\n", &names, names.of("Frame"))?;
+    assert_eq!(rt; out.as_slice(), b"a0 # /Frame/ map(0)\n".as_slice());
+    Ok(())
+}

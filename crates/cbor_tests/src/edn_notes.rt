@@ -1,0 +1,45 @@
+//! Notes on items of EDN that no comment has: of texts that no line of the vectors shows.
+
+use cbor_edn::{EdnStyle, Note, NotedStyle, push_bytes_to_edn_noted};
+
+/// Places, and a text before and after the item there.
+const NOTES: [(usize, &str, &str); 6] = [
+    (6, "a/b", "a/b"),
+    (5, "a\nb", "a\nb"),
+    (4, "*a*", "*a*"),
+    (3, "", ""),
+    (2, "\u{202e}", "\u{e9}"),
+    (1, "\u{1b}[31m", "\u{7f}"),
+];
+
+/// A note that does not show a byte string as an item.
+fn note_of<'a>((at, before, after): (usize, &'a str, &'a str)) -> Note<'a> {
+    Note {
+        at,
+        before,
+        after,
+        encoded: false,
+    }
+}
+
+#[test]
+fn texts_that_no_comment_has(rt: HostRuntime) {
+    let [a, b, c, d, e, f] = NOTES;
+    let notes = [
+        note_of(a),
+        note_of(b),
+        note_of(c),
+        note_of(d),
+        note_of(e),
+        note_of(f),
+    ];
+    let noted = NotedStyle {
+        style: EdnStyle::PRETTY,
+        notes: &notes,
+    };
+    let mut out = String::new(rt.alloc());
+    let bytes = b"\x86\x01\x02\x03\x04\x05\x06";
+    let written = push_bytes_to_edn_noted(rt.alloc(), bytes, noted, &mut out);
+    assert!(rt; written.is_ok());
+    assert!(rt; out.as_str() == "[1, 2, 3, 4, 5, 6]");
+}

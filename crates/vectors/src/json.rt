@@ -1,0 +1,55 @@
+//! JSON: `bytes_to_json STYLE` gives the JSON of an item, or what is wrong: after the place of what
+//! JSON does not keep, or after those of two keys that become the same. STYLE is none, `embedded`
+//! or `strict`. `push_bytes_to_json_partial STYLE` gives how many bytes the item at the front
+//! takes, and its JSON, or `truncated`.
+
+use crate::row::Row;
+use cbor_json::{Clash, JsonError, JsonStyle, Loss, bytes_to_json, push_bytes_to_json_partial};
+use std::alloc::{AllocError, Global};
+
+/// What the call of a row gives; none if it is no call of this subject.
+pub fn answer(alloc: Global, row: &Row) -> Result<Option<String>, AllocError> {
+    let Some(style) = style_of(row.argument) else {
+        return Ok(None);
+    };
+    let found = match row.call {
+        "bytes_to_json" => match bytes_to_json(alloc, &row.bytes, style) {
+            Ok(text) => Ok(text),
+            Err(error) => error_text(alloc, error),
+        },
+        "push_bytes_to_json_partial" => front(alloc, &row.bytes, style),
+        _ => return Ok(None),
+    };
+    Ok(Some(found?))
+}
+
+/// The style of these words.
+fn style_of(words: &str) -> Option<JsonStyle> {
+    match words {
+        "" => Some(JsonStyle::PLAIN),
+        "embedded" => Some(JsonStyle::EMBEDDED),
+        "strict" => Some(JsonStyle::STRICT),
+        _ => None,
+    }
+}
+
+/// How many bytes the item at the front takes, and its JSON.
+fn front(alloc: Global, bytes: &[u8], style: JsonStyle) -> Result<String, AllocError> {
+    let mut out = String::new(alloc);
+    match push_bytes_to_json_partial(alloc, bytes, style, &mut out) {
+        Ok(Some(used)) => format!(in alloc; "{used} {out}"),
+        Ok(None) => String::from_str(alloc, "truncated"),
+        Err(error) => error_text(alloc, error),
+    }
+}
+
+/// What is wrong, after its places.
+fn error_text(alloc: Global, error: JsonError) -> Result<String, AllocError> {
+    match error {
+        JsonError::Cbor(error) => format!(in alloc; "{error:?}"),
+        JsonError::NotKept(Loss { place, kind }) => { format!(in alloc; "{place} {}", kind.text()) }
+        JsonError::SameKeys(Clash { first, second }) => {
+            format!(in alloc; "{first} {second} {error}")
+        }
+    }
+}

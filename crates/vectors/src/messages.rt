@@ -1,0 +1,118 @@
+//! What is said of items, where these begin at byte 10 of an input: `first_breach SET`,
+//! `not_encoded SET`, `not_json`, `not_json strict`, `lost_words PATH`. Lines of an input with a
+//! mark below a place: `excerpt_of_bytes PLACE`, `excerpt_of_text PLACE MARK`, `position_of PLACE`.
+
+use crate::row::Row;
+use crate::texts::{number_of, refused_text};
+use cbor_diag::Error;
+use cbor_inspect::steps_of;
+use cbor_json::{JsonStyle, bytes_to_json};
+use cbor_messages::{
+    Excerpt, Message, first_breach, lost_words, not_encoded, not_json, position_of,
+};
+use cbor_places::Piece;
+use cbor_reencode::reencoded;
+use cbor_rules::RuleSet;
+use std::alloc::{AllocError, Global};
+
+/// What the call of a row gives; none if it is no call of this subject.
+pub fn answer(alloc: Global, row: &Row) -> Result<Option<String>, AllocError> {
+    let found = match row.call {
+        "first_breach" => breach_said(alloc, row),
+        "not_encoded" => encoding_said(alloc, row),
+        "not_json" => json_said(alloc, row),
+        "lost_words" => lost_said(alloc, row),
+        "excerpt_of_bytes" => bytes_marked(alloc, row),
+        "excerpt_of_text" => text_marked(alloc, row),
+        "position_of" => position_said(alloc, row),
+        _ => return Ok(None),
+    };
+    Ok(Some(found?))
+}
+
+/// The items of a row, which begin at byte 10.
+fn items<'a>(row: &'a Row) -> Piece<'a> {
+    Piece {
+        begins: 10,
+        bytes: &row.bytes,
+    }
+}
+
+/// The place of a message, and its text.
+fn said(alloc: Global, message: Result<Message, Error>) -> Result<String, AllocError> {
+    match message {
+        Ok(Message { place, text }) => format!(in alloc; "{place} {text}"),
+        Err(error) => refused_text(alloc, error),
+    }
+}
+
+/// What is said of the first breach of a set of rules, or `kept`.
+fn breach_said(alloc: Global, row: &Row) -> Result<String, AllocError> {
+    let Some(set) = RuleSet::named(row.argument) else {
+        return String::from_str(alloc, "no set has this name");
+    };
+    match first_breach(alloc, set, items(row)) {
+        Ok(Some(message)) => said(alloc, Ok(message)),
+        Ok(None) => String::from_str(alloc, "kept"),
+        Err(error) => refused_text(alloc, error),
+    }
+}
+
+/// What is said of items that cannot be encoded by a set of rules, or `encoded`.
+fn encoding_said(alloc: Global, row: &Row) -> Result<String, AllocError> {
+    let Some(set) = RuleSet::named(row.argument) else {
+        return String::from_str(alloc, "no set has this name");
+    };
+    match reencoded(alloc, &row.bytes, set.rules) {
+        Ok(_) => String::from_str(alloc, "encoded"),
+        Err(error) => said(alloc, not_encoded(alloc, set, items(row), error)),
+    }
+}
+
+/// What is said of an item that JSON does not keep, or `kept`.
+fn json_said(alloc: Global, row: &Row) -> Result<String, AllocError> {
+    let style = JsonStyle {
+        embedded: false,
+        strict: row.argument == "strict",
+    };
+    match bytes_to_json(alloc, &row.bytes, style) {
+        Ok(_) => String::from_str(alloc, "kept"),
+        Err(error) => said(alloc, not_json(alloc, items(row), error)),
+    }
+}
+
+/// What is said of a path that leads nowhere.
+fn lost_said(alloc: Global, row: &Row) -> Result<String, AllocError> {
+    let steps = match steps_of(alloc, row.argument) {
+        Ok(steps) => steps,
+        Err(error) => return refused_text(alloc, error),
+    };
+    match lost_words(alloc, row.argument, &steps, &row.bytes) {
+        Ok(words) => Ok(words),
+        Err(error) => refused_text(alloc, error),
+    }
+}
+
+/// A line of bytes with a mark, or `none`.
+fn bytes_marked(alloc: Global, row: &Row) -> Result<String, AllocError> {
+    match Excerpt::of_bytes(&row.bytes, number_of(row.argument)) {
+        Some(excerpt) => format!(in alloc; "{excerpt}"),
+        None => String::from_str(alloc, "none"),
+    }
+}
+
+/// A line of a text with a mark.
+fn text_marked(alloc: Global, row: &Row) -> Result<String, AllocError> {
+    let (place, mark) = row.argument.split_once(" ").unwrap_or((row.argument, ""));
+    let excerpt = Excerpt::of_text(&row.input, number_of(place), mark);
+    format!(in alloc; "{excerpt}")
+}
+
+/// The line of a place, the character in it, and the byte at which the line begins.
+fn position_said(alloc: Global, row: &Row) -> Result<String, AllocError> {
+    let found = position_of(&row.input, number_of(row.argument));
+    format!(in alloc;
+        "line {} column {} begins {}",
+        found.line, found.column, found.begins
+    )
+}

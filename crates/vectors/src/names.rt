@@ -1,0 +1,111 @@
+//! Names of members, keys, tags and values.
+//!
+//! - `names TYPE`: a line for each name in an item, with the place of what has it, by the tables of
+//!   `known_names`. The type of the item is left out if its tag says it.
+//! - `meanings TYPE`: the same of meanings. `encoded TYPE`: the places of encoded items.
+//! - `name_before PLACE`, `names_at PLACE`.
+//! - `with_file`: `read`, or what is wrong in a file of names, which is the input.
+//! - `names_by ITEM`, `meanings_by ITEM`: as `names` and `meanings` of the item in hex, by the
+//!   tables of `known_names` with those of a file, which is the input.
+
+use crate::lines::{lines_or, push_line};
+use crate::row::Row;
+use cbor_names::{Fault, FileError, Names, Note, Type, known_names, notes, with_file};
+use std::alloc::{AllocError, Global};
+
+/// What the call of a row gives; none if it is no call of this subject.
+pub fn answer(alloc: Global, row: &Row) -> Result<Option<String>, AllocError> {
+    let found = match row.call {
+        "names" | "meanings" | "encoded" => of_type(alloc, row),
+        "name_before" | "names_at" => at_place(alloc, row),
+        "with_file" => of_file(alloc, row),
+        "names_by" | "meanings_by" => by_file(alloc, row),
+        _ => return Ok(None),
+    };
+    Ok(Some(found?))
+}
+
+/// What is said of the items in an item of the type that the row names.
+fn of_type(alloc: Global, row: &Row) -> Result<String, AllocError> {
+    let names = known_names(alloc)?;
+    let outer = names.of(row.argument);
+    if outer.is_none() && !row.argument.is_empty() {
+        return String::from_str(alloc, "no type has this name");
+    }
+    said(alloc, row.call, &row.bytes, &names, outer)
+}
+
+/// What is said of the item that is the row's argument, by the file that is its input.
+fn by_file(alloc: Global, row: &Row) -> Result<String, AllocError> {
+    let Ok(bytes) = hex::decode(alloc, row.argument) else {
+        return String::from_str(alloc, "no hex");
+    };
+    match with_file(alloc, known_names(alloc)?, row.text()) {
+        Ok(names) => said(alloc, row.call, &bytes, &names, None),
+        Err(error) => error_text(alloc, error),
+    }
+}
+
+/// What is wrong in the file that is the row's input.
+fn of_file(alloc: Global, row: &Row) -> Result<String, AllocError> {
+    match with_file(alloc, known_names(alloc)?, row.text()) {
+        Ok(_) => String::from_str(alloc, "read"),
+        Err(error) => error_text(alloc, error),
+    }
+}
+
+/// What is wrong in a file, with its line. Of what is no TOML, the words are those of `toml`.
+fn error_text(alloc: Global, error: FileError) -> Result<String, AllocError> {
+    let FileError { line, fault } = error;
+    match fault {
+        Fault::OutOfMemory => Err(AllocError),
+        Fault::Toml(_) => format!(in alloc; "line {line}: no TOML"),
+        _ => format!(in alloc; "{error}"),
+    }
+}
+
+/// The word that a call asks of a note; empty if the note has none.
+fn word_of<'n>(call: &str, note: Note<'n>) -> &'n str {
+    match call {
+        "names" | "names_by" => note.before,
+        "encoded" if note.encoded => "<<>>",
+        "encoded" => "",
+        _ => note.after,
+    }
+}
+
+/// What a call asks of the notes of an item, a line each.
+fn said(
+    alloc: Global,
+    call: &str,
+    bytes: &[u8],
+    names: &Names,
+    outer: Option<Type>,
+) -> Result<String, AllocError> {
+    let found = notes(alloc, bytes, names, outer)?;
+    let list = found.list(alloc)?;
+    let mut text = String::new(alloc);
+    for note in list.iter() {
+        let place = bytes.len().saturating_sub(note.at);
+        let word = word_of(call, *note);
+        if !word.is_empty() {
+            push_line(&mut text, &format!(in alloc; "{place} {word}")?)?;
+        }
+    }
+    lines_or(text, "none")
+}
+
+/// The name before the item at a place, or those of all that the byte there belongs to.
+fn at_place(alloc: Global, row: &Row) -> Result<String, AllocError> {
+    let place = row.argument.parse::<usize>().unwrap_or(usize::MAX);
+    let names = known_names(alloc)?;
+    let found = notes(alloc, &row.bytes, &names, None)?;
+    if row.call == "name_before" {
+        return String::from_str(alloc, found.name_before(place).unwrap_or("none"));
+    }
+    let mut text = String::new(alloc);
+    for name in found.names_at(alloc, place)?.iter() {
+        push_line(&mut text, name)?;
+    }
+    lines_or(text, "none")
+}

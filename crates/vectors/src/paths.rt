@@ -1,0 +1,31 @@
+//! The parts that a path leads to, in EDN, a line each: `show_items PATH`. The result is `lost` and
+//! the number of bytes of the item if the path leads to none.
+
+use crate::row::Row;
+use crate::texts::{lines_text, refused_text, text_of};
+use cbor_inspect::{End, Form, Show, show_items, steps_of};
+use std::alloc::{AllocError, Global};
+
+/// What the call of a row gives; none if it is no call of this subject.
+pub fn answer(alloc: Global, row: &Row) -> Result<Option<String>, AllocError> {
+    if row.call != "show_items" {
+        return Ok(None);
+    }
+    let mut show = Show::new(alloc, Form::Diag);
+    match steps_of(alloc, row.argument) {
+        Ok(steps) => show.steps = steps,
+        Err(error) => return Ok(Some(refused_text(alloc, error)?)),
+    }
+    let mut out = Vec::new(alloc);
+    let end = show_items(&show, &row.bytes, &mut out).end;
+    Ok(Some(parts_text(alloc, &out, end)?))
+}
+
+/// The parts, or why there are none.
+fn parts_text(alloc: Global, out: &[u8], end: End) -> Result<String, AllocError> {
+    match end {
+        End::Done => lines_text(alloc, text_of(out)),
+        End::Lost { len } => format!(in alloc; "lost {len}"),
+        end => format!(in alloc; "{end:?}"),
+    }
+}

@@ -1,0 +1,80 @@
+//! Where a byte of an item is, which begins at byte 10 of an input: `words` and `cut_words` of the
+//! end of the bytes, `words PLACE` of a place in a whole item, `lines_at BYTE`, `leaves`. What is
+//! shown of an item that is not whole: `partial_dump`, `partial_edn`, `partial_edn COLUMNS`.
+
+use crate::row::Row;
+use crate::texts::{lines_text, number_of, refused_text};
+use cbor_diag::Error;
+use cbor_edn::EdnStyle;
+use cbor_places::{Around, ByteNumbers, Leaves, Piece, lines_at, partial_dump, partial_edn};
+use std::alloc::{AllocError, Global};
+
+/// What is said of the items of `partial_dump` and `partial_edn`.
+const SAID: &str = "fault: no item can have this head";
+
+/// What the call of a row gives; none if it is no call of this subject.
+pub fn answer(alloc: Global, row: &Row) -> Result<Option<String>, AllocError> {
+    let found = match row.call {
+        "words" => words(alloc, row),
+        "cut_words" => cut_words(alloc, row),
+        "lines_at" => shown(alloc, lines_at(alloc, piece(row), number_of(row.argument))),
+        "leaves" => shown(alloc, leaves(alloc, row)),
+        "partial_dump" => shown(alloc, partial_dump(alloc, &row.bytes, SAID)),
+        "partial_edn" => shown(alloc, partial_edn(alloc, style(row), &row.bytes, SAID)),
+        _ => return Ok(None),
+    };
+    Ok(Some(found?))
+}
+
+/// The item of a row.
+fn piece<'a>(row: &'a Row) -> Piece<'a> {
+    Piece {
+        begins: 10,
+        bytes: &row.bytes,
+    }
+}
+
+/// Lines, of which there may be none, or an error.
+fn shown(alloc: Global, lines: Result<String, Error>) -> Result<String, AllocError> {
+    match lines {
+        Ok(lines) if lines.is_empty() => Ok(lines),
+        Ok(lines) => lines_text(alloc, &lines),
+        Err(error) => refused_text(alloc, error),
+    }
+}
+
+/// What is around the end of the bytes, or around a place in a whole item.
+fn words(alloc: Global, row: &Row) -> Result<String, AllocError> {
+    let whole = !row.argument.is_empty();
+    let place = if whole {
+        number_of(row.argument)
+    } else {
+        row.bytes.len()
+    };
+    let around = Around::new(alloc, piece(row), place)?;
+    around.words(&ByteNumbers, whole)
+}
+
+/// What is said of a truncated item.
+fn cut_words(alloc: Global, row: &Row) -> Result<String, AllocError> {
+    let around = Around::of_end(alloc, piece(row))?;
+    around.cut_words(&ByteNumbers)
+}
+
+/// The first block of the lines of paths.
+fn leaves(alloc: Global, row: &Row) -> Result<String, Error> {
+    let mut leaves = Leaves::new(alloc, piece(row), EdnStyle::LINE);
+    let mut out = String::new(alloc);
+    leaves.push_block(&mut out)?;
+    Ok(out)
+}
+
+/// One line, or lines with notes of so many columns.
+fn style(row: &Row) -> EdnStyle {
+    let mut style = EdnStyle::LINE;
+    if let Ok(columns) = row.argument.parse::<u16>() {
+        style = EdnStyle::PRETTY;
+        style.columns = columns;
+    }
+    style
+}

@@ -1,0 +1,39 @@
+//! Items that are encoded again: `reencode RULES`, with RULES as in `rules`. The result is bytes in
+//! hex, or why there are none, with places: of the input, or after `Written` of what was written.
+
+use crate::row::Row;
+use crate::rules::{breach_text, rules_of};
+use crate::texts::hex_text;
+use cbor_reencode::{ReencodeError, reencoded};
+use std::alloc::{AllocError, Global};
+
+/// What the call of a row gives; none if it is no call of this subject.
+pub fn answer(alloc: Global, row: &Row) -> Result<Option<String>, AllocError> {
+    let Some(rules) = rules_of(row.argument) else {
+        return Ok(None);
+    };
+    if row.call != "reencode" {
+        return Ok(None);
+    }
+    let found = match reencoded(alloc, &row.bytes, rules) {
+        Ok(bytes) => hex_text(alloc, &bytes),
+        Err(error) => error_text(alloc, error),
+    };
+    Ok(Some(found?))
+}
+
+/// Why bytes are not encoded again.
+fn error_text(alloc: Global, error: ReencodeError) -> Result<String, AllocError> {
+    match error {
+        ReencodeError::Memory => Err(AllocError),
+        ReencodeError::Breach(found) => {
+            format!(in alloc; "Breach {}", breach_text(alloc, found)?)
+        }
+        ReencodeError::KeyTwice { first, second } => {
+            format!(in alloc; "KeyTwice {first} {second}")
+        }
+        ReencodeError::Written(found) => {
+            format!(in alloc; "Written {}", breach_text(alloc, found)?)
+        }
+    }
+}
