@@ -209,6 +209,9 @@ static inline int64_t cbor_diag_convert_checked(uint32_t from, uint32_t to, cons
  * - minus CBOR_DIAG_ERROR_CUT_SHORT, if the bytes end before the item does: with more bytes, call again;
  * - minus CBOR_DIAG_ERROR_HEAD, _UTF8 or _TOO_DEEP, if no item begins with these bytes, whatever follows them.
  *
+ * As in RFC 7049, `f8` before a byte below 32 is a simple value, which RFC 8949 forbids: cbor_diag_breach by
+ * CBOR_DIAG_RULES_RFC8949 reports it.
+ *
  * `*end` is set to the number of bytes that decide this: the length of the item, that of the input if it is cut, or the
  * first bytes that have the error; the last of these is the byte at fault, or ends the text that is not UTF-8. `end`
  * may be null.

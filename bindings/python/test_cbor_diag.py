@@ -93,6 +93,11 @@ def uri_from(source, target):
     return URI[Form.EDN if is_open else target]
 
 
+class Versions(unittest.TestCase):
+    def test_the_module_states_that_of_the_library(self):
+        self.assertEqual(cbor_diag.__version__, ".".join(map(str, cbor_diag.library_version())))
+
+
 class Conversions(unittest.TestCase):
     def test_each_pair_of_forms(self):
         for source, given in URI.items():
@@ -120,6 +125,17 @@ class Conversions(unittest.TestCase):
             with self.subTest(data=data):
                 self.assertRaises(TypeError, cbor_diag.bytes_to_diag, data)
                 self.assertRaises(TypeError, cbor_diag.extent, data)
+
+    def test_a_str_is_no_bytes(self):
+        calls = [cbor_diag.bytes_to_hex, cbor_diag.bytes_to_diag, cbor_diag.bytes_to_diag_pretty,
+                 cbor_diag.bytes_to_edn, cbor_diag.bytes_to_edn_pretty, cbor_diag.bytes_to_json, cbor_diag.extent,
+                 cbor_diag.Scanner().feed,
+                 lambda data: cbor_diag.breach(data, Rules.CORE), lambda data: cbor_diag.reencode(data, Rules.CORE),
+                 lambda data: cbor_diag.name_at(data, ""),
+                 lambda data: cbor_diag.convert(Form.BYTES, Form.DIAG, data)]
+        for call in calls:
+            with self.subTest(call=call), self.assertRaisesRegex(TypeError, r"bytes\.fromhex"):
+                call("82")
 
     def test_data_can_change_after_a_call(self):
         data = bytearray(b"\x01")
@@ -327,7 +343,7 @@ class Scanners(unittest.TestCase):
                 self.assert_fed([data[i:j] for i, j in zip([0, *cuts], [*cuts, len(data)])])
 
     def test_each_kind_of_data(self):
-        for piece in (b"\x02", bytearray(b"\x02"), memoryview(b"\x00\x02")[1:], "\x02"):
+        for piece in (b"\x02", bytearray(b"\x02"), memoryview(b"\x00\x02")[1:]):
             scanner = cbor_diag.Scanner()
             self.assertIsNone(scanner.feed(b"\x82\x01"))
             self.assertEqual(scanner.feed(piece), 3)
@@ -430,6 +446,19 @@ class Items(unittest.TestCase):
                 found = cbor_diag.items(Dripping(log, [size] * len(log)))
                 self.assertEqual(next(found), b"\x01")
                 self.assert_fails(found, error, offset, end)
+
+    def test_faults_have_paths(self):
+        for size in range(1, 8):
+            for log, path in ((b"\x01\x82\x01", "1"), (b"\x01\xa1\x61k\x82\x01\x1c\x00", "k/1")):
+                found = cbor_diag.items(Dripping(log, [size] * len(log)))
+                next(found)
+                with self.assertRaises(CborDiagError) as raised:
+                    next(found)
+                self.assertEqual(raised.exception.path, path)
+                item = log[1:7]
+                with self.assertRaises(CborDiagError) as alone:
+                    cbor_diag.bytes_to_diag(item)
+                self.assertEqual(str(raised.exception), str(alone.exception))
 
     def test_no_byte_is_looked_at_twice(self):
         # A text of 16 MB in reads of 64 bytes: to look at it again after each read would take minutes.

@@ -59,7 +59,13 @@ __all__ = [
     "reencode",
 ]
 
-Data = Union[bytes, bytearray, memoryview, str]
+__version__ = "0.1.0"
+
+Bytes = Union[bytes, bytearray, memoryview]
+"""The bytes of items."""
+
+Data = Union[Bytes, str]
+"""The bytes of items or the text of one: a `str` is taken as its UTF-8."""
 
 _Result = TypeVar("_Result")
 
@@ -234,7 +240,7 @@ class CborDiagError(ValueError):
 
     `path` leads to the item that is cut or has the fault, in steps joined by `/`, as `cborcat -p` reads them; `/` is the
     outermost item. It is `None` where there is none: in notation, EDN and hex whose digits are wrong, where more bytes
-    follow an item, out of memory, and if `extent`, `Scanner.feed` or `items` raised the error.
+    follow an item, out of memory, and if `extent` or `Scanner.feed` raised the error.
 
     If `extent`, `Scanner.feed` or `items` raised it, `end` is the number of first bytes that have the error.
 
@@ -394,15 +400,15 @@ _release_buffer.restype = None
 _release_buffer.argtypes = [ctypes.POINTER(_View)]
 
 
-def _on_bytes(data: Data, call: Callable[..., _Result], *arguments: Any) -> _Result:
+def _on_bytes(data: Bytes, call: Callable[..., _Result], *arguments: Any) -> _Result:
     """Returns what `call` does of the library, of where the bytes of the data are, of how many they are, and of the
     other arguments.
 
-    Raises `TypeError` for data that has no bytes, such as an `int`. Data whose bytes are not one after the other is
-    copied.
+    Raises `TypeError` for a `str`, and for data that has no bytes, such as an `int`. Data whose bytes are not one after
+    the other is copied.
     """
     if isinstance(data, str):
-        data = data.encode("utf-8", "surrogatepass")
+        raise TypeError("a str has no bytes of CBOR: bytes.fromhex(text) gives those of hex digits")
     if not isinstance(data, bytes):
         given = memoryview(data)
         if given.c_contiguous:
@@ -529,38 +535,50 @@ def _convert(source: int, target: int, data: Data, kept: Callable[[memoryview], 
     """The same for data of any kind. An error's place in a `str` counts its characters."""
     if type(data) is bytes:
         return _converted(_releasing, data, len(data), source, target, kept)
-    try:
+    if source == _BYTES or not isinstance(data, str):
         return _on_bytes(data, _converted, source, target, kept)
+    text = data.encode("utf-8", "surrogatepass")
+    try:
+        return _converted(_releasing, text, len(text), source, target, kept)
     except CborDiagError as failure:
-        if isinstance(data, str) and failure.offset is not None:
-            before = data.encode("utf-8", "surrogatepass")[: failure.offset]
-            failure.offset = len(before.decode("utf-8", "ignore"))
+        if failure.offset is not None:
+            failure.offset = len(text[: failure.offset].decode("utf-8", "ignore"))
         raise
 
 
 def convert(source: Form, target: Form, data: Data) -> bytes:
     """Converts an item from the form `source` to the form `target`.
 
-    A `str` is taken as its UTF-8. An output in notation, EDN or JSON ends with a line feed. Raises `CborDiagError` if
-    the input is not an item in its form or the item has no output in the other, and `TypeError` if it has no bytes.
+    A `str` is taken as its UTF-8; for the form `BYTES` it is a `TypeError`, and so is data that has no bytes. An output
+    in notation, EDN or JSON ends with a line feed. Raises `CborDiagError` if the input is not an item in its form or
+    the item has no output in the other.
     """
     return _convert(_form_number(source), _form_number(target), data, bytes)
 
 
-def _beginning(found: int, end: int, before: int = 0) -> int:
-    """The length that the library found, or its error, with `before` bytes before those that it was given."""
+def _beginning(found: int, end: int) -> int:
+    """The length that the library found, or its error."""
     if found >= 0:
         return found
     error = Error(-found)
+    raise CborDiagError(error, end, end if error is Error.CUT_SHORT else end - 1)
+
+
+def _no_item(found: int, begun: bytes, end: int, before: int) -> CborDiagError:
+    """The error of these bytes of a stream, with `before` bytes before them: what `convert` says of them."""
+    error = Error(-found)
+    given = begun[:end]
+    text = _words(_releasing.fault_message, given, end, _BYTES)
+    path = _words(_releasing.fault_path, given, end, _BYTES)
     last = end if error is Error.CUT_SHORT else end - 1
-    raise CborDiagError(error, before + end, before + last)
+    return CborDiagError(error, before + end, before + last, text, path)
 
 
 def _found(library: _Library, given: Any, length: int, end: ctypes.c_size_t) -> int:
     return library.extent(given, length, ctypes.byref(end))
 
 
-def extent(data: Data) -> int:
+def extent(data: Bytes) -> int:
     """Returns how many bytes the item at the front of `data` takes, which is at least 1; more may follow it.
 
     Raises `CborDiagError` if there is none. The error is `CUT_SHORT` if the bytes end before the item does; more bytes
@@ -595,7 +613,7 @@ def _told_breach(found: int, place: int, detail: int) -> Optional[Breach]:
     return Breach(kind, place, None if detail == _NO_PLACE else detail)
 
 
-def breach(data: Data, rules: Rules) -> Optional[Breach]:
+def breach(data: Bytes, rules: Rules) -> Optional[Breach]:
     """Returns where `data` first breaks the rules; `None` if it is items, none or more, one after the other, that keep
     them all.
 
@@ -638,9 +656,10 @@ def _reencoded(library: _Library, given: Any, length: int, rules: int) -> bytes:
             return output.raw[:wanted]
 
 
-def reencode(data: Data, rules: Rules) -> bytes:
+def reencode(data: Bytes, rules: Rules) -> bytes:
     """Encodes items, none or more, one after the other, again, so that they keep the rules. The result is of the same
-    items but for widths, kinds of length and the order of pairs; data that keeps the rules is returned as it is.
+    items but for widths, kinds of length, the order of pairs, and numbers of which the rules leave one form: big numbers
+    that fit an integer, and under `DCBOR` floats that are integers. Data that keeps the rules is returned as it is.
 
     >>> reencode(bytes.fromhex("a21802800180"), Rules.CORE).hex()
     'a201800280'
@@ -665,7 +684,7 @@ def _name(library: _Library, given: Any, length: int, path: bytes, kind: bytes) 
             return text.raw[:wanted].decode("ascii") or None
 
 
-def name_at(data: Data, path: str, type: Optional[str] = None) -> Optional[str]:
+def name_at(data: Bytes, path: str, type: Optional[str] = None) -> Optional[str]:
     """Returns what the part of an item is called that `path` leads to, by the names of COSE, CWT, EAT, SenML and CTAP2;
     `None` if it has no name.
 
@@ -711,7 +730,7 @@ class Scanner:
         """Feeds bytes, and returns what the library does."""
         return _holding.scanner_feed(self._room, given, length, self._end)
 
-    def feed(self, data: Data) -> Optional[int]:
+    def feed(self, data: Bytes) -> Optional[int]:
         """Feeds the bytes that come next, and returns how many bytes the item at the front of all of them takes; or
         `None` if they end before the item does, so that more are needed.
 
@@ -754,7 +773,8 @@ def items(stream: BinaryIO) -> Iterator[bytes]:
     come, as that of `Scanner.feed` does. It keeps the bytes of one item, and of one read.
 
     Raises `CborDiagError` after the last whole item if the stream goes on with bytes that are no item, or if it ends
-    inside of an item (`CUT_SHORT`). Its `end` and `offset` count from where the stream was.
+    inside of an item (`CUT_SHORT`). Its `end` and `offset` count from where the stream was; its `path` leads from that
+    item on, and so do the places in its text.
     """
     read = _reader(stream)
     scanner = Scanner()
@@ -770,7 +790,10 @@ def items(stream: BinaryIO) -> Iterator[bytes]:
                 begun.append(piece[at:])
                 held += len(piece) - at
                 break
-            end = at + _beginning(found, scanner._end.value, before) - held
+            if found < 0:
+                begun.append(piece[at:])
+                raise _no_item(found, b"".join(begun), scanner._end.value, before)
+            end = at + found - held
             begun.append(piece[at:end])
             yield b"".join(begun)
             begun.clear()
@@ -778,20 +801,20 @@ def items(stream: BinaryIO) -> Iterator[bytes]:
             held, at = 0, end
             scanner._renew()
     if held:
-        _beginning(-Error.CUT_SHORT, held, before)
+        raise _no_item(-Error.CUT_SHORT, b"".join(begun), held, before)
 
 
-def bytes_to_hex(data: Data) -> str:
+def bytes_to_hex(data: Bytes) -> str:
     """The dump of an item: its bytes in hex, a line for each head, with comments."""
     return _convert(_BYTES, _HEX, data, _dump)
 
 
-def bytes_to_diag(data: Data) -> str:
+def bytes_to_diag(data: Bytes) -> str:
     """An item in diagnostic notation, without a line feed but those in its texts."""
     return _convert(_BYTES, _DIAG, data, _text)
 
 
-def bytes_to_diag_pretty(data: Data) -> str:
+def bytes_to_diag_pretty(data: Bytes) -> str:
     """An item in diagnostic notation over several lines, without a line feed at the end."""
     return _convert(_BYTES, _PRETTY, data, _text)
 
@@ -821,12 +844,12 @@ def diag_to_hex(text: Data) -> str:
     return _convert(_DIAG, _HEX, text, _dump)
 
 
-def bytes_to_edn(data: Data) -> str:
+def bytes_to_edn(data: Bytes) -> str:
     """An item in EDN on one line, which is read back as the same bytes."""
     return _convert(_BYTES, _EDN, data, _text)
 
 
-def bytes_to_edn_pretty(data: Data) -> str:
+def bytes_to_edn_pretty(data: Bytes) -> str:
     """An item in EDN over several lines, with notes as comments, without a line feed at the end."""
     return _convert(_BYTES, _EDN_PRETTY, data, _text)
 
@@ -851,7 +874,7 @@ def edn_to_hex(text: Data) -> str:
     return _convert(_EDN, _HEX, text, _dump)
 
 
-def bytes_to_json(data: Data, strict: bool = False) -> str:
+def bytes_to_json(data: Bytes, strict: bool = False) -> str:
     """An item as JSON on one line, without a line feed at the end (RFC 8949, section 6.1). With `strict`, what JSON
     does not keep is an error.
 
