@@ -16,6 +16,11 @@ RUN_cbor_view = seq bytes
 CC = cc
 LD = ld
 OBJCOPY = objcopy
+# What packages are made with, and for: the machine in their names, and its names in Debian and for wheels.
+STRIP = strip
+OBJDUMP = objdump
+MACHINE = x86_64
+DEBIAN = amd64
 PYTHON = python3
 CARGO = cargo
 
@@ -44,7 +49,8 @@ sources = $(if $(AS_BUILT),,crates.txt \
 BELOW := $(filter-out %_tests cbor_diag_c $(PROGRAMS),$(shell sed -n 's/^\(cbor[a-z0-9_]*\).*:.*/\1/p' crates.txt))
 
 .PHONY: all program library install try quick test gate planted check check-pages check-commands check-docs check-cat \
-    check-allocations check-bindings check-packages tarball deb wheel vectors release compare bench clean
+    check-allocations check-bindings check-packages tarball deb wheel vectors arm64 arm64-packages check-arm64 release \
+    compare bench clean
 
 all: program library $(MANUALS) $(COMPLETIONS)
 
@@ -179,6 +185,7 @@ check-bindings: library
 
 # Packages, for whoever has no kit. Their files have the date of the last commit, so they are the same byte for byte.
 PACKAGES = $(DIST)/packages
+export STRIP OBJDUMP MACHINE DEBIAN
 export SOURCE_DATE_EPOCH ?= $(shell git log -1 --format=%ct 2> /dev/null || date +%s)
 
 tarball: all
@@ -189,7 +196,8 @@ deb: all
 
 wheel: library
 	mkdir -p $(PACKAGES)
-	cd bindings/python && $(PYTHON) -B -c 'import backend; print(backend.build_wheel("$(abspath $(PACKAGES))"))'
+	cd bindings/python && CBOR_DIAG_LIBRARY=$(abspath $(SHARED)) \
+	    $(PYTHON) -B -c 'import backend; print(backend.build_wheel("$(abspath $(PACKAGES))"))'
 
 # The vectors, for other implementations.
 vectors:
@@ -199,7 +207,23 @@ vectors:
 check-packages: tarball deb wheel
 	CC='$(CC)' CARGO='$(CARGO)' packages/check $(PACKAGES)
 
-release: check-packages vectors
+# The same for ARM64, built here by a cross compiler over the libraries that the gate proved.
+CROSS = aarch64-linux-gnu-
+ARM64 = $(MAKE) --no-print-directory AS_BUILT=1 DIST=$(DIST)/arm64 PACKAGES=$(abspath $(PACKAGES)) \
+    HEAP=$(DIST)/arm64/heap.a MACHINE=aarch64 DEBIAN=arm64 CC=$(CROSS)gcc LD=$(CROSS)ld AR=$(CROSS)ar \
+    OBJCOPY=$(CROSS)objcopy STRIP=$(CROSS)strip OBJDUMP=$(CROSS)objdump
+arm64:
+	machines/arm64 $(DIST)/arm64 $(PROGRAMS) cbor_diag_c
+	$(ARM64) all
+
+arm64-packages: arm64
+	$(ARM64) tarball deb wheel
+
+# What is in dist/arm64, under an emulator: the vectors, the checks of cborcat, the tests in C, the packages.
+check-arm64:
+	machines/check_arm64 $(DIST)/arm64 $(PACKAGES)
+
+release: check-packages vectors arm64-packages
 	packages/version
 	cd $(PACKAGES) && sha256sum *$(VERSION)* > SHA256SUMS && cat SHA256SUMS
 

@@ -1,7 +1,7 @@
 """Builds the wheel of the package cbor_diag: the hooks that pip calls (PEP 517), with no other package needed.
 
 The wheel holds the shared library: the one that the environment variable CBOR_DIAG_LIBRARY names, else that of this
-repository's dist/lib, which `make library` builds.
+repository's dist/lib, which `make library` builds. It is for the machine that the library was built for.
 """
 import base64
 import hashlib
@@ -14,8 +14,10 @@ HERE = pathlib.Path(__file__).resolve().parent
 TOP = HERE.parent.parent
 NAME = "semphluk"
 VERSION = TOP.joinpath("VERSION").read_text(encoding="utf-8").strip()
-TAG = "py3-none-manylinux_2_34_x86_64"
 LIBRARY = "libcbor_diag.so.0"
+# By the number of the machine in the head of an ELF file: the tag of its wheels, with the oldest GNU C library that has
+# all that the shared library calls.
+TAGS = {62: "py3-none-manylinux_2_34_x86_64", 183: "py3-none-manylinux_2_17_aarch64"}
 INFO = f"{NAME}-{VERSION}.dist-info"
 
 METADATA = f"""\
@@ -41,8 +43,7 @@ WHEEL = f"""\
 Wheel-Version: 1.0
 Generator: {NAME} ({VERSION})
 Root-Is-Purelib: false
-Tag: {TAG}
-"""
+Tag: """
 
 
 def shared_library():
@@ -52,6 +53,14 @@ def shared_library():
     if not path.exists():
         raise SystemExit(f"{path} is not there: run make library, or set CBOR_DIAG_LIBRARY to the path of {LIBRARY}")
     return path.read_bytes()
+
+
+def tag_of(library):
+    """The tag of the wheel with this library."""
+    machine = int.from_bytes(library[18:20], "little")
+    if library[:4] != b"\x7fELF" or machine not in TAGS:
+        raise SystemExit(f"{LIBRARY} is no library for x86-64 or ARM64 on Linux")
+    return TAGS[machine]
 
 
 def metadata():
@@ -71,7 +80,7 @@ def files():
     found[f"cbor_diag/{LIBRARY}"] = shared_library()
     found[f"{INFO}/LICENSE"] = TOP.joinpath("LICENSE").read_bytes()
     found[f"{INFO}/METADATA"] = metadata()
-    found[f"{INFO}/WHEEL"] = WHEEL.encode()
+    found[f"{INFO}/WHEEL"] = f"{WHEEL}{tag_of(found[f'cbor_diag/{LIBRARY}'])}\n".encode()
     return found
 
 
@@ -83,7 +92,7 @@ def build_wheel(wheel_directory, config_settings=None, metadata_directory=None):
     content = files()
     record = "".join(f"{name},sha256={hash_of(data)},{len(data)}\n" for name, data in content.items())
     content[f"{INFO}/RECORD"] = f"{record}{INFO}/RECORD,,\n".encode()
-    wheel = f"{NAME}-{VERSION}-{TAG}.whl"
+    wheel = f"{NAME}-{VERSION}-{tag_of(content[f'cbor_diag/{LIBRARY}'])}.whl"
     with zipfile.ZipFile(os.path.join(wheel_directory, wheel), "w") as archive:
         for name, data in content.items():
             entry = zipfile.ZipInfo(name, written_date())
