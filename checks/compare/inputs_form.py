@@ -35,7 +35,7 @@ def is_text(data):
 
 
 def as_hex(text):
-    """The bytes of hex as people paste it; None where it is none, or its bytes are no items."""
+    """The bytes of hex as people paste it, whatever they are; None where it is none."""
     digits, at, after_byte = "", 0, False
     while at < len(text):
         byte = BYTE.match(text, at)
@@ -48,7 +48,7 @@ def as_hex(text):
         else:
             return None
         after_byte = bool(byte)
-    return items(bytes.fromhex(digits))
+    return bytes.fromhex(digits)
 
 
 def as_diag(text):
@@ -59,8 +59,10 @@ def as_diag(text):
 
 
 def as_base64(text):
+    """The items of base 64; each digit may be of either alphabet."""
+    digits = re.sub(r"[ \t\r\n]", "", text).replace("-", "+").replace("_", "/")
     try:
-        return items(decoded(utf8(re.sub(r"[ \t\r\n]", "", text)), 64))
+        return items(decoded(utf8(digits), 64))
     except Refused:
         return None
 

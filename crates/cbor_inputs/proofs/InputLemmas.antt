@@ -3,20 +3,20 @@ use Rattle.std.proofs.Common.{◌≡◌, ◌⊎◌, ℕ, List, inl, inr, refl, s
 use Rattle.cbor_inputs.specs.declared.decode.Input.{Input}
 use Rattle.cbor_inputs.specs.declared.decode.Input.TheVariants as input
 use Rattle.cbor_inputs.specs.declared.decode.Refusal.{Refusal}
-use Rattle.cbor_inputs.specs.Inputs.{Reads, MayBe, IsWhy}
+use Rattle.cbor_inputs.specs.Inputs.{Has, MayBe, IsWhy}
 use Rattle.cbor_inputs.specs.Texts.{IsText}
 
 -- a text is nothing then
-pub text_is_none : (text : List ℕ) → IsText text → ¬ (Reads input.Hex text) → ¬ (Reads input.Diag text)
-    → ¬ (Reads input.Base64 text) → (form : Input) → ¬ (MayBe form text)
+pub text_is_none : (text : List ℕ) → IsText text → ¬ (Has input.Hex text) → ¬ (Has input.Diag text)
+    → ¬ (Has input.Base64 text) → (form : Input) → ¬ (MayBe form text)
 text_is_none text all hex diag base64 input.Hex = λ may. hex may.0
 text_is_none text all hex diag base64 input.Diag = λ may. diag may.0
 text_is_none text all hex diag base64 input.Base64 = λ may. base64 may.0
 text_is_none text all hex diag base64 input.Bytes = λ may. may.1 refl all
 
 -- other bytes are nothing if they are no items either
-pub none_is_read : (text : List ℕ) → ¬ (Reads input.Bytes text) → ¬ (Reads input.Hex text)
-    → ¬ (Reads input.Diag text) → ¬ (Reads input.Base64 text) → (form : Input) → ¬ (MayBe form text)
+pub none_is_read : (text : List ℕ) → ¬ (Has input.Bytes text) → ¬ (Has input.Hex text)
+    → ¬ (Has input.Diag text) → ¬ (Has input.Base64 text) → (form : Input) → ¬ (MayBe form text)
 none_is_read text bytes hex diag base64 input.Hex = λ may. hex may.0
 none_is_read text bytes hex diag base64 input.Diag = λ may. diag may.0
 none_is_read text bytes hex diag base64 input.Base64 = λ may. base64 may.0

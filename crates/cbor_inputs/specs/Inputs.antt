@@ -1,10 +1,8 @@
 -- Which bytes an input stands for in each form.
-use Rattle.std.specs.Prelude.{◌≡◌, ◌≢◌, ◌⊎◌, ℕ, ◌==◌, ◌||◌, ◌≤◌, Bool, not, List, [], filter, length, drop, IsUtf8}
-use Rattle.std.specs.Prelude.{Ok, Some, None}
+use Rattle.std.specs.Prelude.{◌≡◌, ◌≢◌, ◌⊎◌, ℕ, ◌≤◌, List, [], length, drop, IsUtf8, Ok, Some, None}
 use Rattle.hex.specs.Hex.{decode_of}
-use Rattle.cbor_tokens.specs.AreBytes.{AreBytes}
-use Rattle.cbor_tokens.specs.Base64.{standard, url_safe}
 use Rattle.cbor_edn_grammar.specs.Edn.{bytes_of_edn}
+use Rattle.cbor_inputs.specs.Base64.{digits_of, Encodes}
 use Rattle.cbor_inputs.specs.declared.decode.Input.{Input}
 use Rattle.cbor_inputs.specs.declared.decode.Input.TheVariants as input
 use Rattle.cbor_inputs.specs.declared.decode.Refusal.{Refusal}
@@ -16,43 +14,37 @@ use Rattle.cbor_paths.specs.Sequence.{IsSequence}
 use Rattle.cbor_paths.specs.Ends.{EndsSo}
 use Rattle.cbor_inputs.specs.Texts.{IsText, unmarked}
 
--- blanks and line ends
-abbrev pub is_blank : ℕ → Bool
-is_blank b = (b == 32) || ((b == 9) || ((b == 13) || (b == 10)))
-
--- a text without them
-abbrev pub unblanked : List ℕ → List ℕ
-unblanked text = filter (λ b. not (is_blank b)) text
-
 -- the bytes that an input of this form stands for; a byte order mark before a text is no part of it
 abbrev pub Stands : Input → List ℕ → List ℕ → Type 0
 Stands input.Bytes text bytes = bytes ≡ text
 Stands input.Hex text bytes = decode_of (loose Apart (unmarked text)) ≡ Ok bytes
 Stands input.Diag text bytes = IsUtf8 (unmarked text) × (bytes_of_edn (unmarked text) ≡ Some bytes)
-Stands input.Base64 text bytes =
-    AreBytes bytes
-    × ((unblanked (unmarked text) ≡ url_safe bytes) ⊎ (unblanked (unmarked text) ≡ standard bytes))
+Stands input.Base64 text bytes = Encodes (digits_of (unmarked text)) bytes
 
--- the form reads all of the input, as items one after the other
-abbrev pub Reads : Input → List ℕ → Type 0
-Reads form text = (bytes : List ℕ) × Stands form text bytes × IsSequence bytes
+-- What the form takes the input for: items, one after the other. But a text of pairs of hex digits is hex, whatever bytes
+-- they are: hex that was cut, or is wrong, is still hex.
+abbrev pub Takes : Input → List ℕ → List ℕ → Type 0
+Takes form text bytes = Stands form text bytes × (form ≢ input.Hex → IsSequence bytes)
+
+-- the form takes the input for something
+abbrev pub Has : Input → List ℕ → Type 0
+Has form text = (bytes : List ℕ) × Takes form text bytes
 
 -- the forms that come before this one do not
 abbrev pub NoneBefore : Input → List ℕ → Type 0
 NoneBefore input.Hex text = Unit {0}
-NoneBefore input.Diag text = ¬ (Reads input.Hex text)
-NoneBefore input.Base64 text = ¬ (Reads input.Hex text) × ¬ (Reads input.Diag text)
-NoneBefore input.Bytes text =
-    ¬ (Reads input.Hex text) × ¬ (Reads input.Diag text) × ¬ (Reads input.Base64 text)
+NoneBefore input.Diag text = ¬ (Has input.Hex text)
+NoneBefore input.Base64 text = ¬ (Has input.Hex text) × ¬ (Has input.Diag text)
+NoneBefore input.Bytes text = ¬ (Has input.Hex text) × ¬ (Has input.Diag text) × ¬ (Has input.Base64 text)
 
--- the form is what the input may be taken for: it reads all of it, and no text is taken for bytes
+-- the form is what the input may be taken for; no text is taken for bytes
 abbrev pub MayBe : Input → List ℕ → Type 0
-MayBe form text = Reads form text × (form ≡ input.Bytes → ¬ (IsText text))
+MayBe form text = Has form text × (form ≡ input.Bytes → ¬ (IsText text))
 
--- the forms of text that come after this one do not read the input
+-- the forms of text that come after this one do not take the input for anything
 abbrev pub NoneAfter : Input → List ℕ → Type 0
-NoneAfter input.Hex text = ¬ (Reads input.Diag text) × ¬ (Reads input.Base64 text)
-NoneAfter input.Diag text = ¬ (Reads input.Base64 text)
+NoneAfter input.Hex text = ¬ (Has input.Diag text) × ¬ (Has input.Base64 text)
+NoneAfter input.Diag text = ¬ (Has input.Base64 text)
 NoneAfter input.Base64 text = Unit {0}
 NoneAfter input.Bytes text = Unit {0}
 

@@ -3,18 +3,17 @@
 ghost use Rattle.std.specs.Prelude.{◌≡◌, ◌≢◌, ◌↔◌, ◌⊎◌, ℕ, List, [], IfOk, IfErr, IfSome, None};
 ghost use Rattle.std.specs.Prelude.{IsTrue};
 ghost use Rattle.cbor_inputs.specs.declared.decode.Refusal.TheVariants as refusal;
-ghost use Rattle.cbor_paths.specs.Sequence.{IsSequence};
-ghost use Rattle.cbor_inputs.specs.Inputs.{is_blank, unblanked, Stands, Reads, MayBe};
+ghost use Rattle.cbor_inputs.specs.Inputs.{Stands, Takes, Has, MayBe};
 ghost use Rattle.cbor_inputs.specs.Inputs.{NoneBefore, NoneAfter, ComesAfter, IsWhy};
 ghost use Rattle.cbor_inputs.specs.Texts.{IsText, unmarked};
 
+use crate::base64_text::bytes_of_base64;
 use crate::loose::{HexFault, bytes_of_hex};
 use crate::text::{is_text, mark_len, unmarked};
 use cbor_bytes::utf8_fault;
 use cbor_edn::edn_to_bytes;
 use cbor_edn_grammar::error::{EdnError, Expected};
 use cbor_paths::{End, Shown, skip_items};
-use cbor_tokens::base64_any_decode;
 use std::alloc::{AllocError, Global};
 
 /// A form of an input. A text may have a byte order mark before it, which is no part of it.
@@ -26,7 +25,8 @@ pub enum Input {
     Hex,
     /// Items in EDN, none or more.
     Diag,
-    /// The bytes in base 64, in either alphabet, with blanks and line ends between the digits.
+    /// The bytes in base 64, in either alphabet, with padding or without, with blanks and line ends
+    /// between the digits.
     Base64,
 }
 
@@ -50,7 +50,7 @@ pub enum Refusal {
 /// The form of an input.
 #[derive(Drop)]
 pub struct Recognized {
-    /// The first form that reads all of it.
+    /// The first form that takes all of it.
     pub form: Input,
     /// The bytes that it stands for.
     pub bytes: Vec<u8>,
@@ -76,24 +76,31 @@ impl Input {
                 Err(_) => Err(Refusal::Memory),
             },
             Input::Hex => match bytes_of_hex(alloc, text) {
-                Ok(bytes) => Ok(bytes),
-                Err(HexFault::Memory) => Err(Refusal::Memory),
-                Err(fault) => Err(Refusal::Hex(fault)),
+                Ok(Ok(bytes)) => Ok(bytes),
+                Ok(Err(fault)) => Err(Refusal::Hex(fault)),
+                Err(_) => Err(Refusal::Memory),
             },
             Input::Diag => bytes_of_diag(alloc, text),
-            Input::Base64 => bytes_of_base64(alloc, text),
+            Input::Base64 => match bytes_of_base64(alloc, text) {
+                Ok(Some(bytes)) => Ok(bytes),
+                Ok(None) => Err(Refusal::Base64),
+                Err(_) => Err(Refusal::Memory),
+            },
         }
     }
 
-    /// Returns what an input of this form stands for, if that is items one after the other.
-    fn read(self, alloc: Global, text: &[u8]) -> Result<Recognized, Refusal>
+    /// Returns what an input of this form is taken for: what it stands for, if that is items one
+    /// after the other, or if the form is hex.
+    fn take(self, alloc: Global, text: &[u8]) -> Result<Recognized, Refusal>
         ensures form { IfOk result (λ found. found.form ≡ self) }
-        ensures ok { IfOk result (λ found. Stands self text.now found.bytes.items) }
-        ensures items { IfOk result (λ found. IsSequence found.bytes.items) }
-        ensures refused { IfErr result (λ e. e ≢ refusal.Memory → ¬ (Reads self text.now)) }
+        ensures takes { IfOk result (λ found. Takes self text.now found.bytes.items) }
+        ensures refused { IfErr result (λ e. e ≢ refusal.Memory → ¬ (Has self text.now)) }
         ensures why { IfErr result (IsWhy self text.now) }
     {
         let bytes = self.decode(alloc, text)?;
+        if self == Input::Hex {
+            return Ok(Recognized { form: self, bytes });
+        }
         let shown = skip_items(&bytes, false);
         if shown.end == End::Done {
             Ok(Recognized { form: self, bytes })
@@ -102,11 +109,11 @@ impl Input {
         }
     }
 
-    /// Whether an input of this form stands for items one after the other.
-    fn reads(self, alloc: Global, text: &[u8]) -> Result<bool, AllocError>
-        ensures { IfOk result (λ yes. IsTrue yes ↔ Reads self text.now) }
+    /// Whether an input of this form is taken for something.
+    fn takes(self, alloc: Global, text: &[u8]) -> Result<bool, AllocError>
+        ensures { IfOk result (λ yes. IsTrue yes ↔ Has self text.now) }
     {
-        match self.read(alloc, text) {
+        match self.take(alloc, text) {
             Ok(_) => Ok(true),
             Err(Refusal::Memory) => Err(AllocError),
             Err(_) => Ok(false),
@@ -139,45 +146,11 @@ fn bytes_of_diag(alloc: Global, text: &[u8]) -> Result<Vec<u8>, Refusal>
     }
 }
 
-/// Whether a byte is a blank or ends a line.
-fn is_blank(byte: u8) -> bool
-    ensures { result ≡ is_blank byte }
-{
-    byte == b' ' || byte == b'\t' || byte == b'\r' || byte == b'\n'
-}
-
-/// The digits of a text in base 64: what is no blank and no line end.
-fn digits_of(alloc: Global, text: &[u8]) -> Result<Vec<u8>, AllocError>
-    ensures { IfOk result (λ digits. digits.items ≡ unblanked text.now) }
-{
-    text.iter()
-        .copied()
-        .filter(|byte| !is_blank(*byte))
-        .collect(alloc)
-}
-
-/// The bytes of a text in base 64.
-fn bytes_of_base64(alloc: Global, text: &[u8]) -> Result<Vec<u8>, Refusal>
-    ensures ok { IfOk result (λ bytes. Stands Input.Base64 text.now bytes.items) }
-    ensures one { IfOk result (λ bytes. (others : List ℕ) → Stands Input.Base64 text.now others
-        → others ≡ bytes.items) }
-    ensures refused { IfErr result (λ e. e ≢ refusal.Memory
-        → (bytes : List ℕ) → ¬ (Stands Input.Base64 text.now bytes)) }
-    ensures why { IfErr result (IsWhy Input.Base64 text.now) }
-{
-    let Ok(digits) = digits_of(alloc, unmarked(text)) else {
-        return Err(Refusal::Memory);
-    };
-    match base64_any_decode(alloc, &digits) {
-        Ok(Some(bytes)) => Ok(bytes),
-        Ok(None) => Err(Refusal::Base64),
-        Err(_) => Err(Refusal::Memory),
-    }
-}
-
-/// Finds the form of an input: the first of hex, EDN and base 64 that reads all of it, as items one
-/// after the other. An input that no form of text reads is bytes, if it is not all text: nearly
-/// every text would be bytes of some items, which nobody meant.
+/// Finds the form of an input. A text of pairs of hex digits is hex, whatever bytes they are: hex
+/// that was cut, or is wrong, is still hex. Any other input has the first form of EDN and base 64
+/// that reads all of it, as items one after the other. An input that no form of text reads is
+/// bytes, if it is not all text: nearly every text would be bytes of some items, which nobody
+/// meant.
 ///
 /// If no form does, the error is that of the form that reads furthest, of the forms of text if the
 /// input is text. Returns `Memory` if an allocation fails.
@@ -190,11 +163,10 @@ fn bytes_of_base64(alloc: Global, text: &[u8]) -> Result<Vec<u8>, Refusal>
 /// assert_eq!(rt; found.bytes.as_slice(), b"\x82\x01\x02".as_slice());
 /// ```
 pub fn recognize(alloc: Global, text: &[u8]) -> Result<Recognized, Refusal>
-    // The bytes that the form stands for are items, one after the other.
-    ensures reads { IfOk result (λ found. Stands found.form text.now found.bytes.items
-        × IsSequence found.bytes.items) }
+    // The bytes that the form stands for; unless it is hex, they are items, one after the other.
+    ensures takes { IfOk result (λ found. Takes found.form text.now found.bytes.items) }
 
-    // No form before it reads the input.
+    // No form before it takes the input. So a text that is hex is nothing else.
     ensures first { IfOk result (λ found. NoneBefore found.form text.now) }
 
     // No text is taken for bytes.
@@ -207,17 +179,17 @@ pub fn recognize(alloc: Global, text: &[u8]) -> Result<Recognized, Refusal>
     // It says why the input does not have one of the forms.
     ensures why { IfErr result (λ e. (form : Input) × IsWhy form text.now e) }
 {
-    let hex = match Input::Hex.read(alloc, text) {
+    let hex = match Input::Hex.take(alloc, text) {
         Ok(found) => return Ok(found),
         Err(Refusal::Memory) => return Err(Refusal::Memory),
         Err(refusal) => refusal,
     };
-    let diag = match Input::Diag.read(alloc, text) {
+    let diag = match Input::Diag.take(alloc, text) {
         Ok(found) => return Ok(found),
         Err(Refusal::Memory) => return Err(Refusal::Memory),
         Err(refusal) => refusal,
     };
-    let base64 = match Input::Base64.read(alloc, text) {
+    let base64 = match Input::Base64.take(alloc, text) {
         Ok(found) => return Ok(found),
         Err(Refusal::Memory) => return Err(Refusal::Memory),
         Err(refusal) => refusal,
@@ -226,7 +198,7 @@ pub fn recognize(alloc: Global, text: &[u8]) -> Result<Recognized, Refusal>
     if is_text(text) {
         return Err(furthest);
     }
-    match Input::Bytes.read(alloc, text) {
+    match Input::Bytes.take(alloc, text) {
         Ok(found) => Ok(found),
         Err(Refusal::Memory) => Err(Refusal::Memory),
         Err(bytes) => Err(furthest.or(bytes, text)),
@@ -234,12 +206,12 @@ pub fn recognize(alloc: Global, text: &[u8]) -> Result<Recognized, Refusal>
 }
 
 impl Recognized {
-    /// The next form of text that reads the input, too. That the input is bytes, too, is not told:
+    /// The next form of text that takes the input, too. That the input is bytes, too, is not told:
     /// most texts are bytes of some items.
     pub fn also(&self, alloc: Global, text: &[u8]) -> Result<Option<Input>, AllocError>
-        // What it names comes later, and reads the input.
-        ensures reads { IfOk result (λ found. IfSome found (λ other.
-            ComesAfter self.now.form other × Reads other text.now)) }
+        // What it names comes later, and takes the input.
+        ensures takes { IfOk result (λ found. IfSome found (λ other.
+            ComesAfter self.now.form other × Has other text.now)) }
 
         // None only if no later form does.
         ensures none { IfOk result (λ found. found ≡ None → NoneAfter self.now.form text.now) }
@@ -249,9 +221,9 @@ impl Recognized {
             Input::Diag => (false, true),
             Input::Base64 | Input::Bytes => (false, false),
         };
-        if diag && Input::Diag.reads(alloc, text)? {
+        if diag && Input::Diag.takes(alloc, text)? {
             Ok(Some(Input::Diag))
-        } else if base64 && Input::Base64.reads(alloc, text)? {
+        } else if base64 && Input::Base64.takes(alloc, text)? {
             Ok(Some(Input::Base64))
         } else {
             Ok(None)
@@ -260,14 +232,13 @@ impl Recognized {
 }
 
 impl Refusal {
-    /// How far a form reads this text that it refuses so. Words with blanks between them are digits
-    /// of base 64 by chance.
+    /// How far a form reads this text that it refuses so. Words are digits of base 64 by chance.
     fn reach(self, text: &[u8]) -> usize {
         match self {
             Refusal::Hex(HexFault::Digit(at)) => at,
             Refusal::Hex(HexFault::Odd(at)) => at.saturating_add(1),
             Refusal::Diag { at, .. } | Refusal::Utf8 { at } => at,
-            Refusal::Hex(HexFault::Memory) | Refusal::Base64 | Refusal::Memory => 0,
+            Refusal::Base64 | Refusal::Memory => 0,
             Refusal::Items {
                 form: Input::Bytes,
                 shown,
@@ -278,7 +249,7 @@ impl Refusal {
             Refusal::Items {
                 form: Input::Base64,
                 ..
-            } if text.trim_ascii().contains(&b' ') => 0,
+            } if are_words(text) => 0,
             Refusal::Items { .. } => text.len(),
         }
     }
@@ -293,4 +264,14 @@ impl Refusal {
             self
         }
     }
+}
+
+/// Whether a text is words: it has blanks, or is letters alone with no capital after a small one.
+fn are_words(text: &[u8]) -> bool {
+    let text = unmarked(text).trim_ascii();
+    let small = text.iter().position(|byte| byte.is_ascii_lowercase());
+    let tail = text.get(small.unwrap_or(text.len())..).unwrap_or(b"");
+    let is_word = text.iter().all(|byte| byte.is_ascii_alphabetic())
+        && !tail.iter().any(|byte| byte.is_ascii_uppercase());
+    is_word || text.contains(&b' ')
 }

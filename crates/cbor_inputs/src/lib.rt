@@ -14,6 +14,7 @@
 //! ```
 #![tactic(auto)]
 
+mod base64_text;
 mod decode;
 mod loose;
 mod pasted;

@@ -32,8 +32,6 @@ pub enum HexFault {
     Digit(usize),
     /// The digit at this place of the text has no other beside it.
     Odd(usize),
-    /// Memory ran out.
-    Memory,
 }
 
 impl Mode {
@@ -126,21 +124,22 @@ pub fn place_of_digit(text: &[u8], count: usize) -> usize
     at
 }
 
-/// The bytes of a text in hex, which may have a byte order mark before it.
-pub fn bytes_of_hex(alloc: Global, text: &[u8]) -> Result<Vec<u8>, HexFault>
-    ensures ok { IfOk result (λ bytes. decode_of (loose Mode.Apart (unmarked text.now))
-        ≡ Ok bytes.items) }
-    ensures refused { IfErr result (λ e. e ≢ HexFault.Memory
-        → (b : List ℕ) → decode_of (loose Mode.Apart (unmarked text.now)) ≢ Ok b) }
+/// The bytes of a text in hex, which may have a byte order mark before it, or why it is none.
+pub(crate) fn bytes_of_hex(
+    alloc: Global,
+    text: &[u8],
+) -> Result<Result<Vec<u8>, HexFault>, AllocError>
+    ensures ok { IfOk result (λ found. IfOk found (λ bytes.
+        decode_of (loose Mode.Apart (unmarked text.now)) ≡ Ok bytes.items)) }
+    ensures refused { IfOk result (λ found. IfErr found (λ _. (b : List ℕ)
+        → decode_of (loose Mode.Apart (unmarked text.now)) ≢ Ok b)) }
 {
-    let Ok(digits) = kept(alloc, unmarked(text)) else {
-        return Err(HexFault::Memory);
-    };
+    let digits = kept(alloc, unmarked(text))?;
     let wrong = first_wrong(&digits);
     match hex::decode(alloc, digits) {
-        Ok(bytes) => Ok(bytes),
-        Err(FromHexError::OutOfMemory) => Err(HexFault::Memory),
-        Err(_) => Err(fault_of(text, wrong)),
+        Ok(bytes) => Ok(Ok(bytes)),
+        Err(FromHexError::OutOfMemory) => Err(AllocError),
+        Err(_) => Ok(Err(fault_of(text, wrong))),
     }
 }
 
@@ -156,9 +155,7 @@ fn first_wrong(digits: &[u8]) -> usize {
 /// Why a text is not hex of which this many characters, and no more, are digits of the first that
 /// are kept. A digit has no other beside it if the text ends there, or what may be between bytes
 /// follows it.
-fn fault_of(text: &[u8], count: usize) -> HexFault
-    ensures { result ≢ HexFault.Memory }
-{
+fn fault_of(text: &[u8], count: usize) -> HexFault {
     let at = place_of_digit(text, count);
     let ends = match text.get(at) {
         Some(byte) => is_gap(*byte) || matches!(*byte, b'#' | b':' | b'\\'),

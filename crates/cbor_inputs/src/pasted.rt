@@ -7,6 +7,10 @@ use crate::text::unmarked;
 pub enum Pasted {
     /// A URL with its data: `data:application/cbor;base64,ogH5`.
     DataUrl,
+    /// Base 64 between lines of dashes: `-----BEGIN CBOR-----`.
+    Pem,
+    /// A text in UTF-16: it begins with a byte order mark, or every other byte is zero.
+    Utf16,
     /// Hex with dashes or brackets: `82-01`, `82(01-02)`.
     Dashes,
     /// An array of numbers in C: `{0x82, 0x01}`.
@@ -19,7 +23,7 @@ pub enum Pasted {
     Xxd,
 }
 
-/// What a text that no form reads looks like, if that is known.
+/// What an input that no form reads looks like, if that is known.
 ///
 /// ```rust
 /// use cbor_inputs::{Pasted, looks_like};
@@ -27,9 +31,15 @@ pub enum Pasted {
 /// assert_eq!(rt; looks_like(b"82-01"), Some(Pasted::Dashes));
 /// ```
 pub fn looks_like(text: &[u8]) -> Option<Pasted> {
+    if is_utf16(text) {
+        return Some(Pasted::Utf16);
+    }
     let text = unmarked(text).trim_ascii();
     if text.starts_with(b"data:") {
         return Some(Pasted::DataUrl);
+    }
+    if text.starts_with(b"-----BEGIN ") {
+        return Some(Pasted::Pem);
     }
     if text.starts_with(b"b\"") || text.starts_with(b"b'") {
         return Some(Pasted::Literal);
@@ -38,6 +48,37 @@ pub fn looks_like(text: &[u8]) -> Option<Pasted> {
         Some(inside) if inside.trim_ascii_start().starts_with(b"0x") => Some(Pasted::Braces),
         _ => dump_or_dashes(text),
     }
+}
+
+/// How many bytes a text in UTF-16 without a byte order mark is told by: four characters of ASCII.
+const UTF16: usize = 8;
+
+/// Whether bytes are a text in UTF-16.
+fn is_utf16(text: &[u8]) -> bool {
+    if text.starts_with(b"\xff\xfe") || text.starts_with(b"\xfe\xff") {
+        return true;
+    }
+    let Some(front) = text.get(..UTF16) else {
+        return false;
+    };
+    is_wide(front, true) || is_wide(front, false)
+}
+
+/// Whether the bytes at even places are characters of ASCII, or else those at odd places, and the
+/// others zero.
+fn is_wide(front: &[u8], even: bool) -> bool {
+    for (at, byte) in front.iter().enumerate() {
+        let is_ascii = byte.is_ascii_graphic() || byte.is_ascii_whitespace();
+        let is_right = if (at % 2 == 0) == even {
+            is_ascii
+        } else {
+            *byte == 0
+        };
+        if !is_right {
+            return false;
+        }
+    }
+    true
 }
 
 /// Whether a byte is in hex with dashes and brackets.

@@ -1,6 +1,6 @@
 use Rattle.std.proofs.Common.{◌≡◌, [], refl, rules}
 use Rattle.cbor_paths.specs.declared.end.End.TheVariants as end
-use Rattle.cbor_inputs.proofs.decode.Input.read.Goals as goal
+use Rattle.cbor_inputs.proofs.decode.Input.take.Goals as goal
 
 pub returns-else-eq-clause-why : goal.returns-else-eq-clause-why
 returns-else-eq-clause-why c =
