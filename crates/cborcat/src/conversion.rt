@@ -12,12 +12,14 @@ use crate::run::Runner;
 use crate::screen::{Screen, language_of};
 use crate::shown::show_of;
 use crate::status::{Next, Status};
+use cbor_bytes::{Extent, extent};
 use cbor_grammar::Error;
 use cbor_inspect::{End, Form, Stream, two_byte_simple};
 use cbor_messages::{TWO_BYTES, first_breach};
 use cbor_places::{Leaves, Piece, lines_at, partial_dump, partial_edn};
 use cbor_screen::Language;
 use cborcat_arguments::{Job, View};
+use std::alloc::AllocError;
 use std::io;
 use std::io::Read;
 
@@ -38,6 +40,10 @@ pub struct Conversion<'a> {
     came: usize,
     /// How many of the bytes that come next are skipped.
     skip: usize,
+    /// Where in the data the items end that are known not to be longer than is allowed.
+    within: usize,
+    /// Whether the item is longer than is allowed that follows the bytes that are left.
+    pub long: bool,
     /// Whether an item was converted.
     pub any: bool,
     /// Whether a simple value in two bytes was named.
@@ -83,6 +89,8 @@ impl<'a> Conversion<'a> {
             stream: Stream::new(first),
             came,
             skip: job.offset - skipped,
+            within: 0,
+            long: false,
             any: false,
             noted: false,
             broken: false,
@@ -139,6 +147,9 @@ impl<'a> Conversion<'a> {
     /// Converts the items that are whole, and says what follows them if that is the end of the
     /// input, or no item.
     fn items(&mut self, at_end: bool) -> Next {
+        if self.leave_long().is_err() {
+            return self.stop(End::Memory);
+        }
         for _ in 0..u64::MAX {
             let end = self.some_items();
             match self.write() {
@@ -153,7 +164,8 @@ impl<'a> Conversion<'a> {
             match end {
                 _ if self.found => return Next::NextInput,
                 End::Full => {}
-                End::Done | End::Cut if !at_end => return self.wait(),
+                End::Done if self.long => return self.stop_long(),
+                End::Done | End::Cut if !at_end => return Next::More,
                 End::Done => return self.done(),
                 End::Lost { len } => self.pass_lost(len),
                 End::Cut
@@ -425,13 +437,37 @@ impl<'a> Conversion<'a> {
         self.any = true;
     }
 
-    /// Waits for more bytes, unless the item that is cut is longer than is allowed.
-    fn wait(&mut self) -> Next {
-        let limit = self.job.limit;
-        if self.stream.rest().len() <= limit {
-            return Next::More;
+    /// Leaves out the first item that is longer than is allowed, and what follows it. It looks at
+    /// no item if fewer bytes are left than are allowed.
+    fn leave_long(&mut self) -> Result<(), AllocError> {
+        let (limit, begins) = (self.job.limit, self.begins());
+        let mut at = self.within.saturating_sub(begins);
+        for _ in 0..u64::MAX {
+            let left = self.stream.rest().get(at..).unwrap_or(b"");
+            if left.len() <= limit {
+                break;
+            }
+            match extent(&left[..limit]) {
+                Extent::Item(len) => at = at.saturating_add(len),
+                Extent::Cut => {
+                    self.long = true;
+                    break;
+                }
+                Extent::Fault { .. } => break,
+            }
         }
-        report_long(self.rt, self.place, self.begins(), limit);
+        self.within = begins.saturating_add(at);
+        if self.long {
+            let before = self.stream.rest().get(..at).unwrap_or(b"");
+            self.stream = Stream::new(Vec::from_slice(self.rt.alloc(), before)?);
+            self.came = self.within;
+        }
+        Ok(())
+    }
+
+    /// Says that the next item is longer than is allowed.
+    fn stop_long(&mut self) -> Next {
+        report_long(self.rt, self.place, self.begins(), self.job.limit);
         self.ended(Status::Bad);
         Next::NextInput
     }

@@ -243,12 +243,10 @@ pub fn report_lost(rt: &HostRuntime, job: &Job, place: &Place, bytes: &[u8]) -> 
     }
 }
 
-/// Says that an item that is not whole is longer than is allowed.
+/// Says that an item is longer than is allowed.
 pub fn report_long(rt: &HostRuntime, place: &Place, begins: usize, limit: usize) {
-    let _ = eprintln!(rt;
-        "cborcat: {}: byte {begins}: the item is longer than {limit} bytes (--limit)",
-        label(place.name)
-    );
+    let what = format_args!("the item is longer than {limit} bytes (--limit)");
+    place.say_at_byte(rt, begins, what);
 }
 
 /// Says why a text does not have its form, and what it may be.

@@ -133,7 +133,7 @@ fn files_of<'a>(alloc: Global, matches: &ArgMatches<'a>) -> Result<Vec<&'a str>,
     Ok(files)
 }
 
-/// How long an item may be that is not whole, unless the arguments say so.
+/// How long an item may be, unless the arguments say so.
 const LIMIT: usize = 256 * 1024 * 1024;
 
 /// What the arguments ask for.
