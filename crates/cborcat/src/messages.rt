@@ -258,7 +258,7 @@ pub fn report_refusal(
 ) -> Status {
     let (name, text) = input;
     let status = match refusal {
-        Refusal::Memory | Refusal::Hex(HexFault::Memory) => say_out_of_memory(rt, name),
+        Refusal::Memory => say_out_of_memory(rt, name),
         Refusal::Hex(HexFault::Digit(at)) => {
             report_character(rt, color, input, (at, "not a hex digit"))
         }
@@ -286,7 +286,7 @@ pub fn report_refusal(
         }
     };
     if status == Status::Bad {
-        say_pasted(rt, text);
+        say_pasted(rt, looks_like(text));
     }
     status
 }
@@ -304,13 +304,17 @@ fn report_character<T: Display + Drop>(
     Status::Bad
 }
 
-/// Says what to do with a text that is no form, if that is known.
-fn say_pasted(rt: &HostRuntime, text: &[u8]) {
-    let Some(what) = looks_like(text) else {
+/// Says what to do with an input that is no form, if that is known.
+pub fn say_pasted(rt: &HostRuntime, pasted: Option<Pasted>) {
+    let Some(what) = pasted else {
         return;
     };
     let hint = match what {
         Pasted::DataUrl => "a data URL? Give the base 64 after its comma alone",
+        Pasted::Pem => {
+            "PEM? Give the base 64 between its lines of dashes: grep -v -e ----- FILE | cborcat"
+        }
+        Pasted::Utf16 => "UTF-16? Make it UTF-8 first: iconv -f UTF-16 -t UTF-8 FILE | cborcat",
         Pasted::Dashes => "hex? Write blanks in place of - ( )",
         Pasted::Braces => "an array of C? Leave out the braces",
         Pasted::Literal => "bytes of a program? Give their hex; in Python that is b'..'.hex()",

@@ -2,56 +2,110 @@
 
 use crate::messages::{label, report_refusal, say_out_of_memory, word_of};
 use crate::status::Status;
-use cbor_inputs::{Input, Recognized, Refusal, is_text, recognize};
+use cbor_inputs::{HexFault, Input, Recognized, Refusal, is_text, recognize};
 use cbor_inspect::{End, skip_items};
-use cbor_trace::place_of_fault;
-use cborcat_arguments::{Color, Job};
-use std::alloc::{AllocError, Global};
+use cborcat_arguments::Job;
+use std::alloc::AllocError;
+
+/// What a text stands for.
+#[derive(Drop)]
+pub struct Data {
+    /// The form that it was read in.
+    pub form: Input,
+    /// The bytes that it stands for.
+    pub bytes: Vec<u8>,
+    /// Whether it was taken for hex, and its bytes are no items: it may have been meant as notation.
+    pub may_be_notation: bool,
+}
+
+impl Data {
+    /// The data of a form that is known.
+    fn of(form: Input, bytes: Vec<u8>) -> Data {
+        Data {
+            form,
+            bytes,
+            may_be_notation: false,
+        }
+    }
+}
+
+/// The form of an input that the arguments name, or else the name of its file.
+pub fn form_of(job: &Job, name: &str) -> Option<Input> {
+    if job.from.is_some() {
+        return job.from;
+    }
+    if name.ends_with(".hex") {
+        Some(Input::Hex)
+    } else if name.ends_with(".edn") || name.ends_with(".diag") || name.ends_with(".json") {
+        Some(Input::Diag)
+    } else {
+        None
+    }
+}
 
 /// The data of an input that was read to its end, and the form that it was read in: the form that
 /// is named, or the one that is recognized. A message says why there is none.
-pub fn data_of(
-    rt: &HostRuntime,
-    job: &Job,
-    input: (&str, &[u8]),
-) -> Result<(Input, Vec<u8>), Status> {
-    let Some(form) = job.from else {
-        return recognized(rt, job.color, input);
-    };
+pub fn data_of(rt: &HostRuntime, job: &Job, input: (&str, &[u8])) -> Result<Data, Status> {
+    match form_of(job, input.0) {
+        Some(form) => data_in(rt, job, input, form),
+        None => recognized(rt, job, input),
+    }
+}
+
+/// The data of an input in this form.
+fn data_in(rt: &HostRuntime, job: &Job, input: (&str, &[u8]), form: Input) -> Result<Data, Status> {
     match form.decode(rt.alloc(), input.1) {
-        Ok(bytes) => Ok((form, bytes)),
+        Ok(bytes) => Ok(Data::of(form, bytes)),
         Err(refusal) => Err(report_refusal(rt, job.color, input, refusal)),
     }
 }
 
-/// The data of an input in the form that it has.
-fn recognized(
-    rt: &HostRuntime,
-    color: Color,
-    input: (&str, &[u8]),
-) -> Result<(Input, Vec<u8>), Status> {
+/// The data of an input in the form that it has. If none takes it, the form that reads furthest is
+/// taken, where that has bytes.
+fn recognized(rt: &HostRuntime, job: &Job, input: (&str, &[u8])) -> Result<Data, Status> {
     let (name, text) = input;
-    let alloc = rt.alloc();
-    let refusal = match recognize(alloc, text) {
-        Ok(found) => {
-            return match say_taken(rt, name, text, &found) {
-                Ok(()) => Ok((found.form, found.bytes)),
-                Err(_) => Err(say_out_of_memory(rt, name)),
-            };
-        }
+    let refusal = match recognize(rt.alloc(), text) {
+        Ok(found) => return taken(rt, job, input, found),
         Err(refusal) => refusal,
     };
     if refusal != Refusal::Memory && is_named_bytes(name) {
-        return match Vec::from_slice(alloc, text) {
-            Ok(bytes) => Ok((Input::Bytes, bytes)),
-            Err(_) => Err(say_out_of_memory(rt, name)),
-        };
+        return data_in(rt, job, input, Input::Bytes);
     }
-    let status = report_refusal(rt, color, input, refusal);
-    if status == Status::Bad && is_text(text) {
-        say_count(rt, text);
+    if let Refusal::Items { form, .. } = refusal {
+        return data_in(rt, job, input, form);
+    }
+    let status = report_refusal(rt, job.color, input, refusal);
+    if status == Status::Bad && is_text(text) && !are_digits(refusal, text) {
+        say_count(rt, text, Input::Bytes);
     }
     Err(status)
+}
+
+/// The data of an input in the form that was recognized. Hex that is no items is bytes in a file
+/// that is named so.
+fn taken(
+    rt: &HostRuntime,
+    job: &Job,
+    input: (&str, &[u8]),
+    found: Recognized,
+) -> Result<Data, Status> {
+    let (name, text) = input;
+    let is_whole = found.form != Input::Hex || skip_items(&found.bytes, false).end == End::Done;
+    if !is_whole && is_named_bytes(name) {
+        let _ = eprintln!(rt;
+            "cborcat: {}: read as bytes by its name; as hex it has a fault: -f hex",
+            label(name)
+        );
+        return data_in(rt, job, input, Input::Bytes);
+    }
+    if is_whole && say_taken(rt, name, text, &found).is_err() {
+        return Err(say_out_of_memory(rt, name));
+    }
+    Ok(Data {
+        form: found.form,
+        bytes: found.bytes,
+        may_be_notation: !is_whole,
+    })
 }
 
 /// Whether the name of a file says that it has bytes.
@@ -59,7 +113,7 @@ fn is_named_bytes(name: &str) -> bool {
     name.ends_with(".cbor") || name.ends_with(".cose") || name.ends_with(".cwt")
 }
 
-/// Says which form was taken, if another one reads the input, too, or would if more had come.
+/// Says which form was taken, if another one reads the input, too.
 fn say_taken(
     rt: &HostRuntime,
     name: &str,
@@ -69,8 +123,7 @@ fn say_taken(
     if found.bytes.is_empty() {
         return Ok(());
     }
-    let alloc = rt.alloc();
-    if let Some(other) = found.also(alloc, text)? {
+    if let Some(other) = found.also(rt.alloc(), text)? {
         let _ = eprintln!(rt;
             "cborcat: {}: read as {}; -f {} reads it, too",
             label(name),
@@ -78,42 +131,36 @@ fn say_taken(
             word_of(other)
         );
     }
-    if found.form == Input::Diag {
-        say_wrong_hex(rt, name, text)?;
-    }
     Ok(())
 }
 
-/// Says what is wrong with the bytes that notation is in hex, if it is hex.
-fn say_wrong_hex(rt: &HostRuntime, name: &str, text: &[u8]) -> Result<(), AllocError> {
-    let bytes = match Input::Hex.decode(rt.alloc(), text) {
-        Ok(bytes) => bytes,
-        Err(Refusal::Memory) => return Err(AllocError),
-        Err(_) => return Ok(()),
-    };
-    let shown = skip_items(&bytes, false);
-    let (what, at) = match shown.end {
-        End::Cut => ("cut short", bytes.len()),
-        End::Fault { error, end } => {
-            let rest = bytes.get(shown.used..).unwrap_or(b"");
-            let at = place_of_fault(rest, error, end);
-            ("wrong", shown.used.saturating_add(at))
+/// Whether a text that has no form is digits of hex with what people put between them: nobody means
+/// it as bytes.
+fn are_digits(refusal: Refusal, text: &[u8]) -> bool {
+    matches!(refusal, Refusal::Hex(HexFault::Odd(_)))
+        || text.iter().all(|byte| {
+            byte.is_ascii_hexdigit() || byte.is_ascii_whitespace() || matches!(*byte, b',' | b':')
+        })
+}
+
+/// Says how many items a text is as notation, if it is notation.
+pub fn say_notation(rt: &HostRuntime, name: &str, text: &[u8]) -> Status {
+    match Input::Diag.decode(rt.alloc(), text) {
+        Ok(items) => {
+            say_count(rt, &items, Input::Diag);
+            Status::Bad
         }
-        _ => return Ok(()),
-    };
-    let _ = eprintln!(rt;
-        "cborcat: {}: read as notation; as hex it is {what} at byte {at}",
-        label(name)
-    );
-    Ok(())
+        Err(Refusal::Memory) => say_out_of_memory(rt, name),
+        Err(_) => Status::Bad,
+    }
 }
 
-/// Says how many items a text is as bytes, if it is items.
-fn say_count(rt: &HostRuntime, text: &[u8]) {
+/// Says how many items an input is in another form, which has these bytes, if they are items.
+fn say_count(rt: &HostRuntime, bytes: &[u8], form: Input) {
     let mut count = 0u64;
     let mut used = 0usize;
     for _ in 0..u64::MAX {
-        let shown = skip_items(text.get(used..).unwrap_or(b""), true);
+        let shown = skip_items(bytes.get(used..).unwrap_or(b""), true);
         match shown.end {
             End::Full => count = count.saturating_add(1),
             End::Done => break,
@@ -122,5 +169,10 @@ fn say_count(rt: &HostRuntime, text: &[u8]) {
         used = used.saturating_add(shown.used);
     }
     let items = if count == 1 { "item" } else { "items" };
-    let _ = eprintln!(rt; "  as bytes it is {count} {items}: -f bytes");
+    let noun = if form == Input::Diag {
+        "notation"
+    } else {
+        "bytes"
+    };
+    let _ = eprintln!(rt; "  as {noun} it is {count} {items}: -f {}", word_of(form));
 }

@@ -2,12 +2,12 @@
 
 use crate::conversion::Conversion;
 use crate::input::{block_len, read_first};
-use crate::messages::{Place, say, say_no_text};
+use crate::messages::{Place, say, say_no_text, say_pasted};
 use crate::naming::{Tables, shown_of, tables_of};
 use crate::output::{Target, close, open};
-use crate::recognized::data_of;
+use crate::recognized::{data_of, form_of, say_notation};
 use crate::status::{Next, Status};
-use cbor_inputs::Input;
+use cbor_inputs::{Input, looks_like};
 use cbor_inspect::Form;
 use cborcat_arguments::{Job, View};
 use std::fs::File;
@@ -113,7 +113,8 @@ impl Runner<'_> {
     fn input<R: Read>(&mut self, name: &str, input: &mut R) -> Next {
         let mut bytes = Vec::new(self.rt.alloc());
         let most = block_len(self.rt, name);
-        let at = match read_first(input, &mut bytes, self.job.from, most) {
+        let from = form_of(self.job, name);
+        let at = match read_first(input, &mut bytes, from, most) {
             Ok(Some(at)) => at,
             Ok(None) => return self.text(name, &bytes),
             Err(error) => return self.cannot_read(name, &error),
@@ -126,42 +127,66 @@ impl Runner<'_> {
             text,
             color,
         };
-        let (next, begins) = self.items(&place, bytes, input);
-        if !begins && at > 0 {
-            say_no_text(self.rt, at);
+        let pasted = looks_like(&bytes);
+        let (next, end) = self.items(&place, bytes, input);
+        if end == Ended::BadAtOnce {
+            if at > 0 {
+                say_no_text(self.rt, at);
+            }
+            say_pasted(self.rt, pasted);
         }
         next
     }
 
-    /// Converts the items of these bytes, and of those that the input still has. Also returns
-    /// whether the input begins with an item, or has none.
-    fn items<R: Read>(&mut self, place: &Place, first: Vec<u8>, input: &mut R) -> (Next, bool) {
+    /// Converts the items of these bytes, and of those that the input still has. Also returns how
+    /// that ended.
+    fn items<R: Read>(&mut self, place: &Place, first: Vec<u8>, input: &mut R) -> (Next, Ended) {
         let mut conversion = Conversion::new(self, place, first);
         let next = conversion.all(input);
-        let (status, any) = (conversion.status, conversion.any);
+        let (status, any) = (conversion.status, conversion.any || conversion.long);
         drop(conversion);
         self.ended(status);
-        (next, any || status != Status::Bad)
+        let end = match status {
+            Status::Bad if any => Ended::Bad,
+            Status::Bad => Ended::BadAtOnce,
+            Status::Fine | Status::Trouble => Ended::Other,
+        };
+        (next, end)
     }
 
     /// Converts an input that was read to its end, in the form that is named or recognized.
     fn text(&mut self, name: &str, text: &[u8]) -> Next {
-        match data_of(self.rt, self.job, (name, text)) {
-            Ok((form, bytes)) => {
-                let mut none = b"".as_slice();
-                let color = self.job.color;
-                let place = Place {
-                    name,
-                    form,
-                    text,
-                    color,
-                };
-                self.items(&place, bytes, &mut none).0
-            }
+        let data = match data_of(self.rt, self.job, (name, text)) {
+            Ok(data) => data,
             Err(status) => {
                 self.ended(status);
-                Next::NextInput
+                return Next::NextInput;
             }
+        };
+        let mut none = b"".as_slice();
+        let color = self.job.color;
+        let place = Place {
+            name,
+            form: data.form,
+            text,
+            color,
+        };
+        let (next, end) = self.items(&place, data.bytes, &mut none);
+        if data.may_be_notation && end != Ended::Other {
+            let status = say_notation(self.rt, name, text);
+            self.ended(status);
         }
+        next
     }
+}
+
+/// How the conversion of an input ended.
+#[derive(Clone, Copy, PartialEq, Eq)]
+enum Ended {
+    /// It is not CBOR, and does not even begin with an item.
+    BadAtOnce,
+    /// It is not CBOR, or the path leads nowhere.
+    Bad,
+    /// It is CBOR, or there is other trouble.
+    Other,
 }

@@ -54,15 +54,17 @@ Forms:
   digits  hex on one line (output)
   diag    diagnostic notation (EDN), of which JSON is a part; pretty is
           diag over several lines, with comments
-  base64  either alphabet (input)
+  base64  either alphabet, with padding or without (input)
   json    JSON, a line an item (output; as an input it is diag)
   raw     the content of a byte or text string (output)
   paths   a line for each item that holds no other: place, path, EDN (output)
 
 Without -f, an input is bytes as soon as a byte comes that no text has, and is
-shown as it arrives. Text is read to its end. It is the first of hex, diag and
-base64 that reads all of it, and never bytes, but in a file .cbor, .cose or
-.cwt that none of these reads.
+shown as it arrives. Text is read to its end. Pairs of hex digits are hex, also
+where they are cut short or wrong; other text is the first of diag and base64
+that reads all of it, and never bytes. A file .hex is hex, and one .edn, .diag
+or .json is diag; one .cbor, .cose or .cwt is bytes if no form of text reads
+all of it.
 
 RULES are those of RFC 8949 for preferred, core (deterministic) or length-first
 encoding; ctap2; dcbor; or valid: no key twice in a map. They include rfc8949,
