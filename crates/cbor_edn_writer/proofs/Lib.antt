@@ -1,2 +1,3 @@
 pub mod writing
 pub mod back
+pub mod Places

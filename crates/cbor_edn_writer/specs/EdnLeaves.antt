@@ -2,7 +2,7 @@
 use Rattle.std.specs.Prelude.{◌≡◌, ◌⊎◌, ◌+◌, ◌-◌, ℕ, ◌^◌, List, [], ◌∷◌, ◌++◌, length, codes, Bool, true, false}
 use Rattle.std.specs.Prelude.{Option, Some, None, ◌&&◌, ◌||◌, if◌then◌else◌, nat_lt, nat_le, ◌==◌, not, max}
 use Rattle.std.specs.Borrow.{Bor}
-use Rattle.std.specs.List.{list_any}
+use Rattle.std.specs.List.{list_any, Contains}
 use Rattle.hex.specs.Hex.{encode_lower}
 use Rattle.cbor_floats.specs.declared.float.EncodedFloat.{EncodedFloat}
 use Rattle.cbor_floats.specs.declared.float.EncodedFloat.TheVariants.{Half, Single, Double}
@@ -119,14 +119,19 @@ Beside p texts t = texts t ⊎ ((core : List ℕ) × texts core × (t ≡ note_b
 abbrev pub After : EdnPlace → Texts → Texts
 After p texts t = texts t ⊎ ((core : List ℕ) × texts core × (t ≡ note_before p ++ core))
 
--- the same place with a note that was found for the item there, if any, and how many notes are on items before it
-abbrev pub FoundAt : EdnPlace → ℕ → EdnPlace → Type 0
-FoundAt p here q =
-    (found : Option (Bor Note)) × (passed : ℕ) × (q ≡ record p { found = found; here = here; passed = passed })
+-- it is one of these notes, on the item from which on there are this many of the outermost bytes
+abbrev pub IsGiven : List Note → ℕ → Option (Bor Note) → Type 0
+IsGiven notes here None = Unit {0}
+IsGiven notes here (Some n) = Contains notes n.now × (n.now.at ≡ here)
 
--- what the place of an item becomes; without notes it is the same
+-- the same place with the note that is given there, or without one, and how many notes are on items before it
+abbrev pub FoundAt : EdnPlace → ℕ → EdnPlace → Type 0
+FoundAt p here q = (found : Option (Bor Note)) × IsGiven p.notes.now here found
+    × (passed : ℕ) × (q ≡ record p { found = found; here = here; passed = passed })
+
+-- what the place of an item becomes, which has no note yet; without notes it is the same
 abbrev pub SameButNote : EdnPlace → EdnPlace → Type 0
-SameButNote p q = ((here : ℕ) × FoundAt p here q) × (p.notes.now ≡ [] → q ≡ p)
+SameButNote p q = ((q ≡ p) ⊎ ((here : ℕ) × FoundAt p here q)) × (p.notes.now ≡ [] → q ≡ p)
 
 -- How many bytes the width of an argument is, after the first byte of its head.
 abbrev pub argument_bytes : IntegerWidth → ℕ
@@ -159,17 +164,29 @@ float_indicator float_width.Sixteen = codes "_1"
 float_indicator float_width.ThirtyTwo = codes "_2"
 float_indicator w = codes "_3"
 
--- a text of the number, and the width, which may be left out where it is the shortest that has the number
+-- the indicator of a float's width stands beside the number exactly if each does, or if a shorter width has the number
+abbrev pub HasIndicator : Bool → EncodedFloat → Type 0
+HasIndicator all f = (all ≡ true) ⊎ ¬ (IsShortest f (value_of f))
+
+abbrev pub LacksIndicator : Bool → EncodedFloat → Type 0
+LacksIndicator all f = (all ≡ false) × IsShortest f (value_of f)
+
+-- a text of the number, and the width where that stands
 pub record NumberText (all : Bool) (bits : ℕ) (w : FloatWidth) (t : List ℕ) : Type 0 where
   pub usual : IsEncodingOf (encoded_float bits w) (value_of (encoded_float bits w))
   pub text : List ℕ
   pub number : IsTextOf text (value_of (encoded_float bits w))
-  pub is : (t ≡ text ++ float_indicator w)
-      ⊎ ((t ≡ text) × IsShortest (encoded_float bits w) (value_of (encoded_float bits w)))
+  pub is : ((t ≡ text ++ float_indicator w) × HasIndicator all (encoded_float bits w))
+      ⊎ ((t ≡ text) × LacksIndicator all (encoded_float bits w))
+
+-- a float whose bits are not those of its number, as a NaN with a payload, by its bits
+abbrev pub BitsText : ℕ → FloatWidth → Texts
+BitsText bits w t =
+    ¬ (IsEncodingOf (encoded_float bits w) (value_of (encoded_float bits w))) × (t ≡ float_text bits w)
 
 -- a float by its number, or by its bits where these are not those of its number
 abbrev pub FloatText : Bool → ℕ → FloatWidth → Texts
-FloatText all bits w t = NumberText all bits w t ⊎ (t ≡ float_text bits w)
+FloatText all bits w t = NumberText all bits w t ⊎ BitsText bits w t
 
 -- ---- what holds no item
 

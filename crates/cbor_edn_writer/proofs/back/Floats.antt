@@ -355,11 +355,11 @@ number_text : (left : ℕ) (all : Bool) (bits : ℕ) (w : FloatWidth) (t : List 
 number_text left all bits w t h =
     let f : EncodedFloat = encoded_float bits w in
     elim h.is [
-      | inl e ↦ rw e (text_reads left (Some w) (float_atom f) h.text (value_of f) h.number
+      | inl e ↦ rw e.0 (text_reads left (Some w) (float_atom f) h.text (value_of f) h.number
           (ap (λ v. float_in v h.text) (sym (stated_width bits w)) ∙ float_found h.text (value_of f) f h.number.number
           h.usual))
       | inr s ↦ rw (s.0, ← (append-nil h.text)) (text_reads left None (float_atom f) h.text (value_of f) h.number
-          (shortest_found h.text (value_of f) f h.number.number s.1))
+          (shortest_found h.text (value_of f) f h.number.number s.1.1))
     ]
 
 bits_text : (left bits : ℕ) (w : FloatWidth) → FitsFloat w bits
@@ -377,5 +377,5 @@ pub float_reads : (left : ℕ) (all : Bool) (bits : ℕ) (w : FloatWidth) (t : L
     → FloatText all bits w t → ReadsAs (suc left) (atom (float bits w)) t
 float_reads left all bits w t fits h = elim h [
   | inl number ↦ no_note (number_text left all bits w t number) (same_float bits w)
-  | inr e ↦ rw e (no_note (bits_text left bits w fits) (same_float bits w))
+  | inr e ↦ rw e.1 (no_note (bits_text left bits w fits) (same_float bits w))
 ]

@@ -43,6 +43,7 @@ use Rattle.cbor_edn_writer.specs.EdnLeaves.{quoted_string, spaced}
 use Rattle.cbor_edn_grammar.specs.Items.{item_turn, read_item}
 use Rattle.cbor_edn_grammar.specs.Reading.{◌>>=◌, after_byte}
 use Rattle.cbor_edn_writer.specs.Same.{is_empty, is_strict, is_sequence}
+use Rattle.cbor_edn_writer.proofs.Places.{same_level}
 use Rattle.cbor_edn_writer.proofs.back.Reads.{IsBegun, ReadsAs, ReadsNoted}
 use Rattle.cbor_edn_grammar.proofs.Words.{skip_none}
 use Rattle.cbor_edn_writer.proofs.back.Blanks.{skip_notes, stop_follows, beside_reads, after_reads}
@@ -283,7 +284,7 @@ reads_back level zero levels p at i t well h = absurd h
 reads_back level (suc left) levels p at i t well h =
     with_text (level + 1) left (omega (arith, levels)) (TextsOf edn_leaves left)
     (λ p i t at. reads_back (level + 1) left (omega (arith, levels)) p at i t) h.0 i t level refl
-    (ap (λ q. q.level) h.1.0.1.2 ∙ at) well h.2
+    (same_level p h.0 h.1 ∙ at) well h.2
 
 -- a whole text is read back as the encoding of the item that it was written for
 pub edn_back : (p : EdnPlace) (i : Item) (t : List ℕ) → p.level ≡ 1 → WellFormed 1 i → TextsAt edn_leaves p i t

@@ -4,7 +4,6 @@ use Rattle.std.proofs.Common.{inr, append_assoc}
 use Rattle.std.specs.Float.Ieee.{Float}
 use Rattle.cbor_floats.specs.Decimal.{IsTextOf}
 use Rattle.cbor_floats.specs.Value.{value_of, IsEncodingOf}
-use Rattle.cbor_floats.specs.declared.float.EncodedFloat.{EncodedFloat}
 use Rattle.cbor_tokens.specs.Appends.{Appends}
 use Rattle.cbor_grammar.specs.declared.layout.ContainerStyle.{ContainerStyle}
 use Rattle.cbor_grammar.specs.declared.width.FloatWidth.{FloatWidth}
@@ -15,7 +14,7 @@ use Rattle.cbor_grammar.specs.NotationText.{indicator}
 use Rattle.cbor_tokens.proofs.texts.Appending.{begins_through, begins_still, begins_same, appends_after}
 use Rattle.cbor_notation_writer.specs.Dialect.{Texts, Wrote}
 use Rattle.cbor_edn_writer.specs.EdnLeaves.{Noted, NoteAfter, with_gap, gap, encoded_float, float_indicator, FloatText}
-use Rattle.cbor_edn_writer.specs.EdnLeaves.{note_before, note_after, Beside, After}
+use Rattle.cbor_edn_writer.specs.EdnLeaves.{note_before, note_after, Beside, After, HasIndicator}
 use Rattle.cbor_edn_writer.specs.declared.print.place.EdnPlace.{EdnPlace}
 
 -- what is written, and a note after it
@@ -83,19 +82,19 @@ gap_more l ThirtyTwo p q = refl
 gap_more l SixtyFour p q = refl
 
 -- a text of a number, and after it the width
-pub width_wrote : {T E : Type 0} (r : Result T E) (all : Bool) (bits : ℕ) (w : FloatWidth) (float : EncodedFloat)
-    (x : Float) (old mid new t : List ℕ) → float ≡ encoded_float bits w → IsEncodingOf float (value_of float)
-    → x ≡ value_of float → IsTextOf t x → mid ≡ old ++ t → Appends r mid new (float_indicator w)
-    → Wrote r old new (FloatText all bits w)
-width_wrote (Ok y) all bits w float x old mid new t is usual value text written h = (
+pub width_wrote : {T E : Type 0} (r : Result T E) (all : Bool) (bits : ℕ) (w : FloatWidth) (x : Float)
+    (old mid new t : List ℕ) → IsEncodingOf (encoded_float bits w) (value_of (encoded_float bits w))
+    → HasIndicator all (encoded_float bits w) → x ≡ value_of (encoded_float bits w) → IsTextOf t x → mid ≡ old ++ t
+    → Appends r mid new (float_indicator w) → Wrote r old new (FloatText all bits w)
+width_wrote (Ok y) all bits w x old mid new t usual marked value text written h = (
   t ++ float_indicator w,
   inl (record {
-    usual = subst (λ f. IsEncodingOf f (value_of f)) is usual;
+    usual = usual;
     text = t;
-    number = subst (λ y. IsTextOf t y) (value ∙ ap value_of is) text;
-    is = inl refl;
+    number = subst (λ y. IsTextOf t y) value text;
+    is = inl (refl, marked);
   }),
   h ∙ ap (λ y. y ++ float_indicator w) written ∙ append_assoc old t (float_indicator w),
 )
-width_wrote (Err e) all bits w float x old mid new t is usual value text written h =
+width_wrote (Err e) all bits w x old mid new t usual marked value text written h =
     begins_through old mid new h (begins_still old old t mid (begins_same old) written)

@@ -318,12 +318,12 @@ float_runs {lines} all bits w t h = elim h [
   | inl n ↦
       let text = number_text_steady n.text n.number in
       elim n.is [
-        | inl marked ↦ subst (λ x. Runs lines Nothing Nothing x) (sym marked)
+        | inl marked ↦ subst (λ x. Runs lines Nothing Nothing x) (sym marked.0)
             (steady (n.text ++ float_indicator w) tt (steady_append n.text (float_indicator w) text
             (float_mark_steady w)))
         | inr shortest ↦ subst (λ x. Runs lines Nothing Nothing x) (sym shortest.0) (steady n.text tt text)
       ]
-  | inr bits_text ↦ subst (λ x. Runs lines Nothing Nothing x) (sym bits_text)
+  | inr bits_text ↦ subst (λ x. Runs lines Nothing Nothing x) (sym bits_text.1)
       (runs_then {v = Bytes} (scanned (codes "float'") refl)
       (runs_then {v = Bytes} (steady (encode_lower (float_bits bits w)) tt
       (hex_steady (float_bits bits w) (float_bytes bits w))) (scanned (codes "'") refl)))

@@ -40,6 +40,7 @@ use Rattle.cbor_edn_writer.specs.Breaks.{Nothing}
 use Rattle.cbor_edn_writer.specs.EdnLeaves.{edn_leaves, EdnLeaf, longer, marked, spaced, count_mark, with_gap, gap}
 use Rattle.cbor_edn_writer.specs.EdnLeaves.{edn_opening, edn_closing, embedded_mark, Noted, quoted_string}
 use Rattle.cbor_edn_writer.specs.declared.print.place.EdnPlace.{EdnPlace}
+use Rattle.cbor_edn_writer.proofs.Places.{same_layout}
 use Rattle.cbor_edn_writer.proofs.writing.Runs.{Runs, runs_nothing, runs_then, scanned, steady, line_runs}
 use Rattle.cbor_edn_writer.proofs.writing.Shown.{number_steady, indicator_steady, noted_runs, string_runs, float_runs}
 use Rattle.cbor_edn_writer.proofs.writing.Shown.{simple_runs, beside_runs, after_runs}
@@ -323,4 +324,4 @@ texts_apart lines level zero levels p i t allows well h = absurd h
 texts_apart lines level (suc left) levels p i t allows well h =
     with_apart lines (level + 1) left (omega (arith, levels)) (TextsOf edn_leaves left)
     (λ p i t. texts_apart lines (level + 1) left (omega (arith, levels)) p i t) h.0 i t level refl
-    (subst (λ q. AllowsLayout lines q.layout) (sym h.1.0.1.2) allows) well h.2
+    (subst (λ l. AllowsLayout lines l) (sym (same_layout p h.0 h.1)) allows) well h.2

@@ -3,7 +3,7 @@ ghost use Rattle.std.specs.Prelude.{◌≡◌, ◌≤◌, ◌||◌, unwrap_or};
 ghost use Rattle.cbor_grammar.specs.WellFormed.{deepest};
 ghost use Rattle.cbor_grammar.specs.NotationText.{indent_of};
 ghost use Rattle.cbor_edn_writer.specs.EdnLeaves.{edn_leaves, is_encoded, limit_within};
-ghost use Rattle.cbor_edn_writer.specs.EdnLeaves.{FoundAt, SameButNote};
+ghost use Rattle.cbor_edn_writer.specs.EdnLeaves.{FoundAt, IsGiven, SameButNote};
 ghost use Rattle.cbor_edn_writer.specs.EdnLeaves.{argument_bytes as bytes_of_width};
 ghost use Rattle.cbor_edn_writer.specs.EdnLeaves.{after_string as behind_string};
 ghost use Rattle.cbor_edn_writer.specs.EdnLeaves.{behind_in as behind_members};
@@ -87,10 +87,7 @@ impl<'a> EdnPlace<'a> {
         EdnPlace {
             here,
             passed,
-            found: match self.notes.get(passed) {
-                Some(note) if note.at as u64 == here => Some(note),
-                _ => None,
-            },
+            found: note_at(self.notes, passed, here),
             ..*self
         }
     }
@@ -184,6 +181,17 @@ fn argument_bytes(width: IntegerWidth) -> u64
         IntegerWidth::Sixteen => 2,
         IntegerWidth::ThirtyTwo => 4,
         IntegerWidth::SixtyFour => 8,
+    }
+}
+
+/// The note at this index, if it is on the item from which on there are this many bytes.
+#[inline(always)]
+fn note_at<'a>(notes: &'a [Note<'a>], index: usize, here: u64) -> Option<&'a Note<'a>>
+    ensures { IsGiven notes.now here result }
+{
+    match notes.get(index) {
+        Some(note) if note.at as u64 == here => Some(note),
+        _ => None,
     }
 }
 

@@ -1,6 +1,6 @@
 -- Without notes the place is the same.
-use Rattle.std.proofs.Common.{refl}
+use Rattle.std.proofs.Common.{refl, inl}
 use Rattle.cbor_edn_writer.proofs.print.place.EdnPlace.at.Goals as goal
 
 pub returns-then-is_empty : goal.returns-then-is_empty
-returns-then-is_empty c = ((c.args.self.now.here, (c.args.self.now.found, c.args.self.now.passed, refl)), λ _. refl)
+returns-then-is_empty c = (inl refl, λ _. refl)
