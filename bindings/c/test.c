@@ -731,14 +731,14 @@ static void test_fault_paths(void)
         {BYTES, TEXT("\x82\x01\x02"), "", ""},
         {BYTES, TEXT(""), "/", "cut short: no item is at byte 0"},
         {BYTES, TEXT("\x82\x01"), "1", "cut short: the array at byte 0 has 2 items, 1 is there"},
-        {BYTES, TEXT("\x1f"), "/", "no item can have this head"},
+        {BYTES, TEXT("\x1f"), "/", "1f: this major type has no indefinite length"},
         {BYTES, TEXT("\xa1\x61k\x82\x01\x1f\x00"), "k/1",
-         "no item can have this head, at k/1, in the array of 2 at byte 3, of which 1 is there"},
+         "1f: this major type has no indefinite length, at k/1, in the array of 2 at byte 3, of which 1 is there"},
         {BYTES, TEXT("\xa1\x62\xc3\xbc\x62\xff\x00"), "\xc3\xbc",
          "a text is not UTF-8, at \xc3\xbc, in the map of 1 at byte 0, of which a key is there"},
         {BYTES, TEXT("\x81\x02\x03"), "", "bytes remain after the item"},
         {HEX, TEXT("82 01 # one\n 1c # 28"), "1",
-         "no item can have this head, at 1, in the array of 2 at byte 0, of which 1 is there"},
+         "1c: lengths 28 to 30 are reserved, at 1, in the array of 2 at byte 0, of which 1 is there"},
         {HEX, TEXT("82 0g"), "", "not a hex digit"},
         {DIAG, TEXT("300_0"), "", "a number does not fit its width"},
         {EDN, TEXT("{\"a\" 1}"), "", "a colon has to follow the key"},
@@ -796,7 +796,7 @@ static void test_paths_without_memory(void)
         check(failing > 1, "no allocation was made to fail in a path or a message");
     }
     check_answer("a path at last", 3, came[0]);
-    check_answer("a message at last", 84, came[1]);
+    check_answer("a message at last", 102, came[1]);
 }
 
 /* Each allocation fails in turn. */

@@ -36,6 +36,11 @@ def words(row):
     return said(row.bytes(), BEGINS).partition("\n")[2].strip()
 
 
+def fault_words(row):
+    """What is wrong where bytes are malformed."""
+    return said(row.bytes(), BEGINS).partition("\n")[0].partition(": ")[2]
+
+
 def cut_words(row):
     if not row.bytes():
         return f"no item is at byte {BEGINS}"
@@ -84,6 +89,7 @@ CALLS = {
     "place_of_fault": place_of_fault,
     "words": words,
     "cut_words": cut_words,
+    "fault_words": fault_words,
     "lines_at": lines_at,
     "leaves": leaves,
 }

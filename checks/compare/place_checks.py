@@ -42,11 +42,12 @@ def cuts_and_faults(program):
             wanted = (b"", f"cborcat: standard input: {said}", 1) if said else (b"", "", 0)
             same(f"{name} cut at {end}", run("-f", "bytes", "-c", data=data[:end]), wanted)
         for at in places.heads(data):
-            wrong = data[:at] + b"\x1f" + data[at + 1:]
-            error, status = run("-f", "bytes", "-c", data=wrong)[1:]
-            lines = error.splitlines(keepends=True)
-            said = f"cborcat: standard input: {places.said(wrong)}"
-            same(f"{name} wrong at {at}", ("".join(lines[:-2]), status), (said, 1))
+            for byte in (0x1f, 0x3d, 0xff):
+                wrong = data[:at] + bytes([byte]) + data[at + 1:]
+                error, status = run("-f", "bytes", "-c", data=wrong)[1:]
+                lines = error.splitlines(keepends=True)
+                said = f"cborcat: standard input: {places.said(wrong)}"
+                same(f"{name} with {byte:02x} at {at}", ("".join(lines[:-2]), status), (said, 1))
 
 
 def leaves(program):
@@ -116,7 +117,7 @@ def bytes_at(program):
     same_at("past the end", 2, "0105", [],
             "cborcat: standard input: byte 2: no item has this byte; 2 bytes came\n", ["-f", "bytes"])
     same_at("before a fault", 1, "82011f", ["path: 0", "head: 01 # 1", "item: byte 1 (0x1)"],
-            "cborcat: standard input: byte 2 (0x2): no item can have this head\n"
+            "cborcat: standard input: byte 2 (0x2): 1f: this major type has no indefinite length\n"
             "    at 1, in the array of 2 at byte 0, of which 1 is there\n    82 01 1f\n          ^^\n")
     same_at("of a cut text", 3, "82016361", ["path: 1", "head: 63 # text(3)", "item: from byte 2 (0x2) on, not whole"],
             "cborcat: standard input: cut short: the text at 1 (byte 2) has 3 bytes, 1 is there\n")
@@ -132,13 +133,13 @@ def partial(program):
         out, error, status = program.run("-f", "bytes", "--partial", "-t", form, data=data)
         program.same(what, (out.decode(), error != "", status), (wanted, True, 1))
 
-    fault = "/fault: no item can have this head/"
+    fault = "/fault: 1f: this major type has no indefinite length/"
     same_partial("a fault", "diag", b"\x01\xa1\x61a\x83\x01\x02\x1f\x00", f"1\n{{\"a\": [1, 2, {fault} h'1f00']}}\n")
     same_partial("a cut", "diag", b"\x82\x01\x62a", "[1, /cut short/ h'6261']\n")
     same_partial("between items", "diag", b"\x82\x01", "[1, /cut short/ h'']\n")
     same_partial("in lines", "pretty", b"\x82\x01\x1f", f"[\n    1,\n    {fault} h'1f'\n]\n")
     same_partial("a dump", "hex", b"\x82\x01\x1f\x00",
-                 "82 # array(2)\n   01 # unsigned(1)\n   # fault: no item can have this head\n   1f00\n")
+                 "82 # array(2)\n   01 # unsigned(1)\n   # fault: 1f: this major type has no indefinite length\n   1f00\n")
     same_partial("digits", "digits", b"\x01\x82\x01", "01\n")
     program.same("a whole item", program.run("--partial", "-t", "diag", data=b"\x81\x01"), (b"[1]\n", "", 0))
     for word in ("-c", "--path=1"):
@@ -170,7 +171,7 @@ def examples_in_part(program, name):
     leaves = [(int(at, 16), text) for at, _, text in lines]
     starts = places.starts(data)
     shown = [(data[:end], end, "/cut short/") for end in range(1, len(data)) if end not in starts]
-    shown += [(data[:at] + b"\x1f" + data[at + 1:], at, "/fault: no item can have this head/") for at in places.heads(data)]
+    shown += [(data[:at] + b"\x1f" + data[at + 1:], at, "/fault: 1f: this major type has no indefinite length/") for at in places.heads(data)]
     for part, end, said in shown:
         def written(*words):
             return program.run("-f", "bytes", "--partial", *words, data=part)[0].decode()

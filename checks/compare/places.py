@@ -48,6 +48,8 @@ class Decoder:
     def __init__(self, data, begins=0, longest=LONGEST):
         self.data, self.begins, self.longest = data, begins, longest
         self.at, self.leaves, self.spots = 0, [], []
+        # the open tags and containers: what each is called, whether a break ends it, the key of the value that is next
+        self.open = []
 
     def take(self, count):
         part = self.data[self.at:self.at + count]
@@ -62,9 +64,26 @@ class Decoder:
         words += f" ({self.byte(start)})" if in_key or path else f" at {self.byte(start)}"
         raise Stop(f"cut short: {words} has {rest}\n")
 
-    def fault(self, place, line):
-        at = self.begins + place
-        raise Stop(f"byte {at} (0x{at:x}): no item can have this head\n{line}")
+    def fault(self, place, line, words=""):
+        at, byte = self.begins + place, self.data[place]
+        if 28 <= byte & 31 <= 30:
+            words = f"{byte:02x}: lengths 28 to 30 are reserved"
+        elif not words and byte != 0xff:
+            words = f"{byte:02x}: this major type has no indefinite length"
+        raise Stop(f"byte {at} (0x{at:x}): {words or self.wrong_break(place)}\n{line}")
+
+    def wrong_break(self, place):
+        """Why the break at a place ends nothing."""
+        if not any(ends for _, ends, _ in self.open):
+            return "a break (ff), but no indefinite-length item is open"
+        noun, ends, key = self.open[-1]
+        if ends:
+            text = Writer().item(parse_bytes(self.data[key:place]))
+            named = len(text.encode()) <= LONGEST and "/" not in text
+            return f"a break, and the key {text if named else f'at {self.byte(key)}'} has no value"
+        if noun.startswith("tag "):
+            return f"a break, and the {noun} has no item"
+        return f"a break (ff), but the {noun} around it has a definite length"
 
     def items(self):
         while self.at < len(self.data):
@@ -98,7 +117,9 @@ class Decoder:
         if major == 6:
             if self.at == len(self.data):
                 self.cut(f"tag {number}", path, in_key, start, "no item")
+            self.open.append((f"tag {number}", False, None))
             self.item(path, in_key, line, begins)
+            self.open.pop()
             return False
         if major in (4, 5) and number is None:
             self.at += 1
@@ -119,7 +140,8 @@ class Decoder:
             place = self.at
             for byte in self.data[place:place + 1]:
                 if byte >> 5 != self.data[start] >> 5 or byte & 31 > 27:
-                    self.fault(place, line)
+                    kind = "text string" if noun == "text" else noun
+                    self.fault(place, line, f"a chunk of a {kind} has to be a {kind} of definite length")
             try:
                 self.content("", False, "", place)
             except (Stop, IndexError):
@@ -148,6 +170,7 @@ class Decoder:
                 self.at += 1
                 break
             self.part_is_there(path, in_key, head, there(index))
+            self.open.append((noun, count is None, None))
             if not is_map:
                 place = path if in_key else joined(path, str(index))
                 self.item(place, in_key, outer if in_key else self.line(place, False, of, there(index)))
@@ -156,8 +179,10 @@ class Decoder:
                 self.item(path, True, outer if in_key else self.line(path, True, of, there(index)))
                 count_there = f"{index} and a key are there" if index else "a key is there"
                 self.part_is_there(path, in_key, head, count_there)
+                self.open[-1] = (noun, count is None, key)
                 place = path if in_key else joined(path, self.key_name(key))
                 self.item(place, in_key, outer if in_key else self.line(place, False, of, count_there))
+            self.open.pop()
             index += 1
 
     def line(self, path, in_key, of, count_there):

@@ -47,7 +47,7 @@ def terminals(in_terminal, run, same):
 
 def marks(in_terminal, run, same):
     """The mark below what is wrong has a colour where standard error is shown colours, and nothing else has."""
-    said = ("cborcat: standard input: byte 2 (0x2): no item can have this head\n"
+    said = ("cborcat: standard input: byte 2 (0x2): 1f: this major type has no indefinite length\n"
             "    at 1, in the array of 2 at byte 0, of which 1 is there\n    82 01 1f\n          ^^\n")
     marked = said.replace("^^", "\x1b[1;31m^^\x1b[0m")
     bad = bytes.fromhex("82011f")

@@ -10,7 +10,7 @@ use std::alloc::{AllocError, Global};
 use std::fmt::Write;
 
 /// A key of more bytes of notation than this is named by its place in a message.
-const LONGEST: usize = 40;
+pub(crate) const LONGEST: usize = 40;
 
 /// An item, and where it is.
 #[derive(Clone, Copy)]
@@ -43,6 +43,8 @@ pub struct Around<'a> {
     pub in_key: bool,
     /// The innermost container that is open.
     pub(crate) last: Option<Inside>,
+    /// Whether an array or a map of indefinite length is open.
+    pub(crate) in_indefinite: bool,
     /// The innermost array or map that the path leads into.
     around: Option<Inside>,
 }
@@ -81,6 +83,7 @@ impl<'a> Around<'a> {
             spot: Spot::outermost(),
             in_key: false,
             last: None,
+            in_indefinite: false,
             around: None,
         };
         for _ in 0..=u8::MAX {
@@ -108,6 +111,7 @@ impl<'a> Around<'a> {
             item: self.named(),
         };
         self.last = Some(inside);
+        self.in_indefinite |= matches!(count_of(part.open), Some(Argument::Indefinite));
         if !self.in_key {
             if !matches!(part.open, Open::Tag { .. }) {
                 self.around = Some(inside);

@@ -34,7 +34,7 @@ pub struct Fault {
 /// // [1, ..: the second member begins with a byte that no head has.
 /// if let Some(fault) = fault_of(alloc, b"\x82\x01\x1f")? {
 ///     assert_eq!(rt; fault.path.as_str(), "1");
-///     let message = "no item can have this head, \
+///     let message = "1f: this major type has no indefinite length, \
 ///         at 1, in the array of 2 at byte 0, of which 1 is there";
 ///     assert_eq!(rt; fault.message.as_str(), message);
 /// }
@@ -78,15 +78,8 @@ fn wrong(alloc: Global, bytes: &[u8], error: Error, end: usize) -> Result<Fault,
     ensures error { IfOk result (λ x. x.error ≡ error) }
     ensures memory { IfErr result (λ e. e ≡ Error.Memory) }
 {
-    let (front, _) = bytes.split_at(end.min(bytes.len()));
-    let around = Around::of_end(
-        alloc,
-        Piece {
-            begins: 0,
-            bytes: front,
-        },
-    )?;
-    let mut message = String::from_str(alloc, error.text())?;
+    let around = Around::of_end(alloc, Piece { begins: 0, bytes }.first(end))?;
+    let mut message = around.fault_words(&ByteNumbers, error)?;
     let words = around.words(&ByteNumbers, false)?;
     if !words.is_empty() {
         write!(message, ", {words}")?;

@@ -28,6 +28,7 @@ mod cut;
 mod fault;
 mod laws;
 mod leaves;
+mod misplaced;
 mod nouns;
 mod partial;
 mod path;

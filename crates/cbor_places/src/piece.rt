@@ -18,6 +18,12 @@ impl<'a> Piece<'a> {
         self.bytes.get(from..to).unwrap_or(b"")
     }
 
+    /// Its first bytes: as many, or all.
+    pub fn first(self, count: usize) -> Piece<'a> {
+        let (bytes, _) = self.bytes.split_at(count.min(self.bytes.len()));
+        Piece { bytes, ..self }
+    }
+
     /// The number of a byte of the piece, counted in the data.
     pub fn number(self, place: usize) -> usize {
         self.begins.saturating_add(place)

@@ -25,7 +25,7 @@ fn of_faults(rt: HostRuntime) -> Result<(), Fail> {
     // [1, ..: the second member begins with a byte that no head has.
     if let Some(fault) = fault_of(alloc, b"\x82\x01\x1f")? {
         assert_eq!(rt; fault.path.as_str(), "1");
-        let message = "no item can have this head, \
+        let message = "1f: this major type has no indefinite length, \
             at 1, in the array of 2 at byte 0, of which 1 is there";
         assert_eq!(rt; fault.message.as_str(), message);
     }

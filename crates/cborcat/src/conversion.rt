@@ -16,7 +16,7 @@ use cbor_bytes::{Extent, extent};
 use cbor_grammar::Error;
 use cbor_inspect::{End, Form, Stream, two_byte_simple};
 use cbor_messages::{TWO_BYTES, first_breach};
-use cbor_places::{Leaves, Piece, lines_at, partial_dump, partial_edn};
+use cbor_places::{Around, Leaves, Piece, lines_at, partial_dump, partial_edn};
 use cbor_screen::Language;
 use cborcat_arguments::{Job, View};
 use std::alloc::AllocError;
@@ -144,6 +144,14 @@ impl<'a> Conversion<'a> {
         self.came.saturating_sub(self.stream.rest().len())
     }
 
+    /// The bytes that are left.
+    fn left(&self) -> Piece {
+        Piece {
+            begins: self.begins(),
+            bytes: self.stream.rest(),
+        }
+    }
+
     /// Converts the items that are whole, and says what follows them if that is the end of the
     /// input, or no item.
     fn items(&mut self, at_end: bool) -> Next {
@@ -266,7 +274,11 @@ impl<'a> Conversion<'a> {
     fn write_partial(&mut self, end: End) -> Result<Written, Error> {
         let alloc = self.rt.alloc();
         let said = match end {
-            End::Fault { error, .. } => format!(in alloc; "fault: {error}")?,
+            End::Fault { error, end } => {
+                let around = Around::of_end(alloc, self.left().first(end))?;
+                let words = around.fault_words(self.place, error)?;
+                format!(in alloc; "fault: {words}")?
+            }
             End::Cut => String::from_str(alloc, "cut short")?,
             _ => return Ok(Written::Whole),
         };
@@ -404,11 +416,7 @@ impl<'a> Conversion<'a> {
             Ok(_) => end,
             Err(_) => End::Memory,
         };
-        let left = Piece {
-            begins: self.begins(),
-            bytes: self.stream.rest(),
-        };
-        let status = report_end(self.rt, self.place, left, end);
+        let status = report_end(self.rt, self.place, self.left(), end);
         self.ended(status);
         Next::NextInput
     }

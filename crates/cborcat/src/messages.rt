@@ -147,9 +147,10 @@ fn report_fault(
 ) -> Result<(), Error> {
     let (error, end) = fault;
     let at = place_of_fault(left.bytes, error, end);
-    let around = Around::of_end(rt.alloc(), left)?;
+    let around = Around::of_end(rt.alloc(), left.first(end))?;
+    let what = around.fault_words(place, error)?;
     let words = around.words(place, false)?;
-    say_byte(rt, place, left, at, (error.text(), &words));
+    say_byte(rt, place, left, at, (&what, &words));
     Ok(())
 }
 

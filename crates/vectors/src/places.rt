@@ -1,10 +1,11 @@
 //! Where a byte of an item is, which begins at byte 10 of an input: `words` and `cut_words` of the
-//! end of the bytes, `words PLACE` of a place in a whole item, `lines_at BYTE`, `leaves`. What is
-//! shown of an item that is not whole: `partial_dump`, `partial_edn`, `partial_edn COLUMNS`.
+//! end of the bytes, `fault_words`, `words PLACE` of a place in a whole item, `lines_at BYTE`,
+//! `leaves`. What is shown of an item that is not whole: `partial_dump`, `partial_edn`,
+//! `partial_edn COLUMNS`.
 
 use crate::row::Row;
 use crate::texts::{lines_text, number_of, refused_text};
-use cbor_diag::Error;
+use cbor_diag::{Error, Extent, extent};
 use cbor_edn::EdnStyle;
 use cbor_places::{Around, ByteNumbers, Leaves, Piece, lines_at, partial_dump, partial_edn};
 use std::alloc::{AllocError, Global};
@@ -17,6 +18,7 @@ pub fn answer(alloc: Global, row: &Row) -> Result<Option<String>, AllocError> {
     let found = match row.call {
         "words" => words(alloc, row),
         "cut_words" => cut_words(alloc, row),
+        "fault_words" => fault_words(alloc, row),
         "lines_at" => shown(alloc, lines_at(alloc, piece(row), number_of(row.argument))),
         "leaves" => shown(alloc, leaves(alloc, row)),
         "partial_dump" => shown(alloc, partial_dump(alloc, &row.bytes, SAID)),
@@ -59,6 +61,14 @@ fn words(alloc: Global, row: &Row) -> Result<String, AllocError> {
 fn cut_words(alloc: Global, row: &Row) -> Result<String, AllocError> {
     let around = Around::of_end(alloc, piece(row))?;
     around.cut_words(&ByteNumbers)
+}
+
+/// What is said of malformed bytes; `none` of others.
+fn fault_words(alloc: Global, row: &Row) -> Result<String, AllocError> {
+    let Extent::Fault { error, end } = extent(&row.bytes) else {
+        return String::from_str(alloc, "none");
+    };
+    Around::of_end(alloc, piece(row).first(end))?.fault_words(&ByteNumbers, error)
 }
 
 /// The first block of the lines of paths.
