@@ -105,6 +105,11 @@ impl Runner<'_> {
     /// Says that an input cannot be read.
     fn cannot_read(&mut self, name: &str, error: &io::Error) -> Next {
         say(self.rt, name, error);
+        if error.kind() == io::ErrorKind::NotFound
+            && let Some(option) = self.job.option_before(name)
+        {
+            let _ = eprintln!(self.rt; "  {option}={name}? A value of {option} follows the =");
+        }
         self.ended(Status::Trouble);
         Next::NextInput
     }

@@ -7,12 +7,12 @@ use cbor_rules::{ENCODINGS, RULES};
 use clap::{Arg, ArgAction, Command};
 use std::alloc::{AllocError, Global};
 
-/// The forms of an input.
-static FROM: [&str; 4] = ["bytes", "hex", "diag", "base64"];
+/// The forms of an input, some by two names.
+static FROM: [&str; 7] = ["bytes", "cbor", "hex", "diag", "edn", "json", "base64"];
 
-/// The forms of the output.
-static TO: [&str; 8] = [
-    "pretty", "diag", "hex", "digits", "bytes", "json", "raw", "paths",
+/// The forms of the output, some by two names.
+static TO: [&str; 10] = [
+    "pretty", "diag", "edn", "hex", "digits", "bytes", "cbor", "json", "raw", "paths",
 ];
 
 /// What an option takes.
@@ -24,7 +24,7 @@ enum Takes {
     Name,
     /// Any text.
     Text,
-    /// A number of bytes.
+    /// A number of bytes, which is also read in base 16.
     Bytes,
     /// A number of bytes; 32 if it is left out.
     Length,
@@ -122,9 +122,8 @@ fn taking(argument: Arg<'_>, takes: Takes) -> Arg<'_> {
     }
     let argument = argument.action(ArgAction::Set);
     match takes {
-        Takes::Nothing | Takes::Name => argument,
+        Takes::Nothing | Takes::Name | Takes::Bytes => argument,
         Takes::Text => argument.allow_hyphen_values(true),
-        Takes::Bytes => argument.value_parser(clap::value_parser!(usize)),
         Takes::Length => or(argument, "32").value_parser(clap::value_parser!(usize)),
         Takes::Columns => argument.value_parser(clap::value_parser!(u16).range(20..=1000)),
         Takes::From => argument.value_parser(FROM.as_slice()),

@@ -4,17 +4,32 @@
 pub const HELP: &str = "Usage: cborcat [OPTION]... [FILE]...
 Shows CBOR data (RFC 8949) as text, or converts it.
 
+  $ cborcat -x 'a2 01 02 61 61 f5'
+  {1: 2, \"a\": true}
+  $ cborcat -t hex -x '{\"a\": 1}'
+  a1       # map(1)
+     61    #   text(1)
+        61 #     \"a\"
+     01    #   unsigned(1)
+  $ cborcat -t digits -x '{\"a\": [1.5, true]}'
+  a1616182f93e00f5
+  $ cborcat -t json -x 'a1 61 61 f9 3e 00'
+  {\"a\": 1.5}
+  $ cborcat -c -f hex -x '82 01'
+  cborcat: -x:1:6: cut short: the array at 1:1 has 2 items, 1 is there
+
 Reads each FILE; without one, or for -, standard input. Writes each item.
 
 Input:
-  -f, --from=FORM    bytes, hex, diag or base64 (default: recognized)
+  -f, --from=FORM    the form of the input, one of those below that has an i
+                     (default: recognized)
   -x, --text=TEXT    read TEXT instead of files
   -1, --one          exactly one item in each input, not a sequence
-      --offset=N     begin at byte N of the data
+      --offset=N     begin at byte N of the data; N may be as 91 or 0x5b
       --limit=BYTES  refuse a longer item (default: 268435456)
 
 Output:
-  -t, --to=FORM      pretty, diag, hex, digits, bytes, json, raw or paths
+  -t, --to=FORM      the form of the output, one of those below that has an o
                      (default: pretty)
   -p, --path=PATH    only the part that PATH leads to, or each part
   -e, --embedded     show byte strings that hold an array, a map or a
@@ -46,18 +61,17 @@ Output:
   -h, --help         show this text
   -V, --version      show the version
 
-Forms:
-  bytes   CBOR
-  hex     input: pairs of digits, also with blanks , : 0x \\x, and comments
-          after #
-          output: a dump with comments
-  digits  hex on one line (output)
-  diag    diagnostic notation (EDN), of which JSON is a part; pretty is
-          diag over several lines, with comments
-  base64  either alphabet, with padding or without (input)
-  json    JSON, a line an item (output; as an input it is diag)
-  raw     the content of a byte or text string (output)
-  paths   a line for each item that holds no other: place, path, EDN (output)
+Forms, i of an input and o of the output:
+  pretty       o  notation over several lines where it is long, with comments
+  diag, edn   io  diagnostic notation (EDN), of which JSON is a part
+  hex         io  input: pairs of digits, also with blanks , : 0x \\x, and
+                  comments after #; output: a dump with comments
+  digits       o  hex on one line
+  bytes, cbor io  CBOR
+  base64      i   either alphabet, with padding or without
+  json        io  JSON, a line an item; an input is read as diag
+  raw          o  the content of a byte or text string
+  paths        o  a line for each item that holds no other: place, path, EDN
 
 Without -f, an input is bytes as soon as a byte comes that no text has, and is
 shown as it arrives. Text is read to its end. Pairs of hex digits are hex, also
@@ -79,10 +93,15 @@ Exit status: 0 all input is CBOR; 1 some is not, or PATH leads nowhere;
 
 Examples:
   cborcat message.cbor
-  cborcat -t hex -x 'a1 01 26'
+  cborcat -t bytes message.json > message.cbor
+  cborcat -t json log.cbor | jq .event
   tail -c +1 -f log.cbor | cborcat -t diag
   cborcat -p 2/@ token.hex
+  cborcat -p 2 -t raw message.cbor > payload
   cborcat --as=COSE_Key key.cbor
-  cborcat -c *.cbor
+  cborcat --at=0x5b message.cbor
+  diff <(cborcat -t paths a.cbor) <(cborcat -t paths b.cbor)
+  cborcat --check=core *.cbor
+  cborcat --encode=core -t bytes a.cbor > core.cbor
   git config diff.cbor.textconv cborcat
 ";

@@ -99,6 +99,19 @@ pub struct Wanted {
 }
 
 impl Job<'_> {
+    /// The option that a word may have been meant as the value of: one that was given without a
+    /// value, behind which the word was taken for a file.
+    pub fn option_before(&self, word: &str) -> Option<&'static str> {
+        let is_number = word.bytes().all(|byte| byte.is_ascii_digit());
+        if self.check && self.rules.is_none() && RuleSet::named(word).is_some() {
+            Some("--check")
+        } else if self.elide.is_some() && is_number && !word.is_empty() {
+            Some("--elide")
+        } else {
+            None
+        }
+    }
+
     /// Whether items are shown with their names.
     pub fn has_names(&self) -> bool {
         let style = self.show.style;

@@ -45,9 +45,9 @@ fn out_of_memory<'a>(rt: &HostRuntime) -> Asked<'a> {
 /// The form of an input that a word names.
 fn input_of(word: &str) -> Option<Input> {
     match word {
-        "bytes" => Some(Input::Bytes),
+        "bytes" | "cbor" => Some(Input::Bytes),
         "hex" => Some(Input::Hex),
-        "diag" => Some(Input::Diag),
+        "diag" | "edn" | "json" => Some(Input::Diag),
         "base64" => Some(Input::Base64),
         _ => None,
     }
@@ -56,13 +56,42 @@ fn input_of(word: &str) -> Option<Input> {
 /// The form of the output that a word names.
 fn form_of(word: Option<&str>) -> Form {
     match word {
-        Some("diag" | "paths") => Form::Diag,
+        Some("diag" | "edn" | "paths") => Form::Diag,
         Some("hex") => Form::Hex,
         Some("digits") => Form::Digits,
         // JSON and contents are made of the bytes of a part.
-        Some("bytes" | "json" | "raw") => Form::Bytes,
+        Some("bytes" | "cbor" | "json" | "raw") => Form::Bytes,
         _ => Form::Pretty,
     }
+}
+
+/// The number that a text says: in base 16 after `0x`, and else in base 10.
+fn number_of(text: &str) -> Option<usize> {
+    let digits = match text.strip_prefix("0x") {
+        Some(digits) if !digits.is_empty() => digits,
+        _ => return text.parse::<usize>().ok(),
+    };
+    let mut number: usize = 0;
+    for digit in digits.chars() {
+        let value = digit.to_digit(16)? as usize;
+        number = number.checked_mul(16)?.checked_add(value)?;
+    }
+    Some(number)
+}
+
+/// The options that take a number of bytes.
+const COUNTS: [&str; 3] = ["at", "offset", "limit"];
+
+/// The option whose text is no number of bytes, if there is one, and that text.
+fn wrong_count<'a>(matches: &ArgMatches<'a>) -> Option<(&'static str, &'a str)> {
+    for option in &COUNTS {
+        if let Some(text) = matches.get_str(*option)
+            && number_of(text).is_none()
+        {
+            return Some((*option, text));
+        }
+    }
+    None
 }
 
 /// The columns of pretty notation, unless the arguments say so.
@@ -81,7 +110,7 @@ fn style_of(matches: &ArgMatches) -> Style {
 
 /// What the arguments ask to look for. A check shows nothing.
 fn view_of(matches: &ArgMatches) -> View {
-    if let Some(byte) = matches.get_one::<usize>("at") {
+    if let Some(byte) = matches.get_str("at").and_then(number_of) {
         return View::At(byte);
     }
     match matches.get_str("to") {
@@ -139,6 +168,12 @@ const LIMIT: usize = 256 * 1024 * 1024;
 /// What the arguments ask for.
 fn job_of<'a>(rt: &HostRuntime, matches: &ArgMatches<'a>) -> Asked<'a> {
     let alloc = rt.alloc();
+    if let Some((option, text)) = wrong_count(matches) {
+        let _ = eprintln!(rt;
+            "cborcat: --{option} takes a number of bytes, as 91 or 0x5b, and not {text:?}"
+        );
+        return Asked::Ended(2);
+    }
     let path = matches.get_str("path").unwrap_or("");
     let (Ok(steps), Ok(files)) = (steps_of(alloc, path), files_of(alloc, matches)) else {
         return out_of_memory(rt);
@@ -152,8 +187,11 @@ fn job_of<'a>(rt: &HostRuntime, matches: &ArgMatches<'a>) -> Asked<'a> {
     let job = Job {
         from: matches.get_str("from").and_then(input_of),
         text: matches.get_str("text"),
-        offset: matches.get_one::<usize>("offset").unwrap_or(0),
-        limit: matches.get_one::<usize>("limit").unwrap_or(LIMIT),
+        offset: matches.get_str("offset").and_then(number_of).unwrap_or(0),
+        limit: matches
+            .get_str("limit")
+            .and_then(number_of)
+            .unwrap_or(LIMIT),
         view: view_of(matches),
         color: Color::named(matches.get_str("color")),
         elide: matches.get_one::<usize>("elide"),

@@ -1,0 +1,98 @@
+"""What `checks/cborcat` checks of arguments, and of the help, the manual page and the completion that name them."""
+
+import os
+import re
+
+TOP = os.path.dirname(os.path.dirname(os.path.dirname(os.path.abspath(__file__))))
+
+# Words, the last of which is no file, and what is asked then.
+MEANT_AS_VALUES = {
+    ("--check", "core"): "  --check=core? A value of --check follows the =\n",
+    ("-c", "dcbor"): "  --check=dcbor? A value of --check follows the =\n",
+    ("--elide", "10"): "  --elide=10? A value of --elide follows the =\n",
+    ("--check=core", "dcbor"): "",
+    ("--check", "cores"): "",
+    ("--elide", "10a"): "",
+    ("core",): "",
+}
+
+
+def check(run, shell, same, examples):
+    """All of it: run and shell run the program, and same compares."""
+    words(run, same, examples)
+    numbers(run, same, examples)
+    text = run("--help")[0].decode()
+    shown_commands(shell, same, text)
+    forms(run, same, text)
+    options(same, text)
+
+
+def text_of(name):
+    with open(f"{TOP}/{name}", encoding="utf-8") as it:
+        return it.read()
+
+
+def words(run, same, examples):
+    """Help, version, and wrong arguments."""
+    out, error, status = run("--help")
+    same("help", (out[:44], out.endswith(b"git config diff.cbor.textconv cborcat\n"), error, status),
+         (b"Usage: cborcat [OPTION]... [FILE]...\nShows C", True, "", 0))
+    same("-h", run("-h")[0], out)
+    same("version", run("-V"), (f"cborcat {text_of('VERSION')}".encode(), "", 0))
+    for wrong in (["--nothing"], ["-f", "xml"], ["-t", "xml"], ["-x", "01", "file"]):
+        same(f"{wrong} is wrong", run(*wrong)[2], 2)
+    for given, said in MEANT_AS_VALUES.items():
+        lines, status = run(*given, cwd=examples)[1:]
+        same(f"{given}", (lines.partition("\n")[2], "No such file" in lines, status), (said, True, 2))
+
+
+def numbers(run, same, examples):
+    """Numbers of bytes, in base 10 and in base 16."""
+    token = f"{examples}/cwt-claims.hex"
+    same("--at in base 16", run("--at=0x3e", token), run("--at=62", token))
+    same("--offset in base 16", run("--offset=0xA", "-t", "diag", data=b"\xff" * 10 + b"\x05"), (b"5\n", "", 0))
+    long = b"\x9f" + b"\x01" * 300000 + b"\xff"
+    same("--limit in base 16", [run(f"--limit={it}", data=long)[2] for it in ("0x186a0", "0x100000")], [1, 0])
+    for wrong in ("", "0x", "0xg", "5b", "0x5b ", "1.5", "-1", "0x10000000000000000", "18446744073709551616"):
+        for option in ("at", "offset", "limit"):
+            same(f"--{option}={wrong}", run(f"--{option}={wrong}", "-x", "01"), (
+                b"", f'cborcat: --{option} takes a number of bytes, as 91 or 0x5b, and not "{wrong}"\n', 2))
+
+
+def shown_commands(shell, same, text):
+    """The commands at the beginning of the help print what it shows, and are at the beginning of the manual page."""
+    block = text.split("\n\n")[1]
+    shown = [it.replace("\n  ", "\n") for it in block.removeprefix("  $ ").split("\n  $ ")]
+    same("five commands", len(shown), 5)
+    for it in shown:
+        command, _, printed = it.partition("\n")
+        out, error, _ = shell(command)
+        same(f"{command} in the help", out.decode() + error, printed + "\n")
+    page = text_of("share/man/cborcat.1").replace("\\-", "-").replace("\\(aq", "'")
+    at = page.find("\n".join(f"$ {it}" for it in shown))
+    same("the manual page begins with them", 0 < at < page.find(".SH OPTIONS"), True)
+
+
+def forms(run, same, text):
+    """Each form stands in the help once, and is one of an input and of the output as it says there."""
+    block = text.partition("Forms, ")[2].partition("\n\n")[0]
+    rows = re.findall(r"^  ([a-z0-9]+)(?:, ([a-z]+))? +(io|i|o) ", block, re.MULTILINE)
+    same("how many forms", len(rows), 9)
+    for name, other, ways in rows:
+        for word in filter(None, (name, other)):
+            same(f"-f {word}", run("-f", word, "-t", "digits")[2], 0 if "i" in ways else 2)
+            same(f"-t {word}", run("-t", word)[2], 0 if "o" in ways else 2)
+    page = text_of("share/man/cborcat.1").partition(".SH FORMS")[2].partition(".SH ")[0]
+    listed = re.findall(r"[a-z0-9]+", " ".join(re.findall(r"^\.TP.*\n\.BR? (.*)$", page, re.MULTILINE)))
+    wanted = [word for name, other, _ in rows for word in (name, other) if word]
+    same("the forms of the manual page", sorted(listed), sorted(wanted))
+
+
+def options(same, text):
+    """Each option of the help is in the manual page and in the completion."""
+    page, completion = text_of("share/man/cborcat.1").replace("\\-", "-"), text_of("share/completions/cborcat")
+    for line in text.splitlines():
+        for word in re.split(r"[ ,=\[]+", line):
+            if line.startswith("  ") and word.startswith("--"):
+                same(f"{word} in the manual page", word in page, True)
+                same(f"{word} in the completion", word in completion, True)
