@@ -4,12 +4,13 @@ use crate::dumps::shown_dumps;
 use crate::each::show_each;
 use crate::encode::Encoding;
 use crate::input::{MORE, block_len, read_into};
-use crate::messages::{Place, report_byte, report_end, report_long, report_lost, say};
+use crate::messages::{Place, label, report_byte, report_end, report_long, report_lost, say};
 use crate::naming::Tables;
 use crate::output::{Target, Written, write};
 use crate::plain::Plain;
 use crate::run::Runner;
 use crate::screen::{Screen, language_of};
+use crate::shape::shape_of;
 use crate::shown::show_of;
 use crate::status::{Next, Status};
 use cbor_bytes::{Extent, extent};
@@ -21,7 +22,7 @@ use cbor_screen::Language;
 use cborcat_arguments::{Job, View};
 use std::alloc::AllocError;
 use std::io;
-use std::io::Read;
+use std::io::{IsTerminal, Read};
 
 /// The conversion of the items of one input.
 #[derive(Drop)]
@@ -322,6 +323,9 @@ impl<'a> Conversion<'a> {
         };
         let passed = before - self.stream.rest().len().min(before);
         self.passed = passed;
+        if !self.any && passed > 0 {
+            self.note_shape(passed);
+        }
         self.any |= passed > 0;
         self.note_simple(passed);
         match self.note_breach(passed) {
@@ -367,6 +371,21 @@ impl<'a> Conversion<'a> {
         let (end, status) = show_each(&plain, &mut self.stream, asked, &mut self.out);
         self.ended(status);
         end
+    }
+
+    /// Says in a terminal which type the first item looks like, if names are shown and no type is
+    /// given.
+    fn note_shape(&self, passed: usize) {
+        let Some(Tables { outer: None, .. }) = self.tables else {
+            return;
+        };
+        if !self.job.path.is_empty() || !self.rt.stderr().is_terminal() {
+            return;
+        }
+        if let Some(word) = shape_of(self.stream.passed(passed)) {
+            let name = label(self.place.name);
+            let _ = eprintln!(self.rt; "cborcat: {name}: this looks like {word}: --as={word}");
+        }
     }
 
     /// Says where the first simple value below 32 in two bytes is, if it is in the bytes that were

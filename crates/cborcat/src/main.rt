@@ -17,6 +17,7 @@ mod plain;
 mod recognized;
 mod run;
 mod screen;
+mod shape;
 mod shown;
 mod status;
 
