@@ -7,6 +7,10 @@ from bytes_form import to_bytes
 from cases import any_item
 
 
+# what is wrong with the byte 1f
+WRONG = "1f: this major type has no indefinite length"
+
+
 class Program:
     """The program, and what counts a check."""
 
@@ -117,7 +121,7 @@ def bytes_at(program):
     same_at("past the end", 2, "0105", [],
             "cborcat: standard input: byte 2: no item has this byte; 2 bytes came\n", ["-f", "bytes"])
     same_at("before a fault", 1, "82011f", ["path: 0", "head: 01 # 1", "item: byte 1 (0x1)"],
-            "cborcat: standard input: byte 2 (0x2): 1f: this major type has no indefinite length\n"
+            f"cborcat: standard input: byte 2 (0x2): {WRONG}\n"
             "    at 1, in the array of 2 at byte 0, of which 1 is there\n    82 01 1f\n          ^^\n")
     same_at("of a cut text", 3, "82016361", ["path: 1", "head: 63 # text(3)", "item: from byte 2 (0x2) on, not whole"],
             "cborcat: standard input: cut short: the text at 1 (byte 2) has 3 bytes, 1 is there\n")
@@ -133,13 +137,13 @@ def partial(program):
         out, error, status = program.run("-f", "bytes", "--partial", "-t", form, data=data)
         program.same(what, (out.decode(), error != "", status), (wanted, True, 1))
 
-    fault = "/fault: 1f: this major type has no indefinite length/"
+    fault = f"/fault: {WRONG}/"
     same_partial("a fault", "diag", b"\x01\xa1\x61a\x83\x01\x02\x1f\x00", f"1\n{{\"a\": [1, 2, {fault} h'1f00']}}\n")
     same_partial("a cut", "diag", b"\x82\x01\x62a", "[1, /cut short/ h'6261']\n")
     same_partial("between items", "diag", b"\x82\x01", "[1, /cut short/ h'']\n")
     same_partial("in lines", "pretty", b"\x82\x01\x1f", f"[\n    1,\n    {fault} h'1f'\n]\n")
     same_partial("a dump", "hex", b"\x82\x01\x1f\x00",
-                 "82 # array(2)\n   01 # unsigned(1)\n   # fault: 1f: this major type has no indefinite length\n   1f00\n")
+                 f"82 # array(2)\n   01 # unsigned(1)\n   # fault: {WRONG}\n   1f00\n")
     same_partial("digits", "digits", b"\x01\x82\x01", "01\n")
     program.same("a whole item", program.run("--partial", "-t", "diag", data=b"\x81\x01"), (b"[1]\n", "", 0))
     for word in ("-c", "--path=1"):
@@ -171,7 +175,7 @@ def examples_in_part(program, name):
     leaves = [(int(at, 16), text) for at, _, text in lines]
     starts = places.starts(data)
     shown = [(data[:end], end, "/cut short/") for end in range(1, len(data)) if end not in starts]
-    shown += [(data[:at] + b"\x1f" + data[at + 1:], at, "/fault: 1f: this major type has no indefinite length/") for at in places.heads(data)]
+    shown += [(data[:at] + b"\x1f" + data[at + 1:], at, f"/fault: {WRONG}/") for at in places.heads(data)]
     for part, end, said in shown:
         def written(*words):
             return program.run("-f", "bytes", "--partial", *words, data=part)[0].decode()
