@@ -525,9 +525,32 @@ class Breaches(unittest.TestCase):
         self.assertRaises(TypeError, cbor_diag.breach, 1, Rules.CORE)
 
     def test_texts(self):
-        self.assertEqual(str(Breach(BreachKind.KEY_TWICE, 3, 1)), "a key that stands twice")
-        self.assertEqual(str(Breach(BreachKind.NO_ITEM, 3, error=Error.CUT_SHORT)), "the item is cut short")
+        for breach, text in (
+            (Breach(BreachKind.KEY_TWICE, 3, 1), "a key that stands twice at byte 3, first at byte 1"),
+            (Breach(BreachKind.KEY_ORDER, 3, 1), "a key that is out of order at byte 3, after the key at byte 1"),
+            (Breach(BreachKind.NO_ITEM, 3, error=Error.CUT_SHORT), "the item is cut short at byte 3"),
+        ):
+            self.assertEqual(str(breach), text)
         self.assertEqual(len({str(Breach(kind, 0)) for kind in BreachKind}), len(BreachKind))
+
+    def test_words_have_numbers(self):
+        long_key = "78 29" + 41 * " 61" + " 00"
+        for rules, given, text in (
+            (Rules.CORE, "82011802", "a head that is not the shortest: 2_0 at byte 2"),
+            (Rules.CORE, "fa3fc00000", "a float that is not the shortest: 1.5_2 at byte 0"),
+            (Rules.CORE, "a2028001 80", "a key that is out of order: 1 at byte 3, after 2 at byte 1"),
+            (Rules.CORE, "a20180 1801 80", "a head that is not the shortest: 1_0 at byte 3"),
+            (Rules.VALID, "a201800180", "a key that stands twice: 1 at byte 3, first at byte 1"),
+            (Rules.VALID, "a2" + 2 * long_key, "a key that stands twice at byte 45, first at byte 1"),
+            (Rules.CTAP2, "81c100", "a tag: 1(0) at byte 1"),
+            (Rules.RFC8949, "81f818", "a simple value below 32 in two bytes: simple(24) at byte 1"),
+            (Rules.CORE, "018201", "the item is cut short at byte 3"),
+        ):
+            for data in (bytes.fromhex(given), bytearray.fromhex(given)):
+                with self.subTest(rules=rules, data=data):
+                    found = cbor_diag.breach(data, rules)
+                    self.assertEqual(str(found), text)
+                    self.assertEqual(str(pickle.loads(pickle.dumps(found))), text)
 
 
 # rules, bytes, and the bytes that they are encoded to, or the error
@@ -550,25 +573,27 @@ REENCODED = (
 )
 
 
-# rules, bytes, and why they have no encoding; None where that is in what they would be encoded to
+# rules, bytes, why they have no encoding (None where that is in what they would be encoded to), and the last words
 NOT_ENCODABLE = (
-    (Rules.CORE, "a20180180180", Breach(BreachKind.KEY_TWICE, 3, 1)),
-    (Rules.CORE, "81a3018002801b000000000000000180", Breach(BreachKind.KEY_TWICE, 6, 2)),
-    (Rules.VALID, "a201800180", Breach(BreachKind.KEY_TWICE, 3, 1)),
-    (Rules.CTAP2, "1801c100", Breach(BreachKind.TAG, 2)),
-    (Rules.CORE, "018201", Breach(BreachKind.NO_ITEM, 3, error=Error.CUT_SHORT)),
-    (Rules.DCBOR, "7f616562cc81ff", None),
+    (Rules.CORE, "a20180180180", Breach(BreachKind.KEY_TWICE, 3, 1),
+     "a key that stands twice: 1_0 at byte 3, first at byte 1"),
+    (Rules.CORE, "81a3018002801b000000000000000180", Breach(BreachKind.KEY_TWICE, 6, 2),
+     "a key that stands twice: 1_3 at byte 6, first at byte 2"),
+    (Rules.VALID, "a201800180", Breach(BreachKind.KEY_TWICE, 3, 1),
+     "a key that stands twice: 1 at byte 3, first at byte 1"),
+    (Rules.CTAP2, "1801c100", Breach(BreachKind.TAG, 2), "a tag: 1(0) at byte 2"),
+    (Rules.CORE, "018201", Breach(BreachKind.NO_ITEM, 3, error=Error.CUT_SHORT), "the item is cut short at byte 3"),
+    (Rules.DCBOR, "7f616562cc81ff", None, "a text that is not in NFC"),
 )
 
 
 class Reencoding(unittest.TestCase):
     def test_why_not(self):
-        for rules, given, found in NOT_ENCODABLE:
+        for rules, given, found, words in NOT_ENCODABLE:
             for data in (bytes.fromhex(given), bytearray.fromhex(given)):
                 with self.subTest(rules=rules, data=data):
                     with self.assertRaises(CborDiagError) as raised:
                         cbor_diag.reencode(data, rules)
-                    words = str(found) if found else "a text that is not in NFC"
                     for failure in (raised.exception, pickle.loads(pickle.dumps(raised.exception))):
                         self.assertIs(failure.error, Error.NOT_ENCODABLE)
                         self.assertEqual(failure.breach, found)
@@ -612,13 +637,22 @@ class Names(unittest.TestCase):
     def test_errors(self):
         for data, path, kind, error in [
             (self.SIGN1, "4", None, Error.NO_PART), (self.SIGN1, "0/1", None, Error.NO_PART),
-            (self.SIGN1, "0", "COSE_Kex", Error.NO_TYPE), (self.SIGN1[:-1], "0", None, Error.CUT_SHORT),
-            (b"", "", None, Error.CUT_SHORT), (b"\x01\x02", "", None, Error.REMAINING),
+            (self.SIGN1, "0", "COSE_Kex", Error.NO_TYPE), (b"\x01\x02", "", None, Error.REMAINING),
         ]:
             with self.assertRaises(cbor_diag.CborDiagError) as raised:
                 cbor_diag.name_at(data, path, kind)
             self.assertIs(raised.exception.error, error)
             self.assertEqual(str(raised.exception), TEXTS[error])
+
+    def test_what_is_no_item(self):
+        for data in (self.SIGN1[:-1], b"", b"\xa1\x61k\x82\x01\x1f", b"\x01\x02"):
+            for call in (lambda data: cbor_diag.name_at(data, "0"), cbor_diag.bytes_to_diag):
+                with self.assertRaises(cbor_diag.CborDiagError) as raised:
+                    call(data)
+                told = raised.exception
+                if call is cbor_diag.bytes_to_diag:
+                    self.assertEqual((told.error, told.offset, told.path, str(told)), named)
+                named = told.error, told.offset, told.path, str(told)
 
 
 class Errors(unittest.TestCase):
@@ -718,18 +752,19 @@ class Errors(unittest.TestCase):
                     self.assertEqual(failure.keys, keys)
                     self.assertEqual(failure.offset, keys[1] if source is Form.BYTES else None)
                     self.assertEqual((failure.loss, failure.path), (None, None))
-                    self.assertEqual(str(failure), TEXTS[Error.SAME_KEYS])
+                    text = f"{TEXTS[Error.SAME_KEYS]}: those at bytes {keys[0]} and {keys[1]}"
+                    self.assertEqual(str(failure), text)
         with self.assertRaises(CborDiagError) as raised:
             cbor_diag.bytes_to_json(b"\xa2\x61a\x00\x61a\x00", strict=True)
         self.assertEqual(raised.exception.keys, (1, 4))
 
     def test_what_json_does_not_keep(self):
-        for given, loss in (
-            ("c100", Loss(LossKind.TAG, 0)),
-            ("82f97e00c100", Loss(LossKind.NOT_FINITE, 1)),
-            ("82f6f7", Loss(LossKind.SIMPLE, 2)),
-            ("a1616182014100", Loss(LossKind.BYTES, 5)),
-            ("a26161000100", Loss(LossKind.KEY, 4)),
+        for given, loss, words in (
+            ("c100", Loss(LossKind.TAG, 0), "a tag at byte 0"),
+            ("82f97e00c100", Loss(LossKind.NOT_FINITE, 1), "NaN or an infinity at byte 1"),
+            ("82f6f7", Loss(LossKind.SIMPLE, 2), "a simple value at byte 2"),
+            ("a1616182014100", Loss(LossKind.BYTES, 5), "a byte string at byte 5"),
+            ("a26161000100", Loss(LossKind.KEY, 4), "a key that is no text at byte 4"),
         ):
             with self.subTest(given=given):
                 for failing in (
@@ -742,7 +777,7 @@ class Errors(unittest.TestCase):
                     self.assertIs(failure.error, Error.NOT_KEPT)
                     self.assertEqual(failure.loss, loss)
                     self.assertIsNone(failure.keys)
-                    self.assertEqual(str(failure), TEXTS[Error.NOT_KEPT])
+                    self.assertEqual(str(failure), f"{TEXTS[Error.NOT_KEPT]}: {words}")
                 cbor_diag.bytes_to_json(bytes.fromhex(given))
 
     def test_no_path(self):

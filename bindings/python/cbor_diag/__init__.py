@@ -208,9 +208,7 @@ class Loss(NamedTuple):
     """How many bytes of the item come before it."""
 
 
-class Breach(NamedTuple):
-    """The first place where bytes break a rule. Its `str` says in words what is wrong."""
-
+class _Breach(NamedTuple):
     kind: BreachKind
     """What is wrong."""
     place: int
@@ -220,8 +218,15 @@ class Breach(NamedTuple):
     error: Optional[Error] = None
     """The error, for `NO_ITEM`."""
 
+
+class Breach(_Breach):
+    """The first place where bytes break a rule. Its `str` says in words what is wrong and where, and of a breach that a
+    call found also of which value: `a key that stands twice: 1 at byte 3, first at byte 1`."""
+
+    _words: Optional[str] = None
+
     def __str__(self) -> str:
-        return _breach_text(self.kind) if self.error is None else _error_text(self.error)
+        return self._words or _breach_words(self, "", "the key")
 
 
 class CborDiagError(ValueError):
@@ -373,6 +378,15 @@ def _breach_text(kind: BreachKind) -> str:
     return text.raw[:length].decode("ascii")
 
 
+def _breach_words(found: Breach, value: str, before: str) -> str:
+    """What is said of a breach: of the value at its place, and of the key before it, in EDN."""
+    text = _breach_text(found.kind) if found.error is None else _error_text(found.error)
+    words = f"{text}: {value} at byte {found.place}" if value else f"{text} at byte {found.place}"
+    if found.kind is BreachKind.KEY_ORDER:
+        return f"{words}, after {before} at byte {found.other}"
+    return words if found.other is None else f"{words}, first at byte {found.other}"
+
+
 class _View(ctypes.Structure):
     """CPython's `Py_buffer`."""
 
@@ -455,6 +469,15 @@ def _words(call: Callable[..., int], given: Any, length: int, source: int) -> Op
     return text.raw[:wanted].decode("utf-8") if wanted > 0 else None
 
 
+_LOSSES = {
+    LossKind.TAG: "a tag",
+    LossKind.NOT_FINITE: "NaN or an infinity",
+    LossKind.SIMPLE: "a simple value",
+    LossKind.BYTES: "a byte string",
+    LossKind.KEY: "a key that is no text",
+}
+
+
 def _no_json(library: _Library, given: Any, length: int, source: int, target: int, error: Error) -> CborDiagError:
     """The error of an item that has no JSON."""
     place, detail = ctypes.c_size_t(), ctypes.c_size_t()
@@ -463,8 +486,12 @@ def _no_json(library: _Library, given: Any, length: int, source: int, target: in
         return CborDiagError(error)  # memory ran out
     offset = place.value if source == _BYTES else None
     if error is Error.SAME_KEYS:
-        return CborDiagError(error, None, offset, keys=(detail.value, place.value))
-    return CborDiagError(error, None, offset, loss=Loss(LossKind(detail.value), place.value))
+        keys = detail.value, place.value
+        text = f"{_error_text(error)}: those at bytes {keys[0]} and {keys[1]}"
+        return CborDiagError(error, None, offset, text, keys=keys)
+    loss = Loss(LossKind(detail.value), place.value)
+    text = f"{_error_text(error)}: {_LOSSES[loss.kind]} at byte {loss.place}"
+    return CborDiagError(error, None, offset, text, loss=loss)
 
 
 def _failure(library: _Library, given: Any, length: int, source: int, target: int, error: Error) -> CborDiagError:
@@ -597,20 +624,39 @@ def _rules_number(rules: Rules) -> int:
     return number
 
 
-def _breach(
-    library: _Library, given: Any, length: int, rules: int, place: ctypes.c_size_t, detail: ctypes.c_size_t
-) -> int:
-    return library.breach(rules, given, length, ctypes.byref(place), ctypes.byref(detail))
+def _value_at(library: _Library, given: Any, length: int, place: int) -> str:
+    """The item at a place in EDN, if it is short; else an empty text."""
+    start = ctypes.cast(given, ctypes.c_void_p).value
+    if start is None:
+        return ""
+    count = library.extent(start + place, length - place, ctypes.byref(ctypes.c_size_t()))
+    if not 0 < count <= 40:
+        return ""
+    text = _converted(library, start + place, count, _BYTES, _EDN, _text)
+    return text if len(text) <= 40 else ""
 
 
-def _told_breach(found: int, place: int, detail: int) -> Optional[Breach]:
-    """The breach of this kind, if it has a place."""
+def _told_breach(library: _Library, given: Any, length: int, found: int, place: int, detail: int) -> Optional[Breach]:
+    """The breach of this kind in the bytes, if it has a place."""
     if place == _NO_PLACE:
         return None
     kind = BreachKind(found)
     if kind is BreachKind.NO_ITEM:
         return Breach(kind, place, error=Error(detail))
-    return Breach(kind, place, None if detail == _NO_PLACE else detail)
+    told = Breach(kind, place, None if detail == _NO_PLACE else detail)
+    before = "the key" if told.other is None else _value_at(library, given, length, told.other) or "the key"
+    told._words = _breach_words(told, _value_at(library, given, length, place), before)
+    return told
+
+
+def _breach(library: _Library, given: Any, length: int, rules: int) -> Optional[Breach]:
+    place, detail = ctypes.c_size_t(), ctypes.c_size_t()
+    found = library.breach(rules, given, length, ctypes.byref(place), ctypes.byref(detail))
+    if found == 0:
+        return None
+    if found < 0:
+        raise CborDiagError(Error(-found))
+    return _told_breach(library, given, length, found, place.value, detail.value)
 
 
 def breach(data: Bytes, rules: Rules) -> Optional[Breach]:
@@ -622,14 +668,7 @@ def breach(data: Bytes, rules: Rules) -> Optional[Breach]:
 
     Raises `CborDiagError` for no such rules, and if memory runs out, which only `VALID` and `DCBOR` take.
     """
-    number = _rules_number(rules)
-    place, detail = ctypes.c_size_t(), ctypes.c_size_t()
-    found = _on_bytes(data, _breach, number, place, detail)
-    if found == 0:
-        return None
-    if found < 0:
-        raise CborDiagError(Error(-found))
-    return _told_breach(found, place.value, detail.value)
+    return _on_bytes(data, _breach, _rules_number(rules))
 
 
 def _no_encoding(library: _Library, given: Any, length: int, rules: int, error: Error) -> CborDiagError:
@@ -640,7 +679,7 @@ def _no_encoding(library: _Library, given: Any, length: int, rules: int, error: 
     found = library.reencode_fault(rules, given, length, ctypes.byref(place), ctypes.byref(detail))
     if found <= 0:
         return CborDiagError(error)  # memory ran out
-    told = _told_breach(found, place.value, detail.value)
+    told = _told_breach(library, given, length, found, place.value, detail.value)
     words = str(told) if told else _breach_text(BreachKind(found))
     return CborDiagError(error, None, told.place if told else None, f"{_error_text(error)}: {words}", breach=told)
 
@@ -672,6 +711,13 @@ def reencode(data: Bytes, rules: Rules) -> bytes:
     return _on_bytes(data, _reencoded, _rules_number(rules))
 
 
+def _no_name(library: _Library, given: Any, length: int, error: Error) -> CborDiagError:
+    """The error of a part that has no answer: what `convert` says of data that is no item."""
+    if error in (Error.NO_PART, Error.NO_TYPE):
+        return CborDiagError(error)
+    return _failure(library, given, length, _BYTES, _BYTES, error)
+
+
 def _name(library: _Library, given: Any, length: int, path: bytes, kind: bytes) -> Optional[str]:
     """The name of a part."""
     wanted = 64
@@ -679,7 +725,7 @@ def _name(library: _Library, given: Any, length: int, path: bytes, kind: bytes) 
         text = ctypes.create_string_buffer(wanted)
         room, wanted = wanted, library.name_at(given, length, path, len(path), kind, len(kind), text, wanted)
         if wanted < 0:
-            raise CborDiagError(Error(-wanted))
+            raise _no_name(library, given, length, Error(-wanted))
         if wanted <= room:
             return text.raw[:wanted].decode("ascii") or None
 
