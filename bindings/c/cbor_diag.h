@@ -231,8 +231,10 @@ static inline int64_t cbor_diag_extent_checked(const void *input, size_t input_l
 #define CBOR_DIAG_NO_PLACE SIZE_MAX
 
 /*
- * Reports why and where an input is no item in the form `from`: the error that cbor_diag_convert has for it, with the
- * place. Call it after a conversion has failed.
+ * Reports why and where an input is no item in the form `from`: an error that is true of it, with the place. Call it
+ * after a conversion has failed. In bytes, hex and EDN it is the error that cbor_diag_convert has. Notation may have
+ * several errors: of 18446744073709551616_0 both CBOR_DIAG_ERROR_NOTATION and _PAST_WIDTH are true, and either call may
+ * tell either.
  *
  * Returns 0 if the input is an item, and otherwise minus a number of enum cbor_diag_error. `*place` is set to how many
  * bytes of the input come before the fault, or to CBOR_DIAG_NO_PLACE if there is no error, out of memory, and for no

@@ -163,9 +163,10 @@ pub(crate) fn fault(alloc: Global, from: Form, input: &[u8]) -> Result<Fault, Er
 
 /// Reports why and where an input is no item in this form.
 ///
-/// Returns 0 if it is one, and otherwise minus the number of the error that `cbor_diag_convert` has
-/// for it. Sets `place` to how many bytes of the input come before the fault, and to 2^64 - 1 where
-/// there is no place: without an error, out of memory, and for no form.
+/// Returns 0 if it is one, and otherwise minus the number of an error that is true of it: that of
+/// `cbor_diag_convert`, but where notation has several. Sets `place` to how many bytes of the input
+/// come before the fault, and to 2^64 - 1 where there is no place: without an error, out of memory,
+/// and for no form.
 ///
 /// In bytes it is the last of the first bytes that have the error, as `cbor_diag_extent` counts
 /// them; their end if they are cut; or the end of the item if more follow. In hex it is the first
