@@ -226,7 +226,7 @@ class Breach(_Breach):
     _words: Optional[str] = None
 
     def __str__(self) -> str:
-        return self._words or _breach_words(self, "", "the key")
+        return self._words or _breach_words(self)
 
 
 class CborDiagError(ValueError):
@@ -378,12 +378,12 @@ def _breach_text(kind: BreachKind) -> str:
     return text.raw[:length].decode("ascii")
 
 
-def _breach_words(found: Breach, value: str, before: str) -> str:
+def _breach_words(found: Breach, value: str = "", before: str = "") -> str:
     """What is said of a breach: of the value at its place, and of the key before it, in EDN."""
     text = _breach_text(found.kind) if found.error is None else _error_text(found.error)
     words = f"{text}: {value} at byte {found.place}" if value else f"{text} at byte {found.place}"
     if found.kind is BreachKind.KEY_ORDER:
-        return f"{words}, after {before} at byte {found.other}"
+        return f"{words}, after {before or 'the key'} at byte {found.other}"
     return words if found.other is None else f"{words}, first at byte {found.other}"
 
 
@@ -644,7 +644,7 @@ def _told_breach(library: _Library, given: Any, length: int, found: int, place: 
     if kind is BreachKind.NO_ITEM:
         return Breach(kind, place, error=Error(detail))
     told = Breach(kind, place, None if detail == _NO_PLACE else detail)
-    before = "the key" if told.other is None else _value_at(library, given, length, told.other) or "the key"
+    before = "" if told.other is None else _value_at(library, given, length, told.other)
     told._words = _breach_words(told, _value_at(library, given, length, place), before)
     return told
 
