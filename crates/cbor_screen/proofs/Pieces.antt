@@ -1,5 +1,5 @@
--- Texts in colours, and with long strings cut, one after the other.
-use Rattle.std.proofs.Common.{◌≡◌, ◌≢◌, ℕ, ◌+◌, ◌<◌, ◌≤◌, List, [], ◌∷◌, ◌++◌, length, take, drop, get_or, false}
+-- Texts in colours, and texts of which tokens are shown in another way, one after the other.
+use Rattle.std.proofs.Common.{◌≡◌, ◌≢◌, ◌⊎◌, ℕ, ◌+◌, ◌<◌, ◌≤◌, List, [], ◌∷◌, ◌++◌, length, take, drop, get_or, false}
 use Rattle.std.proofs.Common.{refl, sym, ap, ◌∙◌, subst, inl, inr, append_assoc, length-append, arith}
 use Rattle.std.proofs.Common.{eqb, suc, zero, codes}
 use Rattle.std.specs.Fmt.{decimal}
@@ -10,8 +10,10 @@ use Rattle.cbor_screen.specs.declared.kind.Kind.{Kind}
 use Rattle.cbor_screen.specs.declared.kind.Kind.TheVariants as kind
 use Rattle.cbor_screen.specs.Colored.{Span, texts_of, colored, KeepLines, IsColored, Lacks}
 use Rattle.cbor_screen.specs.Colored.{in_color, start_of, end_of}
-use Rattle.cbor_screen.specs.Elided.{Cut, Piece, tokens_of, elided, AreElided, IsElided, IsElidedToken}
+use Rattle.cbor_screen.specs.Elided.{Cut, IsElided, IsElidedToken}
 use Rattle.cbor_screen.specs.Sgr.{outside_sgr, without_sgr}
+use Rattle.cbor_screen.specs.Widthless.{IsIndicator, IsWidthlessToken}
+use Rattle.cbor_screen.specs.Tokens.{Piece, tokens_of, shown_of, AreShown, InTokens}
 
 -- what is appended after what was
 pub joined : (old mid new x y : List ℕ) → mid ≡ old ++ x → new ≡ mid ++ y → new ≡ old ++ (x ++ y)
@@ -144,15 +146,52 @@ pub colored_same : (text added : List ℕ) → IsColored text added → Lacks 27
 colored_same text added (spans, is-text, is-shown, lines) h =
     ap without_sgr (sym is-shown) ∙ spans_stay spans (subst (Lacks 27) (sym is-text) h) ∙ is-text
 
+-- ---- in tokens
+
+tokens-append : (a b : List Piece) → tokens_of (a ++ b) ≡ tokens_of a ++ tokens_of b
+tokens-append [] b = refl
+tokens-append (p ∷ a) b =
+    ap (λ t. p.token ++ t) (tokens-append a b) ∙ sym (append_assoc p.token (tokens_of a) (tokens_of b))
+
+shown-append : (a b : List Piece) → shown_of (a ++ b) ≡ shown_of a ++ shown_of b
+shown-append [] b = refl
+shown-append (p ∷ a) b =
+    ap (λ t. p.added ++ t) (shown-append a b) ∙ sym (append_assoc p.added (shown_of a) (shown_of b))
+
+module _ (R : List ℕ → List ℕ → Type 0) where
+  pub shown_none : InTokens R [] []
+  shown_none = ([], refl, refl, tt)
+
+  pub shown_one : (token added : List ℕ) → R token added → InTokens R token added
+  shown_one token added h =
+      let piece : Piece = record { token = token; added = added } in
+      (piece ∷ [], append-nil token, append-nil added, (h, tt))
+
+  are-append : (a b : List Piece) → AreShown R a → AreShown R b → AreShown R (a ++ b)
+  are-append [] b h k = k
+  are-append (p ∷ a) b (first, h) k = (first, are-append a b h k)
+
+  shown_both : (a x b y : List ℕ) → InTokens R a x → InTokens R b y → InTokens R (a ++ b) (x ++ y)
+  shown_both a x b y (s, s-tokens, s-shown, s-are) (t, t-tokens, t-shown, t-are) =
+      (s ++ t, cc (tokens-append s t), cc (shown-append s t), are-append s t s-are t-are)
+
+  pub shown_more : (text : List ℕ) (at n : ℕ) (x y : List ℕ) → InTokens R (take at text) x
+      → InTokens R (take n (drop at text)) y → InTokens R (take (at + n) text) (x ++ y)
+  shown_more text at n x y before next =
+      rw (take-add at n text) (shown_both (take at text) x (take n (drop at text)) y before next)
+
+  -- the first n, and then the next one, as it was
+  pub shown_next : (text : List ℕ) (n : ℕ) (x y : List ℕ) → InTokens R (take n text) x
+      → y ≡ take 1 (drop n text) → R (take 1 (drop n text)) (take 1 (drop n text))
+      → InTokens R (take (n + 1) text) (x ++ y)
+  shown_next text n x y before is kept =
+      shown_more text n 1 x y before (rw is (shown_one (take 1 (drop n text)) (take 1 (drop n text)) kept))
+
+  pub shown_whole : (text : List ℕ) (n : ℕ) (x : List ℕ) → n ≡ length text → InTokens R (take n text) x
+      → InTokens R text x
+  shown_whole text n x all h = subst (λ (t : List ℕ). InTokens R t x) (take_all text n all) h
+
 -- ---- with long strings cut
-
-pub elided_none : (most : ℕ) → IsElided most [] []
-elided_none most = ([], refl, refl, tt)
-
-pub elided_one : (most : ℕ) (token added : List ℕ) → IsElidedToken most token added → IsElided most token added
-elided_one most token added h =
-    let piece : Piece = record { token = token; added = added } in
-    (piece ∷ [], append-nil token, append-nil added, (h, tt))
 
 cut_whole : (token : List ℕ) (from n : ℕ)
     → (take from token ++ take n (drop from token)) ++ drop (from + n) token ≡ token
@@ -176,49 +215,13 @@ pub grouped : (old a b c d e f : List ℕ)
     → old ++ a ++ b ++ c ++ d ++ e ++ f ≡ old ++ (a ++ b ++ c ++ d ++ e ++ f)
 grouped old a b c d e f = simp append_assoc
 
-pub elided_kept : (most : ℕ) (token : List ℕ) → IsElided most token token
-elided_kept most token = elided_one most token token (inl refl)
-
-tokens-append : (a b : List Piece) → tokens_of (a ++ b) ≡ tokens_of a ++ tokens_of b
-tokens-append [] b = refl
-tokens-append (p ∷ a) b =
-    ap (λ t. p.token ++ t) (tokens-append a b) ∙ sym (append_assoc p.token (tokens_of a) (tokens_of b))
-
-elided-append : (a b : List Piece) → elided (a ++ b) ≡ elided a ++ elided b
-elided-append [] b = refl
-elided-append (p ∷ a) b =
-    ap (λ t. p.added ++ t) (elided-append a b) ∙ sym (append_assoc p.added (elided a) (elided b))
-
-are-append : (most : ℕ) (a b : List Piece) → AreElided most a → AreElided most b → AreElided most (a ++ b)
-are-append most [] b h k = k
-are-append most (p ∷ a) b (first, h) k = (first, are-append most a b h k)
-
-pub elided_both : (most : ℕ) (a x b y : List ℕ) → IsElided most a x → IsElided most b y
-    → IsElided most (a ++ b) (x ++ y)
-elided_both most a x b y (s, s-tokens, s-shown, s-are) (t, t-tokens, t-shown, t-are) =
-    (s ++ t, cc (tokens-append s t), cc (elided-append s t), are-append most s t s-are t-are)
-
-pub elided_more : (most : ℕ) (text : List ℕ) (at n : ℕ) (x y : List ℕ) → IsElided most (take at text) x
-    → IsElided most (take n (drop at text)) y → IsElided most (take (at + n) text) (x ++ y)
-elided_more most text at n x y before next =
-    rw (take-add at n text) (elided_both most (take at text) x (take n (drop at text)) y before next)
-
-pub elided_next : (most : ℕ) (text : List ℕ) (n : ℕ) (x y : List ℕ) → IsElided most (take n text) x
-    → y ≡ take 1 (drop n text) → IsElided most (take (n + 1) text) (x ++ y)
-elided_next most text n x y before is =
-    elided_more most text n 1 x y before (rw is (elided_kept most (take 1 (drop n text))))
-
-pub elided_whole : (most : ℕ) (text : List ℕ) (n : ℕ) (x : List ℕ) → n ≡ length text
-    → IsElided most (take n text) x → IsElided most text x
-elided_whole most text n x all h = subst (λ (t : List ℕ). IsElided most t x) (take_all text n all) h
-
 -- no token of a short text is cut
-short_same : (most : ℕ) (pieces : List Piece) → AreElided most pieces → length (tokens_of pieces) ≤ most
-    → elided pieces ≡ tokens_of pieces
+short_same : (most : ℕ) (pieces : List Piece) → AreShown (IsElidedToken most) pieces
+    → length (tokens_of pieces) ≤ most → shown_of pieces ≡ tokens_of pieces
 short_same most [] h short = refl
 short_same most (p ∷ pieces) (inl same, h) short =
     let rest : length (tokens_of pieces) ≤ most = omega (arith, length-append p.token (tokens_of pieces)) in
-    ap (λ t. t ++ elided pieces) same ∙ ap (λ t. p.token ++ t) (short_same most pieces h rest)
+    ap (λ t. t ++ shown_of pieces) same ∙ ap (λ t. p.token ++ t) (short_same most pieces h rest)
 short_same most (p ∷ pieces) (inr cut, h) short =
     absurd (omega (arith, cut.4, length-append p.token (tokens_of pieces)))
 
@@ -226,3 +229,17 @@ pub elided_short : (most : ℕ) (text added : List ℕ) → IsElided most text a
 elided_short most text added (pieces, is-tokens, is-shown, are) short =
     let fits : length (tokens_of pieces) ≤ most = omega (arith, ap length is-tokens) in
     sym is-shown ∙ short_same most pieces are fits ∙ is-tokens
+
+-- ---- without widths
+
+-- the width of a count, with the blank behind it
+pub widthless_count : (piece : List ℕ) → IsIndicator (take 2 piece) → drop 2 piece ≡ codes " "
+    → IsWidthlessToken piece []
+widthless_count piece indicator blank =
+    inr (take 2 piece, indicator, inr (sym (take-append-drop 2 piece) ∙ ap (λ t. take 2 piece ++ t) blank))
+
+-- a token without the indicator at its end, or all of it
+pub widthless_end : (piece : List ℕ) (n : ℕ) → (n ≡ length piece) ⊎ IsIndicator (drop n piece)
+    → IsWidthlessToken piece (take n piece)
+widthless_end piece n (inl all) = inl (take_all piece n all)
+widthless_end piece n (inr indicator) = inr (drop n piece, indicator, inl (sym (take-append-drop n piece)))

@@ -1,6 +1,7 @@
 -- What a text is whose long strings are cut.
-use Rattle.std.specs.Prelude.{◌≡◌, ◌⊎◌, ℕ, ◌<◌, List, [], ◌∷◌, ◌++◌, length, codes}
+use Rattle.std.specs.Prelude.{◌≡◌, ◌⊎◌, ℕ, ◌<◌, List, ◌++◌, length, codes}
 use Rattle.std.specs.Fmt.{decimal}
+use Rattle.cbor_screen.specs.Tokens.{InTokens}
 
 -- A token of which a part is left out.
 pub record Cut : Type 0 where
@@ -23,27 +24,6 @@ abbrev pub IsElidedToken : ℕ → List ℕ → List ℕ → Type 0
 IsElidedToken most token added = (added ≡ token)
     ⊎ ((cut : Cut) × (token ≡ whole cut) × (added ≡ shown cut) × (most < cut.bytes) × (most < length token))
 
--- A token, and what is shown of it.
-pub record Piece : Type 0 where
-  pub token : List ℕ
-  pub added : List ℕ
-
--- tokens, one after the other
-abbrev pub tokens_of : List Piece → List ℕ
-tokens_of [] = []
-tokens_of (piece ∷ pieces) = piece.token ++ tokens_of pieces
-
--- what is shown of them
-abbrev pub elided : List Piece → List ℕ
-elided [] = []
-elided (piece ∷ pieces) = piece.added ++ elided pieces
-
--- it is each token as it was, or cut
-abbrev pub AreElided : ℕ → List Piece → Type 0
-AreElided most [] = Unit {0}
-AreElided most (piece ∷ pieces) = IsElidedToken most piece.token piece.added × AreElided most pieces
-
 -- the second is the first with some long strings cut
 abbrev pub IsElided : ℕ → List ℕ → List ℕ → Type 0
-IsElided most text added =
-    (pieces : List Piece) × (tokens_of pieces ≡ text) × (elided pieces ≡ added) × AreElided most pieces
+IsElided most text added = InTokens (IsElidedToken most) text added

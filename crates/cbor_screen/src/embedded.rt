@@ -2,27 +2,14 @@
 //! stand in place of those of the bytes, one step deeper than the head of the string. Their digits
 //! are the same, so such a dump is read back as the same bytes.
 
+use crate::lines::{Line, push_lines};
+use crate::spelled::push_spelled;
 use cbor_bytes::{Extent, extent, hex_bytes};
 use cbor_dump::push_bytes_to_hex;
 use cbor_grammar::Error;
-use std::alloc::{AllocError, Global};
-
-/// A line of a dump.
-#[derive(Drop)]
-struct Line {
-    /// How deep it is.
-    depth: usize,
-    /// Its digits, of which there are none in a note.
-    digits: String,
-    /// Its comment.
-    comment: String,
-}
 
 /// How deep byte strings may be in each other whose items are shown.
 const DEPTH: u8 = 16;
-
-/// How many blanks stand before the digits of a line for each step that it is deep.
-const STEP: usize = 3;
 
 /// Appends dumps, one after the other, with the items that are in their byte strings: each that is
 /// an array, a map or a tagged item, up to 16 byte strings in each other. Of dumps as `cbor_dump`
@@ -31,7 +18,7 @@ pub fn push_embedded(out: &mut String, dumps: &str) -> Result<(), Error> {
     let alloc = *out.allocator();
     let mut lines = Vec::new(alloc);
     for text in dumps.lines() {
-        let line = line_of(alloc, text)?;
+        let line = Line::of(alloc, text)?;
         if line.depth == 0 && !line.digits.is_empty() {
             push_dump(out, lines)?;
             lines = Vec::new(alloc);
@@ -39,26 +26,6 @@ pub fn push_embedded(out: &mut String, dumps: &str) -> Result<(), Error> {
         lines.push(line)?;
     }
     push_dump(out, lines)
-}
-
-/// Whether a comment is of a part of a string, and not of a head.
-pub(crate) fn is_of_string(comment: &[u8]) -> bool {
-    comment.starts_with(b"\"") || comment.starts_with(b"h'") || comment.starts_with(b"b64'")
-}
-
-/// A line, taken apart.
-fn line_of(alloc: Global, text: &str) -> Result<Line, AllocError> {
-    let (left, right) = text.split_once('#').unwrap_or((text, ""));
-    let digits = left.trim();
-    let blanks = left.len().saturating_sub(left.trim_start().len());
-    let depth = if digits.is_empty() { 0 } else { blanks / STEP };
-    let from = depth.saturating_mul(2).saturating_add(1);
-    let comment = right.get(from..).unwrap_or("");
-    Ok(Line {
-        depth,
-        digits: String::from_str(alloc, digits)?,
-        comment: String::from_str(alloc, comment)?,
-    })
 }
 
 /// Appends the dump of an item with the items that are in its byte strings.
@@ -71,51 +38,10 @@ fn push_dump(out: &mut String, lines: Vec<Line>) -> Result<(), Error> {
             break;
         }
     }
-    let mut width = 0;
-    for line in &lines {
-        width = width.max(line.width());
-    }
-    for line in &lines {
-        line.push(out, width)?;
-    }
-    Ok(())
+    Ok(push_lines(out, &lines)?)
 }
 
 impl Line {
-    /// How wide its digits are, with the blanks before them.
-    fn width(&self) -> usize {
-        if self.digits.is_empty() {
-            return 0;
-        }
-        self.depth
-            .saturating_mul(STEP)
-            .saturating_add(self.digits.len())
-    }
-
-    /// Appends it, its digits in a column of this width.
-    fn push(&self, out: &mut String, width: usize) -> Result<(), AllocError> {
-        let blanks = width.saturating_sub(self.width());
-        if !self.digits.is_empty() {
-            push_blanks(out, self.depth.saturating_mul(STEP))?;
-            out.push_str(&self.digits)?;
-        }
-        push_blanks(out, blanks)?;
-        out.push_str(" # ")?;
-        push_blanks(out, self.depth.saturating_mul(2))?;
-        out.push_str(&self.comment)?;
-        out.push('\n')?;
-        Ok(())
-    }
-
-    /// The same line, this much deeper.
-    fn deeper(&self, depth: usize) -> Result<Line, AllocError> {
-        Ok(Line {
-            depth: self.depth.saturating_add(depth),
-            digits: self.digits.clone()?,
-            comment: self.comment.clone()?,
-        })
-    }
-
     /// Whether it is the head of a byte string.
     fn begins_bytes(&self) -> bool {
         self.comment.starts_with("bytes(")
@@ -124,13 +50,6 @@ impl Line {
     /// Whether it is the head of a byte string in chunks, which are shown as they are.
     fn begins_chunks(&self) -> bool {
         self.comment.starts_with("bytes(*")
-    }
-
-    /// Whether it has bytes of a string whose head is this deep.
-    fn is_content(&self, depth: usize) -> bool {
-        is_of_string(self.comment.as_bytes())
-            && !self.digits.is_empty()
-            && self.depth == depth.saturating_add(1)
     }
 
     /// Whether it is a tag below which bytes have a note or are no item: what notes say of them,
@@ -144,13 +63,6 @@ impl Line {
             Err(_) => false,
         }
     }
-}
-
-fn push_blanks(out: &mut String, count: usize) -> Result<(), AllocError> {
-    for _ in 0..count {
-        out.push(' ')?;
-    }
-    Ok(())
 }
 
 /// The lines with the items in the byte strings that these show as bytes, and whether there are
@@ -203,12 +115,10 @@ fn push_item(shown: &mut Vec<Line>, lines: &[Line], depth: usize) -> Result<usiz
     }
     let mut dump = String::new(alloc);
     push_bytes_to_hex(alloc, &bytes, &mut dump)?;
-    // A simple value below 24 in two bytes would be shown in one.
-    if hex_bytes(alloc, &dump)?.as_slice() != bytes.as_slice() {
-        return Ok(0);
-    }
-    for text in dump.lines() {
-        let line = line_of(alloc, text)?;
+    let mut spelled = String::new(alloc);
+    push_spelled(&mut spelled, &dump, &bytes)?;
+    for text in spelled.lines() {
+        let line = Line::of(alloc, text)?;
         shown.push(line.deeper(depth.saturating_add(1))?)?;
     }
     Ok(count)

@@ -1,5 +1,6 @@
 //! What a screen is shown of a text: colours round the tokens of EDN and of dumps, long strings
-//! that are cut, and dumps with the items that are in byte strings and with names.
+//! that are cut, EDN without widths, and dumps with the digits of the bytes that they are of, with
+//! the items that are in byte strings and with names.
 //!
 //! ```rust
 //! use cbor_screen::{Language, push_colored};
@@ -17,15 +18,22 @@
 
 mod color;
 mod elide;
+mod elided_dump;
 mod embedded;
 mod kind;
+mod lines;
 mod named;
 mod quoted;
+mod spelled;
 mod token;
+mod widths;
 
 pub use color::{push_colored, push_in_color};
 pub use elide::push_elided;
+pub use elided_dump::push_elided_dumps;
 pub use embedded::push_embedded;
 pub use kind::Kind;
 pub use named::push_named;
+pub use spelled::push_spelled;
 pub use token::Language;
+pub use widths::push_without_widths;

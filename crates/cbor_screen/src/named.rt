@@ -7,7 +7,7 @@ ghost use Rattle.cbor_screen.specs.Commented.{ChangesComments, IsInComment, with
 ghost use Rattle.cbor_tokens.specs.Uncommented.{uncommented};
 
 use crate::color::line_end;
-use crate::embedded::is_of_string;
+use crate::lines::is_of_string;
 use cbor_bytes::hex_bytes;
 use cbor_grammar::Error;
 use cbor_names::{Names, Note, Type, notes};

@@ -1,7 +1,10 @@
 //! The examples of the doc comments of `cbor_screen`, line for line: `checks/examples` compares.
 
 use cbor_names::{Definition, Names, Shape};
-use cbor_screen::{Kind, Language, push_colored, push_elided, push_in_color, push_named};
+use cbor_screen::{
+    Kind, Language, push_colored, push_elided, push_elided_dumps, push_in_color, push_named,
+    push_spelled, push_without_widths,
+};
 use std::test::Fail;
 
 #[test]
@@ -40,6 +43,34 @@ fn push_elided_example(rt: HostRuntime) -> Result<(), Fail> {
     push_elided(&mut out, b"[h'3082024101', \"no\"]", Language::Edn, 2)?;
     let wanted = b"[h'3082...' /5 bytes/, \"no\"]";
     assert_eq!(rt; out.as_slice(), wanted.as_slice());
+    Ok(())
+}
+
+#[test]
+fn push_elided_dumps_example(rt: HostRuntime) -> Result<(), Fail> {
+    let alloc = rt.alloc();
+    let mut out = String::new(alloc);
+    push_elided_dumps(&mut out, "43        # bytes(3)\n   616263 #   \"abc\"\n", 2)?;
+    let wanted = "43         # bytes(3)\n   6162... #   \"ab...\" /3 bytes/\n";
+    assert_eq!(rt; out.as_str(), wanted);
+    Ok(())
+}
+
+#[test]
+fn push_without_widths_example(rt: HostRuntime) -> Result<(), Fail> {
+    let alloc = rt.alloc();
+    let mut out = Vec::new(alloc);
+    push_without_widths(&mut out, b"[_0 1.5_3, 1_0, [_ \"a\"_0]]", Language::Edn)?;
+    assert_eq!(rt; out.as_slice(), b"[1.5, 1, [_ \"a\"]]".as_slice());
+    Ok(())
+}
+
+#[test]
+fn push_spelled_example(rt: HostRuntime) -> Result<(), Fail> {
+    let alloc = rt.alloc();
+    let mut out = String::new(alloc);
+    push_spelled(&mut out, "e0 # unassigned, simple(0)\n", b"\xf8\x00")?;
+    assert_eq!(rt; out.as_str(), "f8 00 # unassigned, simple(0)\n");
     Ok(())
 }
 

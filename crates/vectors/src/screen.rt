@@ -1,11 +1,16 @@
 //! What a screen shows of EDN and of dumps: `push_colored edn` and `push_colored dump`, where an
-//! escape character is `\e` in the result; `push_elided MOST` of EDN; `push_embedded`; `push_named
-//! TYPE`, by the tables of [`tables`].
+//! escape character is `\e` in the result; `push_elided MOST` and `push_without_widths` of EDN;
+//! `push_elided_dumps MOST`; `push_spelled BYTES`, which are hex; `push_embedded`; `push_named TYPE`,
+//! by the tables of [`tables`].
 
 use crate::row::Row;
 use crate::texts::{number_of, refused_text, text_of};
+use cbor_diag::hex_bytes;
 use cbor_names::{Definition, Key, Names, Part, Shape, What};
-use cbor_screen::{Language, push_colored, push_elided, push_embedded, push_named};
+use cbor_screen::{
+    Language, push_colored, push_elided, push_elided_dumps, push_embedded, push_named,
+    push_spelled, push_without_widths,
+};
 use std::alloc::{AllocError, Global};
 
 /// What the call of a row gives; none if it is no call of this subject.
@@ -13,6 +18,9 @@ pub fn answer(alloc: Global, row: &Row) -> Result<Option<String>, AllocError> {
     let found = match row.call {
         "push_colored" => colored(alloc, row),
         "push_elided" => elided(alloc, row),
+        "push_without_widths" => widthless(alloc, row),
+        "push_elided_dumps" => elided_dumps(alloc, row),
+        "push_spelled" => spelled(alloc, row),
         "push_embedded" => embedded(alloc, row),
         "push_named" => named(alloc, row),
         _ => return Ok(None),
@@ -36,6 +44,35 @@ fn elided(alloc: Global, row: &Row) -> Result<String, AllocError> {
     let mut out = Vec::new(alloc);
     push_elided(&mut out, &row.input, Language::Edn, number_of(row.argument))?;
     String::from_str(alloc, text_of(&out))
+}
+
+/// EDN without widths.
+fn widthless(alloc: Global, row: &Row) -> Result<String, AllocError> {
+    let mut out = Vec::new(alloc);
+    push_without_widths(&mut out, &row.input, Language::Edn)?;
+    String::from_str(alloc, text_of(&out))
+}
+
+/// Dumps with their long strings cut.
+fn elided_dumps(alloc: Global, row: &Row) -> Result<String, AllocError> {
+    let mut out = String::new(alloc);
+    match push_elided_dumps(&mut out, row.text(), number_of(row.argument)) {
+        Ok(()) => Ok(out),
+        Err(error) => refused_text(alloc, error),
+    }
+}
+
+/// Dumps with the digits of these bytes.
+fn spelled(alloc: Global, row: &Row) -> Result<String, AllocError> {
+    let mut out = String::new(alloc);
+    let shown = match hex_bytes(alloc, row.argument) {
+        Ok(bytes) => push_spelled(&mut out, row.text(), &bytes),
+        Err(error) => Err(error),
+    };
+    match shown {
+        Ok(()) => Ok(out),
+        Err(error) => refused_text(alloc, error),
+    }
 }
 
 /// Dumps with the items in their byte strings.

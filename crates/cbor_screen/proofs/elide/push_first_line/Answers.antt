@@ -1,6 +1,7 @@
-use Rattle.std.proofs.Common.{◌++◌, take, drop, refl}
+use Rattle.std.proofs.Common.{◌++◌, take, drop, refl, inl}
 use Rattle.std.proofs.lemmas.List.{take_rest}
-use Rattle.cbor_screen.proofs.Pieces.{elided_next, joined}
+use Rattle.cbor_screen.specs.Elided.{IsElidedToken}
+use Rattle.cbor_screen.proofs.Pieces.{shown_next, joined}
 use Rattle.cbor_screen.proofs.elide.push_first_line.Goals as goal
 
 pub returns-clause-elided : goal.returns-clause-elided
@@ -12,5 +13,5 @@ returns-clause-elided c =
     let push = rw (take_rest text end) at c.in_ok-extend_from_slice.ensures.items in (
       line.0 ++ feed,
       joined _ _ _ line.0 feed line.1 push,
-      elided_next c.args.most text end line.0 feed line.2 refl,
+      shown_next (IsElidedToken c.args.most) text end line.0 feed line.2 refl (inl refl),
     )

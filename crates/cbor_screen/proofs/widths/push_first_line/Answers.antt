@@ -1,0 +1,17 @@
+use Rattle.std.proofs.Common.{◌++◌, take, drop, refl, inl}
+use Rattle.std.proofs.lemmas.List.{take_rest}
+use Rattle.cbor_screen.specs.Widthless.{IsWidthlessToken}
+use Rattle.cbor_screen.proofs.Pieces.{shown_next, joined}
+use Rattle.cbor_screen.proofs.widths.push_first_line.Goals as goal
+
+pub returns-clause-widthless : goal.returns-clause-widthless
+returns-clause-widthless c =
+    let text = c.args.text.now in
+    let end = c.line_end-end.result in
+    let line = c.in_ok-push_line.ensures in
+    let feed = take 1 (drop end text) in
+    let push = rw (take_rest text end) at c.in_ok-extend_from_slice.ensures.items in (
+      line.0 ++ feed,
+      joined _ _ _ line.0 feed line.1 push,
+      shown_next IsWidthlessToken text end line.0 feed line.2 refl (inl refl),
+    )
