@@ -1,4 +1,5 @@
-"""Checks of what `checks/cborcat` sees in a terminal: colours, and long strings that are cut. A part of that script."""
+"""Checks of what `checks/cborcat` sees in a terminal: colours, long strings that are cut, EDN without widths, and dumps
+as they are shown. A part of that script."""
 
 import os
 import re
@@ -81,9 +82,88 @@ def elided(run, same):
     same("in colours", run("--elide=1", "--color=always", "-f", "hex", "-x", "a1 426162 00")[0],
          colored(b"{", (KEY, b"h'61...'"), b" ", (NOTE, b"/2 bytes/"), b" ", (NOTE, b"/'ab'/"), b": ",
                  (NUMBER, b"0"), b"}\n"))
-    for form in ("hex", "digits", "bytes", "json", "raw"):
+    for form in ("digits", "bytes", "json", "raw"):
         same(f"no --elide of {form}", run("--elide", "-t", form, "-x", "[1]"),
-             (b"", "cborcat: --elide cuts strings of pretty, diag and paths alone\n", 2))
+             (b"", "cborcat: --elide cuts strings of pretty, diag, hex and paths alone\n", 2))
+
+
+def elided_dumps(run, same):
+    """The same in dumps, also in items in byte strings, with names, and of what is there of an item."""
+    def dump(digits, *words):
+        return run(*words, "-t", "hex", "-f", "hex", "-x", digits)[0].decode()
+
+    same("strings cut", dump("82 43 616263 64 61c3bc62", "--elide=2"), """\
+82            # array(2)
+   43         #   bytes(3)
+      6162... #     "ab..." /3 bytes/
+   64         #   text(4)
+      61...   #     "a..." /4 bytes/
+""")
+    same("33 bytes", dump("5821" + "61" * 33, "--elide").splitlines()[1:], [
+        "   61616161616161616161616161616161 #   \"aaaaaaaaaaaaaaaa\""] * 2 + [
+        "   ...                              #   \"...\" /33 bytes/"])
+    same("32 bytes", dump("5820" + "61" * 32, "--elide"), dump("5820" + "61" * 32))
+    same("in a byte string", dump("44 81 42 6162", "-e", "--elide=1"), """\
+44             # bytes(4)
+   81          #   array(1)
+      42       #     bytes(2)
+         61... #       "a..." /2 bytes/
+""")
+    same("with names", dump("d2 84 43a10126 a0 43616263 40", "--elide=2").splitlines()[-3:], [
+        "         6162... #       \"ab...\" /3 bytes/", "      40         #     /signature/ bytes(0)",
+        "                 #       \"\""])
+    same("a part", dump("82 43616263 00", "--elide=0", "-p", "0"), '43     # bytes(3)\n   ... #   "..." /3 bytes/\n')
+    same("partial", dump("82 43616263 61", "--elide=1", "--partial"), """\
+82 # array(2)
+   43       # bytes(3)
+      61... #   "a..." /3 bytes/
+   # cut short
+   61
+""")
+
+
+def widthless(run, same):
+    """EDN without widths."""
+    item = "9803 fb3ff8000000000000 1800 d90001 7800"
+    for words, text in [
+        (["-t", "diag"], '[1.5, 0, 1("")]\n'), ([], '[1.5, 0, 1("")]\n'),
+        (["-t", "paths"], '0x2  0  1.5\n0xb  1  0\n0xd  2  1("")\n'),
+    ]:
+        same(f"no widths {words}", run("--no-widths", *words, "-f", "hex", "-x", item)[0].decode(), text)
+    same("an indefinite length", run("--no-widths", "-t", "diag", "-f", "hex", "-x", "9f 7f7800ff 1800 ff")[0],
+         b'[_ (_ ""), 0]\n')
+    same("cut, too", run("--no-widths", "--elide=1", "-t", "diag", "-f", "hex", "-x", "5802 6162")[0],
+         b"h'61...' /2 bytes/\n")
+    same("in colours", run("--no-widths", "--color=always", "-f", "hex", "-x", "1800")[0],
+         colored((NUMBER, b"0"), b"\n"))
+    for form in ("hex", "digits", "bytes", "json", "raw"):
+        same(f"no --no-widths of {form}", run("--no-widths", "-t", form, "-x", "[1]"),
+             (b"", "cborcat: --no-widths leaves widths out of pretty, diag and paths alone\n", 2))
+    same("--widths and --no-widths", run("--widths", "--no-widths", "-x", "1")[2], 2)
+
+
+def spelled(run, same):
+    """Dumps have the bytes of simple values in two bytes."""
+    def dump(digits, *words):
+        return run(*words, "-t", "hex", "-f", "hex", "-x", digits)[0].decode()
+
+    same("f8 00", dump("f800"), "f8 00 # unassigned, simple(0)\n")
+    same("after another item", dump("01 f814 02"), "01 # unsigned(1)\nf8 14 # false, simple(20)\n02 # unsigned(2)\n")
+    same("in an array", dump("82 f800 f4"),
+         "82       # array(2)\n   f8 00 #   unassigned, simple(0)\n   f4    #   false, simple(20)\n")
+    same("a part", dump("82 01 81f814", "-p", "1"), "81       # array(1)\n   f8 14 #   false, simple(20)\n")
+    same("each part", dump("82 e0 f800", "-p", "*"), "e0 # unassigned, simple(0)\nf8 00 # unassigned, simple(0)\n")
+    same("in a byte string", dump("43 81f814", "-e"),
+         "43          # bytes(3)\n   81       #   array(1)\n      f8 14 #     false, simple(20)\n")
+    same("an item in a byte string", dump("43 81f814", "-p", "@"),
+         "81       # array(1)\n   f8 14 #   false, simple(20)\n")
+    same("with names", dump("d2 84 40 a0 f816 40").splitlines()[-3],
+         "      f8 16 #     /payload/ null, simple(22)")
+    same("partial", dump("82 f800", "--partial"),
+         "82 # array(2)\n   f8 00 # unassigned, simple(0)\n   # cut short\n")
+    for digits in ("82f80001", "42f800", "8242f800f800", "d8184381f814", "f820f8ff", "bf6161f814ff", "9ff8009ff817ffff"):
+        shown = "".join(line.partition("#")[0] for line in dump(digits).splitlines()).replace(" ", "")
+        same(f"the digits of {digits}", shown, digits)
 
 
 def dumps(run, same):
@@ -108,7 +188,7 @@ def dumps(run, same):
    80 #   array(0)
 """)
     for digits in ("44c14101f5", "424180", "4100", "40", "d81843a10126", "d83f43a10126", "c24180", "d8404180",
-                   "5f43a10126ff", "4482f81401"):
+                   "5f43a10126ff"):
         same(f"{digits} as it is", dump(digits, "-e"), dump(digits))
 
 
@@ -118,6 +198,9 @@ def check(run, in_terminal, same, examples):
     terminals(in_terminal, run, same)
     marks(in_terminal, run, same)
     elided(run, same)
+    elided_dumps(run, same)
+    widthless(run, same)
+    spelled(run, same)
     dumps(run, same)
     for name in sorted(os.listdir(examples)):
         if not name.endswith((".hex", ".cbor")):
@@ -126,7 +209,8 @@ def check(run, in_terminal, same, examples):
         same(f"the dump of {name} is read back", run("-f", "hex", "-t", "bytes", data=dump),
              run("-t", "bytes", f"{examples}/{name}"))
         for words in (
-                ["-t", "pretty"], ["-t", "diag"], ["-t", "hex"], ["-t", "paths"], ["-e"], ["--widths"], ["--elide=8"],
+                ["-t", "pretty"], ["-t", "diag"], ["-t", "hex"], ["-t", "paths"], ["-e"], ["--widths"],
+                ["--no-widths"], ["--elide=8"],
                 ["-e", "-t", "hex"]):
             plain = run(*words, f"{examples}/{name}")[0]
             shown = run(*words, "--color=always", f"{examples}/{name}")[0]

@@ -1,6 +1,6 @@
 //! In the program, the conversion of one input, as its bytes come.
 
-use crate::dumps::shown_dumps;
+use crate::dumps::Dumps;
 use crate::each::show_each;
 use crate::encode::Encoding;
 use crate::input::{MORE, block_len, read_into};
@@ -11,7 +11,7 @@ use crate::plain::Plain;
 use crate::run::Runner;
 use crate::screen::{Screen, language_of};
 use crate::shape::shape_of;
-use crate::shown::show_of;
+use crate::shown::{show_of, spelled_bytes};
 use crate::status::{Next, Status};
 use cbor_bytes::{Extent, extent};
 use cbor_grammar::Error;
@@ -206,12 +206,18 @@ impl<'a> Conversion<'a> {
         let Some(language) = language_of(style.form) else {
             return Ok(write(self.rt, self.target, &self.out));
         };
-        if language == Language::Dump {
-            let tables = self.tables_of_passed();
-            if (style.embedded || tables.is_some())
-                && let Ok(dumps) = str::from_utf8(&self.out)
-            {
-                let shown = shown_dumps(self.rt.alloc(), dumps, style.embedded, tables)?;
+        if language == Language::Dump
+            && let Ok(dumps) = str::from_utf8(&self.out)
+        {
+            let bytes = spelled_bytes(self.rt.alloc(), self.job, self.stream.passed(self.passed))?;
+            let how = Dumps {
+                bytes: &bytes,
+                embedded: style.embedded,
+                tables: self.tables_of_passed(),
+                most: self.job.elide,
+            };
+            if how.changes() {
+                let shown = how.shown(self.rt.alloc(), dumps)?;
                 return Ok(self.screen.write(self.target, &shown, language)?);
             }
         }
@@ -289,11 +295,23 @@ impl<'a> Conversion<'a> {
             Form::Pretty | Form::Diag if !bytes.is_empty() => {
                 partial_edn(alloc, style.edn(), bytes, &said)?
             }
-            Form::Hex if !bytes.is_empty() => partial_dump(alloc, bytes, &said)?,
+            Form::Hex if !bytes.is_empty() => {
+                let how = Dumps {
+                    bytes,
+                    embedded: false,
+                    tables: None,
+                    most: self.job.elide,
+                };
+                let dump = partial_dump(alloc, bytes, &said)?;
+                let shown = how.shown(alloc, &dump)?;
+                return Ok(self.screen.write(self.target, &shown, Language::Dump)?);
+            }
             _ => return Ok(Written::Whole),
         };
-        let language = language_of(style.form).unwrap_or(Language::Edn);
-        Ok(self.screen.write(self.target, text.as_bytes(), language)?)
+        Ok(
+            self.screen
+                .write(self.target, text.as_bytes(), Language::Edn)?,
+        )
     }
 
     /// Writes what is said of a byte of an item that is not whole.

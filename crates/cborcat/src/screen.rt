@@ -1,10 +1,10 @@
-//! What the program shows of a text on the screen: colours, and long strings that are cut; and the
-//! colour of the marks in messages.
+//! What the program shows of a text on the screen: colours, EDN without widths, and long strings
+//! that are cut; and the colour of the marks in messages.
 
 use crate::output::{Target, Written, write};
 use cbor_inspect::Form;
 use cbor_messages::Excerpt;
-use cbor_screen::{Kind, Language, push_colored, push_elided, push_in_color};
+use cbor_screen::{Kind, Language, push_colored, push_elided, push_in_color, push_without_widths};
 use cbor_tokens::{is_shown, push_shown};
 use cborcat_arguments::{Color, Job};
 use std::alloc::{AllocError, Global};
@@ -75,7 +75,9 @@ pub struct Screen<'a> {
     rt: &'a HostRuntime,
     /// Whether tokens have colours.
     colors: bool,
-    /// The length of the longest strings that are not cut, if others are.
+    /// Whether widths are left out of EDN.
+    widthless: bool,
+    /// The length of the longest strings of EDN that are not cut, if others are.
     most: Option<usize>,
 }
 
@@ -86,6 +88,7 @@ impl<'a> Screen<'a> {
         Screen {
             rt,
             colors: has_colors(rt, job.color, terminal),
+            widthless: job.widthless,
             most: job.elide,
         }
     }
@@ -117,7 +120,7 @@ impl<'a> Screen<'a> {
 
     /// Whether anything of a text is shown in another way than it is.
     fn changes(self, language: Language) -> bool {
-        self.colors || self.most.is_some() || language == Language::Dump
+        self.colors || self.widthless || self.most.is_some() || language == Language::Dump
     }
 
     /// Writes some lines. In comments of a dump, which are all that has such characters, what no
@@ -130,6 +133,7 @@ impl<'a> Screen<'a> {
     ) -> Result<Written, AllocError> {
         let alloc = self.rt.alloc();
         let mut escaped = String::new(alloc);
+        let mut widthless = Vec::new(alloc);
         let mut elided = Vec::new(alloc);
         let mut colored = Vec::new(alloc);
         let mut shown = lines;
@@ -140,9 +144,15 @@ impl<'a> Screen<'a> {
                 push_shown(&mut escaped, text)?;
                 shown = escaped.as_bytes();
             }
-        } else if let Some(most) = self.most {
-            push_elided(&mut elided, shown, language, most)?;
-            shown = elided.as_slice();
+        } else {
+            if self.widthless {
+                push_without_widths(&mut widthless, shown, language)?;
+                shown = widthless.as_slice();
+            }
+            if let Some(most) = self.most {
+                push_elided(&mut elided, shown, language, most)?;
+                shown = elided.as_slice();
+            }
         }
         if self.colors {
             push_colored(&mut colored, shown, language)?;

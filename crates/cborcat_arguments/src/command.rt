@@ -45,7 +45,7 @@ enum Takes {
 /// An option: its name, which `--` precedes, its letter, which `-` precedes, and what it takes.
 type Row<'a> = (&'a str, Option<char>, Takes);
 
-const OPTIONS: [Row<'static>; 22] = [
+const OPTIONS: [Row<'static>; 23] = [
     ("from", Some('f'), Takes::From),
     ("text", Some('x'), Takes::Text),
     ("one", Some('1'), Takes::Nothing),
@@ -56,6 +56,7 @@ const OPTIONS: [Row<'static>; 22] = [
     ("embedded", Some('e'), Takes::Nothing),
     ("no-notes", None, Takes::Nothing),
     ("widths", None, Takes::Nothing),
+    ("no-widths", None, Takes::Nothing),
     ("width", None, Takes::Columns),
     ("strict", None, Takes::Nothing),
     ("output", Some('o'), Takes::Name),
@@ -71,7 +72,7 @@ const OPTIONS: [Row<'static>; 22] = [
 ];
 
 /// Arguments that cannot stand together.
-const CONFLICTS: [(&str, &str); 11] = [
+const CONFLICTS: [(&str, &str); 12] = [
     ("text", "file"),
     ("encode", "check"),
     ("at", "to"),
@@ -81,6 +82,7 @@ const CONFLICTS: [(&str, &str); 11] = [
     ("partial", "path"),
     ("partial", "encode"),
     ("partial", "check"),
+    ("no-widths", "widths"),
     ("no-names", "as"),
     ("no-names", "names"),
 ];

@@ -41,11 +41,13 @@ Output:
                      and CTAP2: tables in TOML
       --no-names     no names, but the other comments
       --widths       the width of each float and number above 23
+      --no-widths    no widths (_0 to _3) in notation, which then is not to be
+                     read back
       --width=N      lines of N columns, 20 to 1000, where pretty notation takes
                      several (default: 80)
       --strict       what JSON does not keep is an error (-t json)
-      --elide[=N]    cut strings of more than N bytes (default: 32) in notation,
-                     which then is not to be read back
+      --elide[=N]    cut strings of more than N bytes (default: 32) in notation
+                     and dumps, which then are not to be read back
       --color=WHEN   auto, always or never (default: auto, in a terminal and
                      if NO_COLOR is not set)
   -o, --output=FILE  write FILE, once all input is converted

@@ -59,6 +59,8 @@ pub struct Job<'a> {
     pub view: View,
     /// Whether the output has colours.
     pub color: Color,
+    /// Whether widths are left out of notation.
+    pub widthless: bool,
     /// How many bytes the longest strings have that are not cut, if others are.
     pub elide: Option<usize>,
     /// What is written of each item.

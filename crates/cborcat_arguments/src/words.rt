@@ -132,8 +132,11 @@ fn refusal(job: &Job, matches: &ArgMatches) -> Option<&'static str> {
         _ if has_tables && !job.has_names() => {
             Some("--as and --names are for names, which pretty notation and dumps have, with notes")
         }
-        _ if job.elide.is_some() && !is_notation => {
-            Some("--elide cuts strings of pretty, diag and paths alone")
+        _ if job.elide.is_some() && !is_notation && job.show.style.form != Form::Hex => {
+            Some("--elide cuts strings of pretty, diag, hex and paths alone")
+        }
+        _ if job.widthless && !is_notation => {
+            Some("--no-widths leaves widths out of pretty, diag and paths alone")
         }
         _ if has_width && job.show.style.form != Form::Pretty => {
             Some("--width is for pretty notation alone")
@@ -194,6 +197,7 @@ fn job_of<'a>(rt: &HostRuntime, matches: &ArgMatches<'a>) -> Asked<'a> {
             .unwrap_or(LIMIT),
         view: view_of(matches),
         color: Color::named(matches.get_str("color")),
+        widthless: matches.get_flag("no-widths"),
         elide: matches.get_one::<usize>("elide"),
         show,
         names: !matches.get_flag("no-names"),
