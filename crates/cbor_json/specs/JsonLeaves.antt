@@ -6,14 +6,15 @@ use Rattle.std.specs.Prelude.{if◌then◌else◌, nat_le, nat_lt, ◌==◌, not
 use Rattle.std.specs.Float.{float_is_finite}
 use Rattle.std.specs.Float.Ieee.{Float}
 use Rattle.std.specs.Fmt.{sign_text}
-use Rattle.hex.specs.Hex.{encode_lower}
+use Rattle.hex.specs.Hex.{encode_lower, encode_upper}
 use Rattle.cbor_json.specs.Decimal.{number_of, if_more, IsDecimal}
 use Rattle.cbor_floats.specs.declared.float.EncodedFloat.{EncodedFloat}
 use Rattle.cbor_floats.specs.declared.float.EncodedFloat.TheVariants.{Half, Single, Double}
 use Rattle.cbor_floats.specs.Decimal.{IsTextOf}
 use Rattle.cbor_floats.specs.Value.{value_of, IsEncodingOf}
 use Rattle.cbor_tokens.specs.Escapes.{escaped_text}
-use Rattle.cbor_grammar.specs.declared.encoding.Encoding.TheVariants.{Base16}
+use Rattle.cbor_grammar.specs.declared.encoding.Encoding.{Encoding}
+use Rattle.cbor_grammar.specs.declared.encoding.Encoding.TheVariants.{Base16, Base64Url}
 use Rattle.cbor_grammar.specs.declared.layout.Content.{Content}
 use Rattle.cbor_grammar.specs.declared.layout.Content.TheVariants as shown
 use Rattle.cbor_grammar.specs.declared.strings.StringKind.{StringKind}
@@ -93,6 +94,31 @@ LeafAt spot.Key a t = InQuotes (EdnLeaf a) t
 LeafAt spot.InKey a t = EdnLeaf a t
 LeafAt s a t = ValueLeaf a t
 
+-- ---- bytes
+
+-- the tags of big numbers (RFC 8949 section 3.4.3)
+abbrev pub is_big_tag : Option ℕ → Bool
+is_big_tag None = false
+is_big_tag (Some tag) = (tag == 2) || (tag == 3)
+
+-- The number below tag 3 is one less than the amount.
+abbrev pub is_negative_tag : Option ℕ → Bool
+is_negative_tag None = false
+is_negative_tag (Some tag) = tag == 3
+
+-- the digits of bytes that are asked for (RFC 4648): hex has upper-case letters
+abbrev pub digits_in : Encoding → List ℕ → List ℕ
+digits_in Base16 b = encode_upper b
+digits_in e b = encoded_bytes e b
+
+-- The bytes of a value as digits. Those of a big number are in base64url, whatever is asked for, and those of a negative
+-- one have a tilde before them.
+abbrev pub value_digits : Option ℕ → Encoding → List ℕ → List ℕ
+value_digits tag e b =
+    if is_negative_tag tag then codes "~" ++ encoded_bytes Base64Url b
+    else if is_big_tag tag then encoded_bytes Base64Url b
+    else digits_in e b
+
 -- ---- strings
 
 -- the content of a text in EDN that is in a JSON string: escaped for EDN, and that for JSON
@@ -107,10 +133,10 @@ edn_string kind.Text c = codes "\\\"" ++ (twice_escaped c.bytes ++ codes "\\\"")
 abbrev pub string_at : JsonPlace → Spot → StringKind → Chunk → List ℕ
 string_at p spot.InKey k c = edn_string k c
 string_at p spot.Key kind.Bytes c = in_quotes (quoted Base16 c.bytes)
-string_at p s kind.Bytes c = in_quotes (encoded_bytes p.encoding c.bytes)
+string_at p s kind.Bytes c = in_quotes (value_digits p.tag p.encoding c.bytes)
 string_at p s kind.Text c = in_quotes (escaped_text c.bytes)
 
--- ---- big numbers (RFC 8949 section 3.4.3)
+-- ---- big numbers by their decimal digits
 
 -- no key, and no part of one
 abbrev pub is_value : Spot → Bool
@@ -121,15 +147,6 @@ is_value s = true
 abbrev pub is_bytes : StringKind → Bool
 is_bytes kind.Bytes = true
 is_bytes kind.Text = false
-
-abbrev pub is_big_tag : Option ℕ → Bool
-is_big_tag None = false
-is_big_tag (Some tag) = (tag == 2) || (tag == 3)
-
--- The number below tag 3 is one less than the amount.
-abbrev pub is_negative_tag : Option ℕ → Bool
-is_negative_tag None = false
-is_negative_tag (Some tag) = tag == 3
 
 -- a byte string that is written by the digits of its number: a value, right below such a tag, of at most 1,024 bytes
 abbrev pub is_big : JsonPlace → StringKind → List ℕ → Bool
@@ -153,7 +170,7 @@ part_at p spot.InKey kind.Text c = twice_escaped c.bytes
 part_at p s kind.Text c = escaped_text c.bytes
 part_at p spot.Key kind.Bytes c = encode_lower c.bytes
 part_at p spot.InKey kind.Bytes c = encode_lower c.bytes
-part_at p s kind.Bytes c = encoded_bytes p.encoding c.bytes
+part_at p s kind.Bytes c = digits_in p.encoding c.bytes
 
 -- ---- lists
 

@@ -1,7 +1,7 @@
 -- Digits, which stand for themselves in a JSON string.
 use Rattle.std.proofs.Common.{◌≡◌, ℕ, ◌/◌, ◌%◌, ◌^◌, ◌<◌, ◌≤◌, List, [], ◌∷◌, ◌++◌, length, Bool, true, false}
 use Rattle.std.proofs.Common.{if◌then◌else◌, codes, refl, inl, inr, sym, ap, subst, ◌∙◌, arith, slice_index, replicate}
-use Rattle.std.proofs.Common.{zero, suc}
+use Rattle.std.proofs.Common.{zero, suc, Option}
 use Rattle.std.proofs.lemmas.Bool.{agree_below_at}
 use Rattle.std.proofs.lemmas.Bool.Decides.{nat_tests}
 use Rattle.std.proofs.lemmas.Fmt.{decimal_is_IsNumeral_wide}
@@ -11,7 +11,7 @@ use Rattle.std.specs.Fmt.{decimal, sign_text}
 use Rattle.std.specs.Float.Numeral.{Parts, text_of, exponent_text}
 use Rattle.std.specs.Str.Parse.{AllDigits}
 use Rattle.base64.specs.Rfc4648.{encode_symbols, padding_len}
-use Rattle.hex.specs.Hex.{encode_lower, encode_with, lower_digits}
+use Rattle.hex.specs.Hex.{encode_lower, encode_with, lower_digits, upper_digits}
 use Rattle.ryu.specs.Plain.{IsLaidOutNumber}
 use Rattle.cbor_floats.specs.Decimal.{IsTextOf}
 use Rattle.cbor_grammar.proofs.bytes.Laws.{AllBytes, wide_bytes}
@@ -22,18 +22,28 @@ use Rattle.cbor_grammar.specs.declared.width.FloatWidth.{FloatWidth}
 use Rattle.cbor_grammar.specs.declared.width.FloatWidth.TheVariants as float_width
 use Rattle.cbor_grammar.specs.declared.width.IntegerWidth.TheVariants.{Unknown}
 use Rattle.cbor_tokens.specs.Base64.{standard_alphabet, url_safe_alphabet}
+use Rattle.cbor_json.specs.JsonLeaves.{digits_in, value_digits, is_big_tag, is_negative_tag}
 use Rattle.cbor_json.proofs.json.Fills.{is_calm, Calm, calm_append, calm_constant}
 
 -- ---- hex
 
-hex_digit : (k : ℕ) → k < 16 → is_calm (slice_index lower_digits k) ≡ true
-hex_digit k lt = agree_below_at (λ k. is_calm (slice_index lower_digits k)) (λ k. true) 16 k refl lt
+abbrev CalmHex : List ℕ → Type 0
+CalmHex t = (k : ℕ) → k < 16 → is_calm (slice_index t k) ≡ true
+
+lower_hex : CalmHex lower_digits
+lower_hex k lt = agree_below_at (λ k. is_calm (slice_index lower_digits k)) (λ k. true) 16 k refl lt
+
+upper_hex : CalmHex upper_digits
+upper_hex k lt = agree_below_at (λ k. is_calm (slice_index upper_digits k)) (λ k. true) 16 k refl lt
+
+pairs_calm : (t b : List ℕ) → CalmHex t → AllBytes b → Calm (encode_with t b)
+unfolding encode_with
+pairs_calm t [] d h = tt
+pairs_calm t (x ∷ b) d h =
+    let lt : x < 256 = h.0 in (d (x / 16) (omega arith), (d (x % 16) (omega arith), pairs_calm t b d h.1))
 
 pub hex_calm : (b : List ℕ) → AllBytes b → Calm (encode_lower b)
-unfolding encode_with
-hex_calm [] h = tt
-hex_calm (x ∷ b) h =
-    let lt : x < 256 = h.0 in (hex_digit (x / 16) (omega arith), (hex_digit (x % 16) (omega arith), hex_calm b h.1))
+hex_calm b h = pairs_calm lower_digits b lower_hex h
 
 -- ---- base 64
 
@@ -79,6 +89,24 @@ encoded_calm Base64 b h =
     (padding_calm (padding_len (length b)))
 encoded_calm Base64Url b h =
     calm_append (encode_symbols url_safe_alphabet b) [] (symbols_calm url_safe_alphabet b url_safe_digits h) tt
+
+-- ---- bytes of values
+
+pub digits_calm_in : (e : Encoding) (b : List ℕ) → AllBytes b → Calm (digits_in e b)
+digits_calm_in Base16 b h = pairs_calm upper_digits b upper_hex h
+digits_calm_in Base64 b h = encoded_calm Base64 b h
+digits_calm_in Base64Url b h = encoded_calm Base64Url b h
+
+-- by the tests on the tag: for a negative big number, and for any
+chosen_calm : (negative big : Bool) (e : Encoding) (b : List ℕ) → AllBytes b
+    → Calm (if negative then codes "~" ++ encoded_bytes Base64Url b else if big then encoded_bytes Base64Url b
+      else digits_in e b)
+chosen_calm true big e b h = (refl, encoded_calm Base64Url b h)
+chosen_calm false true e b h = encoded_calm Base64Url b h
+chosen_calm false false e b h = digits_calm_in e b h
+
+pub value_calm : (tag : Option ℕ) (e : Encoding) (b : List ℕ) → AllBytes b → Calm (value_digits tag e b)
+value_calm tag e b h = chosen_calm (is_negative_tag tag) (is_big_tag tag) e b h
 
 -- ---- decimal
 

@@ -33,7 +33,7 @@ use Rattle.cbor_json.specs.JsonLeaves.{closing_at, empty_at, before_member, enco
 use Rattle.cbor_json.specs.declared.print.place.JsonPlace.{JsonPlace}
 use Rattle.cbor_json.specs.declared.print.place.Spot.{Spot}
 use Rattle.cbor_json.specs.declared.print.place.Spot.TheVariants as spot
-use Rattle.cbor_json.proofs.json.Digits.{hex_calm, encoded_calm, number_calm}
+use Rattle.cbor_json.proofs.json.Digits.{hex_calm, digits_calm_in, value_calm, number_calm}
 use Rattle.cbor_json.proofs.json.Digits.{decimal_calm, number_text_calm, float_bytes}
 use Rattle.cbor_json.proofs.json.Digits.{big_calm}
 use Rattle.cbor_json.proofs.json.Fills.{Fills, fills_nothing, fills_then, calm_fills, constant}
@@ -144,10 +144,10 @@ string_at_part p spot.InKey left kind.Text c h =
 string_at_part p spot.Key left kind.Bytes c h = string_in_quotes (quoted Base16 c.bytes) (quoted_fills c.bytes h)
 string_at_part p spot.Key left kind.Text c h = string_in_quotes (escaped_text c.bytes) (escaped_fills c.bytes)
 string_at_part p spot.Value left kind.Bytes c h =
-    string_reads (string_in_quotes _ (calm_fills _ (encoded_calm p.encoding c.bytes h)))
+    string_reads (string_in_quotes _ (calm_fills _ (value_calm p.tag p.encoding c.bytes h)))
 string_at_part p spot.Value left kind.Text c h = string_reads (string_in_quotes _ (escaped_fills c.bytes))
 string_at_part p spot.Named left kind.Bytes c h =
-    string_reads (string_in_quotes _ (calm_fills _ (encoded_calm p.encoding c.bytes h)))
+    string_reads (string_in_quotes _ (calm_fills _ (value_calm p.tag p.encoding c.bytes h)))
 string_at_part p spot.Named left kind.Text c h = string_reads (string_in_quotes _ (escaped_fills c.bytes))
 
 -- a big number by its digits
@@ -190,8 +190,8 @@ part_fills p spot.Value kind.Text c h = escaped_fills c.bytes
 part_fills p spot.Named kind.Text c h = escaped_fills c.bytes
 part_fills p spot.Key kind.Bytes c h = calm_fills _ (hex_calm c.bytes h.bytes)
 part_fills p spot.InKey kind.Bytes c h = calm_fills _ (hex_calm c.bytes h.bytes)
-part_fills p spot.Value kind.Bytes c h = calm_fills _ (encoded_calm p.encoding c.bytes h.bytes)
-part_fills p spot.Named kind.Bytes c h = calm_fills _ (encoded_calm p.encoding c.bytes h.bytes)
+part_fills p spot.Value kind.Bytes c h = calm_fills _ (digits_calm_in p.encoding c.bytes h.bytes)
+part_fills p spot.Named kind.Bytes c h = calm_fills _ (digits_calm_in p.encoding c.bytes h.bytes)
 
 -- ---- lists in a key
 

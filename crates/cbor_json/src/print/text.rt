@@ -2,13 +2,15 @@
 #![tactic(auto, using(cbor_tokens::proofs::texts::Appending::appending_steps))]
 
 ghost use Rattle.std.specs.Prelude.{◌≡◌};
+ghost use Rattle.hex.specs.Hex.{encode_upper};
 ghost use Rattle.cbor_tokens.specs.Escapes.{escaped_text};
 ghost use Rattle.cbor_grammar.specs.declared.encoding.Encoding.TheVariants.{Base16};
 ghost use Rattle.cbor_grammar.specs.declared.strings.StringKind.TheVariants.{Bytes};
 ghost use Rattle.cbor_grammar.specs.mirror.StringView.{kind_of, borrowed_chunk};
-ghost use Rattle.cbor_grammar.specs.NotationText.{encoded_bytes, quoted};
+ghost use Rattle.cbor_grammar.specs.NotationText.{quoted};
 ghost use Rattle.cbor_tokens.specs.Appends.{AppendsText};
 ghost use Rattle.cbor_json.specs.JsonLeaves.{in_quotes, twice_escaped, edn_string, string_at};
+ghost use Rattle.cbor_json.specs.JsonLeaves.{digits_in, value_digits, is_big_tag};
 ghost use Rattle.cbor_json.specs.JsonLeaves.{part_at, content_at as content_there};
 ghost use Rattle.cbor_json.specs.JsonLeaves.{begins_container as begins, is_value as is_value_spot};
 ghost use Rattle.cbor_json.specs.JsonLeaves.{wants_bytes, is_big as is_big_number, BigText};
@@ -66,23 +68,65 @@ pub(super) fn content_at(place: &JsonPlace, bytes: &[u8]) -> Content
     }
 }
 
-/// Writes bytes as digits.
-fn push_encoded(out: &mut String, bytes: &[u8], encoding: Encoding) -> Result<(), AllocError>
-    ensures { AppendsText result out.old out.new (encoded_bytes encoding bytes.now) }
+/// Whether the bytes right below this tag are a big number.
+fn is_big_tag(tag: Option<u64>) -> bool
+    ensures { result ≡ is_big_tag tag }
 {
-    match encoding {
-        Encoding::Base16 => push_hex(out, bytes),
+    matches!(tag, Some(2 | 3))
+}
+
+/// Whether they are a negative one.
+fn is_negative_tag(tag: Option<u64>) -> bool
+    ensures { result ≡ is_negative_tag tag }
+{
+    matches!(tag, Some(3))
+}
+
+/// Writes bytes as the digits that are asked for there.
+fn push_digits(out: &mut String, bytes: &[u8], place: &JsonPlace) -> Result<(), AllocError>
+    ensures { AppendsText result out.old out.new (digits_in place.now.encoding bytes.now) }
+{
+    match place.encoding {
+        Encoding::Base16 => push_upper_hex(out, bytes, place.alloc),
         Encoding::Base64 => STANDARD.encode_string(bytes, out),
         Encoding::Base64Url => URL_SAFE_NO_PAD.encode_string(bytes, out),
     }
 }
 
-/// Writes bytes as a JSON string of digits.
-fn push_bytes(out: &mut String, bytes: &[u8], encoding: Encoding) -> Result<(), AllocError>
-    ensures { AppendsText result out.old out.new (in_quotes (encoded_bytes encoding bytes.now)) }
+/// Writes bytes as hex digits with upper-case letters.
+fn push_upper_hex(out: &mut String, bytes: &[u8], alloc: Global) -> Result<(), AllocError>
+    ensures { AppendsText result out.old out.new (encode_upper bytes.now) }
+{
+    let digits = hex::encode_upper(alloc, bytes)?;
+    out.push_str(digits.as_str())
+}
+
+/// Writes the bytes of a value as digits.
+fn push_value_digits(
+    out: &mut String,
+    bytes: &[u8],
+    place: &JsonPlace,
+) -> Result<(), AllocError>
+    ensures { AppendsText result out.old out.new
+        (value_digits place.now.tag place.now.encoding bytes.now) }
+{
+    if is_negative_tag(place.tag) {
+        out.push('~')?;
+        URL_SAFE_NO_PAD.encode_string(bytes, out)
+    } else if is_big_tag(place.tag) {
+        URL_SAFE_NO_PAD.encode_string(bytes, out)
+    } else {
+        push_digits(out, bytes, place)
+    }
+}
+
+/// Writes the bytes of a value as a JSON string of digits.
+fn push_bytes(out: &mut String, bytes: &[u8], place: &JsonPlace) -> Result<(), AllocError>
+    ensures { AppendsText result out.old out.new
+        (in_quotes (value_digits place.now.tag place.now.encoding bytes.now)) }
 {
     out.push('"')?;
-    push_encoded(out, bytes, encoding)?;
+    push_value_digits(out, bytes, place)?;
     out.push('"')
 }
 
@@ -128,14 +172,14 @@ fn push_edn_text(out: &mut String, text: &str, alloc: Global) -> Result<(), Allo
 fn is_big(place: &JsonPlace, bytes: &[u8]) -> bool
     ensures { result ≡ is_big_number place.now Bytes bytes.now }
 {
-    is_value(place.spot) && matches!(place.tag, Some(2 | 3)) && bytes.len() <= 1024
+    is_value(place.spot) && is_big_tag(place.tag) && bytes.len() <= 1024
 }
 
 /// Writes a big number by its digits.
 fn push_big(out: &mut String, bytes: &[u8], place: &JsonPlace) -> Result<(), AllocError>
     ensures { Writes result out.old out.new (BigText (is_negative_tag place.now.tag) bytes.now) }
 {
-    let negative = matches!(place.tag, Some(3));
+    let negative = is_negative_tag(place.tag);
     let digits = decimal(place.alloc, bytes, negative)?;
     if negative {
         out.push('-')?;
@@ -173,7 +217,7 @@ fn push_plain_string(
         StringContent::Bytes(bytes) => match place.spot {
             Spot::Key => push_bytes_key(out, bytes),
             Spot::InKey => push_quoted(out, bytes, Encoding::Base16),
-            Spot::Value | Spot::Named => push_bytes(out, bytes, place.encoding),
+            Spot::Value | Spot::Named => push_bytes(out, bytes, place),
         },
         StringContent::Text(text) => match place.spot {
             Spot::InKey => push_edn_text(out, text, place.alloc),
@@ -195,7 +239,7 @@ pub(super) fn push_part(
     match content {
         StringContent::Bytes(bytes) => match place.spot {
             Spot::Key | Spot::InKey => push_hex(out, bytes),
-            Spot::Value | Spot::Named => push_encoded(out, bytes, place.encoding),
+            Spot::Value | Spot::Named => push_digits(out, bytes, place),
         },
         StringContent::Text(text) => match place.spot {
             Spot::InKey => push_twice_escaped(out, text, place.alloc),
