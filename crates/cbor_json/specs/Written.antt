@@ -53,13 +53,15 @@ pub record IsNotKept (style : JsonStyle) (i : Item) : Type 0 where
   pub strict : IsTrue style.strict
   pub lost : ¬ (IsKept i)
 
--- two keys of a map become the same in a text that JSON has for the item
+-- Two keys of a map become the same in a text that JSON has for the item. In a strict style JSON keeps all of it: what is
+-- not kept comes first.
 pub record HasSameKeys (style : JsonStyle) (i : Item) : Type 0 where
   pub text : List ℕ
   pub of : IsJsonOf style i text
   pub means : Json
   pub is : document text ≡ Some means
   pub twice : ¬ (HasUniqueKeys means)
+  pub kept : IsTrue style.strict → IsKept i
 
 -- what became of an item
 abbrev pub Judges : JsonStyle → Judged → Item → Type 0

@@ -96,8 +96,8 @@ module _ (style : JsonStyle) (b : List ℕ) (i : Item) (rest t s : List ℕ) (by
         kept = kept;
       }
 
-  pub has_same_keys : unique ≡ false → HasSameKeys style i
-  has_same_keys false_is =
+  pub has_same_keys : unique ≡ false → (IsTrue style.strict → IsKept i) → HasSameKeys style i
+  has_same_keys false_is kept =
       let d = json_is style b i rest t bytes read of in
       let is : document s ≡ Some d.means = ap document same ∙ d.is in
       record {
@@ -108,6 +108,7 @@ module _ (style : JsonStyle) (b : List ℕ) (i : Item) (rest t s : List ℕ) (by
         twice = λ h.
             let true_is = (decides d.means (ap document looked ∙ is)).1 h in
             let wrong : false ≡ true = sym false_is ∙ true_is in absurd cc;
+        kept = kept;
       }
 
 module _ (style : JsonStyle) (b : List ℕ) (one : OneOutcome 1 b) where

@@ -28,5 +28,6 @@ returns-clause-judged c =
       has_same_keys c.args.style c.args.bytes.now p.0 c.in_ok-text.rest.now p.2 (string_bytes c.in_ok-text.text)
           (λ i. omega (arith, c.type_inv.bytes i)) p.1 p.3 p.4 c.in_ok-has_unique_keys.field-0
           c.as_str.result.now c.as_str.ensures.value
-          c.in_ok-has_unique_keys.ensures c.if-branch.false,
+          c.in_ok-has_unique_keys.ensures c.if-branch.false
+          (c.in_default.ensures.kept p.0 c.in_ok-text.rest.now p.1),
     )
