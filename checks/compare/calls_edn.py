@@ -48,6 +48,7 @@ CALLS = {
     "push_bytes_to_edn_noted_partial": lambda row: edn_notes.noted(
         edn_notes.partial_to_edn, row.bytes(), row.argument),
     "bytes_to_json": lambda row: json_text.bytes_to_json(row.bytes(), row.argument.split()),
+    "bytes_to_json_named": lambda row: json_text.bytes_to_json(row.bytes(), row.argument.split()),
     "push_bytes_to_json_partial": lambda row: json_text.partial_to_json(row.bytes(), row.argument.split()),
     "parse_number": lambda row: floats_form.parsed(row.text(), None),
     "parse_in_width": lambda row: floats_form.parsed(row.text(), int(row.argument) // 8),

@@ -81,6 +81,42 @@ def items(run, same):
     same("a sequence as JSON", run("-f", "hex", "-t", "json", "-x", "01 820203 a0"), (b"1\n[2, 3]\n{}\n", "", 0))
 
 
+# Options, an item in EDN, and what is written.
+NAMED = [
+    (["--as=CWT"], '{1: "coap://as.example.com", 4: 1444064944, 99: true}',
+     '{"iss": "coap://as.example.com", "exp": 1444064944, "99": true}'),
+    (["--as=COSE_Key"], "{-1: h'00', 1: 4, 3: 5}", '{"k": "AA", "kty": 4, "alg": 5}'),
+    (["--as=COSE_Key", "-p", "2"], "[0, 1, {1: 4}]", '{"kty": 4}'),
+    (["--as=CWT", "-p", "*"], "[{1: 'a'}, {2: true}]", '{"iss": "YQ"}\n{"sub": true}'),
+    ([], "18([<<{1: -7}>>, {4: '11'}, h'', h''])", '["oQEm", {"kid": "MTE"}, "", ""]'),
+    (["-e"], "18([<<{1: -7}>>, {4: '11'}, h'', h''])", '[{"alg": -7}, {"kid": "MTE"}, "", ""]'),
+    (["-e"], "61(18([h'', {}, <<{1: 'a', 7: h'0b71'}>>, h'']))", '["", {}, {"iss": "YQ", "cti": "C3E"}, ""]'),
+    (["--as=SenML"], '[{0: "a", 2: 1.5}, {"x": 1}]', '[{"n": "a", "v": 1.5}, {"x": 1}]'),
+    ([], "{1: 2}", '{"1": 2}'),
+    (["--as=CWT"], '{"iss": 1, true: 2, [1]: 3, {1: 2}: 4}', '{"iss": 1, "true": 2, "[1]": 3, "{1: 2}": 4}'),
+    (["--as=CWT", "--strict"], '{1: "a"}', '{"iss": "a"}'),
+]
+
+
+def named(run, same):
+    """The names of keys in place of them."""
+    options = ["-t", "json", "--names-as-keys"]
+    for words, text, wanted in NAMED:
+        same(f"{words} {text} with names", run(*options, *words, "-x", text), (wanted.encode() + b"\n", "", 0))
+    # {1: "a", "iss": "b"}, and what is not kept behind a key that has a name.
+    for words, digits, place, what in [
+        ([], "a2 01 61 61 63 69 73 73 61 62", 4, 'the key "iss" is the same in JSON as the key 1 at byte 1'),
+        (["--strict"], "a2 01 61 61 18 63 61 62", 4, "JSON does not keep the key 99, which is no text"),
+        (["--strict"], "a1 01 f7", 2, "JSON does not keep undefined"),
+    ]:
+        out, error, status = run(*options, "--as=CWT", *words, "-f", "bytes", data=bytes.fromhex(digits))
+        said = f"cborcat: standard input: byte {place} (0x{place:x}): {what}\n"
+        same(f"{digits} with names", (out, error[:len(said)], status), (b"", said, 1))
+    for wrong in (["-t", "json", "--as=CWT"], ["-t", "json", "--names=x"], ["--names-as-keys"],
+                  ["-t", "diag", "--names-as-keys"], [*options, "--no-names"], [*options, "--no-notes"]):
+        same(f"{wrong} is wrong", run(*wrong, data=b"\1")[::2], (b"", 2))
+
+
 def refusals(run, same):
     """What keeps an item from being written: the others are."""
     # The line of bytes is of the item alone, as those of an item that is encoded again are.
@@ -135,6 +171,7 @@ def check(run, same, in_terminal, folder):
     documents(run, same)
     drawn_documents(run, same)
     items(run, same)
+    named(run, same)
     refusals(run, same)
     raw(run, same, in_terminal)
     examples(run, same, folder)

@@ -94,6 +94,12 @@ array = ["version", { name = "place", is = "Place" }]
 values = { 1 = "hall" }
 """
 
+READING = """\
+[Reading]
+tag = 1001
+map.7 = "sensor"
+"""
+
 # Files of names, and what standard error has of them.
 FAULTS = [
     ("[T]\ntag = 1\narray = ['a/b']\n", "line 3: a name is printable ASCII without `/` that does not begin with `*`"),
@@ -164,6 +170,10 @@ def files(run, same, folder):
     same("names of a file", run(f"--names={path}", "-x", "1000([7, 1])"),
          (b"/Frame/ 1000([/version/ 7, /place/ 1 /hall/])\n", "", 0))
     same("a type of a file", run(f"--names={path}", "--as=Place", "-x", "1"), (b"/Place/ 1 /hall/\n", "", 0))
+    with open(path, "a", encoding="utf-8") as file:
+        file.write(READING)
+    same("names of a file as keys", run(f"--names={path}", "-t", "json", "--names-as-keys", "-x", "1001({7: 1, 8: 2})"),
+         (b'{"sensor": 1, "8": 2}\n', "", 0))
     same("known names beside a file", run(f"--names={path}", "-x", "16([h'', {}, h''])"),
          (b"/COSE_Encrypt0/ 16([/protected/ h'', /unprotected/ {}, /ciphertext/ h''])\n", "", 0))
     for text, wanted in FAULTS:

@@ -36,8 +36,17 @@ pub(crate) struct Search {
 }
 
 impl Search {
+    /// The search of an outermost item.
+    pub(crate) fn new(alloc: Global, style: JsonStyle) -> Search {
+        Search {
+            style,
+            alloc,
+            tag: None,
+        }
+    }
+
     /// Right below this tag, or in a container.
-    fn below(self, tag: Option<u64>) -> Search
+    pub(crate) fn below(self, tag: Option<u64>) -> Search
         ensures { result ≡ below self tag }
     {
         Search { tag, ..self }
@@ -218,7 +227,7 @@ fn clash_in_bytes(
 }
 
 /// Whether a byte string of this content is written as the item that its bytes are.
-fn is_shown(content: &[u8], level: u8, search: Search) -> bool
+pub(crate) fn is_shown(content: &[u8], level: u8, search: Search) -> bool
     requires from { 1 ≤ level }
     requires to { level ≤ deepest }
     ensures { IsTrue result → IsShown search level content.now }

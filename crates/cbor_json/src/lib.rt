@@ -7,11 +7,13 @@ mod digits;
 mod error;
 mod judge;
 mod loss;
+mod named;
 mod print;
 mod style;
 mod write;
 
 pub use digits::decimal;
 pub use error::{Clash, JsonError, Loss, LossKind};
+pub use named::{KeyName, bytes_to_json_named};
 pub use style::JsonStyle;
 pub use write::{bytes_to_json, push_bytes_to_json, push_bytes_to_json_partial};

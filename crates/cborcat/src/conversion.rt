@@ -384,6 +384,7 @@ impl<'a> Conversion<'a> {
             rt: self.rt,
             job: self.job,
             place: self.place,
+            tables: self.tables,
         };
         let asked = (self.came, self.job.show.one);
         let (end, status) = show_each(&plain, &mut self.stream, asked, &mut self.out);

@@ -3,9 +3,11 @@
 use crate::messages::{label, say};
 use crate::status::Status;
 use cbor_inspect::Naming;
-use cbor_names::{Names, Type, known_names, with_file};
+use cbor_json::KeyName;
+use cbor_names::{Names, Notes, Type, known_names, with_file};
 use cbor_tokens::is_shown;
 use cborcat_arguments::Job;
+use std::alloc::{AllocError, Global};
 use std::fs;
 
 /// Says that memory ran out.
@@ -68,6 +70,25 @@ impl<'a> Tables<'a> {
         let low = byte & 31;
         byte >> 5 == 6 && (low >= 24 || self.names.tagged(u64::from(low)).is_some())
     }
+}
+
+/// The names in the notes of an item that takes `len` bytes, as JSON is told them.
+pub fn key_names<'n>(
+    alloc: Global,
+    notes: &'n Notes<'_>,
+    len: usize,
+) -> Result<Vec<KeyName<'n>>, AllocError> {
+    let found = notes.list(alloc)?;
+    let mut names = Vec::with_capacity(alloc, found.len())?;
+    for note in &found {
+        if !note.before.is_empty() {
+            names.push(KeyName {
+                place: len.saturating_sub(note.at),
+                name: note.before,
+            })?;
+        }
+    }
+    Ok(names)
 }
 
 /// The names by these tables, if they are shown. Says which types there are if the one that is

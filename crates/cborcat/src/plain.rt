@@ -2,6 +2,7 @@
 
 use crate::each::ShowsItem;
 use crate::messages::{Place, label, report_byte, report_lost};
+use crate::naming::{Tables, key_names};
 use crate::shown::show_of;
 use crate::status::Status;
 use cbor_bytes::{Extent, extent};
@@ -9,8 +10,9 @@ use cbor_grammar::Error;
 use cbor_grammar::head::ItemHead;
 use cbor_grammar::strings::StringKind;
 use cbor_inspect::{End, RawError, raw_content, show_items};
-use cbor_json::{JsonStyle, bytes_to_json};
+use cbor_json::{JsonError, JsonStyle, bytes_to_json, bytes_to_json_named};
 use cbor_messages::not_json;
+use cbor_names::notes;
 use cbor_places::{Around, Piece};
 use cbor_tokens::is_shown;
 use cbor_trace::head_at;
@@ -23,6 +25,8 @@ pub struct Plain<'a> {
     pub rt: &'a HostRuntime,
     pub job: &'a Job<'a>,
     pub place: &'a Place<'a>,
+    /// The names that stand in place of keys, if they do.
+    pub tables: Option<Tables<'a>>,
 }
 
 impl ShowsItem for Plain<'_> {
@@ -69,11 +73,7 @@ impl Plain<'_> {
 
     /// Writes an item as JSON, and a line feed.
     fn write_json(self, item: Piece, out: &mut Vec<u8>) -> Result<Status, Error> {
-        let style = JsonStyle {
-            embedded: self.job.show.style.embedded,
-            strict: self.job.strict,
-        };
-        match bytes_to_json(self.rt.alloc(), item.bytes, style) {
+        match self.json(item.bytes) {
             Ok(text) => {
                 out.extend_from_slice(text.as_bytes())?;
                 out.push(b'\n')?;
@@ -84,6 +84,22 @@ impl Plain<'_> {
                 self.refuse(item, (message.place, &message.text))
             }
         }
+    }
+
+    /// The JSON of an item.
+    fn json(self, bytes: &[u8]) -> Result<String, JsonError> {
+        let alloc = self.rt.alloc();
+        let style = JsonStyle {
+            embedded: self.job.show.style.embedded,
+            strict: self.job.strict,
+        };
+        let tables = match self.tables {
+            Some(tables) if tables.may_name(bytes) => tables,
+            _ => return bytes_to_json(alloc, bytes, style),
+        };
+        let found = notes(alloc, bytes, tables.names, tables.outer)?;
+        let names = key_names(alloc, &found, bytes.len())?;
+        bytes_to_json_named(alloc, bytes, style, &names)
     }
 
     /// Writes the content of a string.

@@ -45,7 +45,7 @@ enum Takes {
 /// An option: its name, which `--` precedes, its letter, which `-` precedes, and what it takes.
 type Row<'a> = (&'a str, Option<char>, Takes);
 
-const OPTIONS: [Row<'static>; 23] = [
+const OPTIONS: [Row<'static>; 24] = [
     ("from", Some('f'), Takes::From),
     ("text", Some('x'), Takes::Text),
     ("one", Some('1'), Takes::Nothing),
@@ -69,10 +69,11 @@ const OPTIONS: [Row<'static>; 23] = [
     ("as", None, Takes::Name),
     ("names", None, Takes::Name),
     ("no-names", None, Takes::Nothing),
+    ("names-as-keys", None, Takes::Nothing),
 ];
 
 /// Arguments that cannot stand together.
-const CONFLICTS: [(&str, &str); 12] = [
+const CONFLICTS: [(&str, &str); 14] = [
     ("text", "file"),
     ("encode", "check"),
     ("at", "to"),
@@ -85,6 +86,8 @@ const CONFLICTS: [(&str, &str); 12] = [
     ("no-widths", "widths"),
     ("no-names", "as"),
     ("no-names", "names"),
+    ("no-names", "names-as-keys"),
+    ("no-notes", "names-as-keys"),
 ];
 
 /// The command, whose help is the text as written.

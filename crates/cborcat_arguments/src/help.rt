@@ -40,6 +40,8 @@ Output:
       --names=FILE   the names of FILE beside those of COSE, CWT, EAT, SenML
                      and CTAP2: tables in TOML
       --no-names     no names, but the other comments
+      --names-as-keys
+                     the names of keys in place of them (-t json)
       --widths       the width of each float and number above 23
       --no-widths    no widths (_0 to _3) in notation, which then is not to be
                      read back

@@ -71,6 +71,8 @@ pub struct Job<'a> {
     pub outer: Option<&'a str>,
     /// The file with further tables of names.
     pub tables: Option<&'a str>,
+    /// Whether names stand in place of the keys of JSON.
+    pub names_as_keys: bool,
     /// The path as it was given.
     pub path: &'a str,
     /// Whether what is there of an item that is not whole is written.
@@ -117,8 +119,12 @@ impl Job<'_> {
     /// Whether items are shown with their names.
     pub fn has_names(&self) -> bool {
         let style = self.show.style;
-        let has_comments = matches!(style.form, Form::Pretty | Form::Hex);
-        let is_shown = self.view == View::Items && has_comments && !self.check;
-        is_shown && style.notes && self.names
+        let has_comments = matches!(style.form, Form::Pretty | Form::Hex) && style.notes;
+        let is_named = match self.view {
+            View::Items => has_comments && !self.check,
+            View::Json => self.names_as_keys,
+            View::Raw | View::Paths | View::At(_) => false,
+        };
+        is_named && self.names
     }
 }

@@ -130,7 +130,10 @@ fn refusal(job: &Job, matches: &ArgMatches) -> Option<&'static str> {
     let has_tables = job.outer.is_some() || job.tables.is_some();
     match job.view {
         _ if has_tables && !job.has_names() => {
-            Some("--as and --names are for names, which pretty notation and dumps have, with notes")
+            Some(
+                "--as and --names are for names, which pretty notation and dumps have, with notes, \
+                 and -t json with --names-as-keys",
+            )
         }
         _ if job.elide.is_some() && !is_notation && job.show.style.form != Form::Hex => {
             Some("--elide cuts strings of pretty, diag, hex and paths alone")
@@ -152,6 +155,7 @@ fn refusal(job: &Job, matches: &ArgMatches) -> Option<&'static str> {
         }
         View::Json => None,
         _ if job.strict => Some("--strict is for -t json"),
+        _ if job.names_as_keys => Some("--names-as-keys is for -t json"),
         _ => None,
     }
 }
@@ -203,6 +207,7 @@ fn job_of<'a>(rt: &HostRuntime, matches: &ArgMatches<'a>) -> Asked<'a> {
         names: !matches.get_flag("no-names"),
         outer: matches.get_str("as"),
         tables: matches.get_str("names"),
+        names_as_keys: matches.get_flag("names-as-keys"),
         path,
         partial: matches.get_flag("partial"),
         strict: matches.get_flag("strict"),

@@ -1,14 +1,21 @@
 //! JSON: `bytes_to_json STYLE` gives the JSON of an item, or what is wrong: after the place of what
 //! JSON does not keep, or after those of two keys that become the same. STYLE is none, `embedded`
 //! or `strict`. `push_bytes_to_json_partial STYLE` gives how many bytes the item at the front
-//! takes, and its JSON, or `truncated`.
+//! takes, and its JSON, or `truncated`. `bytes_to_json_named STYLE PLACE=NAME..` gives the JSON with
+//! these names for the keys at these places.
 
 use crate::row::Row;
-use cbor_json::{Clash, JsonError, JsonStyle, Loss, bytes_to_json, push_bytes_to_json_partial};
+use cbor_json::{
+    Clash, JsonError, JsonStyle, KeyName, Loss, bytes_to_json, bytes_to_json_named,
+    push_bytes_to_json_partial,
+};
 use std::alloc::{AllocError, Global};
 
 /// What the call of a row gives; none if it is no call of this subject.
 pub fn answer(alloc: Global, row: &Row) -> Result<Option<String>, AllocError> {
+    if row.call == "bytes_to_json_named" {
+        return Ok(Some(named(alloc, row)?));
+    }
     let Some(style) = style_of(row.argument) else {
         return Ok(None);
     };
@@ -30,6 +37,25 @@ fn style_of(words: &str) -> Option<JsonStyle> {
         "embedded" => Some(JsonStyle::EMBEDDED),
         "strict" => Some(JsonStyle::STRICT),
         _ => None,
+    }
+}
+
+/// The JSON with the names that the row has.
+fn named(alloc: Global, row: &Row) -> Result<String, AllocError> {
+    let mut style = JsonStyle::PLAIN;
+    let mut names = Vec::new(alloc);
+    for word in row.argument.split(' ') {
+        match word.split_once("=") {
+            Some((place, name)) => names.push(KeyName {
+                place: place.parse::<usize>().unwrap_or(usize::MAX),
+                name,
+            })?,
+            None => style = style_of(word).unwrap_or(style),
+        }
+    }
+    match bytes_to_json_named(alloc, &row.bytes, style, &names) {
+        Ok(text) => Ok(text),
+        Err(error) => error_text(alloc, error),
     }
 }
 

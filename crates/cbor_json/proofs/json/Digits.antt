@@ -100,7 +100,7 @@ digits_calm_in Base64Url b h = encoded_calm Base64Url b h
 -- by the tests on the tag: for a negative big number, and for any
 chosen_calm : (negative big : Bool) (e : Encoding) (b : List ℕ) → AllBytes b
     → Calm (if negative then codes "~" ++ encoded_bytes Base64Url b else if big then encoded_bytes Base64Url b
-      else digits_in e b)
+    else digits_in e b)
 chosen_calm true big e b h = (refl, encoded_calm Base64Url b h)
 chosen_calm false true e b h = encoded_calm Base64Url b h
 chosen_calm false false e b h = digits_calm_in e b h

@@ -102,11 +102,7 @@ fn push_upper_hex(out: &mut String, bytes: &[u8], alloc: Global) -> Result<(), A
 }
 
 /// Writes the bytes of a value as digits.
-fn push_value_digits(
-    out: &mut String,
-    bytes: &[u8],
-    place: &JsonPlace,
-) -> Result<(), AllocError>
+fn push_value_digits(out: &mut String, bytes: &[u8], place: &JsonPlace) -> Result<(), AllocError>
     ensures { AppendsText result out.old out.new
         (value_digits place.now.tag place.now.encoding bytes.now) }
 {

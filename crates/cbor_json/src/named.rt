@@ -1,0 +1,382 @@
+//! JSON with names as keys. A text takes the place of each integer key that has a name, and what
+//! the bytes are then is written.
+
+ghost use Rattle.std.specs.Prelude.{◌≡◌, ◌+◌, ◌≤◌, IfOk};
+ghost use Rattle.std.specs.String.{string_bytes};
+ghost use Rattle.cbor_grammar.specs.Item.{Item};
+ghost use Rattle.cbor_grammar.specs.WellFormed.{deepest};
+ghost use Rattle.cbor_json.specs.Written.{IsJsonText};
+
+use crate::clash::{Search, is_shown};
+use crate::error::{Clash, JsonError, Loss};
+use crate::style::JsonStyle;
+use crate::write::bytes_to_json;
+use cbor_bytes::head::read_head;
+use cbor_bytes::skip::after_front;
+use cbor_bytes::strings::split_at;
+use cbor_bytes::write::push_head;
+use cbor_grammar::IntegerWidth;
+use cbor_grammar::argument::Argument;
+use cbor_grammar::head::ItemHead;
+use cbor_grammar::level::DEEPEST;
+use cbor_grammar::major::Major;
+use cbor_grammar::strings::StringKind;
+use std::alloc::{AllocError, Global};
+use std::collections::BTreeMap;
+
+/// The name of a key.
+#[derive(Clone, Copy, PartialEq, Eq, Debug)]
+pub struct KeyName<'a> {
+    /// The first byte of the key.
+    pub place: usize,
+    /// What is written in place of the key.
+    pub name: &'a str,
+}
+
+/// Some of the bytes.
+#[derive(Clone, Copy)]
+struct Span {
+    /// The first of them.
+    place: usize,
+    len: usize,
+}
+
+/// Bytes that others take the place of.
+#[derive(Clone, Copy)]
+struct Edit {
+    old: Span,
+    /// Where the others begin and end, in `Pass::made`.
+    start: usize,
+    end: usize,
+}
+
+/// What is known of items before they are read.
+#[derive(Clone, Copy)]
+struct Around {
+    /// Their level.
+    level: u8,
+    /// How many bytes follow those that are read, up to the end of the outermost item's.
+    behind: usize,
+    search: Search,
+}
+
+/// The bytes between two places; none if there are no such bytes.
+fn between(bytes: &[u8], from: usize, to: usize) -> &[u8] {
+    bytes.get(from..to).unwrap_or(b"")
+}
+
+impl Around {
+    /// One level below, and right below this tag, if any.
+    fn below(self, tag: Option<u64>) -> Around
+        requires { self.level ≤ deepest }
+        ensures { result.level ≡ self.level + 1 }
+    {
+        Around {
+            level: self.level + 1,
+            search: self.search.below(tag),
+            ..self
+        }
+    }
+}
+
+/// The pass that finds which bytes change: keys that have names, and the heads of byte strings that
+/// are written as the item in them, around such keys.
+#[derive(Drop)]
+struct Pass<'a> {
+    /// How many bytes there are.
+    total: usize,
+    /// The names of keys, by the places of these.
+    names: BTreeMap<usize, &'a str>,
+    /// In the order of their places.
+    edits: Vec<Edit>,
+    /// The bytes that take the place of others.
+    made: Vec<u8>,
+    /// How many bytes the edits add, and how many they take away.
+    added: usize,
+    taken: usize,
+}
+
+impl<'a> Pass<'a> {
+    /// A pass over that many bytes.
+    fn new(alloc: Global, total: usize, names: &[KeyName<'a>]) -> Result<Pass<'a>, AllocError> {
+        let mut by_place = BTreeMap::new(alloc);
+        for key in names {
+            by_place.insert(key.place, key.name)?;
+        }
+        Ok(Pass {
+            total,
+            names: by_place,
+            edits: Vec::new(alloc),
+            made: Vec::new(alloc),
+            added: 0,
+            taken: 0,
+        })
+    }
+
+    /// Where the first of these bytes are, those before the rest.
+    fn span(&self, around: Around, bytes: &[u8], rest: &[u8]) -> Span {
+        let left = bytes.len().saturating_add(around.behind);
+        Span {
+            place: self.total.saturating_sub(left),
+            len: bytes.len().saturating_sub(rest.len()),
+        }
+    }
+
+    /// The edit that puts a string of that length in place of the old bytes: its head, and the
+    /// content that is given.
+    fn make(
+        &mut self,
+        old: Span,
+        string: (Major, usize),
+        content: &[u8],
+    ) -> Result<Edit, AllocError> {
+        let (major, len) = string;
+        let start = self.made.len();
+        push_head(&mut self.made, major, len as u64, IntegerWidth::Unknown)?;
+        self.made.extend_from_slice(content)?;
+        let end = self.made.len();
+        self.added = self.added.saturating_add(end.saturating_sub(start));
+        self.taken = self.taken.saturating_add(old.len);
+        Ok(Edit { old, start, end })
+    }
+
+    /// The bytes after the item at the front; `None` if there is none.
+    #[cycle(item)]
+    fn item<'b>(&mut self, around: Around, bytes: &'b [u8]) -> Result<Option<&'b [u8]>, AllocError>
+        requires from { 1 ≤ around.level }
+        requires to { around.level ≤ deepest + 1 }
+    {
+        if around.level > DEEPEST {
+            return Ok(None);
+        }
+        let Ok((head, rest)) = read_head(bytes) else {
+            return Ok(None);
+        };
+        match head {
+            ItemHead::Array(count) => self.members(around.below(None), count, rest),
+            ItemHead::Map(count) => self.pairs(around.below(None), count, rest),
+            ItemHead::Tag(tag, _) => self.item(around.below(Some(tag)), rest),
+            ItemHead::String(StringKind::Bytes, Argument::Number(len, _)) => {
+                self.byte_string(around, bytes, (len, rest))
+            }
+            _ => Ok(after_front(bytes, around.level)),
+        }
+    }
+
+    /// The bytes after the members of an array.
+    #[cycle(item)]
+    fn members<'b>(
+        &mut self,
+        inside: Around,
+        count: Argument,
+        bytes: &'b [u8],
+    ) -> Result<Option<&'b [u8]>, AllocError>
+        requires from { 1 ≤ inside.level }
+        requires to { inside.level ≤ deepest + 1 }
+    {
+        let mut rest = bytes;
+        for held in 0..=bytes.len() {
+            if let Some(after) = count.after_end(held, rest) {
+                return Ok(Some(after));
+            }
+            let Some(next) = self.item(inside, rest)? else {
+                return Ok(None);
+            };
+            rest = next;
+        }
+        Ok(None)
+    }
+
+    /// The bytes after the pairs of a map.
+    #[cycle(item)]
+    fn pairs<'b>(
+        &mut self,
+        inside: Around,
+        count: Argument,
+        bytes: &'b [u8],
+    ) -> Result<Option<&'b [u8]>, AllocError>
+        requires from { 1 ≤ inside.level }
+        requires to { inside.level ≤ deepest + 1 }
+    {
+        let mut rest = bytes;
+        for held in 0..=bytes.len() {
+            if let Some(after) = count.after_end(held, rest) {
+                return Ok(Some(after));
+            }
+            let Some(value) = self.key(inside, rest)? else {
+                return Ok(None);
+            };
+            let Some(next) = self.item(inside, value)? else {
+                return Ok(None);
+            };
+            rest = next;
+        }
+        Ok(None)
+    }
+
+    /// The bytes after the key at the front.
+    fn key<'b>(&mut self, around: Around, bytes: &'b [u8]) -> Result<Option<&'b [u8]>, AllocError>
+        requires from { 1 ≤ around.level }
+        requires to { around.level ≤ deepest + 1 }
+    {
+        let Some(rest) = after_front(bytes, around.level) else {
+            return Ok(None);
+        };
+        let old = self.span(around, bytes, rest);
+        if let Some(name) = self.name_of(old.place, bytes) {
+            let text = name.as_bytes();
+            let edit = self.make(old, (Major::Text, text.len()), text)?;
+            self.edits.push(edit)?;
+        }
+        Ok(Some(rest))
+    }
+
+    /// The name of the key at the front, if that is an integer and has one.
+    fn name_of(&self, place: usize, key: &[u8]) -> Option<&'a str> {
+        match key {
+            [first, ..] if *first < 0x40 => self.names.get(&place).copied(),
+            _ => None,
+        }
+    }
+
+    /// The bytes after a byte string, of which the length and what follows the head are given.
+    #[cycle(item)]
+    fn byte_string<'b>(
+        &mut self,
+        around: Around,
+        bytes: &'b [u8],
+        inner: (u64, &'b [u8]),
+    ) -> Result<Option<&'b [u8]>, AllocError>
+        requires from { 1 ≤ around.level }
+        requires to { around.level ≤ deepest }
+    {
+        let (len, rest) = inner;
+        let Ok((content, after)) = split_at(rest, len) else {
+            return Ok(None);
+        };
+        if is_shown(content, around.level, around.search) {
+            let inside = Around {
+                behind: around.behind.saturating_add(after.len()),
+                ..around.below(None)
+            };
+            let head = self.span(around, bytes, rest);
+            self.embedded(inside, content, head)?;
+        }
+        Ok(Some(after))
+    }
+
+    /// The item that is the content of a byte string with this head.
+    #[cycle(item)]
+    fn embedded(&mut self, inside: Around, content: &[u8], head: Span) -> Result<(), AllocError>
+        requires from { 1 ≤ inside.level }
+        requires to { inside.level ≤ deepest + 1 }
+    {
+        let index = self.edits.len();
+        let (added, taken) = (self.added, self.taken);
+        // The edit of the head stands before those of the content, which decide the new length.
+        let none = Span { len: 0, ..head };
+        self.edits.push(Edit {
+            old: none,
+            start: 0,
+            end: 0,
+        })?;
+        let _ = self.item(inside, content)?;
+        if self.edits.len() == index.saturating_add(1) {
+            return Ok(());
+        }
+        let added = self.added.saturating_sub(added);
+        let taken = self.taken.saturating_sub(taken);
+        let len = content.len().saturating_add(added).saturating_sub(taken);
+        let edit = self.make(head, (Major::Bytes, len), &[])?;
+        if let Some(first) = self.edits.get_mut(index) {
+            *first = edit;
+        }
+        Ok(())
+    }
+
+    /// The bytes with all edits made.
+    fn edited(&self, alloc: Global, bytes: &[u8]) -> Result<Vec<u8>, AllocError> {
+        let mut edited = Vec::with_capacity(alloc, bytes.len())?;
+        let mut at = 0;
+        for edit in &self.edits {
+            edited.extend_from_slice(between(bytes, at, edit.old.place))?;
+            edited.extend_from_slice(between(&self.made, edit.start, edit.end))?;
+            at = edit.old.place.saturating_add(edit.old.len);
+        }
+        edited.extend_from_slice(between(bytes, at, bytes.len()))?;
+        Ok(edited)
+    }
+
+    /// Where the item or the head was that begins at this place of the edited bytes.
+    fn place_before(&self, place: usize) -> usize {
+        // From `to` on, the edited bytes are those from `from` on.
+        let (mut to, mut from) = (0usize, 0usize);
+        for edit in &self.edits {
+            let begins = to.saturating_add(edit.old.place.saturating_sub(from));
+            let ends = begins.saturating_add(edit.end.saturating_sub(edit.start));
+            if place < begins {
+                break;
+            }
+            if place < ends {
+                return edit.old.place;
+            }
+            to = ends;
+            from = edit.old.place.saturating_add(edit.old.len);
+        }
+        from.saturating_add(place.saturating_sub(to))
+    }
+
+    /// The error of the edited bytes, with the places from before.
+    fn error_before(&self, error: JsonError) -> JsonError {
+        match error {
+            JsonError::Cbor(error) => JsonError::Cbor(error),
+            JsonError::NotKept(Loss { place, kind }) => {
+                let place = self.place_before(place);
+                JsonError::NotKept(Loss { place, kind })
+            }
+            JsonError::SameKeys(Clash { first, second }) => JsonError::SameKeys(Clash {
+                first: self.place_before(first),
+                second: self.place_before(second),
+            }),
+        }
+    }
+}
+
+/// Returns the JSON of the one item that the bytes are, as [`bytes_to_json`] does, with names as
+/// keys: an integer that is a key of a map and stands at one of the places is written as the name
+/// that is given for it. Names for other places change nothing.
+///
+/// The errors are those of [`bytes_to_json`]. In a strict style JSON keeps a key that has a name.
+///
+/// ```rust
+/// use cbor_json::{JsonStyle, KeyName, bytes_to_json_named};
+///
+/// let names = [KeyName { place: 1, name: "iss" }];
+/// let text = bytes_to_json_named(alloc, b"\xa2\x01\x61a\x02\x05", JsonStyle::PLAIN, &names)?;
+/// assert_eq!(rt; text.as_str(), "{\"iss\": \"a\", \"2\": 5}");
+/// ```
+pub fn bytes_to_json_named(
+    alloc: Global,
+    bytes: &[u8],
+    style: JsonStyle,
+    names: &[KeyName<'_>],
+) -> Result<String, JsonError>
+    // JSON of an item: no object in it has a name twice, and no character in it is hidden.
+    ensures { IfOk result (λ s. (i : Item) × IsJsonText style i (string_bytes s)) }
+{
+    let mut pass = Pass::new(alloc, bytes.len(), names)?;
+    let around = Around {
+        level: 1,
+        behind: 0,
+        search: Search::new(alloc, style),
+    };
+    let edited = match pass.item(around, bytes)? {
+        Some([]) => pass.edited(alloc, bytes)?,
+        // No item, or one and more bytes: the error says which.
+        _ => Vec::from_slice(alloc, bytes)?,
+    };
+    match bytes_to_json(alloc, &edited, style) {
+        Ok(text) => Ok(text),
+        Err(error) => Err(pass.error_before(error)),
+    }
+}
