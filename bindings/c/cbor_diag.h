@@ -49,9 +49,9 @@ enum cbor_diag_form {
  * bytes, which RFC 8949 does not have. An output in EDN has no control characters but line feeds, which are outside of
  * texts.
  *
- * JSON is written as RFC 8949, section 6.1 advises: tags are left out, NaN, the infinities and undefined are null, byte
- * strings are base64url, and a key that is no text is a string of its EDN, so 1 is "1". Two keys of a map that become
- * the same are an error. CBOR_DIAG_FORM_JSON_STRICT also refuses what JSON does not keep: a tag, NaN, an infinity, a
+ * JSON is written by RFC 8949, section 6.1, but for big numbers of at most 1,024 bytes, which are their digits: tags are
+ * left out, NaN, the infinities and undefined are null, byte strings are base64url, and a key that is no text is a
+ * string of its EDN, so 1 is "1". Two keys of a map that become the same are an error. CBOR_DIAG_FORM_JSON_STRICT also refuses what JSON does not keep: a tag, NaN, an infinity, a
  * simple value but false, true and null, a byte string, and a key that is no text. JSON has no control characters but
  * the line feed at its end.
  *
