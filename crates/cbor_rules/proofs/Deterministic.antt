@@ -23,42 +23,42 @@ use Rattle.cbor_rules.proofs.SortedPairs.{SameSet, same_set}
 
 -- ---- items that bytes spell and that keep the rules
 
-abbrev Good : Rules → ℕ → Item → Type 0
+abbrev pub Good : Rules → ℕ → Item → Type 0
 Good rules level i = ((x : List ℕ) × Spells strict level x i) × Keeps rules level i
 
-abbrev GoodItems : Rules → ℕ → Items → Type 0
+abbrev pub GoodItems : Rules → ℕ → Items → Type 0
 GoodItems rules level no_items = Unit {0}
 GoodItems rules level (item i is) = Good rules level i × GoodItems rules level is
 
-abbrev GoodPairs : Rules → ℕ → Pairs → Type 0
+abbrev pub GoodPairs : Rules → ℕ → Pairs → Type 0
 GoodPairs rules level no_pairs = Unit {0}
 GoodPairs rules level (pair k v ps) = Good rules level k × Good rules level v × GoodPairs rules level ps
 
-good_items : (rules : Rules) (level : ℕ) (b end : List ℕ) (is : Items) → SpellsItems strict level b is end
+pub good_items : (rules : Rules) (level : ℕ) (b end : List ℕ) (is : Items) → SpellsItems strict level b is end
     → KeepsItems rules level is → GoodItems rules level is
 good_items rules level b end no_items h keeps = tt
 good_items rules level b end (item i is) h keeps =
     (((h.0, h.3), keeps.0), good_items rules level h.1 end is h.4 keeps.1)
 
-good_pairs : (rules : Rules) (level : ℕ) (b end : List ℕ) (ps : Pairs) → SpellsPairs strict level b ps end
+pub good_pairs : (rules : Rules) (level : ℕ) (b end : List ℕ) (ps : Pairs) → SpellsPairs strict level b ps end
     → KeepsPairs rules level ps → GoodPairs rules level ps
 good_pairs rules level b end no_pairs h keeps = tt
 good_pairs rules level b end (pair k v ps) h keeps =
     (((h.0, h.4), keeps.0), ((h.1, h.5), keeps.1), good_pairs rules level h.2 end ps h.6 keeps.2)
 
 -- the members of a container, of definite length or not
-members_of : (major n : ℕ) (w : Option IntegerWidth) (x : List ℕ) (Members : List ℕ → List ℕ → Type 0)
+pub members_of : (major n : ℕ) (w : Option IntegerWidth) (x : List ℕ) (Members : List ℕ → List ℕ → Type 0)
     → MembersThen major n w x Members → (b end : List ℕ) × Members b end
 members_of major n (Some w) x Members h = (h.1, [], h.3)
 members_of major n None x Members h = (h.0, _, h.2)
 
 -- a pair among others
-record Taken (rules : Rules) (level : ℕ) (before after : Pairs) (k v : Item) : Type 0 where
+pub record Taken (rules : Rules) (level : ℕ) (before after : Pairs) (k v : Item) : Type 0 where
   pub key : Good rules level k
   pub value : Good rules level v
   pub others : GoodPairs rules level (joined_pairs before after)
 
-taken : (rules : Rules) (level : ℕ) (before after : Pairs) (k v : Item)
+pub taken : (rules : Rules) (level : ℕ) (before after : Pairs) (k v : Item)
     → GoodPairs rules level (joined_pairs before (pair k v after)) → Taken rules level before after k v
 taken rules level no_pairs after k v h = record { key = h.0; value = h.1; others = h.2 }
 taken rules level (pair l w before) after k v h =
@@ -185,7 +185,7 @@ module _ (rules : Rules) (d : IsDeterministic rules) where
   count_once n m (Some w) None h k e = absurd (k d.lengths)
 
   mutual
-    item_once : (i j : Item) (level : ℕ) → Good rules level i → Good rules level j
+    pub item_once : (i j : Item) (level : ℕ) → Good rules level i → Good rules level j
         → IsSame rules.shortest_floats i j → i ≡ j
     item_once (atom a) (atom b) level g h same = ap atom (atom_once level a b g h same)
     item_once (array is w) (array js v) level g h same =

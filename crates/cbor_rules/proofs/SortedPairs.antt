@@ -9,7 +9,7 @@ use Rattle.cbor_grammar.specs.Reading.{joined_pairs}
 use Rattle.cbor_rules.specs.declared.rules.KeyOrder.{KeyOrder}
 use Rattle.cbor_rules.specs.declared.rules.KeyOrder.TheVariants.{Any, Bytes, Length, MajorType}
 use Rattle.cbor_rules.specs.KeyOrder.{key_cmp, major_type}
-use Rattle.cbor_rules.specs.Keeps.{KeysAfter, KeysInOrder}
+use Rattle.cbor_rules.specs.Keeps.{IsNoKey, KeysDiffer, KeysAfter, KeysInOrder}
 
 total : (order : KeyOrder) → order ≢ Any → IsTotalOrder (key_cmp order)
 total Any other = absurd (other refl)
@@ -41,6 +41,26 @@ module _ (order : KeyOrder) (other : order ≢ Any) where
       later next (pair k v ps) less h =
           ((total order other).trans last next (encoded k) less h.0, later next ps less h.1)
 
+  in_order : (last : List ℕ) (ps : Pairs) → KeysAfter order last ps → KeysInOrder order ps
+  in_order last no_pairs h = tt
+  in_order last (pair k v ps) h = h.1
+
+  -- keys in order differ
+  not_less : (x y : List ℕ) → key_cmp order x y ≡ Less → x ≢ y
+  not_less x y less same =
+      let equal : key_cmp order x x ≡ Equal = tied_itself (total order other) x in
+      let itself : key_cmp order x x ≡ Less = subst (λ (z : List ℕ). key_cmp order x z ≡ Less) (sym same) less in
+      absurd cc
+
+  no_key : (x : List ℕ) (ps : Pairs) → AllAfter order x ps → IsNoKey x ps
+  no_key x no_pairs h = tt
+  no_key x (pair k v ps) h = (not_less x (encoded k) h.0, no_key x ps h.1)
+
+  pub keys_differ : (ps : Pairs) → KeysInOrder order ps → KeysDiffer ps
+  keys_differ no_pairs h = tt
+  keys_differ (pair k v ps) h =
+      (no_key (encoded k) ps (all_after (encoded k) ps h), keys_differ ps (in_order (encoded k) ps h))
+
   put_back : (last : List ℕ) (k v : Item) (before after : Pairs) → key_cmp order last (encoded k) ≡ Less
       → AllAfter order last (joined_pairs before after) → AllAfter order last (joined_pairs before (pair k v after))
   put_back last k v no_pairs after less h = (less, h)
@@ -56,10 +76,6 @@ module _ (order : KeyOrder) (other : order ≢ Any) where
   same_after last (pair k v ps) qs same h =
       subst (AllAfter order last) (sym same.2)
       (put_back last k v same.0 same.1 h.0 (same_after last ps (joined_pairs same.0 same.1) same.3 h.1))
-
-  in_order : (last : List ℕ) (ps : Pairs) → KeysAfter order last ps → KeysInOrder order ps
-  in_order last no_pairs h = tt
-  in_order last (pair k v ps) h = h.1
 
   pub same_set : (ps qs : Pairs) → KeysInOrder order ps → KeysInOrder order qs → SameSet ps qs → ps ≡ qs
   same_set no_pairs qs h g same = sym same

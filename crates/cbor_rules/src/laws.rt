@@ -2,6 +2,7 @@
 ghost use Rattle.std.specs.Prelude.{◌≡◌, ℕ, List};
 ghost use Rattle.cbor_grammar.specs.Item.{Items};
 ghost use Rattle.cbor_rules.specs.declared.rules.Rules.{Rules};
+ghost use Rattle.cbor_rules.specs.Sets as sets;
 ghost use Rattle.cbor_rules.specs.Same.{AreKept, IsDeterministic, SameItems};
 
 use crate::rules::Rules;
@@ -13,26 +14,48 @@ fn one_encoding()
         → AreKept rules b is → AreKept rules c js → SameItems rules.shortest_floats is js → b ≡ c }
 {}
 
+fn rfc_8949() -> Rules
+    ensures { result ≡ sets.rfc_8949 }
+{
+    Rules::RFC_8949
+}
+
+fn valid() -> Rules
+    ensures { result ≡ sets.valid }
+{
+    Rules::VALID
+}
+
+fn preferred() -> Rules
+    ensures { result ≡ sets.preferred }
+{
+    Rules::PREFERRED
+}
+
 fn core() -> Rules
-    ensures { IsDeterministic result }
+    ensures is { result ≡ sets.core }
+    ensures deterministic { IsDeterministic result }
 {
     Rules::CORE
 }
 
 fn length_first() -> Rules
-    ensures { IsDeterministic result }
+    ensures is { result ≡ sets.length_first }
+    ensures deterministic { IsDeterministic result }
 {
     Rules::LENGTH_FIRST
 }
 
 fn ctap2() -> Rules
-    ensures { IsDeterministic result }
+    ensures is { result ≡ sets.ctap2 }
+    ensures deterministic { IsDeterministic result }
 {
     Rules::CTAP2
 }
 
 fn dcbor() -> Rules
-    ensures { IsDeterministic result }
+    ensures is { result ≡ sets.dcbor }
+    ensures deterministic { IsDeterministic result }
 {
     Rules::DCBOR
 }

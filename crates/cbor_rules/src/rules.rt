@@ -46,8 +46,8 @@ pub struct Rules {
     pub nfc: bool,
     /// The order of the keys in each map.
     pub key_order: KeyOrder,
-    /// No key stands twice in a map, by its bytes. Checking this takes memory; where keys have an
-    /// order, none does.
+    /// No key stands twice in a map, by its bytes; for `breach_of` of `cbor_reencode`, by its core
+    /// encoding. Checking this takes memory; where keys have an order, none stands twice.
     pub distinct_keys: bool,
     /// There may be tags.
     pub tags: bool,
@@ -73,8 +73,8 @@ impl Rules {
         deepest: DEEPEST,
     };
 
-    /// Basic validity (RFC 8949 section 5.3.1): no key stands twice in a map, by its bytes. Texts
-    /// are UTF-8 in each set.
+    /// Basic validity (RFC 8949 section 5.3.1): no key stands twice in a map. Texts are UTF-8 in
+    /// each set.
     pub const VALID: Rules = Rules {
         distinct_keys: true,
         ..Rules::RFC_8949
