@@ -93,7 +93,7 @@ enum cbor_diag_loss {
 /* Sets of rules for an encoding. Each has the rules of the first one. */
 enum cbor_diag_rules {
     CBOR_DIAG_RULES_RFC8949 = 0,      /* well formed: no f8 before a byte below 32 */
-    CBOR_DIAG_RULES_VALID = 1,        /* no key twice in a map (RFC 8949, section 5.3.1); takes memory */
+    CBOR_DIAG_RULES_VALID = 1,        /* no two keys of a map are one (RFC 8949, section 5.6.1); takes memory */
     CBOR_DIAG_RULES_PREFERRED = 2,    /* preferred serialization (RFC 8949, section 4.1) */
     CBOR_DIAG_RULES_CORE = 3,         /* core deterministic encoding (RFC 8949, section 4.2.1) */
     CBOR_DIAG_RULES_LENGTH_FIRST = 4, /* length-first deterministic encoding (RFC 8949, section 4.2.3) */
@@ -421,7 +421,8 @@ static inline int64_t cbor_diag_scanner_feed_checked(struct cbor_diag_scanner *s
  * what is wrong first, an enum cbor_diag_breach_kind. `*place` is set to how many bytes come before the head, or before
  * the key, that breaks the rule. `*detail` is set to
  *
- * - the place of the key before, for CBOR_DIAG_BREACH_KEY_ORDER, and of the first of the two, for _KEY_TWICE;
+ * - the place of the key before, for CBOR_DIAG_BREACH_KEY_ORDER, and of the first of the two, for _KEY_TWICE: by
+ *   CBOR_DIAG_RULES_VALID the two may differ in the input, as 01 and 18 01, whose core encoding is the same;
  * - the number of the error, an enum cbor_diag_error, for CBOR_DIAG_BREACH_NO_ITEM;
  * - CBOR_DIAG_NO_PLACE for each other kind.
  *
@@ -452,15 +453,17 @@ static inline int64_t cbor_diag_breach_checked(uint32_t rules, const void *input
 
 /*
  * Encodes items, none or more, one after the other, again, so that they keep a set of rules. The output is of the same
- * items but for widths, kinds of length and the order of pairs. An input that keeps the rules is the output as it is.
+ * items but for widths, kinds of length, the order of pairs and the forms of numbers: a big number that an integer can
+ * have becomes that integer, and by CBOR_DIAG_RULES_DCBOR a float that is an integer does. An input that keeps the rules
+ * is the output as it is.
  *
  * Returns the length of the whole output, of which as much is written as fits `output`, as cbor_diag_convert does.
  *
  * On an error, returns minus a number of enum cbor_diag_error, and `output` is unchanged:
  *
  * - CBOR_DIAG_ERROR_NOT_ENCODABLE, if the input is no items or breaks a rule that no choice of widths, lengths and
- *   order keeps, such as a tag for CBOR_DIAG_RULES_CTAP2; if two keys of a map are one once they are encoded again; or
- *   if the joined chunks of a text or of a big number break a rule;
+ *   order keeps, such as a tag for CBOR_DIAG_RULES_CTAP2; if two keys of a map are one, by their core encodings or once
+ *   they are encoded again; or if the joined chunks of a text break a rule;
  * - CBOR_DIAG_ERROR_NO_RULES and CBOR_DIAG_ERROR_MEMORY.
  *
  * cbor_diag_reencode_fault says what is wrong, and where.
@@ -490,7 +493,7 @@ static inline int64_t cbor_diag_reencode_checked(uint32_t rules, const void *inp
  * is set to how many bytes of the input come before the head, or before the key, that is wrong. `*detail` is set to
  *
  * - the place of the first of the two keys, for CBOR_DIAG_BREACH_KEY_TWICE: `*place` is that of the second. The two may
- *   differ in the input, as 01 and 18 01, and are one once they are encoded again;
+ *   differ in the input, as 01 and 18 01, and are one by their core encodings, or once they are encoded again;
  * - the number of the error, an enum cbor_diag_error, for CBOR_DIAG_BREACH_NO_ITEM;
  * - CBOR_DIAG_NO_PLACE for each other kind.
  *

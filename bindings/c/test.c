@@ -856,6 +856,7 @@ static void test_breaches(void)
         {CBOR_DIAG_RULES_LENGTH_FIRST, TEXT("\xa2\x18\x64\x01\x20\x02"), CBOR_DIAG_BREACH_KEY_ORDER, 4, 1},
         {CBOR_DIAG_RULES_CORE, TEXT("\xa2\x01\x80\x01\x80"), CBOR_DIAG_BREACH_KEY_TWICE, 3, 1},
         {CBOR_DIAG_RULES_VALID, TEXT("\xa3\x01\x80\x00\x80\x01\x80"), CBOR_DIAG_BREACH_KEY_TWICE, 5, 1},
+        {CBOR_DIAG_RULES_VALID, TEXT("\xa2\x01\x26\x18\x01\x27"), CBOR_DIAG_BREACH_KEY_TWICE, 3, 1},
 
         {7, TEXT("\x00"), -CBOR_DIAG_ERROR_NO_RULES, none, none},
         {UINT32_MAX, TEXT(""), -CBOR_DIAG_ERROR_NO_RULES, none, none},
@@ -945,6 +946,7 @@ static void test_reencoding(void)
         {CBOR_DIAG_RULES_CTAP2, TEXT("\x18\x01\xc1\x00"), TEXT(""), CBOR_DIAG_ERROR_NOT_ENCODABLE},
         {CBOR_DIAG_RULES_CORE, TEXT("\xa2\x01\x80\x18\x01\x80"), TEXT(""), CBOR_DIAG_ERROR_NOT_ENCODABLE},
         {CBOR_DIAG_RULES_VALID, TEXT("\xa2\x01\x80\x01\x80"), TEXT(""), CBOR_DIAG_ERROR_NOT_ENCODABLE},
+        {CBOR_DIAG_RULES_PREFERRED, TEXT("\xa2\x01\x26\x18\x01\x27"), TEXT(""), CBOR_DIAG_ERROR_NOT_ENCODABLE},
         {7, TEXT("\x00"), TEXT(""), CBOR_DIAG_ERROR_NO_RULES},
     };
     for (size_t i = 0; i < sizeof rows / sizeof *rows; i++) {
@@ -1033,6 +1035,7 @@ static void test_reencoding_faults(void)
         {CBOR_DIAG_RULES_CORE, TEXT("\xa2\x01\x80\x18\x01\x80"), CBOR_DIAG_BREACH_KEY_TWICE, 3, 1},
         {CBOR_DIAG_RULES_CORE, TEXT("\x81\xa3\x01\x80\x02\x80\x18\x01\x80"), CBOR_DIAG_BREACH_KEY_TWICE, 6, 2},
         {CBOR_DIAG_RULES_VALID, TEXT("\xa2\x01\x80\x01\x80"), CBOR_DIAG_BREACH_KEY_TWICE, 3, 1},
+        {CBOR_DIAG_RULES_PREFERRED, TEXT("\xa2\x01\x26\x18\x01\x27"), CBOR_DIAG_BREACH_KEY_TWICE, 3, 1},
         {CBOR_DIAG_RULES_CTAP2, TEXT("\x18\x01\xc1\x00"), CBOR_DIAG_BREACH_TAG, 2, none},
         {CBOR_DIAG_RULES_CORE, TEXT("\x01\x82\x01"), CBOR_DIAG_BREACH_NO_ITEM, 3, CBOR_DIAG_ERROR_CUT_SHORT},
         {CBOR_DIAG_RULES_DCBOR, TEXT("\x7f\x61" "e\x62\xcc\x81\xff"), CBOR_DIAG_BREACH_NOT_NFC, none, none},
@@ -1152,10 +1155,11 @@ static void test_memory(void)
     test_faults_without_memory(DIAG, "[h'00', \"a\", 1.5]", CBOR_DIAG_ERROR_NOTATION);
     test_faults_without_memory(EDN, "[h'00', \"a\", 1.5.]", CBOR_DIAG_ERROR_NOTATION);
     test_paths_without_memory();
-    struct text twice = TEXT("\xa3\x01\x80\x00\x80\x01\x80");
+    struct text twice = TEXT("\xa3\x01\x80\x00\x80\x01\x80"), one = TEXT("\xa2\x01\x26\x18\x01\x27");
     struct text marks = TEXT("\x6b" "a\xcc\x81\xcc\xa7" "o\xcc\x81" "e\xcc\xa3");
     test_breaches_without_memory(CBOR_DIAG_RULES_VALID, twice, CBOR_DIAG_BREACH_KEY_TWICE);
     check(failing > 1, "no allocation was made to fail where keys differ");
+    test_breaches_without_memory(CBOR_DIAG_RULES_VALID, one, CBOR_DIAG_BREACH_KEY_TWICE);
     test_breaches_without_memory(CBOR_DIAG_RULES_DCBOR, marks, CBOR_DIAG_BREACH_NOT_NFC);
     test_breaches_without_memory(CBOR_DIAG_RULES_CORE, twice, CBOR_DIAG_BREACH_KEY_ORDER);
     check(failing == 1, "a rule that needs no memory took some");

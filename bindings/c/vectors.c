@@ -164,7 +164,7 @@ static int called(const char *call, const char *argument)
 {
     static struct text bytes;
     clear(&bytes);
-    int takes_bytes = !strncmp(call, "bytes_", 6) || !strcmp(call, "extent") || !strcmp(call, "breach_in") ||
+    int takes_bytes = !strncmp(call, "bytes_", 6) || !strcmp(call, "extent") || !strcmp(call, "breach_of") ||
                       !strcmp(call, "reencode");
     if (takes_bytes)
         append_bytes(&bytes, input.bytes);
@@ -184,7 +184,7 @@ static int called(const char *call, const char *argument)
     for (uint32_t set = 0; set < sizeof sets / sizeof *sets; set++) {
         if (strcmp(argument, sets[set]))
             continue;
-        if (!strcmp(call, "breach_in"))
+        if (!strcmp(call, "breach_of"))
             breach(set, given, bytes.length);
         else if (!strcmp(call, "reencode"))
             reencode(set, given, bytes.length);

@@ -504,6 +504,9 @@ BREACHES = (
     (Rules.LENGTH_FIRST, "a21864012002", Breach(BreachKind.KEY_ORDER, 4, 1)),
     (Rules.CORE, "a201800180", Breach(BreachKind.KEY_TWICE, 3, 1)),
     (Rules.VALID, "a3018000800180", Breach(BreachKind.KEY_TWICE, 5, 1)),
+    (Rules.VALID, "a20126180127", Breach(BreachKind.KEY_TWICE, 3, 1)),
+    (Rules.VALID, "a2f93c0000fb3ff000000000000000", Breach(BreachKind.KEY_TWICE, 5, 1)),
+    (Rules.VALID, "a20100f93c0000", None),
 )
 
 
@@ -568,6 +571,7 @@ REENCODED = (
     (Rules.CTAP2, "1801c100", Error.NOT_ENCODABLE),
     (Rules.CORE, "a20180180180", Error.NOT_ENCODABLE),
     (Rules.VALID, "a201800180", Error.NOT_ENCODABLE),
+    (Rules.PREFERRED, "a20126180127", Error.NOT_ENCODABLE),
     (7, "00", Error.NO_RULES),
     (2**32, "00", Error.NO_RULES),
 )
@@ -581,6 +585,10 @@ NOT_ENCODABLE = (
      "a key that stands twice: 1_3 at byte 6, first at byte 2"),
     (Rules.VALID, "a201800180", Breach(BreachKind.KEY_TWICE, 3, 1),
      "a key that stands twice: 1 at byte 3, first at byte 1"),
+    (Rules.PREFERRED, "a20126180127", Breach(BreachKind.KEY_TWICE, 3, 1),
+     "a key that stands twice: 1_0 at byte 3, first at byte 1"),
+    (Rules.CTAP2, "a2f93c0000fb3ff000000000000000", Breach(BreachKind.KEY_TWICE, 5, 1),
+     "a key that stands twice: 1.0_3 at byte 5, first at byte 1"),
     (Rules.CTAP2, "1801c100", Breach(BreachKind.TAG, 2), "a tag: 1(0) at byte 2"),
     (Rules.CORE, "018201", Breach(BreachKind.NO_ITEM, 3, error=Error.CUT_SHORT), "the item is cut short at byte 3"),
     (Rules.DCBOR, "7f616562cc81ff", None, "a text that is not in NFC"),

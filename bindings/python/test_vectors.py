@@ -131,9 +131,9 @@ class Vectors(unittest.TestCase):
         self.check("feed", fed, taken=lambda row: True)
 
     def test_rules(self):
-        for call in ("breach", "breach_in"):
+        for call in ("breach", "breach_of"):
             self.check(call, broken, lambda row: " ".join(row.output().split()[:2]),
-                       lambda row: row.argument in SETS and (call == "breach_in" or row.argument not in ("valid", "dcbor")))
+                       lambda row: row.argument in SETS and (call == "breach_of" or row.argument not in ("valid", "dcbor")))
 
     def test_reencoding(self):
         def wanted(row):

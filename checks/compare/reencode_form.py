@@ -1,16 +1,21 @@
 """Items that are encoded again, so that they keep rules: docs/RULES.md, "Encoding again", and RFC 8949, section 4.
 
 Items are read with the place of each, changed from the inside out, and written. What no choice of an encoding mends is
-looked for before; the two rules that take memory to check are looked at again in what is written.
+looked for before; the two rules that take memory to check are looked at again in what is written. Two keys are one if
+their core deterministic encodings are the same bytes, which `breach_of` and `reencode` find.
 """
 
 from bytes_form import BREAK, head, head_at, width_of
 from item import OPEN
-from rules_form import KEPT, ORDERS, USUAL_NAN, Rules, breach_in, integer_of, is_nan, shortest_float
+from rules_form import CORE, KEPT, ORDERS, SETS, USUAL_NAN, Rules, breach_in, integer_of, is_nan, shortest_float
 
 
 class Unmended(Exception):
-    """Why there is no encoding that keeps the rules."""
+    """Two keys, with their places, that are one in what is written."""
+
+    def __init__(self, first, second):
+        super().__init__(f"KeyTwice {first} {second}")
+        self.first, self.second = first, second
 
 
 def lasting(rules):
@@ -19,21 +24,53 @@ def lasting(rules):
                  most_levels=rules.most_levels, few_simples=rules.few_simples)
 
 
+def fixes_keys(rules):
+    """Whether keys that are one by CORE have the same encoding by these rules, and two such keys none."""
+    return (rules.shortest_heads and rules.shortest_floats and rules.definite_lengths and rules.big_numbers
+            and rules.order != "")
+
+
+def written(data, rules):
+    """The items of bytes, encoded again; `Unmended` where keys have an order and two of them become one."""
+    writer = Writer(data, rules)
+    out, at = b"", 0
+    while at < len(data):
+        part, at = writer.item(at)
+        out += part
+    return out
+
+
 def reencode(data, rules):
     """The hex of bytes that keep the rules, or why there are none."""
     found = breach_in(data, lasting(rules))
     if found != KEPT:
         return f"Breach {found}"
-    writer = Writer(data, rules)
-    written, at = b"", 0
     try:
-        while at < len(data):
-            part, at = writer.item(at)
-            written += part
+        if not fixes_keys(rules):
+            written(data, CORE)
+        again = written(data, rules)
     except Unmended as unmended:
         return str(unmended)
-    found = breach_in(written, Rules(distinct_keys=rules.distinct_keys, nfc=rules.nfc))
-    return written.hex() if found == KEPT else f"Written {found}"
+    found = breach_in(again, Rules(distinct_keys=rules.distinct_keys, nfc=rules.nfc))
+    return again.hex() if found == KEPT else f"Written {found}"
+
+
+def breach_of(data, rules):
+    """As `breach_in`; and where no key may stand twice, the second of two keys that are one, as `KeyTwice` has them."""
+    found = breach_in(data, rules)
+    if found != KEPT or not rules.distinct_keys:
+        return found
+    try:
+        written(data, CORE)
+    except Unmended as unmended:
+        return f"{unmended.second} KeyTwice {unmended.first}"
+    return KEPT
+
+
+def breaches(data):
+    """A line for each set of rules that is broken."""
+    found = [(name, breach_of(data, rules)) for name, rules in SETS.items()]
+    return "\n".join(f"{name} {words}" for name, words in found if words != KEPT) or KEPT
 
 
 class Writer:
@@ -110,7 +147,7 @@ class Writer:
             pairs.sort(key=lambda pair: order(pair[0][0]))
             for (first, place), (second, later) in zip(pairs, pairs[1:]):
                 if first[0] == second[0]:
-                    raise Unmended(f"KeyTwice {place} {later}")
+                    raise Unmended(place, later)
         return self.container(5, width, pairs), at
 
     def tagged(self, number, width, at):

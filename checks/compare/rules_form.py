@@ -278,9 +278,3 @@ def breach_in(data, rules):
 def breach(data, rules):
     """The same without the two rules that take memory to check."""
     return breach_in(data, replace(rules, distinct_keys=False, nfc=False))
-
-
-def breaches(data):
-    """A line for each set of rules that is broken."""
-    found = [(name, breach_in(data, rules)) for name, rules in SETS.items()]
-    return "\n".join(f"{name} {words}" for name, words in found if words != KEPT) or KEPT

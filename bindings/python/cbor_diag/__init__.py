@@ -136,7 +136,7 @@ class Rules(enum.IntEnum):
     RFC8949 = 0
     """Well formed: no f8 before a byte below 32."""
     VALID = 1
-    """No key twice in a map (RFC 8949, section 5.3.1)."""
+    """No two keys of a map are one: their core encodings differ (RFC 8949, sections 5.3.1 and 5.6.1)."""
     PREFERRED = 2
     """Preferred serialization (RFC 8949, section 4.1)."""
     CORE = 3
@@ -666,6 +666,12 @@ def breach(data: Bytes, rules: Rules) -> Optional[Breach]:
     >>> breach(bytes.fromhex("82011802"), Rules.CORE).place
     2
 
+    Of a key that stands twice, `place` is that of the second, and `other` that of the first. Under `VALID` keys are one
+    if their core encodings are the same, whatever their bytes.
+
+    >>> breach(edn_to_bytes("{1: -7, 1_0: -8}"), Rules.VALID).place
+    3
+
     Raises `CborDiagError` for no such rules, and if memory runs out, which only `VALID` and `DCBOR` take.
     """
     return _on_bytes(data, _breach, _rules_number(rules))
@@ -704,9 +710,9 @@ def reencode(data: Bytes, rules: Rules) -> bytes:
     'a201800280'
 
     Raises `CborDiagError` with the error `NOT_ENCODABLE` if the data is no items; if it breaks a rule that no choice of
-    widths, lengths and order keeps; if two keys of a map are one once they are encoded again; or if the joined chunks
-    of a text or of a big number break a rule. The `breach` of the error says which of these, and where. Raises it also
-    for no such rules, and if memory runs out.
+    widths, lengths and order keeps; if two keys of a map are one, by their core encodings or once they are encoded
+    again; or if the joined chunks of a text break a rule. The `breach` of the error says which of these, and where.
+    Raises it also for no such rules, and if memory runs out.
     """
     return _on_bytes(data, _reencoded, _rules_number(rules))
 

@@ -9,7 +9,8 @@ use std::fmt;
 pub enum Rules {
     /// Well formed by RFC 8949: no `f8` before a byte below 32.
     Rfc8949,
-    /// No key twice in a map (RFC 8949, section 5.3.1). Checking this takes memory.
+    /// No two keys of a map are one: their core encodings differ (RFC 8949, sections 5.3.1 and 5.6.1). Checking this
+    /// takes memory.
     Valid,
     /// Preferred serialization (RFC 8949, section 4.1).
     Preferred,
@@ -139,7 +140,8 @@ impl fmt::Display for Breach {
 }
 
 /// Returns where bytes first break the rules; `None` if they are items, none or more, one after the other, that keep
-/// them all. The only error is [`Error::Memory`], which only [`Rules::Valid`] and [`Rules::Dcbor`] can have.
+/// them all. The only error is [`Error::Memory`], which only [`Rules::Valid`] and [`Rules::Dcbor`] can have. By
+/// [`Rules::Valid`] keys are one if their core encodings are the same, whatever their bytes.
 ///
 /// ```rust
 /// use semphluk::{breach, Breach, BreachKind, Rules};
@@ -171,11 +173,13 @@ pub fn breach(bytes: &[u8], rules: Rules) -> Result<Option<Breach>> {
 }
 
 /// Encodes items, none or more, one after the other, again, so that they keep the rules. The result is of the same items
-/// but for widths, kinds of length and the order of pairs. Bytes that keep the rules are returned as they are.
+/// but for widths, kinds of length, the order of pairs and the forms of numbers: a big number that an integer can have
+/// becomes that integer, and by [`Rules::Dcbor`] a float that is an integer does. Bytes that keep the rules are returned
+/// as they are.
 ///
 /// The error is [`Error::NotEncodable`] if the bytes are no items; if they break a rule that no choice of widths, lengths
-/// and order keeps; if two keys of a map are one once they are encoded again; or if the joined chunks of a text or of a
-/// big number break a rule: [`reencode_fault`] says which of these, and where. Otherwise it is [`Error::Memory`].
+/// and order keeps; if two keys of a map are one, by their core encodings or once they are encoded again; or if the joined
+/// chunks of a text break a rule: [`reencode_fault`] says which of these, and where. Otherwise it is [`Error::Memory`].
 ///
 /// ```rust
 /// use semphluk::{reencode, Rules};
@@ -214,7 +218,7 @@ pub fn reencode(bytes: &[u8], rules: Rules) -> Result<Vec<u8>> {
 #[derive(Clone, Copy, PartialEq, Eq, Hash, Debug)]
 pub enum ReencodeFault {
     /// This is wrong in the bytes, and no encoding avoids it. A key that stands twice may differ in the bytes from the
-    /// first of the two, as `01` and `18 01`: they are one once they are encoded again.
+    /// first of the two, as `01` and `18 01`: they are one by their core encodings, or once they are encoded again.
     Breach(Breach),
     /// What the items are encoded to breaks a rule, such as a text whose joined chunks are not in NFC.
     Written,

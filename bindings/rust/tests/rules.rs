@@ -84,6 +84,7 @@ fn keys() {
     let twice = BreachKind::KeyTwice { first: 1 };
     assert_breach(b"\xa2\x01\x80\x01\x80", Rules::Core, 3, twice);
     assert_breach(b"\xa3\x01\x80\x00\x80\x01\x80", Rules::Valid, 5, twice);
+    assert_breach(b"\xa2\x01\x26\x18\x01\x27", Rules::Valid, 3, twice);
 }
 
 #[test]
@@ -121,6 +122,7 @@ fn not_encodable() {
     assert_eq!(reencode(b"\x18\x01\xc1\x00", Rules::Ctap2), refused);
     let twice = b"\xa2\x01\x80\x18\x01\x80";
     assert_eq!(reencode(twice, Rules::Core), refused);
+    assert_eq!(reencode(twice, Rules::Preferred), refused);
     let text = Error::NotEncodable.to_string();
     assert_eq!(text, "no encoding of the items keeps the rules");
 }

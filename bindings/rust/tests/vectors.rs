@@ -167,7 +167,7 @@ fn rules_of(name: &str) -> Option<Rules> {
 
 #[test]
 fn rules() {
-    for row in rows(&["breach_in"]) {
+    for row in rows(&["breach_of"]) {
         let Some(rules) = rules_of(&row.argument) else { continue };
         let found = match breach(&row.bytes(), rules).unwrap() {
             None => "kept".to_string(),

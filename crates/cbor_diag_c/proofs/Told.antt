@@ -9,10 +9,11 @@ use Rattle.cbor_rules.specs.FirstBreach.{first_breach}
 use Rattle.cbor_rules.specs.Keeps.{KeepsRules, without_memory}
 use Rattle.cbor_reencode.specs.declared.error.ReencodeError.{ReencodeError}
 use Rattle.cbor_reencode.specs.declared.error.ReencodeError.TheVariants as reencode_error
-use Rattle.cbor_reencode.specs.Reencoded.{IsFound, lasting}
+use Rattle.cbor_reencode.specs.OneKey.{IsBreach, KeepsWithKeys}
+use Rattle.cbor_reencode.specs.Reencoded.{IsFound, lasting, FixesKeys, KeysOnce}
 use Rattle.cbor_messages.specs.Kinds.{kind_number}
-use Rattle.cbor_diag_c.specs.Breaches.{rules_of, IsTold, KeepsBy}
-use Rattle.cbor_diag_c.specs.Reencodings.{Breaks, BreaksBy, IsToldWhy, IsToldWhyNot}
+use Rattle.cbor_diag_c.specs.Breaches.{rules_of, IsTold, IsFoundBy, KeepsBy}
+use Rattle.cbor_diag_c.specs.Reencodings.{StaysBy, Breaks, BreaksBy, IsToldWhy, IsToldWhyNot}
 
 -- the rules with these two
 abbrev with_two : Rules → Bool → Bool → Rules
@@ -36,18 +37,35 @@ all_rules rules nfc distinct =
     subst (λ (d : Bool). with_two rules false d ≡ rules) distinct
     (subst (λ (n : Bool). with_two rules n rules.distinct_keys ≡ rules) nfc refl)
 
-pub first_of_all : (rules : Rules) (b : List ℕ) (found : Option Breach) → rules.nfc ≡ false
+first_of_all : (rules : Rules) (b : List ℕ) (found : Option Breach) → rules.nfc ≡ false
     → rules.distinct_keys ≡ false → found ≡ first_breach (without_memory rules) b → found ≡ first_breach rules b
 first_of_all rules b found nfc distinct is =
     subst (λ (r : Rules). found ≡ first_breach r b) (all_rules rules nfc distinct) is
 
-pub kept_of_all : (rules : Rules) (b : List ℕ) (found : Option Breach) → rules.nfc ≡ false
+kept_of_all : (rules : Rules) (b : List ℕ) (found : Option Breach) → rules.nfc ≡ false
     → rules.distinct_keys ≡ false → ((found ≡ None) ↔ KeepsRules (without_memory rules) b)
     → ((found ≡ None) ↔ KeepsRules rules b)
 kept_of_all rules b found nfc distinct is =
     subst (λ (r : Rules). (found ≡ None) ↔ KeepsRules r b) (all_rules rules nfc distinct) is
 
-pub ruleset without_laws = (first_of_all, kept_of_all)
+asked : {A : Type 0} (on : Bool) → on ≡ false → on ≡ true → A
+asked on no yes = absurd cc
+
+-- without them, what breaks the rules first is the first breach
+pub breach_of_all : (rules : Rules) (b : List ℕ) (found : Option Breach) → rules.nfc ≡ false
+    → rules.distinct_keys ≡ false → found ≡ first_breach (without_memory rules) b → IsBreach rules b found
+breach_of_all rules b None nfc distinct is =
+    (sym (first_of_all rules b None nfc distinct is), λ on. asked rules.distinct_keys distinct on)
+breach_of_all rules b (Some breach) nfc distinct is = inl (sym (first_of_all rules b (Some breach) nfc distinct is))
+
+pub keys_of_all : (rules : Rules) (b : List ℕ) (found : Option Breach) → rules.nfc ≡ false
+    → rules.distinct_keys ≡ false → ((found ≡ None) ↔ KeepsRules (without_memory rules) b)
+    → ((found ≡ None) ↔ KeepsWithKeys rules b)
+keys_of_all rules b found nfc distinct is =
+    let k = kept_of_all rules b found nfc distinct is in
+    (λ none. (k.0 none, λ on. asked rules.distinct_keys distinct on), λ keeps. k.1 keeps.0)
+
+pub ruleset without_laws = (breach_of_all, keys_of_all)
 
 -- a breach has a number
 some_number : (k : BreachKind) → kind_number k ≢ 0
@@ -71,30 +89,48 @@ same_some : (a b : Rules) → Some a ≡ Some b → a ≡ b
 same_some a b is = cc
 
 -- these are the rules of the number
-pub same_rules : (number : ℕ) (b : List ℕ) (rules : Rules) → rules_of number ≡ Some rules → KeepsBy number b
-    → KeepsRules rules b
+same_rules : (number : ℕ) (b : List ℕ) (rules : Rules) → rules_of number ≡ Some rules → KeepsBy number b
+    → KeepsWithKeys rules b
 same_rules number b rules is keeps =
-    subst (λ (r : Rules). KeepsRules r b) (same_some keeps.0 rules (sym keeps.1 ∙ is)) keeps.2
+    subst (λ (r : Rules). KeepsWithKeys r b) (same_some keeps.0 rules (sym keeps.1 ∙ is)) keeps.2
+
+pub stays_kept : (number : ℕ) (b : List ℕ) (rules : Rules) → rules_of number ≡ Some rules → StaysBy number b
+    → KeepsRules rules b
+stays_kept number b rules is stays =
+    subst (λ (r : Rules). KeepsRules r b) (same_some stays.0 rules (sym stays.1 ∙ is)) stays.2
+
+pub stays_once : (number : ℕ) (b : List ℕ) (rules : Rules) → rules_of number ≡ Some rules → StaysBy number b
+    → FixesKeys rules ⊎ KeysOnce b
+stays_once number b rules is stays =
+    subst (λ (r : Rules). FixesKeys r ⊎ KeysOnce b) (same_some stays.0 rules (sym stays.1 ∙ is)) stays.3
 
 pub same_breaks : (number : ℕ) (b : List ℕ) (rules : Rules) → rules_of number ≡ Some rules → BreaksBy number b
     → Breaks rules b
 same_breaks number b rules is breaks =
     subst (λ (r : Rules). Breaks r b) (same_some breaks.0 rules (sym breaks.1 ∙ is)) breaks.2
 
-pub ruleset of_rules = (same_rules, same_breaks)
+pub ruleset of_rules = (stays_kept, stays_once, same_breaks)
 
 no_breach : (breach : Breach) → Some breach ≡ None → ⊥
 no_breach breach is = absurd cc
 
 -- 0 is told exactly if the rules are kept
 pub kept : (number : ℕ) (b : List ℕ) (rules : Rules) (found : Option Breach) (n place detail : ℕ)
-    → rules_of number ≡ Some rules → ((found ≡ None) ↔ KeepsRules rules b) → IsTold found n place detail
+    → rules_of number ≡ Some rules → ((found ≡ None) ↔ KeepsWithKeys rules b) → IsTold found n place detail
     → ((n ≡ 0) ↔ KeepsBy number b)
 kept number b rules None n place detail is none told = (λ nought. (rules, is, none.0 refl), λ keeps. told.0)
 kept number b rules (Some breach) n place detail is none told = (
   λ nought. absurd (some_number breach.kind (sym told.0 ∙ nought)),
   λ keeps. absurd (no_breach breach (none.1 (same_rules number b rules is keeps))),
 )
+
+-- what is told of a breach is told of the rules of the number
+pub found_by : (number : ℕ) (b : List ℕ) (rules : Rules) (found : Option Breach) (n place detail : ℕ)
+    → rules_of number ≡ Some rules → IsBreach rules b found → IsTold found n place detail
+    → IsFoundBy number b n place detail
+found_by number b rules found n place detail is breach told = (rules, is, found, breach, told)
+
+pub ruleset breach_laws = (kept, found_by)
 
 -- ---- why there is no encoding
 

@@ -8,8 +8,7 @@ use Rattle.cbor_rules.specs.declared.rules.TheConstants.Rules.{DCBOR}
 use Rattle.cbor_rules.specs.declared.kind.Breach.{Breach}
 use Rattle.cbor_rules.specs.declared.kind.BreachKind.{BreachKind}
 use Rattle.cbor_rules.specs.declared.kind.BreachKind.TheVariants as kind
-use Rattle.cbor_rules.specs.FirstBreach.{first_breach}
-use Rattle.cbor_rules.specs.Keeps.{KeepsRules}
+use Rattle.cbor_reencode.specs.OneKey.{IsBreach, KeepsWithKeys}
 use Rattle.cbor_messages.specs.Kinds.{kind_number}
 use Rattle.cbor_diag_c.specs.Places.{no_place}
 
@@ -37,14 +36,16 @@ abbrev pub IsTold : Option Breach → ℕ → ℕ → ℕ → Type 0
 IsTold None n place detail = (n ≡ 0) × (place ≡ no_place) × (detail ≡ no_place)
 IsTold (Some b) n place detail = (n ≡ kind_number b.kind) × (place ≡ b.place) × (detail ≡ detail_of b.kind)
 
--- what is told of the first breach of the rules of this number
+-- what is told of what breaks the rules of this number first
 abbrev pub IsFoundBy : ℕ → List ℕ → ℕ → ℕ → ℕ → Type 0
 IsFoundBy number input n place detail =
-    (rules : Rules) × (rules_of number ≡ Some rules) × IsTold (first_breach rules input) n place detail
+    (rules : Rules) × (rules_of number ≡ Some rules)
+    × (found : Option Breach) × IsBreach rules input found × IsTold found n place detail
 
--- the input is items one after the other that keep the rules of this number
+-- The input is items one after the other that keep the rules of this number, and where these ask for distinct keys, no
+-- two keys of a map are one.
 abbrev pub KeepsBy : ℕ → List ℕ → Type 0
-KeepsBy number input = (rules : Rules) × (rules_of number ≡ Some rules) × KeepsRules rules input
+KeepsBy number input = (rules : Rules) × (rules_of number ≡ Some rules) × KeepsWithKeys rules input
 
 -- to check the rules takes memory
 abbrev pub TakesMemory : Rules → Type 0

@@ -6,7 +6,7 @@ use Rattle.cbor_rules.specs.FirstBreach.{first_breach}
 use Rattle.cbor_rules.specs.Keeps.{KeepsRules}
 use Rattle.cbor_reencode.specs.declared.error.ReencodeError.{ReencodeError}
 use Rattle.cbor_reencode.specs.declared.error.ReencodeError.TheVariants as reencode_error
-use Rattle.cbor_reencode.specs.Reencoded.{IsReencoded, IsFound, lasting}
+use Rattle.cbor_reencode.specs.Reencoded.{IsReencoded, IsFound, lasting, FixesKeys, KeysOnce}
 use Rattle.cbor_diag_c.specs.Answers.{written}
 use Rattle.cbor_messages.specs.Kinds.{kind_number}
 use Rattle.cbor_diag_c.specs.Breaches.{rules_of, IsTold}
@@ -25,6 +25,11 @@ abbrev pub IsAgainBy : ℕ → List ℕ → List ℕ → List ℕ → ℕ → Ty
 IsAgainBy number input old new n =
     (rules : Rules) × (rules_of number ≡ Some rules) × IsAgain rules input old new n
 
+-- The input keeps the rules of this number, and no two keys of a map are one, where the rules do not say so themselves.
+abbrev pub StaysBy : ℕ → List ℕ → Type 0
+StaysBy number input =
+    (rules : Rules) × (rules_of number ≡ Some rules) × KeepsRules rules input × (FixesKeys rules ⊎ KeysOnce input)
+
 -- the input breaks a rule that no choice of widths, lengths and order keeps, or is no items
 abbrev pub Breaks : Rules → List ℕ → Type 0
 Breaks rules input = (breach : Breach) × (first_breach (lasting rules) input ≡ Some breach)
@@ -32,8 +37,8 @@ Breaks rules input = (breach : Breach) × (first_breach (lasting rules) input �
 abbrev pub BreaksBy : ℕ → List ℕ → Type 0
 BreaksBy number input = (rules : Rules) × (rules_of number ≡ Some rules) × Breaks rules input
 
--- why the input is not encoded again: it breaks such a rule; or else two keys of a map become one, or what chunks are
--- joined to breaks a rule
+-- why the input is not encoded again: it breaks such a rule; or else two keys of a map are one or become one, or what is
+-- written breaks a rule whose check takes memory
 abbrev pub IsNotEncodable : Rules → List ℕ → Type 0
 IsNotEncodable rules input =
     Breaks rules input

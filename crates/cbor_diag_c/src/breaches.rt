@@ -1,8 +1,7 @@
 //! The calls for C that report where bytes break rules.
 ghost use Rattle.std.specs.Prelude.{◌≡◌, ◌⊎◌, ◌↔◌, ◌<◌, negsuc, None, length, IfOk, IsErr};
 ghost use Rattle.cbor_messages.specs.Kinds.{kind_text};
-ghost use Rattle.cbor_rules.specs.FirstBreach.{first_breach};
-ghost use Rattle.cbor_rules.specs.Keeps.{KeepsRules};
+ghost use Rattle.cbor_reencode.specs.OneKey.{IsBreach, KeepsWithKeys};
 ghost use Rattle.cbor_diag_c.specs.Answers.{IfLength, IfError, no_rules, written};
 ghost use Rattle.cbor_diag_c.specs.Breaches.{detail_of, rules_of};
 ghost use Rattle.cbor_diag_c.specs.Breaches.{IsTold, IsFoundBy, KeepsBy, TakesMemory};
@@ -13,7 +12,8 @@ use crate::answer::{refused, write};
 use crate::faults::NO_PLACE;
 use cbor_grammar::Error;
 use cbor_messages::{kind_number, kind_text};
-use cbor_rules::{Breach, BreachKind, Rules, breach, breach_in};
+use cbor_reencode::breach_of;
+use cbor_rules::{Breach, BreachKind, Rules, breach};
 use std::alloc::{AllocError, Global};
 
 /// What is returned for the number of no set of rules.
@@ -47,15 +47,15 @@ fn detail_of(kind: BreachKind) -> usize
     }
 }
 
-/// The first breach in the bytes. Memory is taken only where the rules need it.
+/// What breaks the rules first. Memory is taken only where the rules need it.
 #[tactic(auto, using(crate::proofs::Told::without_laws))]
 fn first(alloc: Global, bytes: &[u8], rules: Rules) -> Result<Option<Breach>, AllocError>
-    ensures first { IfOk result (λ found. found ≡ first_breach rules bytes.now) }
-    ensures none { IfOk result (λ found. (found ≡ None) ↔ KeepsRules rules bytes.now) }
+    ensures first { IfOk result (IsBreach rules bytes.now) }
+    ensures none { IfOk result (λ found. (found ≡ None) ↔ KeepsWithKeys rules bytes.now) }
     ensures memory { IsErr result → TakesMemory rules }
 {
     if rules.nfc || rules.distinct_keys {
-        breach_in(alloc, bytes, rules)
+        breach_of(alloc, bytes, rules)
     } else {
         Ok(breach(bytes, rules))
     }
@@ -87,9 +87,9 @@ pub(crate) fn told(found: Option<Breach>, place: &mut usize, detail: &mut usize)
 /// can have, or 12 for no set of rules. Sets `place` to how many bytes come before the head or the
 /// key that breaks the rule; and `detail` to the place of the other key, if a key is out of order
 /// or stands twice, or to the number of the error, if there is no item. Both are 2^64 - 1 where
-/// there is nothing to be told.
+/// there is nothing to be told. By `VALID` keys are one if their core encodings are the same.
 #[unsafe(no_mangle)]
-#[tactic(auto, using(crate::proofs::Told::kept))]
+#[tactic(auto, using(crate::proofs::Told::breach_laws))]
 pub extern "C" fn cbor_diag_breach(
     alloc: Global,
     rules: u32,

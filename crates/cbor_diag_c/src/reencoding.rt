@@ -1,12 +1,13 @@
 //! The calls for C that encode items again, and that say why there is no such encoding.
 ghost use Rattle.std.specs.Prelude.{◌≡◌, ◌≢◌, ◌⊎◌, negsuc, None};
 ghost use Rattle.cbor_rules.specs.Keeps.{KeepsRules};
+ghost use Rattle.cbor_reencode.specs.Reencoded.{FixesKeys, KeysOnce};
 ghost use Rattle.cbor_diag_c.specs.Answers.{IfLength, IfError, IfReturned};
 ghost use Rattle.cbor_diag_c.specs.Answers.{no_rules, not_encodable};
-ghost use Rattle.cbor_diag_c.specs.Breaches.{rules_of, KeepsBy};
+ghost use Rattle.cbor_diag_c.specs.Breaches.{rules_of};
 ghost use Rattle.cbor_diag_c.specs.Places.{no_place};
 ghost use Rattle.cbor_diag_c.specs.Reencodings.{IsWrittenText, IsAgain, IsAgainBy};
-ghost use Rattle.cbor_diag_c.specs.Reencodings.{Breaks, BreaksBy};
+ghost use Rattle.cbor_diag_c.specs.Reencodings.{Breaks, BreaksBy, StaysBy};
 ghost use Rattle.cbor_diag_c.specs.Reencodings.{IsNotEncodable, IsNotEncodableBy};
 ghost use Rattle.cbor_diag_c.specs.Reencodings.{IsToldWhy, IsToldWhyNot, IsToldWhyNotBy};
 
@@ -25,8 +26,8 @@ const NOT_ENCODABLE: i64 = -13;
 /// Writes the items of the input, encoded again by the rules, and returns their length.
 fn encode(alloc: Global, rules: Rules, input: &[u8], output: &mut [u8]) -> i64
     ensures whole { IfLength result (IsAgain rules input.now output.old output.new) }
-    ensures kept { KeepsRules rules input.now → IfReturned result
-        (IsWrittenText input.now output.old output.new) (λ n. n ≡ 1) }
+    ensures kept { KeepsRules rules input.now → (FixesKeys rules ⊎ KeysOnce input.now)
+        → IfReturned result (IsWrittenText input.now output.old output.new) (λ n. n ≡ 1) }
     ensures breaks { Breaks rules input.now → IfReturned result
         (λ n. ⊥) (λ n. (n ≡ 1) ⊎ (n ≡ not_encodable)) }
     ensures why { IfError result (λ n. (n ≡ 1)
@@ -44,7 +45,8 @@ fn encode(alloc: Global, rules: Rules, input: &[u8], output: &mut [u8]) -> i64
 ///
 /// Returns the length of the whole output, of which as much is written as fits `output`; or minus
 /// the number of the error, and then nothing is written: `Memory`, 12 for no set of rules, or 13
-/// for an input that has no encoding by the rules. An input that keeps them is returned as it is.
+/// for an input that has no encoding by the rules. An input that keeps them, and in which no two
+/// keys of a map are one, is returned as it is.
 #[unsafe(no_mangle)]
 #[tactic(auto, using(crate::proofs::Told::of_rules))]
 pub extern "C" fn cbor_diag_reencode(
@@ -54,7 +56,7 @@ pub extern "C" fn cbor_diag_reencode(
     output: &mut [u8],
 ) -> i64
     ensures whole { IfLength result (IsAgainBy rules input.now output.old output.new) }
-    ensures kept { KeepsBy rules input.now → IfReturned result
+    ensures kept { StaysBy rules input.now → IfReturned result
         (IsWrittenText input.now output.old output.new) (λ n. n ≡ 1) }
     ensures breaks { BreaksBy rules input.now → IfReturned result
         (λ n. ⊥) (λ n. (n ≡ 1) ⊎ (n ≡ not_encodable)) }
@@ -96,7 +98,8 @@ fn told_why(error: ReencodeError, place: &mut usize, detail: &mut usize) -> i64
 fn why_not(alloc: Global, rules: Rules, input: &[u8], place: &mut usize, detail: &mut usize) -> i64
     ensures told { IfLength result (λ n.
         IsToldWhyNot rules input.now n place.new detail.new) }
-    ensures kept { KeepsRules rules input.now → IfLength result (λ n. n ≡ 0) }
+    ensures kept { KeepsRules rules input.now → (FixesKeys rules ⊎ KeysOnce input.now)
+        → IfLength result (λ n. n ≡ 0) }
     ensures breaks { Breaks rules input.now → IfLength result (λ n. n ≢ 0) }
     ensures memory { IfError result (λ n. n ≡ 1) }
     ensures no_place { IfError result (λ n. (place.new ≡ no_place) × (detail.new ≡ no_place)) }
@@ -126,7 +129,7 @@ pub extern "C" fn cbor_diag_reencode_fault(
 ) -> i64
     ensures told { IfLength result (λ n.
         IsToldWhyNotBy rules input.now n place.new detail.new) }
-    ensures kept { KeepsBy rules input.now → IfLength result (λ n. n ≡ 0) }
+    ensures kept { StaysBy rules input.now → IfLength result (λ n. n ≡ 0) }
     ensures breaks { BreaksBy rules input.now → IfLength result (λ n. n ≢ 0) }
     ensures error { IfError result (λ n. (n ≡ 1) ⊎ ((n ≡ no_rules) × (rules_of rules ≡ None))) }
     ensures no_place { IfError result (λ n. (place.new ≡ no_place) × (detail.new ≡ no_place)) }

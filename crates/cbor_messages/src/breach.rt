@@ -6,15 +6,15 @@ use crate::words::{Message, TWO_BYTES, Words};
 use cbor_grammar::Error;
 use cbor_grammar::major::Major;
 use cbor_places::Piece;
-use cbor_reencode::ReencodeError;
-use cbor_rules::{Breach, BreachKind, RuleSet, breach_in};
+use cbor_reencode::{ReencodeError, breach_of};
+use cbor_rules::{Breach, BreachKind, RuleSet};
 use std::alloc::Global;
 use std::fmt::Write;
 
 /// What is said of the first breach of the set in whole items; `None` if they keep it. The only
 /// error is `Memory`.
 pub fn first_breach(alloc: Global, set: RuleSet, items: Piece) -> Result<Option<Message>, Error> {
-    let Some(breach) = breach_in(alloc, items.bytes, set.rules)? else {
+    let Some(breach) = breach_of(alloc, items.bytes, set.rules)? else {
         return Ok(None);
     };
     Ok(Some(message_on(alloc, set, items, breach)?))
@@ -128,8 +128,22 @@ impl Words<'_> {
             BreachKind::KeyTwice { first } => {
                 self.push(" was ")?;
                 self.push_byte(first)?;
+                self.push_other(place, first)?;
             }
             _ => {}
+        }
+        Ok(())
+    }
+
+    /// Writes the first of two keys that are one, if it is short and its bytes differ from those of
+    /// the one at a place.
+    fn push_other(&mut self, place: usize, first: usize) -> Result<(), Error> {
+        if self.item(place) == self.item(first) {
+            return Ok(());
+        }
+        if let Some(text) = self.short(first)? {
+            self.push(" as ")?;
+            self.push(&text)?;
         }
         Ok(())
     }

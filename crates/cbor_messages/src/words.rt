@@ -62,17 +62,36 @@ impl<'a> Words<'a> {
         write!(self.out, "at byte {byte}")
     }
 
+    /// The bytes of the item at a place; none if no whole item is there.
+    pub(crate) fn item(&self, place: usize) -> &'a [u8] {
+        let rest = self.from(place);
+        match extent(rest) {
+            Extent::Item(len) => rest.get(..len).unwrap_or(b""),
+            _ => b"",
+        }
+    }
+
+    /// The EDN of the item at a place, if it is short.
+    pub(crate) fn short(&self, place: usize) -> Result<Option<String>, Error> {
+        let item = self.item(place);
+        if item.is_empty() {
+            return Ok(None);
+        }
+        let text = bytes_to_edn(*self.out.allocator(), item)?;
+        Ok(if text.len() <= LONGEST {
+            Some(text)
+        } else {
+            None
+        })
+    }
+
     /// Writes the item at a place, if it is short, and returns whether it did.
     pub(crate) fn push_short(&mut self, place: usize) -> Result<bool, Error> {
-        let rest = self.from(place);
-        if let Extent::Item(len) = extent(rest) {
-            let text = bytes_to_edn(*self.out.allocator(), rest.get(..len).unwrap_or(b""))?;
-            if text.len() <= LONGEST {
-                self.push(&text)?;
-                return Ok(true);
-            }
-        }
-        Ok(false)
+        let Some(text) = self.short(place)? else {
+            return Ok(false);
+        };
+        self.push(&text)?;
+        Ok(true)
     }
 
     /// Writes the key at a place, if it is short, and else its place.

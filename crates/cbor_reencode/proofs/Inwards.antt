@@ -30,11 +30,11 @@ use Rattle.cbor_rules.proofs.FoundParts.{members_found, pairs_found}
 use Rattle.cbor_reencode.specs.declared.pairs.Pair.{Pair}
 use Rattle.cbor_reencode.specs.declared.error.ReencodeError.{ReencodeError}
 use Rattle.cbor_reencode.specs.declared.error.ReencodeError.TheVariants.{Memory, Breach, KeyTwice, Written}
-use Rattle.cbor_reencode.specs.Reencoded.{BecomeOne, HasMap, HasMapItems, HasMapPairs, HasKeyTwice, IsFound}
+use Rattle.cbor_reencode.specs.Reencoded.{BecomeOne, HasMap, HasMapItems, HasMapPairs, HasKeyTwice}
 use Rattle.cbor_reencode.specs.mirror.Checked.{Checked, checked_rules, PartsLeft, MembersLeft, PairsLeft}
 use Rattle.cbor_reencode.specs.mirror.Rewritten.{Rewritten, RewrittenPairs, CountIs, close, PairsAre, PlacesAre}
 use Rattle.cbor_reencode.specs.mirror.Rewritten.{AreTwice, IsStopped}
-use Rattle.cbor_reencode.specs.mirror.Twice.{TwiceAt, TwiceMembers, TwicePairs, TwiceItems, IsFoundAt}
+use Rattle.cbor_reencode.specs.mirror.Twice.{TwiceAt, TwiceMembers, TwicePairs, TwiceItems, IsFoundAt, IsStoppedBy}
 use Rattle.cbor_reencode.proofs.Checked.{member_ends, key_ends, value_starts, value_ends, tag_ends, next_item}
 use Rattle.cbor_reencode.proofs.Choices.{stated_head}
 use Rattle.cbor_reencode.proofs.Containers.{passed, one_fewer, count_at_first, close_left, whole}
@@ -85,7 +85,7 @@ pub lift : (rules : Rules) (len level : ℕ) (b : List ℕ) (inner : ℕ) (c : L
 lift rules len level b inner c Memory up h = tt
 lift rules len level b inner c (Breach breach) up h = absurd h
 lift rules len level b inner c (KeyTwice first second) up h = (h.0, up first second h.1)
-lift rules len level b inner c (Written breach) up h = h
+lift rules len level b inner c (Written breach) up h = absurd h
 
 -- what is found of the pairs of a map
 pub stopped : (rules : Rules) (len level : ℕ) (b : List ℕ) (ys : List Pair) (e : ReencodeError)
@@ -99,11 +99,11 @@ stopped rules len level b ys (Written breach) up h = absurd h
 -- what is found in an item is found in all of them
 pub found_in_all : (rules : Rules) (len : ℕ) (b all : List ℕ) (e : ReencodeError)
     → ((first second : ℕ) → TwiceAt rules len 1 b first second → HasKeyTwice rules all first second)
-    → IsFoundAt rules len 1 b e → IsFound rules all e
+    → IsFoundAt rules len 1 b e → IsStoppedBy rules all e
 found_in_all rules len b all Memory up h = tt
 found_in_all rules len b all (Breach breach) up h = absurd h
 found_in_all rules len b all (KeyTwice first second) up h = (h.0, up first second h.1)
-found_in_all rules len b all (Written breach) up h = h
+found_in_all rules len b all (Written breach) up h = absurd h
 
 -- ---- the same of what is found
 

@@ -26,7 +26,7 @@ use Rattle.cbor_reencode.specs.mirror.Rewritten.{Sequence}
 
 -- ---- rules that ask for less
 
-off : {A : Type 0} → ◌≡◌ {A = Bool} false true → A
+pub off : {A : Type 0} → ◌≡◌ {A = Bool} false true → A
 off e = absurd cc
 
 -- what keeps the rules keeps these others, too
@@ -134,6 +134,10 @@ last_less rules = record {
   tags = λ on. on;
   deepest = refl;
 }
+
+-- bytes that keep the rules keep those that last
+pub none_lasts : (rules : Rules) (b : List ℕ) → KeepsRules rules b → first_breach (lasting rules) b ≡ None
+none_lasts rules b keeps = rules_again (lasting rules) b (rules_kept rules (lasting rules) (last_less rules) b keeps)
 
 pub free_less : (rules : Rules) → AsksLess rules (without_memory rules)
 free_less rules = record {

@@ -12,3 +12,7 @@ pub mod Containers
 pub mod Twice
 pub mod Inwards
 pub mod Around
+pub mod Formed
+pub mod Unreduced
+pub mod Twins
+pub mod Once

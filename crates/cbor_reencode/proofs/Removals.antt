@@ -62,7 +62,7 @@ module _ {X : Type 0} where
 
   -- ---- one element more on both sides, and one less
 
-  put_in : (b c u v : List X) (a : X) → Removes (b ++ c) (u ++ v) → Removes (b ++ (a ∷ c)) (u ++ (a ∷ v))
+  pub put_in : (b c u v : List X) (a : X) → Removes (b ++ c) (u ++ v) → Removes (b ++ (a ∷ c)) (u ++ (a ∷ v))
   put_in [] c u v a h = (u, v, refl, h)
   put_in (x ∷ b) c u v a h =
       elim (gap u v h.0 h.1 x h.2) [

@@ -63,7 +63,7 @@ module _ (rules : Rules) (level : ℕ) where
 
   -- ---- the same pairs
 
-  reduced_joined : (ps qs : Pairs) → reduced_pairs rules (joined_pairs ps qs)
+  pub reduced_joined : (ps qs : Pairs) → reduced_pairs rules (joined_pairs ps qs)
       ≡ joined_pairs (reduced_pairs rules ps) (reduced_pairs rules qs)
   reduced_joined no_pairs qs = refl
   reduced_joined (pair k v ps) qs =

@@ -1,3 +1,4 @@
 pub mod Reduction
 pub mod Reencoded
+pub mod OneKey
 pub mod mirror

@@ -1,15 +1,18 @@
 -- Which bytes are the same items as others, encoded again so that they keep rules.
-use Rattle.std.specs.Prelude.{◌≡◌, ◌≢◌, ◌⊎◌, ℕ, ◌+◌, IsTrue, List, [], length, false}
+use Rattle.std.specs.Prelude.{◌≡◌, ◌≢◌, ◌⊎◌, ℕ, ◌+◌, IsTrue, List, [], length, false, Some}
 use Rattle.cbor_grammar.specs.Item as spec
 use Rattle.cbor_grammar.specs.Item.{Item, atom, array, tagged, Items, no_items, item, Pairs, no_pairs, pair}
 use Rattle.cbor_grammar.specs.Item.{item_count, pair_count}
 use Rattle.cbor_grammar.specs.Bytes.{strict, Spells, SpellsItems}
 use Rattle.cbor_grammar.specs.Written.{encoded, encoded_head, encoded_open}
 use Rattle.cbor_rules.specs.declared.rules.Rules.{Rules}
+use Rattle.cbor_rules.specs.declared.rules.TheConstants.Rules.{CORE}
 use Rattle.cbor_rules.specs.declared.rules.KeyOrder.TheVariants.{Any}
+use Rattle.cbor_rules.specs.declared.kind.Breach as rule
 use Rattle.cbor_reencode.specs.declared.error.ReencodeError.{ReencodeError}
 use Rattle.cbor_reencode.specs.declared.error.ReencodeError.TheVariants.{Memory, Breach, KeyTwice, Written}
-use Rattle.cbor_rules.specs.Keeps.{Keeps, without_memory}
+use Rattle.cbor_rules.specs.FirstBreach.{first_breach}
+use Rattle.cbor_rules.specs.Keeps.{Keeps, KeepsRules, without_memory}
 use Rattle.cbor_rules.specs.Same.{AreKept}
 use Rattle.cbor_reencode.specs.Reduction.{IsSameNumbered, SameNumbered}
 
@@ -95,10 +98,39 @@ pub record HasKeyTwice (rules : Rules) (b : List ℕ) (first second : ℕ) : Typ
   pub spells : SpellsItems strict 1 b items []
   pub twice : HasMapItems (BecomeOne rules first second) 1 0 items
 
--- What is found where all rules that last are kept: keys that become one, where keys have an order; or a breach of what
--- is written: a text whose chunks, joined, are not in NFC, or a key that stands twice.
+-- ---- keys that are one
+
+-- Two keys of a map, at these two places, are one: core deterministic encoding gives the same bytes for both (RFC 8949
+-- sections 4.2.1 and 5.6.1).
+abbrev pub AreOneKey : List ℕ → ℕ → ℕ → Type 0
+AreOneKey b first second = HasKeyTwice CORE b first second
+
+-- No two keys of a map are one.
+abbrev pub KeysOnce : List ℕ → Type 0
+KeysOnce b = (first second : ℕ) → ¬ (AreOneKey b first second)
+
+-- Of keys that are one, these rules leave the same encoding, and by their order that is no encoding of two keys.
+pub record FixesKeys (rules : Rules) : Type 0 where
+  pub heads : IsTrue rules.shortest_heads
+  pub floats : IsTrue rules.shortest_floats
+  pub lengths : IsTrue rules.definite_lengths
+  pub big : IsTrue rules.big_numbers
+  pub order : rules.key_order ≢ Any
+
+-- ---- why there is no encoding
+
+-- What the items are encoded to breaks a rule whose check takes memory, and this is the first breach of it: a text whose
+-- chunks, joined, are not in NFC, or a key that stands twice.
+abbrev pub BreaksWritten : Rules → List ℕ → rule.Breach → Type 0
+BreaksWritten rules b breach =
+    (IsTrue rules.nfc ⊎ IsTrue rules.distinct_keys)
+    × (again : List ℕ) × IsReencoded rules b again × (first_breach rules again ≡ Some breach)
+
+-- What is found where all rules that last are kept: keys that are one, or that become one where keys have an order; or
+-- a breach of what is written.
 abbrev pub IsFound : Rules → List ℕ → ReencodeError → Type 0
 IsFound rules b Memory = Unit {0}
 IsFound rules b (Breach breach) = ⊥
-IsFound rules b (KeyTwice first second) = (rules.key_order ≢ Any) × HasKeyTwice rules b first second
-IsFound rules b (Written breach) = IsTrue rules.nfc ⊎ IsTrue rules.distinct_keys
+IsFound rules b (KeyTwice first second) =
+    AreOneKey b first second ⊎ ((rules.key_order ≢ Any) × HasKeyTwice rules b first second)
+IsFound rules b (Written breach) = BreaksWritten rules b breach

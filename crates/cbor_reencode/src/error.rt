@@ -15,8 +15,8 @@ pub enum ReencodeError {
     /// deep, a simple value other than the rules have, a text that is not in NFC, or, by its bytes,
     /// a key that stands twice.
     Breach(Breach),
-    /// Two keys of a map are the same bytes once they are encoded again: how many bytes come before
-    /// each of them.
+    /// Two keys of a map are one, by `Rules::CORE`, or are the same bytes once they are encoded
+    /// again by the rules: how many bytes come before each of them.
     KeyTwice { first: usize, second: usize },
     /// What the items are encoded to breaks a rule, at this place of it: the chunks of a text are
     /// each in NFC, and joined they are not, or keys become the same where keys have no order.

@@ -11,12 +11,12 @@ ghost use Rattle.cbor_grammar.specs.Written.{encoded_open, encoded_close};
 ghost use Rattle.cbor_rules.specs.declared.kind.Breach.{Breach};
 ghost use Rattle.cbor_rules.specs.FirstBreach.{first_breach};
 ghost use Rattle.cbor_rules.specs.Keeps.{KeepsRules, without_memory};
-ghost use Rattle.cbor_reencode.specs.Reencoded.{IsReencoded, lasting, IsFound};
+ghost use Rattle.cbor_reencode.specs.Reencoded.{IsReencoded, lasting};
 ghost use Rattle.cbor_reencode.specs.mirror.Checked.{Checked, checked_rules};
 ghost use Rattle.cbor_reencode.specs.mirror.Chosen.{chosen_count, FitsHeld};
 ghost use Rattle.cbor_reencode.specs.mirror.Rewritten.{Rewritten, RewrittenItems};
 ghost use Rattle.cbor_reencode.specs.mirror.Rewritten.{Rises, pair_bytes, IsStopped};
-ghost use Rattle.cbor_reencode.specs.mirror.Twice.{IsFoundAt};
+ghost use Rattle.cbor_reencode.specs.mirror.Twice.{IsFoundAt, IsStoppedBy};
 
 use crate::encoder::Encoder;
 use crate::error::ReencodeError;
@@ -218,7 +218,7 @@ impl Encoder {
 }
 
 /// The rules among these that no choice of widths, lengths, order and forms of numbers keeps.
-fn lasting(rules: Rules) -> Rules
+pub fn lasting(rules: Rules) -> Rules
     ensures { result ≡ lasting rules }
 {
     Rules {
@@ -242,7 +242,7 @@ fn push_items(
     requires empty { out.old.items ≡ [] }
     requires checked { first_breach (checked_rules rules) bytes.now ≡ None }
     ensures is { IfOk result (λ x. IsReencoded rules bytes.now out.new.items) }
-    ensures found { IfErr result (IsFound rules bytes.now) }
+    ensures found { IfErr result (IsStoppedBy rules bytes.now) }
 {
     let encoder = Encoder {
         rules,
@@ -259,7 +259,8 @@ fn push_items(
 fn check_written(alloc: Global, written: &[u8], rules: Rules) -> Result<(), ReencodeError>
     requires { KeepsRules (without_memory rules) written.now }
     ensures keeps { IfOk result (λ x. KeepsRules rules written.now) }
-    ensures found { IfErr result (λ e. (b : List ℕ) → IsFound rules b e) }
+    ensures found { (b : List ℕ) → IsReencoded rules b written.now
+        → IfErr result (IsStoppedBy rules b) }
 {
     if !rules.nfc && !rules.distinct_keys {
         return Ok(());
@@ -270,14 +271,8 @@ fn check_written(alloc: Global, written: &[u8], rules: Rules) -> Result<(), Reen
     }
 }
 
-/// Encodes items again, one after the other, so that they keep the rules. The result is of the same
-/// items but for widths, kinds of length, the order of pairs and the forms of numbers. Bytes that
-/// keep the rules are returned as they are.
-///
-/// Of numbers, those change of which the rules leave one form: by `reduced_floats`, as in dCBOR, a
-/// float that is an integer becomes that integer, and each NaN f97e00; by `big_numbers`, a big
-/// number becomes an integer where one can have it, and else has no zero byte in front.
-pub fn reencoded(alloc: Global, bytes: &[u8], rules: Rules) -> Result<Vec<u8>, ReencodeError>
+/// Encodes items again, where keys are compared only as the rules want them.
+pub fn encoded(alloc: Global, bytes: &[u8], rules: Rules) -> Result<Vec<u8>, ReencodeError>
     ensures is { IfOk result (λ out. IsReencoded rules bytes.now out.items) }
     ensures keeps { IfOk result (λ out. KeepsRules rules out.items) }
     ensures kept { KeepsRules rules bytes.now → MatchResult result
@@ -286,7 +281,7 @@ pub fn reencoded(alloc: Global, bytes: &[u8], rules: Rules) -> Result<Vec<u8>, R
         → MatchResult result (λ out. ⊥)
         (λ e. (e ≡ ReencodeError.Breach b) ⊎ (e ≡ ReencodeError.Memory)) }
     ensures found { first_breach (lasting rules) bytes.now ≡ None
-        → IfErr result (IsFound rules bytes.now) }
+        → IfErr result (IsStoppedBy rules bytes.now) }
 {
     let Some(_) = breach_in(alloc, bytes, rules)? else {
         return Ok(Vec::from_slice(alloc, bytes)?);

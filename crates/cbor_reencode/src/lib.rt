@@ -1,7 +1,8 @@
 //! Encodes CBOR again so that it keeps rules, such as those of deterministic encoding (RFC 8949
 //! section 4.2).
 //!
-//! [`reencoded`] returns bytes of the same items that keep the rules of a [`Rules`].
+//! [`reencoded`] returns bytes of the same items that keep the rules of a [`Rules`]. [`breach_of`]
+//! finds the first place that breaks rules, where keys are one by what they say.
 //!
 //! ```rust
 //! use cbor_reencode::reencoded;
@@ -17,9 +18,10 @@
 mod encoder;
 mod error;
 mod items;
+mod keys;
 mod numbers;
 mod pairs;
 mod scalars;
 
 pub use error::ReencodeError;
-pub use items::reencoded;
+pub use keys::{breach_of, reencoded};

@@ -1,10 +1,12 @@
-//! Rules of an encoding: `breach RULES`, `breach_in RULES`, and `breaches`, which gives a line for
-//! each set of rules that is broken. RULES is the name of a set, as `core`, or names of single
-//! rules, as `shortest_heads`, which are kept besides the grammar of RFC 8949 or that set.
+//! Rules of an encoding: `breach RULES`, `breach_in RULES`, `breach_of RULES`, and `breaches`, which
+//! gives a line for each set of rules that is broken. RULES is the name of a set, as `core`, or
+//! names of single rules, as `shortest_heads`, which are kept besides the grammar of RFC 8949 or
+//! that set.
 
 use crate::lines::{lines_or, push_line};
 use crate::row::Row;
 use cbor_floats::EncodedFloat;
+use cbor_reencode::breach_of;
 use cbor_rules::{Breach, BreachKind, KeyOrder, RULES, RuleSet, Rules, breach, breach_in};
 use std::alloc::{AllocError, Global};
 
@@ -16,6 +18,7 @@ pub fn answer(alloc: Global, row: &Row) -> Result<Option<String>, AllocError> {
     let found = match row.call {
         "breach" => found_text(alloc, breach(&row.bytes, rules)),
         "breach_in" => found_text(alloc, breach_in(alloc, &row.bytes, rules)?),
+        "breach_of" => found_text(alloc, breach_of(alloc, &row.bytes, rules)?),
         "breaches" => breaches(alloc, &row.bytes),
         _ => return Ok(None),
     };
@@ -48,7 +51,7 @@ fn breaches(alloc: Global, bytes: &[u8]) -> Result<String, AllocError> {
     let mut text = String::new(alloc);
     for name in RULES.iter() {
         let rules = rules_of(name).unwrap_or(Rules::RFC_8949);
-        if let Some(found) = breach_in(alloc, bytes, rules)? {
+        if let Some(found) = breach_of(alloc, bytes, rules)? {
             let words = breach_text(alloc, found)?;
             push_line(&mut text, &format!(in alloc; "{name} {words}")?)?;
         }

@@ -1,5 +1,5 @@
 -- Encoding again: keys that become one, in what is at the front of the last of all bytes.
-use Rattle.std.specs.Prelude.{◌≡◌, ◌≢◌, ◌⊎◌, ℕ, ◌+◌, IsTrue, List, [], ◌++◌}
+use Rattle.std.specs.Prelude.{◌≡◌, ◌≢◌, ℕ, ◌+◌, List, [], ◌++◌}
 use Rattle.cbor_grammar.specs.declared.argument.Argument.{Argument}
 use Rattle.cbor_grammar.specs.Item.{Item, Items, item_count, Pairs, pair_count}
 use Rattle.cbor_grammar.specs.Bytes.{strict, Spells, SpellsItems, SpellsPairs}
@@ -8,7 +8,8 @@ use Rattle.cbor_rules.specs.declared.rules.KeyOrder.TheVariants.{Any}
 use Rattle.cbor_rules.specs.FirstBreach.{place_of}
 use Rattle.cbor_reencode.specs.declared.error.ReencodeError.{ReencodeError}
 use Rattle.cbor_reencode.specs.declared.error.ReencodeError.TheVariants.{Memory, Breach, KeyTwice, Written}
-use Rattle.cbor_reencode.specs.Reencoded.{BecomeOne, HasMap, HasMapItems, HasMapPairs}
+use Rattle.cbor_reencode.specs.Reencoded.{BecomeOne, HasMap, HasMapItems, HasMapPairs, HasKeyTwice}
+use Rattle.cbor_reencode.specs.Reencoded.{BreaksWritten, AreOneKey, FixesKeys}
 use Rattle.cbor_reencode.specs.mirror.Checked.{Checked}
 use Rattle.cbor_reencode.specs.mirror.Rewritten.{CountIs, close}
 
@@ -58,4 +59,18 @@ IsFoundAt rules len level b Memory = Unit {0}
 IsFoundAt rules len level b (Breach breach) = ⊥
 IsFoundAt rules len level b (KeyTwice first second) =
     (rules.key_order ≢ Any) × TwiceAt rules len level b first second
-IsFoundAt rules len level b (Written breach) = IsTrue rules.nfc ⊎ IsTrue rules.distinct_keys
+IsFoundAt rules len level b (Written breach) = ⊥
+
+-- why items are not encoded again by these rules, where keys are not looked at before
+abbrev pub IsStoppedBy : Rules → List ℕ → ReencodeError → Type 0
+IsStoppedBy rules b Memory = Unit {0}
+IsStoppedBy rules b (Breach breach) = ⊥
+IsStoppedBy rules b (KeyTwice first second) = (rules.key_order ≢ Any) × HasKeyTwice rules b first second
+IsStoppedBy rules b (Written breach) = BreaksWritten rules b breach
+
+-- Keys that are one are looked for where the rules do not fix them.
+abbrev pub AreLookedFor : Rules → List ℕ → ReencodeError → Type 0
+AreLookedFor rules b Memory = Unit {0}
+AreLookedFor rules b (Breach breach) = ⊥
+AreLookedFor rules b (KeyTwice first second) = (¬ (FixesKeys rules)) × AreOneKey b first second
+AreLookedFor rules b (Written breach) = ⊥

@@ -2,16 +2,10 @@
 use Rattle.std.proofs.Common.{◌≡◌, ℕ, List, Some, None, sym, subst, ◌∙◌}
 use Rattle.std.proofs.lemmas.Result.{err_from_is_err_and}
 use Rattle.cbor_rules.specs.declared.rules.Rules.{Rules}
-use Rattle.cbor_rules.specs.FirstBreach.{first_breach}
 use Rattle.cbor_rules.specs.Keeps.{KeepsRules}
-use Rattle.cbor_reencode.specs.Reencoded.{IsReencoded, lasting}
-use Rattle.cbor_rules.proofs.AgainItems.{rules_again}
-use Rattle.cbor_reencode.proofs.Kept.{rules_kept, last_less, last_free, reencoded_itself}
-use Rattle.cbor_reencode.proofs.items.reencoded.Goals as goal
-
--- bytes that keep the rules keep those that last
-none_lasts : (rules : Rules) (b : List ℕ) → KeepsRules rules b → first_breach (lasting rules) b ≡ None
-none_lasts rules b keeps = rules_again (lasting rules) b (rules_kept rules (lasting rules) (last_less rules) b keeps)
+use Rattle.cbor_reencode.specs.Reencoded.{IsReencoded}
+use Rattle.cbor_reencode.proofs.Kept.{last_free, none_lasts, reencoded_itself}
+use Rattle.cbor_reencode.proofs.items.encoded.Goals as goal
 
 pub returns-in_default-clause-is : goal.returns-in_default-clause-is
 returns-in_default-clause-is c =
@@ -29,7 +23,9 @@ pub returns-in_err-check_written-clause-found : goal.returns-in_err-check_writte
 returns-in_err-check_written-clause-found c = λ none.
     let r = c.from_residual-in_err-check_written in
     let p = err_from_is_err_and r.result r.ensures.1 in
-    rw (p.1, p.2) (c.in_err-check_written.ensures.found c.args.bytes.now)
+    let is : IsReencoded c.args.rules c.args.bytes.now c.deref.result.now =
+    rw c.deref.ensures.value c.in_ok-push_items.ensures.is in
+    rw (p.1, p.2) (c.in_err-check_written.ensures.found c.args.bytes.now is)
 
 pub push_items-requires-clause-checked : goal.push_items-requires-clause-checked
 push_items-requires-clause-checked c =

@@ -1,0 +1,25 @@
+-- Rules of an encoding where keys are one by what they say, and not by their bytes alone: which bytes keep the rules, and
+-- what breaks them.
+use Rattle.std.specs.Prelude.{◌≡◌, ◌⊎◌, ℕ, IsTrue, List, Option, Some, None}
+use Rattle.cbor_rules.specs.declared.rules.Rules.{Rules}
+use Rattle.cbor_rules.specs.declared.kind.Breach.{Breach}
+use Rattle.cbor_rules.specs.declared.kind.BreachKind.TheVariants.{KeyTwice}
+use Rattle.cbor_rules.specs.FirstBreach.{first_breach}
+use Rattle.cbor_rules.specs.Keeps.{KeepsRules}
+use Rattle.cbor_reencode.specs.Reencoded.{AreOneKey, KeysOnce}
+
+-- The bytes are items that keep the rules, and where these ask for distinct keys, no two keys of a map are one.
+abbrev pub KeepsWithKeys : Rules → List ℕ → Type 0
+KeepsWithKeys rules b = KeepsRules rules b × (IsTrue rules.distinct_keys → KeysOnce b)
+
+-- The second of two keys that are one, with the place of the first.
+abbrev pub IsKeyAgain : List ℕ → Breach → Type 0
+IsKeyAgain b breach = (first : ℕ) × (breach.kind ≡ KeyTwice first) × AreOneKey b first breach.place
+
+-- What breaks the rules, or nothing: their first breach, where keys are their bytes; or where there is none, and the
+-- rules ask for distinct keys, the second of two keys that are one.
+abbrev pub IsBreach : Rules → List ℕ → Option Breach → Type 0
+IsBreach rules b None = (first_breach rules b ≡ None) × (IsTrue rules.distinct_keys → KeysOnce b)
+IsBreach rules b (Some breach) =
+    (first_breach rules b ≡ Some breach)
+    ⊎ ((first_breach rules b ≡ None) × IsTrue rules.distinct_keys × IsKeyAgain b breach)

@@ -1,0 +1,118 @@
+//! Keys that are one by what they say: with them, what breaks rules, and encoding again.
+ghost use Rattle.std.specs.Prelude.{◌≡◌, ◌⊎◌, ◌↔◌, true, IfOk, IfErr, IfSome, MatchResult};
+ghost use Rattle.std.specs.Prelude.{Some, None};
+ghost use Rattle.cbor_rules.specs.declared.kind.Breach.{Breach};
+ghost use Rattle.cbor_rules.specs.declared.rules.TheConstants.Rules.{CORE};
+ghost use Rattle.cbor_rules.specs.FirstBreach.{first_breach};
+ghost use Rattle.cbor_rules.specs.Keeps.{KeepsRules};
+ghost use Rattle.cbor_reencode.specs.OneKey.{KeepsWithKeys, IsBreach};
+ghost use Rattle.cbor_reencode.specs.Reencoded.{IsReencoded, lasting, IsFound};
+ghost use Rattle.cbor_reencode.specs.Reencoded.{AreOneKey, KeysOnce, FixesKeys};
+ghost use Rattle.cbor_reencode.specs.mirror.Twice.{AreLookedFor};
+
+use crate::error::ReencodeError;
+use crate::items::{encoded, lasting};
+use cbor_rules::{Breach, BreachKind, KeyOrder, Rules, breach_in};
+use std::alloc::{AllocError, Global};
+
+/// The places of two keys of a map that are one.
+#[tactic(auto, using(crate::proofs::Once::core_laws))]
+fn keys_twice(alloc: Global, bytes: &[u8]) -> Result<Option<(usize, usize)>, AllocError>
+    requires { first_breach (lasting CORE) bytes.now ≡ None }
+    ensures none { IfOk result (λ found. found ≡ None → KeysOnce bytes.now) }
+    ensures some { IfOk result (λ found.
+        IfSome found (λ places. AreOneKey bytes.now places.0 places.1)) }
+{
+    match encoded(alloc, bytes, Rules::CORE) {
+        Ok(_) => Ok(None),
+        Err(ReencodeError::Memory) => Err(AllocError),
+        Err(ReencodeError::KeyTwice { first, second }) => Ok(Some((first, second))),
+        // The items are well-formed.
+        Err(ReencodeError::Breach(_)) => unreachable!(),
+        // `Rules::CORE` has no rule whose check takes memory.
+        Err(ReencodeError::Written(_)) => unreachable!(),
+    }
+}
+
+/// What breaks the rules first, with its place; `None` if and only if the bytes are items that keep
+/// them, and where the rules ask for distinct keys, no two keys of a map are one.
+///
+/// Two keys are one if [`Rules::CORE`] encodes both to the same bytes: 1 in one byte and in two,
+/// or maps that have their pairs in another order. [`breach_in`], which is asked first, compares
+/// keys by their bytes. Of several such pairs of keys, it is the one whose core encoding comes first
+/// in its map; the inner maps come before the outer ones.
+pub fn breach_of(alloc: Global, bytes: &[u8], rules: Rules) -> Result<Option<Breach>, AllocError>
+    ensures is { IfOk result (IsBreach rules bytes.now) }
+    ensures none { IfOk result (λ found. (found ≡ None) ↔ KeepsWithKeys rules bytes.now) }
+{
+    if let Some(found) = breach_in(alloc, bytes, rules)? {
+        return Ok(Some(found));
+    }
+    if !rules.distinct_keys {
+        return Ok(None);
+    }
+    let Some((first, second)) = keys_twice(alloc, bytes)? else {
+        return Ok(None);
+    };
+    Ok(Some(Breach {
+        place: second,
+        kind: BreachKind::KeyTwice { first },
+    }))
+}
+
+/// Whether keys that are one have the same encoding by these rules, and two such keys none.
+fn fixes_keys(rules: Rules) -> bool
+    ensures { (result ≡ true) ↔ FixesKeys rules }
+{
+    rules.shortest_heads
+        && rules.shortest_floats
+        && rules.definite_lengths
+        && rules.big_numbers
+        && rules.key_order != KeyOrder::Any
+}
+
+/// Whether no two keys of a map are one, where the rules leave that open.
+fn check_keys(alloc: Global, bytes: &[u8], rules: Rules) -> Result<(), ReencodeError>
+    ensures distinct { IfOk result (λ x. FixesKeys rules ⊎ KeysOnce bytes.now) }
+    ensures lasts { (b : Breach) → first_breach (lasting rules) bytes.now ≡ Some b → IfErr result
+        (λ e. (e ≡ ReencodeError.Breach b) ⊎ (e ≡ ReencodeError.Memory)) }
+    ensures found { first_breach (lasting rules) bytes.now ≡ None
+        → IfErr result (AreLookedFor rules bytes.now) }
+{
+    if fixes_keys(rules) {
+        return Ok(());
+    }
+    if let Some(found) = breach_in(alloc, bytes, lasting(rules))? {
+        return Err(ReencodeError::Breach(found));
+    }
+    match keys_twice(alloc, bytes)? {
+        None => Ok(()),
+        Some((first, second)) => Err(ReencodeError::KeyTwice { first, second }),
+    }
+}
+
+/// Encodes items again, one after the other, so that they keep the rules. The result is of the same
+/// items but for widths, kinds of length, the order of pairs and the forms of numbers. Bytes that
+/// keep the rules are returned as they are.
+///
+/// Of numbers, those change of which the rules leave one form: by `reduced_floats`, as in dCBOR, a
+/// float that is an integer becomes that integer, and each NaN f97e00; by `big_numbers`, a big
+/// number becomes an integer where one can have it, and else has no zero byte in front.
+///
+/// Items in which two keys of a map are one are not encoded, whatever the rules: see
+/// [`breach_of`](crate::breach_of).
+pub fn reencoded(alloc: Global, bytes: &[u8], rules: Rules) -> Result<Vec<u8>, ReencodeError>
+    ensures is { IfOk result (λ out. IsReencoded rules bytes.now out.items) }
+    ensures keeps { IfOk result (λ out. KeepsRules rules out.items) }
+    ensures distinct { IfOk result (λ out. FixesKeys rules ⊎ KeysOnce bytes.now) }
+    ensures kept { KeepsRules rules bytes.now → (FixesKeys rules ⊎ KeysOnce bytes.now)
+        → MatchResult result (λ out. out.items ≡ bytes.now) (λ e. e ≡ ReencodeError.Memory) }
+    ensures lasts { (b : Breach) → first_breach (lasting rules) bytes.now ≡ Some b
+        → MatchResult result (λ out. ⊥)
+        (λ e. (e ≡ ReencodeError.Breach b) ⊎ (e ≡ ReencodeError.Memory)) }
+    ensures found { first_breach (lasting rules) bytes.now ≡ None
+        → IfErr result (IsFound rules bytes.now) }
+{
+    check_keys(alloc, bytes, rules)?;
+    encoded(alloc, bytes, rules)
+}
