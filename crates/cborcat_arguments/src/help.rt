@@ -85,8 +85,9 @@ or .json is diag; one .cbor, .cose or .cwt is bytes if no form of text reads
 all of it.
 
 RULES are those of RFC 8949 for preferred, core (deterministic) or length-first
-encoding; ctap2; dcbor; or valid: no key twice in a map. They include rfc8949,
-the grammar, which -c alone checks. --encode takes them but for valid.
+encoding; ctap2; dcbor; or valid: no key twice in a map, where 1 and 1_0 are
+one. They include rfc8949, the grammar, which -c alone checks. --encode takes
+them but for valid.
 
 A PATH has steps joined by /: an index of an array, a key of a map in
 notation or as a plain word, @ for the item that a byte string is, @N for
