@@ -1,24 +1,23 @@
 //! In the program, the conversion of one input, as its bytes come.
+mod writing;
 
-use crate::dumps::Dumps;
 use crate::each::show_each;
 use crate::encode::Encoding;
 use crate::input::{MORE, block_len, read_into};
 use crate::messages::{Place, label, report_byte, report_end, report_long, report_lost, say};
 use crate::naming::Tables;
-use crate::output::{Target, Written, write};
+use crate::output::{Target, Written};
 use crate::plain::Plain;
 use crate::run::Runner;
-use crate::screen::{Screen, language_of};
+use crate::screen::Screen;
 use crate::shape::shape_of;
-use crate::shown::{show_of, spelled_bytes};
+use crate::shown::show_of;
 use crate::status::{Next, Status};
 use cbor_bytes::{Extent, extent};
 use cbor_grammar::Error;
-use cbor_inspect::{End, Form, Stream, two_byte_simple};
+use cbor_inspect::{End, Stream, two_byte_simple};
 use cbor_messages::{TWO_BYTES, first_breach};
-use cbor_places::{Around, Leaves, Piece, lines_at, partial_dump, partial_edn};
-use cbor_screen::Language;
+use cbor_places::Piece;
 use cborcat_arguments::{Job, View};
 use std::alloc::AllocError;
 use std::io;
@@ -187,142 +186,6 @@ impl<'a> Conversion<'a> {
             }
         }
         Next::More
-    }
-
-    /// Writes what was made of the items that were passed last.
-    fn write(&mut self) -> Result<Written, Error> {
-        match self.job.view {
-            View::Paths => self.write_paths(),
-            View::At(byte) => self.write_at(byte),
-            View::Items => self.write_items(),
-            View::Json => Ok(self.screen.write(self.target, &self.out, Language::Edn)?),
-            View::Raw => Ok(write(self.rt, self.target, &self.out)),
-        }
-    }
-
-    /// Writes what was made of items.
-    fn write_items(&mut self) -> Result<Written, Error> {
-        let style = self.job.show.style;
-        let Some(language) = language_of(style.form) else {
-            return Ok(write(self.rt, self.target, &self.out));
-        };
-        if language == Language::Dump
-            && let Ok(dumps) = str::from_utf8(&self.out)
-        {
-            let bytes = spelled_bytes(self.rt.alloc(), self.job, self.stream.passed(self.passed))?;
-            let how = Dumps {
-                bytes: &bytes,
-                embedded: style.embedded,
-                tables: self.tables_of_passed(),
-                most: self.job.elide,
-            };
-            if how.changes() {
-                let shown = how.shown(self.rt.alloc(), dumps)?;
-                return Ok(self.screen.write(self.target, &shown, language)?);
-            }
-        }
-        Ok(self.screen.write(self.target, &self.out, language)?)
-    }
-
-    /// The names that the items may have that were passed last.
-    fn tables_of_passed(&self) -> Option<Tables<'a>> {
-        match self.tables {
-            Some(tables) if tables.may_name(self.stream.passed(self.passed)) => Some(tables),
-            _ => None,
-        }
-    }
-
-    /// Writes a line for each item of these that holds no other.
-    fn write_paths(&mut self) -> Result<Written, Error> {
-        let alloc = self.rt.alloc();
-        let begins = self.begins().saturating_sub(self.passed);
-        let bytes = self.stream.passed(self.passed);
-        let items = Piece { begins, bytes };
-        let mut leaves = Leaves::new(alloc, items, self.job.show.style.edn());
-        let mut lines = String::new(alloc);
-        for _ in 0..u64::MAX {
-            if leaves.is_done() {
-                break;
-            }
-            lines.clear();
-            leaves.push_block(&mut lines)?;
-            let text = lines.as_bytes();
-            match self.screen.write(self.target, text, Language::Paths)? {
-                Written::Whole => {}
-                end => return Ok(end),
-            }
-        }
-        Ok(Written::Whole)
-    }
-
-    /// Writes what is said of a byte of the data, if it is in the items that were passed last.
-    fn write_at(&mut self, byte: usize) -> Result<Written, Error> {
-        let end = self.begins();
-        let begins = end.saturating_sub(self.passed);
-        if byte < begins || byte >= end {
-            return Ok(Written::Whole);
-        }
-        let bytes = self.stream.passed(self.passed);
-        let lines = lines_at(self.rt.alloc(), Piece { begins, bytes }, byte)?;
-        self.found = true;
-        Ok(write(self.rt, self.target, lines.as_bytes()))
-    }
-
-    /// Writes what is there of an item that is not whole, if it is asked for.
-    fn write_left(&mut self, end: End) -> Result<Written, Error> {
-        match self.job.view {
-            View::At(byte) => self.write_at_left(byte),
-            View::Items if self.job.partial => self.write_partial(end),
-            View::Items | View::Json | View::Raw | View::Paths => Ok(Written::Whole),
-        }
-    }
-
-    /// Writes the whole parts of an item that is cut or has a fault, and some of what remains.
-    fn write_partial(&mut self, end: End) -> Result<Written, Error> {
-        let alloc = self.rt.alloc();
-        let said = match end {
-            End::Fault { error, end } => {
-                let around = Around::of_end(alloc, self.left().first(end))?;
-                let words = around.fault_words(self.place, error)?;
-                format!(in alloc; "fault: {words}")?
-            }
-            End::Cut => String::from_str(alloc, "cut short")?,
-            _ => return Ok(Written::Whole),
-        };
-        let style = self.job.show.style;
-        let bytes = self.stream.rest();
-        let text = match style.form {
-            Form::Pretty | Form::Diag if !bytes.is_empty() => {
-                partial_edn(alloc, style.edn(), bytes, &said)?
-            }
-            Form::Hex if !bytes.is_empty() => {
-                let how = Dumps {
-                    bytes,
-                    embedded: false,
-                    tables: None,
-                    most: self.job.elide,
-                };
-                let dump = partial_dump(alloc, bytes, &said)?;
-                let shown = how.shown(alloc, &dump)?;
-                return Ok(self.screen.write(self.target, &shown, Language::Dump)?);
-            }
-            _ => return Ok(Written::Whole),
-        };
-        Ok(
-            self.screen
-                .write(self.target, text.as_bytes(), Language::Edn)?,
-        )
-    }
-
-    /// Writes what is said of a byte of an item that is not whole.
-    fn write_at_left(&mut self, byte: usize) -> Result<Written, Error> {
-        let begins = self.begins();
-        if byte < begins || byte >= self.came {
-            return Ok(Written::Whole);
-        }
-        let bytes = self.stream.rest();
-        let lines = lines_at(self.rt.alloc(), Piece { begins, bytes }, byte)?;
-        Ok(write(self.rt, self.target, lines.as_bytes()))
     }
 
     /// Converts some items, and tells what follows them.
