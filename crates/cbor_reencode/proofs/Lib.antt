@@ -16,3 +16,4 @@ pub mod Formed
 pub mod Unreduced
 pub mod Twins
 pub mod Once
+pub mod Broken

@@ -41,6 +41,7 @@ fn keys_twice(alloc: Global, bytes: &[u8]) -> Result<Option<(usize, usize)>, All
 /// or maps that have their pairs in another order. [`breach_in`], which is asked first, compares
 /// keys by their bytes. Of several such pairs of keys, it is the one whose core encoding comes first
 /// in its map; the inner maps come before the outer ones.
+#[tactic(auto, using(crate::proofs::Broken::broken_laws))]
 pub fn breach_of(alloc: Global, bytes: &[u8], rules: Rules) -> Result<Option<Breach>, AllocError>
     ensures is { IfOk result (IsBreach rules bytes.now) }
     ensures none { IfOk result (λ found. (found ≡ None) ↔ KeepsWithKeys rules bytes.now) }

@@ -1,0 +1,26 @@
+-- What breaks the rules is nothing exactly if they are kept, also where keys are one by what they say.
+use Rattle.std.proofs.Common.{◌≡◌, ◌↔◌, ℕ, true, false, List, Option, Some, None, refl, sym, ◌∙◌}
+use Rattle.cbor_rules.specs.declared.rules.Rules.{Rules}
+use Rattle.cbor_rules.specs.declared.kind.Breach.{Breach}
+use Rattle.cbor_rules.specs.Keeps.{KeepsRules}
+use Rattle.cbor_reencode.specs.OneKey.{KeepsWithKeys}
+use Rattle.cbor_reencode.specs.Reencoded.{AreOneKey, KeysOnce}
+
+pub broken : (rules : Rules) (b : List ℕ) (breach : Breach) (found : Option Breach) → found ≡ Some breach
+    → ((found ≡ None) ↔ KeepsRules rules b) → ((Some breach ≡ None) ↔ KeepsWithKeys rules b)
+broken rules b breach found is kept = (λ none. absurd cc, λ keeps. sym is ∙ kept.1 keeps.0)
+
+pub any_keys : (rules : Rules) (b : List ℕ) (found : Option Breach) → found ≡ None → rules.distinct_keys ≡ false
+    → ((found ≡ None) ↔ KeepsRules rules b) → ((◌≡◌ {A = Option Breach} None None) ↔ KeepsWithKeys rules b)
+any_keys rules b found is no kept = (λ none. (kept.0 is, λ on. absurd cc), λ keeps. refl)
+
+pub keys_once : (rules : Rules) (b : List ℕ) (found : Option Breach) → found ≡ None → KeysOnce b
+    → ((found ≡ None) ↔ KeepsRules rules b) → ((◌≡◌ {A = Option Breach} None None) ↔ KeepsWithKeys rules b)
+keys_once rules b found is once kept = (λ none. (kept.0 is, λ on. once), λ keeps. refl)
+
+pub key_again : (rules : Rules) (b : List ℕ) (breach : Breach) (first second : ℕ) → rules.distinct_keys ≡ true
+    → AreOneKey b first second → ((Some breach ≡ None) ↔ KeepsWithKeys rules b)
+key_again rules b breach first second on twice =
+    (λ none. absurd cc, λ keeps. absurd (keeps.1 on first second twice))
+
+pub ruleset broken_laws = (broken, any_keys, keys_once, key_again)
