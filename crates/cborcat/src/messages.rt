@@ -4,7 +4,7 @@ use crate::screen::say_excerpt;
 use crate::status::Status;
 use cbor_grammar::Error;
 use cbor_inputs::{HexFault, Input, Pasted, Refusal, looks_like, place_of_digit};
-use cbor_inspect::{End, Shown};
+use cbor_inspect::End;
 use cbor_messages::{Excerpt, Position, TWO_BYTES, lost_words, position_of};
 use cbor_places::{Around, Piece, Places, item_with};
 use cbor_tokens::is_shown;
@@ -276,14 +276,9 @@ pub fn report_refusal(
             let _ = eprintln!(rt; "cborcat: {}: not base 64", label(name));
             Status::Bad
         }
-        Refusal::Items { form, shown } => {
-            let place = Place {
-                name,
-                form,
-                text,
-                color,
-            };
-            report_data(rt, &place, shown)
+        Refusal::Items { form, .. } => {
+            let _ = eprintln!(rt; "cborcat: {}: no items as {}", label(name), word_of(form));
+            Status::Bad
         }
     };
     if status == Status::Bad {
@@ -323,16 +318,4 @@ pub fn say_pasted(rt: &HostRuntime, pasted: Option<Pasted>) {
         Pasted::Xxd => "a dump of xxd? Use xxd -r FILE | cborcat",
     };
     let _ = eprintln!(rt; "  {hint}");
-}
-
-/// Says why the data that a text stands for in a form are no items.
-fn report_data(rt: &HostRuntime, place: &Place, shown: Shown) -> Status {
-    let Ok(data) = place.form.decode(rt.alloc(), place.text) else {
-        return say_out_of_memory(rt, place.name);
-    };
-    let left = Piece {
-        begins: shown.used,
-        bytes: data.get(shown.used..).unwrap_or(b""),
-    };
-    report_end(rt, place, left, shown.end)
 }
