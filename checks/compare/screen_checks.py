@@ -88,7 +88,7 @@ def elided(run, same):
 
 
 def elided_dumps(run, same):
-    """The same in dumps, also in items in byte strings, with names, and of what is there of an item."""
+    """The same in dumps, also in items in byte strings, with names, and of parts."""
     def dump(digits, *words):
         return run(*words, "-t", "hex", "-f", "hex", "-x", digits)[0].decode()
 
@@ -113,13 +113,6 @@ def elided_dumps(run, same):
         "         6162... #       \"ab...\" /3 bytes/", "      40         #     /signature/ bytes(0)",
         "                 #       \"\""])
     same("a part", dump("82 43616263 00", "--elide=0", "-p", "0"), '43     # bytes(3)\n   ... #   "..." /3 bytes/\n')
-    same("partial", dump("82 43616263 61", "--elide=1", "--partial"), """\
-82 # array(2)
-   43       # bytes(3)
-      61... #   "a..." /3 bytes/
-   # cut short
-   61
-""")
 
 
 def widthless(run, same):
@@ -159,8 +152,6 @@ def spelled(run, same):
          "81       # array(1)\n   f8 14 #   false, simple(20)\n")
     same("with names", dump("d2 84 40 a0 f816 40").splitlines()[-3],
          "      f8 16 #     /payload/ null, simple(22)")
-    same("partial", dump("82 f800", "--partial"),
-         "82 # array(2)\n   f8 00 # unassigned, simple(0)\n   # cut short\n")
     for digits in ("82f80001", "42f800", "8242f800f800", "d8184381f814", "f820f8ff", "bf6161f814ff", "9ff8009ff817ffff"):
         shown = "".join(line.partition("#")[0] for line in dump(digits).splitlines()).replace(" ", "")
         same(f"the digits of {digits}", shown, digits)

@@ -119,23 +119,11 @@ impl<'a> Conversion<'a> {
             Form::Pretty | Form::Diag if !bytes.is_empty() => {
                 partial_edn(alloc, style.edn(), bytes, &said)?
             }
-            Form::Hex if !bytes.is_empty() => {
-                let how = Dumps {
-                    bytes,
-                    embedded: false,
-                    tables: None,
-                    most: self.job.elide,
-                };
-                let dump = partial_dump(alloc, bytes, &said)?;
-                let shown = how.shown(alloc, &dump)?;
-                return Ok(self.screen.write(self.target, &shown, Language::Dump)?);
-            }
+            Form::Hex if !bytes.is_empty() => partial_dump(alloc, bytes, &said)?,
             _ => return Ok(Written::Whole),
         };
-        Ok(
-            self.screen
-                .write(self.target, text.as_bytes(), Language::Edn)?,
-        )
+        let language = language_of(style.form).unwrap_or(Language::Edn);
+        Ok(self.screen.write(self.target, text.as_bytes(), language)?)
     }
 
     /// Writes what is said of a byte of an item that is not whole.
