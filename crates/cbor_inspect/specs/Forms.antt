@@ -28,14 +28,14 @@ edn_style style = record {
   columns = style.columns;
 }
 
--- the notes beside the item and those in it: none without tables of names
-abbrev pub AreBeside : Option Naming → List Note → Type 0
-AreBeside None notes = notes ≡ []
-AreBeside (Some naming) notes = Unit {0}
+-- the notes beside the item and those in it: none without tables of names, and none in a style without notes
+abbrev pub AreBeside : Option Naming → EdnStyle → List Note → Type 0
+AreBeside None style notes = notes ≡ []
+AreBeside (Some naming) style notes = style.notes ≡ false → notes ≡ []
 
 -- the item in EDN with such notes, and a line feed; it is read back whatever the notes are
 abbrev pub IsLineOf : Option Naming → EdnStyle → Item → List ℕ → Type 0
-IsLineOf named style i output = (notes : List Note) × AreBeside named notes
+IsLineOf named style i output = (notes : List Note) × AreBeside named style notes
     × (text : List ℕ) × (output ≡ text ++ 10 ∷ []) × IsNotedText style notes i text
 
 -- the item in that form, where it is EDN in that style

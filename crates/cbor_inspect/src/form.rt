@@ -36,7 +36,9 @@ pub struct Style {
 
 impl Style {
     /// Whether text has notes: only pretty EDN does.
-    pub(crate) fn has_notes(self) -> bool {
+    pub(crate) fn has_notes(self) -> bool
+        ensures { result ≡ (edn_style self).notes }
+    {
         self.form == Form::Pretty && self.notes
     }
 
