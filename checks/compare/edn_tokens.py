@@ -121,21 +121,46 @@ def unit(reader):
 
 
 def digits_of(reader, base):
-    """The bytes of digits up to the apostrophe, with blanks and comments between them."""
+    """The bytes of digits up to the apostrophe, with blanks and comments between them. An error has the place of the
+    first character with which no encoding goes on, or of the apostrophe where digits are missing."""
     begun, end = reader.at, reader.text.find(b"'", reader.at)
     if end < 0:
-        raise Refused("Notation")
-    inner = Reader(reader.text[reader.at:end])
+        raise Refused("Notation", len(reader.text))
+    inner = Reader(reader.text[begun:end])
     reader.at = end + 1
-    digits = b""
+    places = list(digit_places(inner, base))
+    digits = b"".join(inner.text[place:place + 1] for place in places)
     try:
-        while inner.at < len(inner.text):
-            if not inner.blank(base != 64):
-                digits += inner.text[inner.at:inner.at + 1]
-                inner.at += 1
         return decoded(digits, base)
     except Refused as refused:
-        raise Refused(refused.name, begun) from None
+        wrong = [place for count, place in enumerate(places, 1) if not goes_on(digits[:count], base)]
+        raise Refused(refused.name, begun + wrong[0] if wrong else end) from None
+
+
+def digit_places(inner, base):
+    """Where the digits are; a comment that does not end is none."""
+    while inner.at < len(inner.text):
+        try:
+            if inner.blank(base != 64):
+                continue
+        except Refused:
+            pass
+        yield inner.at
+        inner.at += 1
+
+
+def goes_on(digits, base):
+    """Whether digits that are 0, or padding, make an encoding of them."""
+    zero = b"A" if base in (32, 64) else b"0"
+    return any(is_encoding(digits + more * count, base) for more in (zero, b"=") for count in range(8))
+
+
+def is_encoding(digits, base):
+    try:
+        decoded(digits, base)
+    except Refused:
+        return False
+    return True
 
 
 ALPHABETS = {

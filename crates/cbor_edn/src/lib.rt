@@ -12,7 +12,9 @@ mod scalars;
 mod strings;
 
 pub use cbor_edn_grammar::close::Close;
-pub use cbor_edn_grammar::error::{EdnError, Expected, Message};
+pub use cbor_edn_grammar::error::{EdnError, Expected};
+pub use cbor_edn_grammar::literal::Literal;
+pub use cbor_edn_grammar::message::Message;
 pub use cbor_edn_writer::{
     EdnStyle, Note, NotedStyle, bytes_to_edn, bytes_to_edn_pretty, push_bytes_to_edn,
     push_bytes_to_edn_noted, push_bytes_to_edn_noted_partial, push_bytes_to_edn_partial,

@@ -375,10 +375,14 @@ fn error_at(stop: Stop, text: &str, left: usize) -> EdnError
 {
     match stop {
         Stop::Memory => EdnError::Memory,
-        Stop::At(expected) => EdnError::Wrong {
-            place: text.len() - left,
-            expected,
-        },
+        Stop::At(expected) => {
+            let place = text.len() - left;
+            let (before, rest) = text.as_bytes().split_at(place);
+            EdnError::Wrong {
+                place,
+                expected: expected.between(before, rest),
+            }
+        }
     }
 }
 

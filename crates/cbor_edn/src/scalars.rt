@@ -1,8 +1,10 @@
 //! Reads items of EDN: numbers and simple values.
-ghost use Rattle.std.specs.Prelude.{◌≡◌, ◌-◌, ◌<◌, ◌≤◌, ℕ, length, option_map, IfOk, IfSome};
+ghost use Rattle.std.specs.Prelude.{◌≡◌, ◌-◌, ◌<◌, ◌≤◌, ℕ, length, option_map, IfOk, IfSome, Some};
 ghost use Rattle.cbor_diag.specs.View.{view};
 ghost use Rattle.cbor_grammar.specs.WellFormed.{deepest, levels_left, WellFormed};
-ghost use Rattle.cbor_edn_grammar.specs.Reading.{Gives};
+ghost use Rattle.cbor_grammar.specs.Item.{atom};
+ghost use Rattle.cbor_edn_grammar.specs.Reading.{Gives, ◌>>=◌};
+ghost use Rattle.cbor_edn_grammar.specs.Number.{zero_of};
 ghost use Rattle.cbor_edn_grammar.specs.Items.{is_string, integer_item, number_item, named};
 ghost use Rattle.cbor_edn_grammar.specs.Items.{read_simple};
 ghost use Rattle.cbor_edn_grammar.specs.Items.{read_float, name_item, is_prefix, read_prefixed};
@@ -28,6 +30,18 @@ pub(crate) fn is_string(item: &DataItem) -> bool
     matches!(item, DataItem::ByteString(_) | DataItem::TextString(_))
 }
 
+/// The 0 that a word after `-` is, which is no negative integer.
+fn zero_item(word: &[u8]) -> Result<DataItem, Stop>
+    ensures gives { Gives (λ x. view x) result (zero_of word.now >>= λ a. Some (atom a)) }
+    ensures well { IfOk result (λ x. (level : ℕ) → level ≤ deepest → WellFormed level (view x)) }
+{
+    let (value, bitwidth) = unsigned(word)?;
+    if value != 0 {
+        return Err(Stop::At(Expected::Number));
+    }
+    Ok(DataItem::Integer { value, bitwidth })
+}
+
 /// The integer that a word is.
 fn integer_item(word: &[u8]) -> Result<DataItem, Stop>
     ensures gives { Gives view result (integer_item word.now) }
@@ -35,10 +49,11 @@ fn integer_item(word: &[u8]) -> Result<DataItem, Stop>
     ensures well { IfOk result (λ x. (level : ℕ) → level ≤ deepest → WellFormed level (view x)) }
 {
     match word {
-        [b'-', digits @ ..] => {
-            let (value, bitwidth) = negated(digits)?;
-            Ok(DataItem::Negative { value, bitwidth })
-        }
+        [b'-', digits @ ..] => match negated(digits) {
+            Ok((value, bitwidth)) => Ok(DataItem::Negative { value, bitwidth }),
+            Err(Stop::Memory) => Err(Stop::Memory),
+            Err(Stop::At(_)) => zero_item(digits),
+        },
         [b'+', digits @ ..] => {
             let (value, bitwidth) = unsigned(digits)?;
             Ok(DataItem::Integer { value, bitwidth })
@@ -51,11 +66,15 @@ fn integer_item(word: &[u8]) -> Result<DataItem, Stop>
     }
 }
 
-/// What to say of a word that is no number, where this is wrong with it as an integer.
-fn no_number(word: &[u8], expected: Expected) -> Expected {
-    match word {
-        [b'.', b'.', b'.', ..] => Expected::NoEllipsis,
-        _ => expected,
+/// What to say of a word that is no number, where this is wrong with it as an integer, and that as
+/// a big number.
+fn no_number(word: &[u8], expected: Expected, as_big: Expected) -> Expected {
+    if word.starts_with(b"...") {
+        Expected::NoEllipsis
+    } else if expected == Expected::FittingWidth && !word.contains(&b'_') {
+        as_big
+    } else {
+        expected
     }
 }
 
@@ -76,7 +95,9 @@ pub(crate) fn number_item(alloc: Global, word: &[u8], inner: u8) -> Result<DataI
         Err(stop) => stop,
     };
     match (stop, big_item(alloc, word, inner)) {
-        (Stop::At(expected), Err(Stop::At(_))) => Err(Stop::At(no_number(word, expected))),
+        (Stop::At(expected), Err(Stop::At(as_big))) => {
+            Err(Stop::At(no_number(word, expected, as_big)))
+        }
         (Stop::Memory, _) => Err(Stop::Memory),
         (_, found) => found,
     }
@@ -106,7 +127,12 @@ fn read_simple(text: &mut Cursor<'_>) -> Result<DataItem, Stop>
     ensures within { length text.new ≤ length text.old }
     ensures well { IfOk result (λ x. (level : ℕ) → level ≤ deepest → WellFormed level (view x)) }
 {
-    let (number, IntegerWidth::Unknown) = unsigned(text.word())? else {
+    let (number, width) = match unsigned(text.word()) {
+        Ok(found) => found,
+        Err(Stop::Memory) => return Err(Stop::Memory),
+        Err(Stop::At(_)) => return Err(Stop::At(Expected::SimpleNumber)),
+    };
+    let IntegerWidth::Unknown = width else {
         return Err(Stop::At(Expected::SimpleNumber));
     };
     if number > 255 {
@@ -124,11 +150,15 @@ fn read_float(alloc: Global, text: &mut Cursor<'_>) -> Result<DataItem, Stop>
     ensures within { length text.new ≤ length text.old }
     ensures well { IfOk result (λ x. (level : ℕ) → level ≤ deepest → WellFormed level (view x)) }
 {
-    let mut after = Cursor::new(text.rest());
-    let bytes = read_digits(alloc, &mut after, Base::Hex)?;
-    let (bits, bitwidth) = float_of_bytes(&bytes)?;
-    *text = after;
-    Ok(DataItem::Float { bits, bitwidth })
+    let begun = text.rest();
+    let bytes = read_digits(alloc, text, Base::Hex)?;
+    match float_of_bytes(&bytes) {
+        Ok((bits, bitwidth)) => Ok(DataItem::Float { bits, bitwidth }),
+        Err(stop) => {
+            *text = Cursor::new(begun);
+            Err(stop)
+        }
+    }
 }
 
 /// The item that a word is: a simple value, or a float that is no finite number.

@@ -4,6 +4,7 @@ use Rattle.cbor_grammar.specs.Item.{Item, items_of}
 use Rattle.cbor_grammar.specs.WellFormed.{deepest}
 use Rattle.cbor_grammar.specs.Written.{encoded_items}
 use Rattle.cbor_edn_grammar.specs.declared.error.EdnError.{EdnError}
+use Rattle.cbor_edn_grammar.specs.declared.error.Expected.{Expected}
 use Rattle.cbor_edn_grammar.specs.declared.error.EdnError.TheVariants as failure
 use Rattle.cbor_edn_grammar.specs.declared.error.Stop.{Stop}
 use Rattle.cbor_edn_grammar.specs.declared.error.Stop.TheVariants as stop
@@ -36,7 +37,7 @@ Answers view text read (Ok x) = read ≡ Some (view x)
 Answers view text read (Err failure.Memory) = Unit {0}
 Answers view text read (Err (failure.Wrong place expected)) = (read ≡ None) × (place ≤ length text)
 
--- an error at this place
+-- an error at this place, which may say more exactly what is expected there
 abbrev pub IsErrorAt : Stop → ℕ → EdnError → Type 0
 IsErrorAt stop.Memory place error = error ≡ failure.Memory
-IsErrorAt (stop.At expected) place error = error ≡ failure.Wrong place expected
+IsErrorAt (stop.At expected) place error = (reason : Expected) × (error ≡ failure.Wrong place reason)

@@ -1,6 +1,7 @@
 -- In EDN, integers, and the widths that they state.
 use Rattle.std.specs.Prelude.{ℕ, zero, suc, ◌^◌, List, [], ◌∷◌, take, drop, position, Option, Some, None, Bool}
 use Rattle.std.specs.Prelude.{◌==◌, if◌then◌else◌, nat_lt}
+use Rattle.std.specs.Option.{option_or}
 use Rattle.cbor_tokens.specs.Token.{capped}
 use Rattle.cbor_tokens.specs.TokenReading.{number_of}
 use Rattle.cbor_grammar.specs.declared.width.IntegerWidth.{IntegerWidth}
@@ -55,11 +56,15 @@ unsigned word = magnitude word >>= λ m. fitting m.0 m.1
 abbrev pub negated : List ℕ → Option (ℕ × IntegerWidth)
 negated word = magnitude word >>= λ m. one_less m.0 m.1
 
+-- 0 after a `-`, which is 0: no negative integer is
+abbrev pub zero_of : List ℕ → Option Atom
+zero_of word = unsigned word >>= λ n. if n.0 == 0 then Some (integer 0 n.1) else None
+
 -- the integer that a word is
 abbrev pub integer_of : List ℕ → Option Atom
 integer_of [] = None
 integer_of (b ∷ word) =
-    if b == 45 then (negated word >>= λ n. Some (negative n.0 n.1))
+    if b == 45 then option_or (negated word >>= λ n. Some (negative n.0 n.1)) (zero_of word)
     else if b == 43 then (unsigned word >>= λ n. Some (integer n.0 n.1))
     else (unsigned (b ∷ word) >>= λ n. Some (integer n.0 n.1))
 

@@ -4,33 +4,47 @@ ghost use Rattle.cbor_edn_grammar.specs.Expectations.{text_of, words_of};
 ghost use Rattle.cbor_edn_grammar.specs.declared.error.Stop.TheVariants.{Memory};
 
 use crate::close::Close;
-use crate::word::word_len;
+use crate::literal::Literal;
 use cbor_floats::half_value;
 use ryu::Buffer;
 use std::alloc::{AllocError, AllocFailed};
-use std::{fmt, str};
+use std::fmt;
 
 /// What has to be at the place of an error, in EDN.
 #[derive(Clone, Copy, PartialEq, Eq, Debug)]
 pub enum Expected {
-    /// An item: nothing that is here begins one.
+    /// An item: none begins here.
     Item,
+    /// A character that an item begins with.
+    ItemStart,
+    /// An item, and not another comma.
+    FewerCommas,
+    /// The value of a key, after the colon.
+    Value,
+    /// The item that a tag is of, between its parentheses.
+    TagContent,
+    /// The end of a comment that began here.
+    CommentEnd,
+    /// A word, spelled as EDN does.
+    Literal(Literal),
+    /// A text between quotes, and not a word that is no item.
+    Quotes,
+    /// Apostrophes after a prefix, and not quotes.
+    Apostrophes,
     /// Another item: nothing that is read so far is one.
     OneItem,
     /// A number, with an indicator of its width or without.
     Number,
     /// A number from 0 on, before the parenthesis of a tag.
     TagNumber,
+    /// A number of 64 bits, before the parenthesis of a tag.
+    LargestTag,
     /// A number from 0 to 255, for a simple value.
     SimpleNumber,
     /// An opening parenthesis, after `simple`.
     SimpleParenthesis,
-    /// A number other than 0, after `-`.
-    NegativeNumber,
     /// A number: an ellipsis has no bytes.
     NoEllipsis,
-    /// A name that is known.
-    Name,
     /// A prefix that is known, before an apostrophe.
     Prefix,
     /// A width that the number fits.
@@ -90,8 +104,10 @@ pub enum Expected {
         /// The second half.
         second: u16,
     },
-    /// Digits that are an encoding of bytes.
-    Digits,
+    /// A digit that the encoding of bytes may have here.
+    Digit,
+    /// A digit more: those up to here are no whole encoding of bytes.
+    MoreDigits,
     /// UTF-8, for a text.
     Utf8,
     /// `+` or a comma, between two strings.
@@ -114,14 +130,21 @@ impl Expected {
     {
         match self {
             Expected::Item => "an item is expected",
+            Expected::ItemStart => "no item begins with this character",
+            Expected::FewerCommas => "a comma too many",
+            Expected::Value => "a value has to follow the colon",
+            Expected::TagContent => "a tag needs an item in its parentheses",
+            Expected::CommentEnd => "the comment is not closed: write / or */ at its end",
+            Expected::Literal(literal) => literal.advice(),
+            Expected::Quotes => "a text needs quotes",
+            Expected::Apostrophes => "write apostrophes after the prefix, as in h'01'",
             Expected::OneItem => "one item is expected",
             Expected::Number => "not a number",
             Expected::TagNumber => "the number of a tag is a number from 0 on",
+            Expected::LargestTag => "a tag is at most 18446744073709551615",
             Expected::SimpleNumber => "a simple value has a number from 0 to 255",
             Expected::SimpleParenthesis => "( has to follow simple",
-            Expected::NegativeNumber => "-0 is no integer: write 0, or -0.0 for a float",
             Expected::NoEllipsis => "an ellipsis has no bytes",
-            Expected::Name => "no item begins so",
             Expected::Prefix => {
                 "no such prefix is known; h, b64, b32, h32, dt, DT, ip, IP and float are"
             },
@@ -159,7 +182,8 @@ impl Expected {
             Expected::FirstHalf { .. } => {
                 "half of a character: \\ud800 to \\udbff has to come before"
             },
-            Expected::Digits => "the digits are not an encoding of bytes",
+            Expected::Digit => "not a digit that can be here",
+            Expected::MoreDigits => "a digit is missing",
             Expected::Utf8 => "the bytes of the text are not UTF-8",
             Expected::PlusOrComma => {
                 "two strings side by side: write + to join them, or a comma between"
@@ -194,37 +218,6 @@ impl fmt::Display for Expected {
         }
     }
 }
-
-impl Expected {
-    /// Returns the message on a text that goes on so from the place of the error.
-    pub fn in_text(self, rest: &[u8]) -> Message<'_> {
-        Message {
-            expected: self,
-            word: &rest[..word_len(rest)],
-        }
-    }
-}
-
-/// What an error says, with the word at its place where that is a prefix that is not known.
-#[derive(Clone, Copy)]
-pub struct Message<'a> {
-    expected: Expected,
-    word: &'a [u8],
-}
-
-impl<'a> fmt::Display for Message<'a> {
-    fn fmt<W: fmt::Write>(&self, f: &mut fmt::Formatter<W>) -> fmt::Result {
-        match (self.expected, str::from_utf8(self.word)) {
-            (Expected::Prefix, Ok(word)) => {
-                write!(f, "no prefix {word}'..' is known; {PREFIXES} are")
-            }
-            _ => write!(f, "{}", self.expected),
-        }
-    }
-}
-
-/// The prefixes that are known.
-const PREFIXES: &str = "h, b64, b32, h32, dt, DT, ip, IP and float";
 
 /// Writes the number of a float of 16 bits, if it is finite.
 fn write_half<W: fmt::Write>(bits: u16, f: &mut fmt::Formatter<W>) -> fmt::Result {

@@ -5,5 +5,8 @@
 
 pub mod close;
 pub mod error;
+pub mod literal;
+pub mod message;
 pub mod opening;
+mod reason;
 pub mod word;

@@ -13,6 +13,7 @@ ghost use Rattle.cbor_edn_grammar.specs.Digits.{one_alphabet, decoded, decoded_f
 
 use crate::blank::after_blank;
 use crate::cursor::Cursor;
+use crate::digit_fault::digit_fault;
 use cbor_edn_grammar::error::{Expected, Stop};
 use cbor_edn_grammar::opening::Base;
 use cbor_notation::content::base16;
@@ -194,7 +195,7 @@ fn decoded(alloc: Global, base: Base, digits: Vec<u8>) -> Result<Vec<u8>, Stop>
 {
     match found(alloc, base, digits)? {
         Some(bytes) => Ok(bytes),
-        None => Err(Stop::At(Expected::Digits)),
+        None => Err(Stop::At(Expected::Digit)),
     }
 }
 
@@ -247,14 +248,24 @@ fn digits_front(alloc: Global, text: &[u8], base: Base) -> Result<(Vec<u8>, usiz
     }
 }
 
-/// The bytes of the digits up to the next apostrophe.
+/// The bytes of the digits up to the next apostrophe. An error is at the first character that cannot
+/// be there.
 pub fn read_digits(alloc: Global, text: &mut Cursor<'_>, base: Base) -> Result<Vec<u8>, Stop>
     ensures gives { Gives (λ x. (x.items, text.new)) result (read_digits base text.old) }
     ensures within { length text.new ≤ length text.old }
     ensures shorter { IfOk result (λ _. length text.new < length text.old) }
 {
     let rest = text.rest();
-    let (bytes, end) = digits_front(alloc, rest, base)?;
-    *text = Cursor::new(&rest[end..]);
-    Ok(bytes)
+    match digits_front(alloc, rest, base) {
+        Ok((bytes, end)) => {
+            *text = Cursor::new(&rest[end..]);
+            Ok(bytes)
+        }
+        Err(Stop::Memory) => Err(Stop::Memory),
+        Err(Stop::At(_)) => {
+            let (at, expected) = digit_fault(rest, base);
+            *text = Cursor::new(&rest[at..]);
+            Err(Stop::At(expected))
+        }
+    }
 }

@@ -238,7 +238,7 @@ pub fn special_word(word: &[u8]) -> Result<(u64, FloatWidth), Stop>
 {
     let (name, suffix) = name_and_width(word);
     let Some(text) = special(name) else {
-        return Err(Stop::At(Expected::Name));
+        return Err(Stop::At(Expected::Item));
     };
     match width_after(suffix) {
         Some(width) => float_in(text, width),

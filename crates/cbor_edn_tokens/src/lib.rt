@@ -6,6 +6,7 @@ pub mod address;
 pub mod blank;
 pub mod close;
 pub mod cursor;
+mod digit_fault;
 pub mod digits;
 pub mod float;
 pub mod hex_float;

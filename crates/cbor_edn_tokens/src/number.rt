@@ -98,7 +98,8 @@ pub fn unsigned(word: &[u8]) -> Result<(u64, IntegerWidth), Stop>
     Ok(fitting(number, width)?)
 }
 
-/// The number that is encoded for a negative integer, by the word after its `-`.
+/// The number that is encoded for a negative integer, by the word after its `-`. There is none for
+/// 0.
 pub fn negated(word: &[u8]) -> Result<(u64, IntegerWidth), Stop>
     ensures gives { Gives (λ x. (x.0, x.1)) result (negated word.now) }
     ensures some { IfOk result (λ _. 0 < length word.now) }
@@ -106,7 +107,7 @@ pub fn negated(word: &[u8]) -> Result<(u64, IntegerWidth), Stop>
 {
     let (number, width) = magnitude(word)?;
     if number == 0 {
-        return Err(Stop::At(Expected::NegativeNumber));
+        return Err(Stop::At(Expected::Number));
     }
     Ok(fitting(number - 1, width)?)
 }
@@ -118,7 +119,20 @@ pub fn tag_number(word: &[u8]) -> Result<(u64, IntegerWidth), Stop>
     ensures fits { IfOk result (λ x. FitsWidth x.1 x.0) }
 {
     match word {
-        [first, ..] if is_digit(*first) => unsigned(word),
+        [first, ..] if is_digit(*first) => match unsigned(word) {
+            Ok(number) => Ok(number),
+            Err(Stop::Memory) => Err(Stop::Memory),
+            Err(Stop::At(expected)) => Err(Stop::At(no_tag(word, expected))),
+        },
         _ => Err(Stop::At(Expected::TagNumber)),
+    }
+}
+
+/// What to say of a word that is the number of no tag, if this is wrong with it as an integer.
+fn no_tag(word: &[u8], expected: Expected) -> Expected {
+    if expected == Expected::FittingWidth && !word.contains(&b'_') {
+        Expected::LargestTag
+    } else {
+        expected
     }
 }

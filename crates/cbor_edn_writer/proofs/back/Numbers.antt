@@ -24,7 +24,7 @@ use Rattle.cbor_edn_grammar.specs.Float.{is_float}
 use Rattle.cbor_edn_grammar.specs.Items.{other_item, read_item, read_number, number_or_tag, read_tagged, number_item}
 use Rattle.cbor_edn_grammar.specs.Items.{name_item, read_simple, simple_number}
 use Rattle.cbor_edn_grammar.specs.Big.{big_item}
-use Rattle.cbor_edn_grammar.specs.Number.{fits, unsigned, integer_of}
+use Rattle.cbor_edn_grammar.specs.Number.{fits, unsigned, integer_of, zero_of}
 use Rattle.cbor_edn_grammar.specs.Strings.{opening_of, begins_string}
 use Rattle.cbor_edn_grammar.specs.Word.{begins_number, run_len}
 use Rattle.cbor_edn_grammar.proofs.Levels.{core_other}
@@ -135,7 +135,8 @@ module _ (left n : ℕ) (w : IntegerWidth) (rest : List ℕ) (h : fits w n ≡ t
       ≡ Some (atom (negative n (read_width w)), rest)
   negative_back =
       let digits = digits_of (n + 1) (omega (arith, lt)) in
-      let is = ap (λ r. r >>= λ n. Some (negative n.0 n.1)) (negated_number n w h lt) in
+      let is = ap (λ r. option_or (r >>= λ n. Some (negative n.0 n.1)) (zero_of (number (n + 1) w)))
+      (negated_number n w h lt) in
       let words = words_append (decimal (n + 1)) (indicator w) (digits_words (decimal (n + 1)) digits.1)
       (indicator_words w) in
       number_alone left (45 ∷ number (n + 1) w) rest (atom (negative n (read_width w))) (inr refl)
