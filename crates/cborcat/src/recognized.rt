@@ -46,9 +46,24 @@ pub fn form_of(job: &Job, name: &str) -> Option<Input> {
 /// The data of an input that was read to its end, and the form that it was read in: the form that
 /// is named, or the one that is recognized. A message says why there is none.
 pub fn data_of(rt: &HostRuntime, job: &Job, input: (&str, &[u8])) -> Result<Data, Status> {
-    match form_of(job, input.0) {
-        Some(form) => data_in(rt, job, input, form),
-        None => recognized(rt, job, input),
+    let data = match form_of(job, input.0) {
+        Some(form) => data_in(rt, job, input, form)?,
+        None => recognized(rt, job, input)?,
+    };
+    if data.bytes.is_empty() && !job.show.one {
+        say_none(rt, input);
+    }
+    Ok(data)
+}
+
+/// Says that a text has no item, if it has comments: nothing else is shown of it.
+fn say_none(rt: &HostRuntime, input: (&str, &[u8])) {
+    let (name, text) = input;
+    if text.contains(&b'#') || text.contains(&b'/') {
+        let _ = eprintln!(rt;
+            "cborcat: {}: no item: the text has only comments",
+            label(name)
+        );
     }
 }
 
