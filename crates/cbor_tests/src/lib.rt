@@ -37,6 +37,8 @@ mod edn_notes;
 #[cfg(test)]
 mod floats;
 #[cfg(test)]
+mod hidden;
+#[cfg(test)]
 mod hostile_bytes;
 #[cfg(test)]
 mod hostile_names;
