@@ -3,20 +3,21 @@
 from typing import NamedTuple
 
 from bytes_form import item_at, parse_bytes, to_bytes
-from edn_text import Writer
+from edn_text import NOTED, Writer, element_text
 from item import (
     Array, Bytes, Float, Integer, Map, Negative, Refused, Simple, Tagged, Text,
 )
 from notes import (
-    date_of_epoch, datetime_of_epoch, epoch_of_date, epoch_of_datetime, ipv4_text, ipv6_text, mac_text, uuid_lines,
+    date_of_epoch, datetime_of_epoch, epoch_of_date, epoch_of_datetime, ipv4_text, ipv6_text, mac_text, pieces, uuid_lines,
 )
+from tags import ELEMENTS
 
 COLUMNS = 80
 MOST_CHARACTERS = 64
 # the longest string of a big number whose digits are a note
 MOST_BIG = 16
-# tags that say what a byte string right below them is
-SAID = (2, 3, 37, 52, 54, 260)
+# the most elements of a typed array in a note
+MOST_ELEMENTS = 8
 ADDRESSES = {(52, 4): ipv4_text, (54, 16): ipv6_text, (260, 4): ipv4_text, (260, 6): mac_text, (260, 16): ipv6_text}
 
 
@@ -62,13 +63,22 @@ def bytes_note(content, tag):
         return ADDRESSES[tag, len(content)](content)
     if tag == 37 and len(content) == 16:
         return uuid_lines(content)[1].removeprefix("base16(").removesuffix(")")
-    return None
+    return elements(content, tag)
+
+
+def elements(content, tag):
+    """The elements of a typed array (RFC 8746) that a byte string is by the tag right above it."""
+    kind, size, little = ELEMENTS.get(tag, (None, 16, False))
+    if size == 16 or not content or len(content) % size:
+        return None
+    shown = [element_text(kind, one[::-1] if little else one) for one in pieces(content, size)[:MOST_ELEMENTS]]
+    return ", ".join(shown + ([".."] if len(content) > size * MOST_ELEMENTS else []))
 
 
 def characters(content, tag):
     """The characters of a byte string as a note, or None."""
     shown = all(0x20 <= byte <= 0x7E and byte != 0x2F for byte in content)
-    if tag in SAID or not shown or not 1 <= len(content) <= MOST_CHARACTERS:
+    if tag in NOTED or not shown or not 1 <= len(content) <= MOST_CHARACTERS:
         return None
     return "'" + content.decode().replace("\\", "\\\\").replace("'", "\\'") + "'"
 

@@ -1,5 +1,7 @@
 """Items written in EDN, so that the same bytes are read back: docs/EDN.md."""
 
+import math
+
 from bytes_form import sequence, to_bytes
 from diag_text import estimate
 from edn_numbers import FORMATS, nearest_or_none, value_of
@@ -10,8 +12,8 @@ from item import (
 )
 
 INDICATORS = {0: "_i", 1: "_0", 2: "_1", 4: "_2", 8: "_3"}
-# below these tags byte strings may have a note, and are no items
-NOTED = (2, 3, 37, 52, 54, 260)
+# below these tags byte strings may have a note, and are no items: typed arrays are below 64 to 87
+NOTED = (2, 3, 37, 52, 54, *range(64, 88), 260)
 NAMES = {20: "false", 21: "true", 22: "null", 23: "undefined"}
 ESCAPED = {"\b": "\\b", "\f": "\\f", "\n": "\\n", "\r": "\\r", "\t": "\\t", '"': '\\"', "\\": "\\\\"}
 HIDDEN = {
@@ -140,6 +142,17 @@ def longer(number, width):
 def keeps(value, width):
     bits = nearest_or_none(Fraction(value), width)
     return bits is not None and value_of(bits, width) == value
+
+
+def element_text(kind, content):
+    """An element of a typed array, whose highest byte comes first."""
+    if kind != "float":
+        return str(int.from_bytes(content, "big", signed=kind == "signed"))
+    value = value_of(int.from_bytes(content, "big"), len(content))
+    if value != value:
+        return "NaN"
+    sign = "-" if math.copysign(1, value) < 0 else ""
+    return sign + ("Infinity" if math.isinf(value) else decimal_text(abs(value)))
 
 
 def decimal_text(value):

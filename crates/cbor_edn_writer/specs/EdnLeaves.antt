@@ -246,9 +246,10 @@ abbrev pub begins_container : List ℕ → Bool
 begins_container [] = false
 begins_container (b ∷ bs) = nat_le 0x80 b && nat_lt b 0xe0
 
--- below these tags a byte string is an address, a UUID or a big number
+-- below these tags a byte string is an address, a UUID, a big number or a typed array
 abbrev pub is_noted : ℕ → Bool
-is_noted tag = (tag == 2) || (tag == 3) || (tag == 37) || (tag == 52) || (tag == 54) || (tag == 260)
+is_noted tag = (tag == 2) || (tag == 3) || (tag == 37) || (tag == 52) || (tag == 54)
+    || (nat_le 64 tag && nat_le tag 87) || (tag == 260)
 
 abbrev pub item_if : Bool → Content
 item_if shows = if shows then shown.Item else shown.Bytes

@@ -1,6 +1,7 @@
 //! EDN as a dialect of notation, which is written straight from bytes.
 #![tactic(auto, using(cbor_tokens::proofs::texts::Appending::appending_steps))]
 
+mod elements;
 mod leaf;
 mod lists;
 pub(crate) mod noted;

@@ -11,6 +11,7 @@ ghost use Rattle.cbor_edn_writer.specs.EdnLeaves.{AnyNote, NoteAfter, is_note as
 ghost use Rattle.cbor_edn_writer.specs.EdnLeaves.{comment_before, comment_after};
 ghost use Rattle.cbor_edn_writer.specs.EdnLeaves.{note_before, note_after};
 
+use crate::print::elements::elements_text;
 use crate::print::place::EdnPlace;
 use crate::print::same::is_noted;
 use cbor_grammar::strings::StringContent;
@@ -227,7 +228,7 @@ fn push_epoch(out: &mut String, number: Option<String>, alloc: Global) -> Result
     push_note(out, &note)
 }
 
-/// Writes what bytes below a tag are: an address, a UUID or a big number.
+/// Writes what bytes below a tag are: an address, a UUID, a big number or a typed array.
 #[inline(never)]
 fn push_bytes_note(
     out: &mut String,
@@ -241,7 +242,7 @@ fn push_bytes_note(
         2 | 3 => push_some_note(out, &big_number(alloc, tag == 3, bytes)?),
         37 => push_some_note(out, &uuid(alloc, bytes)?),
         52 | 54 | 260 => push_some_note(out, &address(alloc, tag, bytes)?),
-        _ => Ok(()),
+        _ => push_some_note(out, &elements_text(alloc, tag, bytes)?),
     }
 }
 

@@ -53,11 +53,11 @@ fn item_if(yes: bool) -> Content
     if yes { Content::Item } else { Content::Bytes }
 }
 
-/// Whether a byte string right below this tag is an address, a UUID or a big number.
+/// Whether a byte string right below this tag is an address, a UUID, a big number or a typed array.
 pub(super) fn is_noted(tag: u64) -> bool
     ensures { result ≡ has_note tag }
 {
-    matches!(tag, 2 | 3 | 37 | 52 | 54 | 260)
+    matches!(tag, 2 | 3 | 37 | 52 | 54 | 64..=87 | 260)
 }
 
 /// Whether bytes begin as an array, a map or a tagged item does.
