@@ -32,6 +32,10 @@ d3b0916e5a4c345cacb36',
 ])
 """
 
+# The parts that examples/webauthn.hex says beside its bytes.
+PARTS = (" /rpIdHash 32 bytes, flags UP AT, signCount 0, aaguid 00000000-0000-0000-0000-000000000000, "
+         "credentialIdLength 16, credentialPublicKey @71/")
+
 KEY = """\
 /COSE_Key/ {
     /kty/ 1: 2 /EC2/,
@@ -58,6 +62,24 @@ SHOWN = [
      "/ciphertext/ h'']],\n"
      "])\n"),
     (["--no-names", "-x", "18([h'a10126', {}, h'', h''])"], "18([h'a10126', {}, h'', h''])\n"),
+    # A type is found by a name that is alike, and its own name asks for its shape.
+    (["--as=cose_key", "-x", "{1: 4}"], "/COSE_Key/ {/kty/ 1: 4 /Symmetric/}\n"),
+    (["--as=COSE-KeySet", "-x", "[{1: 4}]"], "/COSE_KeySet/ [{/kty/ 1: 4 /Symmetric/}]\n"),
+    (["--as=COSE_Sign1", "-x", "{1: 2} [h'', {}, h'', h'']"],
+     "{1: 2}\n/COSE_Sign1/ [/protected/ h'', /unprotected/ {}, /payload/ h'', /signature/ h'']\n"),
+    (["--as=COSE_Sign1", "-x", "[1, 2, 3]"], "[/protected/ 1, /unprotected/ 2, /payload/ 3]\n"),
+    (["-x", "18([1, 2, 3, 4]), 18(\"a\")"], "18([1, 2, 3, 4])\n18(\"a\")\n"),
+    (["--as=CWT", "-x", "{266: {\"a\": {1: \"x\"}, \"b\": h'd28440a04040'}}"],
+     "/CWT/ {/submods/ 266: {\"a\": {/iss/ 1: \"x\"}, \"b\": <</COSE_Sign1/ 18([/protected/ h'', /unprotected/ {}, "
+     "/payload/ h'', /signature/ h''])>>}}\n"),
+    # Values that have a meaning, near the front of an item and far from it, and in a text none.
+    (["-x", "1(1363896240.5) 4([-2, 27315]) 5([-1, 3])"],
+     "1(1363896240.5 /2013-03-21T20:04:00.5Z/)\n4([-2, 27315 /273.15/])\n5([-1, 3 /1.5/])\n"),
+    (["-x", f"[\"{'a' * 200}\", 4([-2, 27315])]"], f"[\n    \"{'a' * 200}\",\n    4([-2, 27315 /273.15/]),\n]\n"),
+    (["-x", f"[\"{'a' * 200}\", 4([-2, \"\"])]"], f"[\n    \"{'a' * 200}\",\n    4([-2, \"\"]),\n]\n"),
+    (["-x", "\"\u0444\u0444\""], "\"\u0444\u0444\"\n"),
+    (["-x", "65(h'0001ffff')"], "65(h'0001ffff' /1, 65535/)\n"),
+    (["--no-names", "-x", "4([-2, 27315]) 1(1.5) 64(h'01')"], "4([-2, 27315])\n1(1.5)\n64(h'01' /1/)\n"),
     (["--no-names", "-e", "-x", "18([h'a10126', {}, h'', h''])"], "18([<<{1: -7}>>, {}, h'', h''])\n"),
     (["--no-names", "-x", "1(0)"], "1(0 /1970-01-01T00:00:00Z/)\n"),
     (["--no-notes", "-x", "18([h'a10126', {}, h'', h''])"], "18([h'a10126', {}, h'', h''])\n"),
@@ -119,6 +141,9 @@ def examples(run, same, folder):
         same(f"{name} is read back", run("-t", "bytes", "-f", "diag", data=wanted.encode()), (item, "", 0))
         same(f"{name} without names", b"/alg/" in run("--no-names", f"{folder}/{name}")[0], False)
     item = run("-t", "bytes", f"{folder}/webauthn.hex")[0]
+    for given in ([], ["--as=WebAuthn_Attestation"]):
+        shown = run(*given, f"{folder}/webauthn.hex")[0].decode()
+        same(f"the parts of authenticator data {given}", shown.count(f"'{PARTS},\n"), 1)
     same("the key of the attestation object", run("--as=COSE_Key", f"--offset={len(item) - 77}", data=item),
          (KEY.encode(), "", 0))
 

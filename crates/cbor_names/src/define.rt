@@ -48,6 +48,7 @@ impl Names {
                 None => None,
             },
             sign: part.sign,
+            optional: part.optional,
         };
         self.parts.push(row)?;
         let end = self.parts.len();
@@ -120,7 +121,9 @@ impl Names {
             What::Each(name) => Ok(WhatRow::Each(self.place_of(name)?)),
             What::Encoded(name) => Ok(WhatRow::Encoded(self.place_of(name)?)),
             What::Payload(name) => Ok(WhatRow::Payload(self.place_of(name)?)),
+            What::Nested(name) => Ok(WhatRow::Nested(self.place_of(name)?)),
             What::Date => Ok(WhatRow::Date),
+            What::AuthenticatorData => Ok(WhatRow::AuthenticatorData),
         }
     }
 
@@ -129,6 +132,7 @@ impl Names {
             Shape::Array => Ok(ShapeRow::Array),
             Shape::Map => Ok(ShapeRow::Map),
             Shape::MapBy(key) => Ok(ShapeRow::MapBy(self.key_row(key)?)),
+            Shape::MapTo(what) => Ok(ShapeRow::MapTo(self.what_row(what)?)),
             Shape::Each(name) => Ok(ShapeRow::Each(self.place_of(name)?)),
             Shape::Values => Ok(ShapeRow::Values),
         }

@@ -19,18 +19,25 @@
 //! ```
 #![tactic(auto)]
 
+mod authenticator;
+mod decimal;
 mod define;
 mod file;
 mod known;
+mod marks;
+mod moment;
 mod note;
 mod pairs;
 mod part;
+mod place;
 mod scalar;
+mod shape;
 mod table;
 mod walk;
 
 pub use file::{Fault, FileError, with_file};
 pub use known::known_names;
+pub use marks::Marks;
 pub use note::{Note, Notes};
 pub use part::{Definition, Key, Kind, Part, Shape, What};
 pub use table::{Names, Type};

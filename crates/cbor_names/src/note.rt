@@ -152,10 +152,17 @@ impl<'a> Notes<'a> {
         }
     }
 
-    /// The note with a date as its meaning.
-    pub(crate) fn dated(&mut self, found: Found<'a>, date: &str) -> Result<Found<'a>, AllocError> {
+    /// The note with this as its meaning, if it is some.
+    pub(crate) fn meaning(
+        &mut self,
+        found: Found<'a>,
+        text: &Option<String>,
+    ) -> Result<Found<'a>, AllocError> {
+        let Some(text) = text else {
+            return Ok(found);
+        };
         let start = self.made.len();
-        self.made.push_str(date)?;
+        self.made.push_str(text)?;
         let after = After::Made(start, self.made.len());
         Ok(Found { after, ..found })
     }

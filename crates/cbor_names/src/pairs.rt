@@ -82,15 +82,33 @@ impl<'b> Pairs<'b> {
     }
 }
 
+/// The type of maps that their keys tell from any other.
+const ATTESTATION: &str = "WebAuthn_Attestation";
+
+/// Whether bytes begin as these maps do: with one of their three keys.
+fn begins_attestation(bytes: &[u8]) -> bool {
+    bytes.starts_with(b"\xa3\x63fmt")
+        || bytes.starts_with(b"\xa3\x67attStmt")
+        || bytes.starts_with(b"\xa3\x68authData")
+}
+
 impl Names {
-    /// Whether the bytes are a map with the signs of maps of this type: each value of a key that
-    /// has a sign is of its kind, and there are at least two.
+    /// Whether the bytes are a map with the signs of maps of this type.
     pub(crate) fn has_signs(&self, found: &Type, bytes: &[u8]) -> bool {
+        match self.after_signs(found, bytes) {
+            Some(pairs) => pairs.is_end(),
+            None => false,
+        }
+    }
+
+    /// The end of the pairs of a map with the signs of maps of this type: each value of a key that
+    /// has a sign is of its kind, and there are at least two.
+    fn after_signs<'b>(&self, found: &Type, bytes: &'b [u8]) -> Option<Pairs<'b>> {
         let Inside::Keys(parts, _) = self.inside_of(found) else {
-            return false;
+            return None;
         };
         let Ok((ItemHead::Map(count), rest)) = read_head(bytes) else {
-            return false;
+            return None;
         };
         let mut pairs = Pairs::new(count, rest);
         let mut signs = 0usize;
@@ -102,10 +120,26 @@ impl Names {
                 continue;
             }
             if part.sign != kind_at(pair.value) {
-                return false;
+                return None;
             }
             signs = signs.saturating_add(1);
         }
-        pairs.is_end() && signs >= ENOUGH
+        if signs >= ENOUGH { Some(pairs) } else { None }
+    }
+
+    /// The type of the outermost item at the front if nothing else says it: that of an attestation
+    /// object of WebAuthn.
+    pub(crate) fn type_at(&self, bytes: &[u8]) -> Option<Type> {
+        if !begins_attestation(bytes) {
+            return None;
+        }
+        let found = self.of(ATTESTATION)?;
+        self.after_signs(&found, bytes)?;
+        Some(found)
+    }
+
+    /// Whether the outermost item at the front is known without a tag.
+    pub fn knows(&self, bytes: &[u8]) -> bool {
+        self.type_at(bytes).is_some()
     }
 }

@@ -21,6 +21,8 @@ pub enum Shape<'a> {
     Map,
     /// Maps; each part is a key, of which some depend on the value of this one.
     MapBy(Key<'a>),
+    /// Maps of any keys, whose values are all this.
+    MapTo(What<'a>),
     /// Arrays of items that are all of the type of this name.
     Each(&'a str),
     /// Integers and texts that mean something; each part is one, with its meaning as its name.
@@ -40,6 +42,8 @@ pub struct Part<'a> {
     pub when: Option<Key<'a>>,
     /// The kind of its value, if the key shows that a payload is of this type.
     pub sign: Option<Kind>,
+    /// Whether a member may be missing at the end of the array.
+    pub optional: bool,
 }
 
 /// An integer or a text, as a key or a value.
@@ -64,8 +68,12 @@ pub enum What<'a> {
     /// the tag of what the string is in, or else if the item has signs of the type: it is a map,
     /// the values of all keys with a sign are of that kind, and there are at least two of them.
     Payload(&'a str),
+    /// An item of this type, or a byte string that holds an encoded one.
+    Nested(&'a str),
     /// Seconds from 1970-01-01T00:00:00Z.
     Date,
+    /// WebAuthn's authenticator data, which a byte string holds.
+    AuthenticatorData,
 }
 
 /// The kind of a value.
@@ -86,6 +94,7 @@ impl<'a> Part<'a> {
             what: What::Any,
             when: None,
             sign: None,
+            optional: false,
         }
     }
 }

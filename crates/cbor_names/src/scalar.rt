@@ -4,6 +4,8 @@
 use crate::part::Kind;
 use crate::table::{KeyRow, Names, PartRow};
 use cbor_bytes::head::read_head;
+use cbor_floats::EncodedFloat;
+use cbor_grammar::FloatWidth;
 use cbor_grammar::argument::Argument;
 use cbor_grammar::head::ItemHead;
 use cbor_grammar::strings::StringKind;
@@ -82,6 +84,18 @@ pub(crate) fn scalar_at(bytes: &[u8]) -> Option<Scalar<'_>> {
             Some(Scalar::Text(text))
         }
         _ => None,
+    }
+}
+
+/// The float at the front.
+pub(crate) fn float_at(bytes: &[u8]) -> Option<EncodedFloat> {
+    let Ok((ItemHead::Float(bits, width), _)) = read_head(bytes) else {
+        return None;
+    };
+    match width {
+        FloatWidth::Sixteen => Some(EncodedFloat::Half(u16::try_from(bits).ok()?)),
+        FloatWidth::ThirtyTwo => Some(EncodedFloat::Single(u32::try_from(bits).ok()?)),
+        FloatWidth::Unknown | FloatWidth::SixtyFour => Some(EncodedFloat::Double(bits)),
     }
 }
 

@@ -49,6 +49,7 @@ pub(crate) enum ShapeRow {
     Array,
     Map,
     MapBy(KeyRow),
+    MapTo(WhatRow),
     Each(usize),
     Values,
 }
@@ -61,6 +62,7 @@ pub(crate) struct PartRow {
     pub what: WhatRow,
     pub when: Option<KeyRow>,
     pub sign: Option<Kind>,
+    pub optional: bool,
 }
 
 /// An integer or a text.
@@ -78,7 +80,9 @@ pub(crate) enum WhatRow {
     Each(usize),
     Encoded(usize),
     Payload(usize),
+    Nested(usize),
     Date,
+    AuthenticatorData,
 }
 
 /// What is known of the items in an item, or of its value.
@@ -89,6 +93,8 @@ pub(crate) enum Inside<'a> {
     Members(&'a [PartRow]),
     /// The keys of a map, and the one that some depend on.
     Keys(&'a [PartRow], Option<KeyRow>),
+    /// The values of all keys of a map.
+    EachValue(WhatRow),
     /// The type of all members of an array.
     Each(usize),
     /// Values that mean something.
@@ -136,6 +142,29 @@ impl Names {
             Some(found) if found.is_defined() => Some(found),
             _ => None,
         }
+    }
+
+    /// The type of this name, or else the first one whose name is the same but for case, `_` and
+    /// `-`.
+    ///
+    /// ```rust
+    /// use cbor_names::{Definition, Names, Shape};
+    ///
+    /// let mut names = Names::new(alloc);
+    /// names.define(Definition::new("COSE_Key", Shape::Map))?;
+    /// assert!(rt; names.find("cose-key").is_some());
+    /// assert!(rt; names.find("COSE").is_none());
+    /// ```
+    pub fn find(&self, name: &str) -> Option<Type> {
+        if let Some(found) = self.of(name) {
+            return Some(found);
+        }
+        for found in &self.types {
+            if found.is_defined() && is_alike(self.text(found.name), name) {
+                return Some(*found);
+            }
+        }
+        None
     }
 
     /// The type whose items have this tag.
@@ -188,7 +217,7 @@ impl Names {
     /// What is known of the items in an item of which this is known.
     pub(crate) fn inside(&self, what: WhatRow) -> Inside<'_> {
         match what {
-            WhatRow::Of(index) => match self.types.get(index) {
+            WhatRow::Of(index) | WhatRow::Nested(index) => match self.types.get(index) {
                 Some(found) => self.inside_of(found),
                 None => Inside::Nothing,
             },
@@ -205,6 +234,7 @@ impl Names {
             ShapeRow::Array => Inside::Members(parts),
             ShapeRow::Map => Inside::Keys(parts, None),
             ShapeRow::MapBy(key) => Inside::Keys(parts, Some(key)),
+            ShapeRow::MapTo(what) => Inside::EachValue(what),
             ShapeRow::Each(index) => Inside::Each(index),
             ShapeRow::Values => Inside::Values(parts),
         }
@@ -215,5 +245,35 @@ impl Type {
     /// Whether it is defined, not named alone.
     pub(crate) fn is_defined(self) -> bool {
         !matches!(self.shape, ShapeRow::Undefined)
+    }
+}
+
+/// Whether two names are the same but for case, `_` and `-`.
+fn is_alike(one: &str, other: &str) -> bool {
+    let mut rest = other.as_bytes();
+    for byte in one.as_bytes() {
+        if is_joint(*byte) {
+            continue;
+        }
+        match after_joints(rest) {
+            [first, after @ ..] if first.to_ascii_lowercase() == byte.to_ascii_lowercase() => {
+                rest = after;
+            }
+            _ => return false,
+        }
+    }
+    after_joints(rest).is_empty()
+}
+
+/// Whether names are compared without this character.
+fn is_joint(byte: u8) -> bool {
+    byte == b'_' || byte == b'-'
+}
+
+/// What is from the first other character on.
+fn after_joints(bytes: &[u8]) -> &[u8] {
+    match bytes.iter().position(|byte| !is_joint(*byte)) {
+        Some(at) => bytes.get(at..).unwrap_or(b""),
+        None => b"",
     }
 }

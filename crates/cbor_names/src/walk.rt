@@ -4,10 +4,14 @@
 ghost use Rattle.std.specs.Prelude.{◌≡◌, ◌+◌, ◌^◌, ◌<◌, ◌≤◌, length, IfOk};
 ghost use Rattle.cbor_names.specs.Falling.{len_of};
 
+use crate::authenticator::parts_in_words;
+use crate::decimal::Scaled;
+use crate::moment::datetime_of_float;
 use crate::note::{Found, Notes};
-use crate::pairs::Pairs;
-use crate::scalar::{Scalar, scalar_at};
-use crate::table::{Inside, Names, PartRow, Type, WhatRow};
+use crate::place::Place;
+use crate::scalar::{Scalar, float_at, scalar_at};
+use crate::shape::{EPOCH, Fit, SELF_DESCRIBED};
+use crate::table::{Inside, Names, Type, WhatRow};
 use cbor_bytes::head::read_head;
 use cbor_bytes::strings::{read_chunk_length, split_at};
 use cbor_grammar::argument::Argument;
@@ -28,140 +32,6 @@ enum Stop {
 impl From<AllocError> for Stop {
     fn from(_refused: AllocError) -> Stop {
         Stop::OutOfMemory
-    }
-}
-
-/// The tag whose item may be one of any type.
-const SELF_DESCRIBED: u64 = 55_799;
-
-/// What is known of an item before it is read.
-#[derive(Clone, Copy)]
-struct Place<'a> {
-    /// How many levels are left for it and the items in it.
-    left: u8,
-    /// How many bytes follow those that are read, up to the end of the outermost item's.
-    behind: usize,
-    /// Its name; empty for none.
-    name: &'a str,
-    what: WhatRow,
-    /// The tag before it.
-    tag: Option<u64>,
-    /// The tag around that of the item, or of the array that it is a member of.
-    around: Option<u64>,
-}
-
-/// The keys of a map, and the value of the one that some depend on.
-#[derive(Clone, Copy)]
-struct Keys<'a, 'b> {
-    parts: &'a [PartRow],
-    chosen: Option<Scalar<'b>>,
-}
-
-impl Names {
-    /// The keys of a map of which this is known, and whose head is read already.
-    fn keys<'a, 'b>(&'a self, what: WhatRow, count: Argument, bytes: &'b [u8]) -> Keys<'a, 'b> {
-        match self.inside(what) {
-            Inside::Keys(parts, by) => Keys {
-                parts,
-                chosen: match by {
-                    Some(key) => Pairs::new(count, bytes).value_of(self, key),
-                    None => None,
-                },
-            },
-            _ => Keys {
-                parts: &[],
-                chosen: None,
-            },
-        }
-    }
-
-    /// What is known of the item that a byte string of this content holds.
-    fn held(&self, what: WhatRow, around: Option<u64>, content: &[u8]) -> Option<WhatRow> {
-        match what {
-            WhatRow::Encoded(index) if !content.is_empty() => Some(WhatRow::Of(index)),
-            WhatRow::Payload(index) => {
-                let held = self.types.get(index)?;
-                let below = held.tag.is_some() && held.tag == around;
-                if below || self.has_signs(held, content) {
-                    Some(WhatRow::Of(index))
-                } else {
-                    None
-                }
-            }
-            _ => None,
-        }
-    }
-}
-
-impl<'a> Place<'a> {
-    /// That of an item in this one, of which nothing is known.
-    fn unknown(&self) -> Place<'a>
-        requires { 0 < self.now.left }
-        ensures left { result.left + 1 ≡ self.now.left }
-        ensures behind { result.behind ≡ self.now.behind }
-    {
-        Place {
-            left: self.left - 1,
-            behind: self.behind,
-            name: "",
-            what: WhatRow::Any,
-            tag: None,
-            around: None,
-        }
-    }
-
-    /// That of the member at this index.
-    fn member(&self, names: &'a Names, inside: Inside<'_>, index: usize) -> Place<'a>
-        requires { 0 < self.now.left }
-        ensures left { result.left + 1 ≡ self.now.left }
-        ensures behind { result.behind ≡ self.now.behind }
-    {
-        let (name, what) = match inside {
-            Inside::Members(parts) => match parts.get(index) {
-                Some(part) => (names.text(part.name), part.what),
-                None => ("", WhatRow::Any),
-            },
-            Inside::Each(index) => ("", WhatRow::Of(index)),
-            _ => ("", WhatRow::Any),
-        };
-        Place {
-            name,
-            what,
-            around: self.around,
-            ..self.unknown()
-        }
-    }
-
-    /// That of a key of a map.
-    fn key(&self, names: &'a Names, part: Option<&PartRow>) -> Place<'a>
-        requires { 0 < self.now.left }
-        ensures left { result.left + 1 ≡ self.now.left }
-        ensures behind { result.behind ≡ self.now.behind }
-    {
-        let name = match part {
-            Some(part) => names.text(part.name),
-            None => "",
-        };
-        Place {
-            name,
-            ..self.unknown()
-        }
-    }
-
-    /// That of the value of a key.
-    fn value(&self, part: Option<&PartRow>) -> Place<'a>
-        requires { 0 < self.now.left }
-        ensures left { result.left + 1 ≡ self.now.left }
-        ensures behind { result.behind ≡ self.now.behind }
-    {
-        let what = match part {
-            Some(part) => part.what,
-            None => WhatRow::Any,
-        };
-        Place {
-            what,
-            ..self.unknown()
-        }
     }
 }
 
@@ -197,6 +67,32 @@ fn after_chunks(kind: StringKind, bytes: &[u8]) -> Result<&[u8], Stop>
     }
 }
 
+impl Names {
+    /// The note of a tag, and what is known of the item below it, where this is known of what has
+    /// the tag.
+    fn below<'a>(
+        &'a self,
+        tag: u64,
+        note: Found<'a>,
+        what: WhatRow,
+        bytes: &[u8],
+    ) -> (Found<'a>, WhatRow) {
+        if let Some(found) = self.type_of(tag) {
+            let inside = WhatRow::Of(found.index);
+            return match self.fit_below(found, bytes) {
+                Fit::Other => (note, WhatRow::Any),
+                Fit::Members => (note, inside),
+                Fit::Whole => (note.or_name(self.text(found.name)), inside),
+            };
+        }
+        match tag {
+            SELF_DESCRIBED => (note, what),
+            EPOCH if float_at(bytes).is_some() => (note, WhatRow::Date),
+            _ => (note, WhatRow::Any),
+        }
+    }
+}
+
 /// The pass.
 #[derive(Drop)]
 struct Pass<'a> {
@@ -210,10 +106,10 @@ impl<'a> Pass<'a> {
     fn note_leaf(&mut self, place: &Place<'a>, note: Found<'a>, bytes: &[u8]) -> Result<(), Stop> {
         let note = match place.what {
             WhatRow::Of(index) => self.meant(note, index, bytes),
-            WhatRow::Date => match scalar_at(bytes) {
-                Some(Scalar::Integer(seconds)) => self.dated(note, seconds)?,
-                _ => note,
-            },
+            WhatRow::Date => {
+                let date = self.date_of(bytes)?;
+                self.notes.meaning(note, &date)?
+            }
             _ => note,
         };
         self.notes.push(note)?;
@@ -232,12 +128,47 @@ impl<'a> Pass<'a> {
         }
     }
 
-    /// The note with a date as its meaning.
-    fn dated(&mut self, note: Found<'a>, seconds: i64) -> Result<Found<'a>, AllocError> {
-        match datetime_of_epoch(self.alloc, seconds)? {
-            Some(date) => self.notes.dated(note, date.as_str()),
-            None => Ok(note),
+    /// The date that the seconds at the front are.
+    fn date_of(&self, bytes: &[u8]) -> Result<Option<String>, AllocError> {
+        if let Some(Scalar::Integer(seconds)) = scalar_at(bytes) {
+            return datetime_of_epoch(self.alloc, seconds);
         }
+        match float_at(bytes) {
+            Some(seconds) => datetime_of_float(self.alloc, seconds),
+            None => Ok(None),
+        }
+    }
+
+    /// Notes the number that a decimal fraction or a bigfloat right below this tag is, at its
+    /// mantissa, unless the tag is one of a type.
+    fn note_number(&mut self, tag: u64, behind: usize, bytes: &[u8]) -> Result<(), AllocError> {
+        if self.names.type_of(tag).is_some() {
+            return Ok(());
+        }
+        let Some(number) = Scaled::below(tag, bytes) else {
+            return Ok(());
+        };
+        let text = number.text(self.alloc)?;
+        let at = number.mantissa.len().saturating_add(behind);
+        let note = self.notes.meaning(Found::new(at, ""), &text)?;
+        self.notes.push(note)
+    }
+
+    /// Notes the name of a byte string, and what it holds if that is no item.
+    fn note_bytes(
+        &mut self,
+        what: WhatRow,
+        note: Found<'a>,
+        content: &[u8],
+    ) -> Result<(), AllocError> {
+        let note = match what {
+            WhatRow::AuthenticatorData => {
+                let parts = parts_in_words(self.alloc, content)?;
+                self.notes.meaning(note, &parts)?
+            }
+            _ => note,
+        };
+        self.notes.push(note)
     }
 
     /// The bytes after an item.
@@ -294,16 +225,9 @@ impl<'a> Pass<'a> {
         requires total { length bytes.now + place.now.behind < 2 ^ 64 }
         ensures shorter { IfOk result (λ rest. length rest.now < length bytes.now) }
     {
-        let names = self.names;
-        let (note, what) = match names.type_of(tag) {
-            Some(found) => (
-                note.or_name(names.text(found.name)),
-                WhatRow::Of(found.index),
-            ),
-            None if tag == SELF_DESCRIBED => (note, place.what),
-            None => (note, WhatRow::Any),
-        };
+        let (note, what) = self.names.below(tag, note, place.what, bytes);
         self.notes.push(note)?;
+        self.note_number(tag, place.behind, bytes)?;
         let inside = Place {
             what,
             tag: Some(tag),
@@ -364,7 +288,7 @@ impl<'a> Pass<'a> {
             let noted = self.notes.len();
             let key = place.key(names, part);
             let value = self.item(&key, rest)?;
-            rest = self.item(&place.value(part), value)?;
+            rest = self.item(&place.value(part, keys.each), value)?;
             self.notes.end(noted, at, rest.len() + place.behind);
             index += 1;
         }
@@ -388,7 +312,7 @@ impl<'a> Pass<'a> {
             return Err(Stop::NoItem);
         };
         let Some(what) = self.names.held(place.what, place.around, content) else {
-            self.notes.push(note)?;
+            self.note_bytes(place.what, note, content)?;
             return Ok(rest);
         };
         self.notes.push(note.encoded(true))?;
@@ -408,8 +332,9 @@ impl<'a> Pass<'a> {
 /// outermost item, if it is known.
 ///
 /// An item has a name if it is a member of an array or a key of a map that the tables name, or if
-/// it has the tag of a type; and the outermost item has that of its type. A member or a value has a
-/// meaning if the tables have one of it, or if it is a date.
+/// it has the tag of a type and the type's shape; and the outermost item has that of its type if it
+/// has the shape. A member or a value has a meaning if the tables have one of it, or if it is a
+/// date, a decimal fraction or authenticator data.
 ///
 /// Of bytes that are no item, the notes end where they cease to be one. The only error is out of
 /// memory.
@@ -438,9 +363,17 @@ pub fn notes<'a>(
 ) -> Result<Notes<'a>, AllocError>
     ensures len { IfOk result (λ notes. len_of notes ≡ length bytes.now) }
 {
-    let (name, what) = match outer {
-        Some(outer) => (names.text(outer.name), WhatRow::Of(outer.index)),
-        None => ("", WhatRow::Any),
+    let known = match outer {
+        Some(outer) => Some(outer),
+        None => names.type_at(bytes),
+    };
+    let what = match known {
+        Some(known) => WhatRow::Of(known.index),
+        None => WhatRow::Any,
+    };
+    let name = match outer {
+        Some(outer) if names.fit_behind_tags(&outer, bytes) == Fit::Whole => names.text(outer.name),
+        _ => "",
     };
     let outermost = Place {
         left: DEEPEST,

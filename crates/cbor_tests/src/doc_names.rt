@@ -74,3 +74,23 @@ fn of_files(rt: HostRuntime) -> Result<(), Fail> {
     assert_eq!(rt; around.as_slice(), ["Reading", "sensor"].as_slice());
     Ok(())
 }
+
+#[test]
+fn of_types_alike(rt: HostRuntime) -> Result<(), AllocError> {
+    let alloc = rt.alloc();
+    let mut names = Names::new(alloc);
+    names.define(Definition::new("COSE_Key", Shape::Map))?;
+    assert!(rt; names.find("cose-key").is_some());
+    assert!(rt; names.find("COSE").is_none());
+    Ok(())
+}
+
+#[test]
+fn of_tags(rt: HostRuntime) -> Result<(), AllocError> {
+    let alloc = rt.alloc();
+    let names = known_names(alloc)?;
+    // 18([h'', {}, h'', h'']), and 18("")
+    assert!(rt; names.says(b"\xd2\x84\x40\xa0\x40\x40"));
+    assert!(rt; !names.says(b"\xd2\x60"));
+    Ok(())
+}

@@ -59,16 +59,9 @@ impl<'a> Tables<'a> {
         Naming::new(self.names, self.outer)
     }
 
-    /// Whether items of these bytes may have names: their type is known, or a tag of the tables may
-    /// begin with one of the bytes.
+    /// Whether items of these bytes may have names.
     pub fn may_name(self, bytes: &[u8]) -> bool {
-        self.outer.is_some() || bytes.iter().any(|byte| self.begins_tag(*byte))
-    }
-
-    /// Whether a tag of the tables may begin with this byte.
-    fn begins_tag(self, byte: u8) -> bool {
-        let low = byte & 31;
-        byte >> 5 == 6 && (low >= 24 || self.names.tagged(u64::from(low)).is_some())
+        self.naming().may_name(bytes)
     }
 }
 
@@ -104,7 +97,7 @@ pub fn shown_of<'a>(
     let Some(word) = job.outer else {
         return Ok(Some(Tables { names, outer: None }));
     };
-    let outer = names.of(word);
+    let outer = names.find(word);
     if outer.is_some() {
         return Ok(Some(Tables { names, outer }));
     }

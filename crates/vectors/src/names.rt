@@ -28,7 +28,7 @@ pub fn answer(alloc: Global, row: &Row) -> Result<Option<String>, AllocError> {
 /// What is said of the items in an item of the type that the row names.
 fn of_type(alloc: Global, row: &Row) -> Result<String, AllocError> {
     let names = known_names(alloc)?;
-    let outer = names.of(row.argument);
+    let outer = names.find(row.argument);
     if outer.is_none() && !row.argument.is_empty() {
         return String::from_str(alloc, "no type has this name");
     }

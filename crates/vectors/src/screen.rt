@@ -97,11 +97,8 @@ fn named(alloc: Global, row: &Row) -> Result<String, AllocError> {
 /// A part of a type with this key.
 fn part<'a>(key: i64, name: &'a str, what: What<'a>) -> Part<'a> {
     Part {
-        key: Key::Integer(key),
-        name,
         what,
-        when: None,
-        sign: None,
+        ..Part::new(Key::Integer(key), name)
     }
 }
 

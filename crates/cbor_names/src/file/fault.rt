@@ -41,6 +41,8 @@ pub enum Fault {
     NoType,
     /// `sign` is none of `number`, `text` and `bytes`.
     Sign,
+    /// `optional` is neither `true` nor `false`.
+    Flag,
     /// `by` is neither an integer nor a text.
     By,
     OutOfMemory,
@@ -79,6 +81,7 @@ impl Fault {
             Fault::Text => "this has to be a text",
             Fault::NoType => "no type has this name",
             Fault::Sign => "a sign is `number`, `text` or `bytes`",
+            Fault::Flag => "`optional` is `true` or `false`",
             Fault::By => "`by` is a key: an integer or a text",
             Fault::OutOfMemory => "out of memory",
         }

@@ -7,6 +7,9 @@ use toml::{Table, Value};
 /// The word for a date in the place of a type's name.
 const DATE: &str = "date";
 
+/// The word for authenticator data, likewise.
+const AUTHENTICATOR_DATA: &str = "authData";
+
 /// A text.
 pub(crate) fn text(value: &Value) -> Result<&str, Fault> {
     match value {
@@ -64,11 +67,20 @@ fn sign(value: &Value) -> Result<Kind, Fault> {
     }
 }
 
+/// Whether something is so.
+fn flag(value: &Value) -> Result<bool, Fault> {
+    match value {
+        Value::Boolean(flag) => Ok(*flag),
+        _ => Err(Fault::Flag),
+    }
+}
+
 /// What a member's word says of its type.
 fn what<'t>(word: &str, value: &'t Value) -> Result<What<'t>, Fault> {
     match word {
         "is" => match text(value)? {
             DATE => Ok(What::Date),
+            AUTHENTICATOR_DATA => Ok(What::AuthenticatorData),
             name => Ok(What::Of(name)),
         },
         "each" => Ok(What::Each(text(value)?)),
@@ -85,6 +97,7 @@ fn part_of<'t>(key: Key<'t>, fields: &'t Table) -> Result<Part<'t>, Fault> {
         match word.as_str() {
             "name" => part.name = name(text(value)?)?,
             "sign" => part.sign = Some(sign(value)?),
+            "optional" => part.optional = flag(value)?,
             word => {
                 let what = what(word, value)?;
                 if !matches!(part.what, What::Any) {

@@ -128,6 +128,9 @@ fn push_keys(names: &mut Names, when: Option<Key<'_>>, value: &toml::Value) -> R
     };
     for (word, value) in keys.iter() {
         let part = part(key(word.as_str()), value)?;
+        if part.optional {
+            return Err(Fault::Word);
+        }
         names.push(Part { when, ..part })?;
     }
     Ok(())

@@ -32,7 +32,12 @@ const ENCRYPT0: &[Part<'static>] = &[PROTECTED, UNPROTECTED, member!("ciphertext
 const ENCRYPT: &[Part<'static>] = &[PROTECTED, UNPROTECTED, member!("ciphertext"), RECIPIENTS];
 
 /// A recipient may have recipients of its own.
-const RECIPIENT: &[Part<'static>] = &[PROTECTED, UNPROTECTED, member!("ciphertext"), RECIPIENTS];
+const RECIPIENT: &[Part<'static>] = &[
+    PROTECTED,
+    UNPROTECTED,
+    member!("ciphertext"),
+    member!("recipients", What::Each("COSE_recipient"), optional),
+];
 
 const HEADER: &[Part<'static>] = &[
     entry!(1, "alg", What::Of("COSE_Algorithm")),
@@ -133,6 +138,7 @@ pub(crate) fn add(names: &mut Names) -> Result<(), AllocError> {
         Definition::new("COSE_Key", Shape::MapBy(Key::Integer(1))),
         KEY,
     )?;
+    names.add(Definition::new("COSE_KeySet", Shape::Each("COSE_Key")), &[])?;
     names.add(Definition::new("COSE_Key_Type", Shape::Values), KEY_TYPE)?;
     names.add(
         Definition::new("COSE_Key_Operation", Shape::Values),

@@ -29,7 +29,7 @@ const CWT: &[Part<'static>] = &[
     entry!(263, "dbgstat"),
     entry!(264, "location"),
     entry!(265, "eat_profile"),
-    entry!(266, "submods"),
+    entry!(266, "submods", What::Of("EAT_Submods")),
     entry!(267, "bootcount"),
     entry!(268, "bootseed"),
     entry!(269, "dloas"),
@@ -51,6 +51,11 @@ const CONFIRMATION: &[Part<'static>] = &[
 /// Adds these types.
 pub(crate) fn add(names: &mut Names) -> Result<(), AllocError> {
     names.add(Definition::new("CWT", Shape::Map).tagged(61), CWT)?;
+    // By their names, claims or tokens.
+    names.add(
+        Definition::new("EAT_Submods", Shape::MapTo(What::Nested("CWT"))),
+        &[],
+    )?;
     names.add(
         Definition::new("CWT_Confirmation", Shape::Map),
         CONFIRMATION,

@@ -1,17 +1,24 @@
 //! Rows of the tables of COSE and its like: a member, a key or a value is one line.
 
-/// A member of an array.
+/// A member of an array; one that may be missing at its end is `optional`.
 macro_rules! member {
     ($name:literal) => {
         member!($name, What::Any)
     };
     ($name:literal, $what:expr) => {
+        member!($name, $what, false)
+    };
+    ($name:literal, $what:expr, optional) => {
+        member!($name, $what, true)
+    };
+    ($name:literal, $what:expr, $optional:literal) => {
         Part {
             key: Key::Integer(0),
             name: $name,
             what: $what,
             when: None,
             sign: None,
+            optional: $optional,
         }
     };
 }
@@ -38,6 +45,7 @@ macro_rules! entry {
             what: $what,
             when: $when,
             sign: $sign,
+            optional: false,
         }
     };
 }
@@ -51,10 +59,32 @@ macro_rules! value {
             what: What::Any,
             when: None,
             sign: None,
+            optional: false,
+        }
+    };
+}
+
+/// A key of a map that says its own name, since it is a text, and what its value is.
+macro_rules! said {
+    ($key:literal, $what:expr) => {
+        said!($key, $what, None)
+    };
+    ($key:literal, $what:expr, sign $kind:expr) => {
+        said!($key, $what, Some($kind))
+    };
+    ($key:literal, $what:expr, $sign:expr) => {
+        Part {
+            key: Key::Text($key),
+            name: "",
+            what: $what,
+            when: None,
+            sign: $sign,
+            optional: false,
         }
     };
 }
 
 pub(crate) use entry;
 pub(crate) use member;
+pub(crate) use said;
 pub(crate) use value;

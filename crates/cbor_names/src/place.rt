@@ -1,0 +1,160 @@
+//! Where an item is, and what is known of it there before it is read.
+
+ghost use Rattle.std.specs.Prelude.{◌≡◌, ◌+◌, ◌<◌};
+
+use crate::pairs::Pairs;
+use crate::scalar::Scalar;
+use crate::table::{Inside, Names, PartRow, WhatRow};
+use cbor_grammar::argument::Argument;
+
+/// What is known of an item before it is read.
+#[derive(Clone, Copy)]
+pub(crate) struct Place<'a> {
+    /// How many levels are left for it and the items in it.
+    pub left: u8,
+    /// How many bytes follow those that are read, up to the end of the outermost item's.
+    pub behind: usize,
+    /// Its name; empty for none.
+    pub name: &'a str,
+    pub what: WhatRow,
+    /// The tag before it.
+    pub tag: Option<u64>,
+    /// The tag around that of the item, or of the array that it is a member of.
+    pub around: Option<u64>,
+}
+
+/// The keys of a map, and the value of the one that some depend on.
+#[derive(Clone, Copy)]
+pub(crate) struct Keys<'a, 'b> {
+    pub parts: &'a [PartRow],
+    pub chosen: Option<Scalar<'b>>,
+    /// What is known of the values of all other keys.
+    pub each: WhatRow,
+}
+
+impl Names {
+    /// The keys of a map of which this is known, and whose head is read already.
+    pub(crate) fn keys<'a, 'b>(
+        &'a self,
+        what: WhatRow,
+        count: Argument,
+        bytes: &'b [u8],
+    ) -> Keys<'a, 'b> {
+        match self.inside(what) {
+            Inside::Keys(parts, by) => Keys {
+                parts,
+                chosen: match by {
+                    Some(key) => Pairs::new(count, bytes).value_of(self, key),
+                    None => None,
+                },
+                each: WhatRow::Any,
+            },
+            Inside::EachValue(what) => Keys {
+                parts: &[],
+                chosen: None,
+                each: what,
+            },
+            _ => Keys {
+                parts: &[],
+                chosen: None,
+                each: WhatRow::Any,
+            },
+        }
+    }
+
+    /// What is known of the item that a byte string of this content holds.
+    pub(crate) fn held(
+        &self,
+        what: WhatRow,
+        around: Option<u64>,
+        content: &[u8],
+    ) -> Option<WhatRow> {
+        match what {
+            WhatRow::Encoded(index) | WhatRow::Nested(index) if !content.is_empty() => {
+                Some(WhatRow::Of(index))
+            }
+            WhatRow::Payload(index) => {
+                let held = self.types.get(index)?;
+                let below = held.tag.is_some() && held.tag == around;
+                if below || self.has_signs(held, content) {
+                    Some(WhatRow::Of(index))
+                } else {
+                    None
+                }
+            }
+            _ => None,
+        }
+    }
+}
+
+impl<'a> Place<'a> {
+    /// That of an item in this one, of which nothing is known.
+    pub(crate) fn unknown(&self) -> Place<'a>
+        requires { 0 < self.now.left }
+        ensures left { result.left + 1 ≡ self.now.left }
+        ensures behind { result.behind ≡ self.now.behind }
+    {
+        Place {
+            left: self.left - 1,
+            behind: self.behind,
+            name: "",
+            what: WhatRow::Any,
+            tag: None,
+            around: None,
+        }
+    }
+
+    /// That of the member at this index.
+    pub(crate) fn member(&self, names: &'a Names, inside: Inside<'_>, index: usize) -> Place<'a>
+        requires { 0 < self.now.left }
+        ensures left { result.left + 1 ≡ self.now.left }
+        ensures behind { result.behind ≡ self.now.behind }
+    {
+        let (name, what) = match inside {
+            Inside::Members(parts) => match parts.get(index) {
+                Some(part) => (names.text(part.name), part.what),
+                None => ("", WhatRow::Any),
+            },
+            Inside::Each(index) => ("", WhatRow::Of(index)),
+            _ => ("", WhatRow::Any),
+        };
+        Place {
+            name,
+            what,
+            around: self.around,
+            ..self.unknown()
+        }
+    }
+
+    /// That of a key of a map.
+    pub(crate) fn key(&self, names: &'a Names, part: Option<&PartRow>) -> Place<'a>
+        requires { 0 < self.now.left }
+        ensures left { result.left + 1 ≡ self.now.left }
+        ensures behind { result.behind ≡ self.now.behind }
+    {
+        let name = match part {
+            Some(part) => names.text(part.name),
+            None => "",
+        };
+        Place {
+            name,
+            ..self.unknown()
+        }
+    }
+
+    /// That of the value of a key, of which else this is known.
+    pub(crate) fn value(&self, part: Option<&PartRow>, otherwise: WhatRow) -> Place<'a>
+        requires { 0 < self.now.left }
+        ensures left { result.left + 1 ≡ self.now.left }
+        ensures behind { result.behind ≡ self.now.behind }
+    {
+        let what = match part {
+            Some(part) => part.what,
+            None => otherwise,
+        };
+        Place {
+            what,
+            ..self.unknown()
+        }
+    }
+}
