@@ -68,7 +68,7 @@ fn push_named(naming: Naming<'_>, show: &Show, bytes: &[u8], work: &mut Work) ->
         work.clear = naming.clear(bytes);
     }
     let mut plain = None;
-    if !naming.is_near(work.clear) {
+    if !naming.is_near(bytes, work.clear) {
         let used = match push_edn(style, &[], bytes, &mut work.text) {
             Ok(used) => used,
             Err(end) => return Err(end),
