@@ -1,9 +1,10 @@
 //! Reads items of EDN: numbers and simple values.
-ghost use Rattle.std.specs.Prelude.{◌≡◌, ◌-◌, ◌<◌, ◌≤◌, ℕ, length, option_map, IfOk, IfSome, Some};
+ghost use Rattle.std.specs.Prelude.{◌≡◌, ◌-◌, ◌<◌, ◌≤◌, ℕ, length, option_map, IfOk, IfSome};
 ghost use Rattle.cbor_diag.specs.View.{view};
 ghost use Rattle.cbor_grammar.specs.WellFormed.{deepest, levels_left, WellFormed};
-ghost use Rattle.cbor_grammar.specs.Item.{atom};
-ghost use Rattle.cbor_edn_grammar.specs.Reading.{Gives, ◌>>=◌};
+ghost use Rattle.cbor_grammar.specs.Item.{integer};
+ghost use Rattle.cbor_grammar.specs.Head.{FitsWidth};
+ghost use Rattle.cbor_edn_grammar.specs.Reading.{Gives};
 ghost use Rattle.cbor_edn_grammar.specs.Number.{zero_of};
 ghost use Rattle.cbor_edn_grammar.specs.Items.{is_string, integer_item, number_item, named};
 ghost use Rattle.cbor_edn_grammar.specs.Items.{read_simple};
@@ -30,16 +31,17 @@ pub(crate) fn is_string(item: &DataItem) -> bool
     matches!(item, DataItem::ByteString(_) | DataItem::TextString(_))
 }
 
-/// The 0 that a word after `-` is, which is no negative integer.
-fn zero_item(word: &[u8]) -> Result<DataItem, Stop>
-    ensures gives { Gives (λ x. view x) result (zero_of word.now >>= λ a. Some (atom a)) }
-    ensures well { IfOk result (λ x. (level : ℕ) → level ≤ deepest → WellFormed level (view x)) }
+/// The 0 that a word after `-` is, which is no negative integer, and its width.
+fn zero(word: &[u8]) -> Result<(u64, IntegerWidth), Stop>
+    ensures gives { Gives (λ x. integer x.0 x.1) result (zero_of word.now) }
+    ensures some { IfOk result (λ _. 0 < length word.now) }
+    ensures fits { IfOk result (λ x. FitsWidth x.1 x.0) }
 {
     let (value, bitwidth) = unsigned(word)?;
     if value != 0 {
         return Err(Stop::At(Expected::Number));
     }
-    Ok(DataItem::Integer { value, bitwidth })
+    Ok((value, bitwidth))
 }
 
 /// The integer that a word is.
@@ -52,7 +54,10 @@ fn integer_item(word: &[u8]) -> Result<DataItem, Stop>
         [b'-', digits @ ..] => match negated(digits) {
             Ok((value, bitwidth)) => Ok(DataItem::Negative { value, bitwidth }),
             Err(Stop::Memory) => Err(Stop::Memory),
-            Err(Stop::At(_)) => zero_item(digits),
+            Err(Stop::At(_)) => {
+                let (value, bitwidth) = zero(digits)?;
+                Ok(DataItem::Integer { value, bitwidth })
+            }
         },
         [b'+', digits @ ..] => {
             let (value, bitwidth) = unsigned(digits)?;

@@ -71,8 +71,8 @@ pub struct Message<'a> {
 }
 
 impl Expected {
-    /// Returns the message on a text that goes on so from the place of the error. What it repeats of
-    /// the text is characters of ASCII that print.
+    /// Returns the message on a text that goes on so from the place of the error. What it repeats
+    /// of the text is characters of ASCII that print.
     pub fn in_text(self, rest: &[u8]) -> Message<'_>
         ensures word { IfSome result.word (λ text. list_all is_printing text.now ≡ true) }
         ensures content { IfSome result.content (λ text. list_all is_printing text.now ≡ true) }
