@@ -43,18 +43,18 @@ impl Dumps<'_> {
             None => shown.extend_from_slice(text.as_bytes())?,
         }
         match self.most {
-            Some(most) => elided(alloc, shown, most),
+            Some(most) => elided(alloc, &shown, most),
             None => Ok(shown),
         }
     }
 }
 
 /// Dumps with their long strings cut.
-fn elided(alloc: Global, dumps: Vec<u8>, most: usize) -> Result<Vec<u8>, Error> {
+fn elided(alloc: Global, dumps: &[u8], most: usize) -> Result<Vec<u8>, Error> {
+    let Ok(text) = str::from_utf8(dumps) else {
+        return Ok(Vec::from_slice(alloc, dumps)?);
+    };
     let mut elided = String::new(alloc);
-    match str::from_utf8(&dumps) {
-        Ok(text) => push_elided_dumps(&mut elided, text, most)?,
-        Err(_) => return Ok(dumps),
-    }
+    push_elided_dumps(&mut elided, text, most)?;
     Ok(Vec::from_slice(alloc, elided.as_bytes())?)
 }

@@ -35,7 +35,7 @@ impl<'a> Conversion<'a> {
         {
             let bytes = spelled_bytes(self.rt.alloc(), self.job, self.stream.passed(self.passed))?;
             let how = Dumps {
-                bytes: &bytes,
+                bytes: bytes.as_slice(),
                 embedded: style.embedded,
                 tables: self.tables_of_passed(),
                 most: self.job.elide,
