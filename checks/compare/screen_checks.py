@@ -144,12 +144,9 @@ def spelled(run, same):
     same("after another item", dump("01 f814 02"), "01 # unsigned(1)\nf8 14 # false, simple(20)\n02 # unsigned(2)\n")
     same("in an array", dump("82 f800 f4"),
          "82       # array(2)\n   f8 00 #   unassigned, simple(0)\n   f4    #   false, simple(20)\n")
-    same("a part", dump("82 01 81f814", "-p", "1"), "81       # array(1)\n   f8 14 #   false, simple(20)\n")
-    same("each part", dump("82 e0 f800", "-p", "*"), "e0 # unassigned, simple(0)\nf8 00 # unassigned, simple(0)\n")
+    same("a part is encoded anew", dump("82 01 81f814", "-p", "1"), "81    # array(1)\n   f4 #   false, simple(20)\n")
     same("in a byte string", dump("43 81f814", "-e"),
          "43          # bytes(3)\n   81       #   array(1)\n      f8 14 #     false, simple(20)\n")
-    same("an item in a byte string", dump("43 81f814", "-p", "@"),
-         "81       # array(1)\n   f8 14 #   false, simple(20)\n")
     same("with names", dump("d2 84 40 a0 f816 40").splitlines()[-3],
          "      f8 16 #     /payload/ null, simple(22)")
     for digits in ("82f80001", "42f800", "8242f800f800", "d8184381f814", "f820f8ff", "bf6161f814ff", "9ff8009ff817ffff"):

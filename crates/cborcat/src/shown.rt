@@ -2,7 +2,7 @@
 
 use crate::naming::Tables;
 use cbor_grammar::Error;
-use cbor_inspect::{End, Form, Show, show_items, steps_of, two_byte_simple};
+use cbor_inspect::{Show, steps_of, two_byte_simple};
 use cborcat_arguments::Job;
 use std::alloc::Global;
 
@@ -24,37 +24,13 @@ pub fn show_of<'a>(
     })
 }
 
-/// The bytes of what is written of whole items, or of their parts; none if a dump has their digits.
-pub fn spelled_bytes(alloc: Global, job: &Job, items: &[u8]) -> Result<Vec<u8>, Error> {
-    let may_differ = if job.path.is_empty() {
-        two_byte_simple(items).is_some()
+/// The bytes of these items, where a dump of them has others: a simple value below 24 in two bytes.
+/// A part that a path leads to is encoded anew, and so are items with `--encode`.
+pub fn spelled_bytes<'b>(job: &Job, items: &'b [u8]) -> &'b [u8] {
+    let are_shown = job.path.is_empty() && job.encode.is_none();
+    if are_shown && two_byte_simple(items).is_some() {
+        items
     } else {
-        items.contains(&0xf8)
-    };
-    if job.encode.is_some() || !may_differ {
-        return Ok(Vec::new(alloc));
+        b""
     }
-    let mut show = show_of(alloc, job, None)?;
-    show.style.form = Form::Bytes;
-    let bytes = shown_bytes(alloc, &show, items)?;
-    match two_byte_simple(&bytes) {
-        Some(_) => Ok(bytes),
-        None => Ok(Vec::new(alloc)),
-    }
-}
-
-/// All that is written of whole items.
-fn shown_bytes(alloc: Global, show: &Show, items: &[u8]) -> Result<Vec<u8>, Error> {
-    let mut bytes = Vec::new(alloc);
-    let mut rest = items;
-    for _ in 0..u64::MAX {
-        let shown = show_items(show, rest, &mut bytes);
-        rest = rest.get(shown.used..).unwrap_or(b"");
-        match shown.end {
-            End::Full => {}
-            End::Memory => return Err(Error::Memory),
-            _ => break,
-        }
-    }
-    Ok(bytes)
 }

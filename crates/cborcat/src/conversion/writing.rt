@@ -33,9 +33,8 @@ impl<'a> Conversion<'a> {
         if language == Language::Dump
             && let Ok(dumps) = str::from_utf8(&self.out)
         {
-            let bytes = spelled_bytes(self.rt.alloc(), self.job, self.stream.passed(self.passed))?;
             let how = Dumps {
-                bytes: bytes.as_slice(),
+                bytes: spelled_bytes(self.job, self.stream.passed(self.passed)),
                 embedded: style.embedded,
                 tables: self.tables_of_passed(),
                 most: self.job.elide,
