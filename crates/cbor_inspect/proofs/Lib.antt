@@ -2,3 +2,4 @@ pub mod SimpleLemmas
 pub mod StreamLemmas
 pub mod OutputLemmas
 pub mod Lines
+pub mod PathLemmas

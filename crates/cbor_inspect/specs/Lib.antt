@@ -2,7 +2,9 @@ pub mod Forms
 pub mod Shows
 pub mod Simple
 pub mod Raw
+pub mod PathText
 pub mod Named
+pub mod mirror
 -- what the crate below defines, for callers
 pub use Rattle.cbor_paths.specs.Ends
 pub use Rattle.cbor_paths.specs.Lost

@@ -1,0 +1,2 @@
+-- Definitions that mirror code, for proofs.
+pub mod PathReading
