@@ -12,7 +12,7 @@ broken rules b breach found is kept = (λ none. absurd cc, λ keeps. sym is ∙ 
 
 pub any_keys : (rules : Rules) (b : List ℕ) (found : Option Breach) → found ≡ None → rules.distinct_keys ≡ false
     → ((found ≡ None) ↔ KeepsRules rules b) → ((◌≡◌ {A = Option Breach} None None) ↔ KeepsWithKeys rules b)
-any_keys rules b found is no kept = (λ none. (kept.0 is, λ on. absurd cc), λ keeps. refl)
+any_keys rules b found is unasked kept = (λ none. (kept.0 is, λ on. absurd cc), λ keeps. refl)
 
 pub keys_once : (rules : Rules) (b : List ℕ) (found : Option Breach) → found ≡ None → KeysOnce b
     → ((found ≡ None) ↔ KeepsRules rules b) → ((◌≡◌ {A = Option Breach} None None) ↔ KeepsWithKeys rules b)

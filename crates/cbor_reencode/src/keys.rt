@@ -23,14 +23,17 @@ fn keys_twice(alloc: Global, bytes: &[u8]) -> Result<Option<(usize, usize)>, All
     ensures some { IfOk result (λ found.
         IfSome found (λ places. AreOneKey bytes.now places.0 places.1)) }
 {
-    match encoded(alloc, bytes, Rules::CORE) {
-        Ok(_) => Ok(None),
-        Err(ReencodeError::Memory) => Err(AllocError),
-        Err(ReencodeError::KeyTwice { first, second }) => Ok(Some((first, second))),
+    let error = match encoded(alloc, bytes, Rules::CORE) {
+        Ok(_) => return Ok(None),
+        Err(error) => error,
+    };
+    match error {
+        ReencodeError::Memory => Err(AllocError),
+        ReencodeError::KeyTwice { first, second } => Ok(Some((first, second))),
         // The items are well-formed.
-        Err(ReencodeError::Breach(_)) => unreachable!(),
+        ReencodeError::Breach(_) => unreachable!(),
         // `Rules::CORE` has no rule whose check takes memory.
-        Err(ReencodeError::Written(_)) => unreachable!(),
+        ReencodeError::Written(_) => unreachable!(),
     }
 }
 
