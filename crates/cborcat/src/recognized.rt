@@ -2,7 +2,7 @@
 
 use crate::messages::{label, report_refusal, say_out_of_memory, word_of};
 use crate::status::Status;
-use cbor_inputs::{HexFault, Input, Recognized, Refusal, is_text, recognize};
+use cbor_inputs::{HexFault, Input, Recognized, Refusal, is_text, looks_like, recognize};
 use cbor_inspect::{End, skip_items};
 use cborcat_arguments::Job;
 use std::alloc::AllocError;
@@ -76,7 +76,7 @@ fn data_in(rt: &HostRuntime, job: &Job, input: (&str, &[u8]), form: Input) -> Re
 }
 
 /// The data of an input in the form that it has. If none takes it, the form that reads furthest is
-/// taken, where that has bytes.
+/// taken, where that has bytes, unless the input looks like something else.
 fn recognized(rt: &HostRuntime, job: &Job, input: (&str, &[u8])) -> Result<Data, Status> {
     let (name, text) = input;
     let refusal = match recognize(rt.alloc(), text) {
@@ -86,7 +86,9 @@ fn recognized(rt: &HostRuntime, job: &Job, input: (&str, &[u8])) -> Result<Data,
     if refusal != Refusal::Memory && is_named_bytes(name) {
         return data_in(rt, job, input, Input::Bytes);
     }
-    if let Refusal::Items { form, .. } = refusal {
+    if let Refusal::Items { form, .. } = refusal
+        && looks_like(text).is_none()
+    {
         return data_in(rt, job, input, form);
     }
     let status = report_refusal(rt, job.color, input, refusal);
