@@ -1,6 +1,7 @@
 -- What C is told of the first breach.
-use Rattle.std.proofs.Common.{◌≡◌, ◌≢◌, ◌↔◌, ◌⊎◌, ℕ, List, Bool, false, Option, Some, None, inl, inr, refl, sym}
-use Rattle.std.proofs.Common.{subst, ◌∙◌, arith}
+use Rattle.std.proofs.Common.{◌≡◌, ◌≢◌, ◌↔◌, ◌⊎◌, ℕ, List, Bool, true, false, Option, Some, None, inl, inr, refl, sym}
+use Rattle.std.proofs.Common.{subst, ◌∙◌, arith, ℤ, pos, negsuc}
+use Rattle.cbor_diag_c.specs.Answers.{IfLength}
 use Rattle.cbor_rules.specs.declared.rules.Rules.{Rules}
 use Rattle.cbor_rules.specs.declared.kind.Breach.{Breach}
 use Rattle.cbor_rules.specs.declared.kind.BreachKind.{BreachKind}
@@ -49,7 +50,7 @@ kept_of_all rules b found nfc distinct is =
     subst (λ (r : Rules). (found ≡ None) ↔ KeepsRules r b) (all_rules rules nfc distinct) is
 
 asked : {A : Type 0} (on : Bool) → on ≡ false → on ≡ true → A
-asked on no yes = absurd cc
+asked on off asks = absurd cc
 
 -- without them, what breaks the rules first is the first breach
 pub breach_of_all : (rules : Rules) (b : List ℕ) (found : Option Breach) → rules.nfc ≡ false
@@ -123,6 +124,14 @@ kept number b rules (Some breach) n place detail is none told = (
   λ nought. absurd (some_number breach.kind (sym told.0 ∙ nought)),
   λ keeps. absurd (no_breach breach (none.1 (same_rules number b rules is keeps))),
 )
+
+-- the same of an answer, which is a number or an error
+pub kept_if_told : (number : ℕ) (b : List ℕ) (rules : Rules) (found : Option Breach) (z : ℤ) (place detail : ℕ)
+    → rules_of number ≡ Some rules → ((found ≡ None) ↔ KeepsWithKeys rules b)
+    → IfLength z (λ n. IsTold found n place detail) → IfLength z (λ n. (n ≡ 0) ↔ KeepsBy number b)
+kept_if_told number b rules found (pos n) place detail is none told =
+    kept number b rules found n place detail is none told
+kept_if_told number b rules found (negsuc n) place detail is none told = tt
 
 -- what is told of a breach is told of the rules of the number
 pub found_by : (number : ℕ) (b : List ℕ) (rules : Rules) (found : Option Breach) (n place detail : ℕ)

@@ -19,7 +19,7 @@ use cbor_inspect::{End, Stream, two_byte_simple};
 use cbor_messages::{TWO_BYTES, first_breach};
 use cbor_places::Piece;
 use cborcat_arguments::{Job, View};
-use std::alloc::AllocError;
+use std::alloc::{AllocError, Global};
 use std::io;
 use std::io::{IsTerminal, Read};
 
@@ -69,6 +69,29 @@ fn drop_front(bytes: &mut Vec<u8>, count: usize) {
     let count = count.min(len);
     bytes.as_mut_slice().copy_within(count.., 0);
     bytes.truncate(len - count);
+}
+
+/// Where the items end, from this place on, that are not longer than the limit, and whether a longer
+/// one follows. It looks at no item if at most as many bytes are left.
+fn short_items(bytes: &[u8], from: usize, limit: usize) -> (usize, bool) {
+    let mut at = from;
+    for _ in 0..u64::MAX {
+        let left = bytes.get(at..).unwrap_or(b"");
+        if left.len() <= limit {
+            break;
+        }
+        match extent(&left[..limit]) {
+            Extent::Item(len) => at = at.saturating_add(len),
+            Extent::Cut => return (at, true),
+            Extent::Fault { .. } => break,
+        }
+    }
+    (at, false)
+}
+
+/// The first bytes, up to this place.
+fn first_bytes(alloc: Global, bytes: &[u8], end: usize) -> Result<Vec<u8>, AllocError> {
+    Vec::from_slice(alloc, bytes.get(..end).unwrap_or(b""))
 }
 
 impl<'a> Conversion<'a> {
@@ -349,27 +372,15 @@ impl<'a> Conversion<'a> {
     /// Leaves out the first item that is longer than is allowed, and what follows it. It looks at
     /// no item if fewer bytes are left than are allowed.
     fn leave_long(&mut self) -> Result<(), AllocError> {
-        let (limit, begins) = (self.job.limit, self.begins());
-        let mut at = self.within.saturating_sub(begins);
-        for _ in 0..u64::MAX {
-            let left = self.stream.rest().get(at..).unwrap_or(b"");
-            if left.len() <= limit {
-                break;
-            }
-            match extent(&left[..limit]) {
-                Extent::Item(len) => at = at.saturating_add(len),
-                Extent::Cut => {
-                    self.long = true;
-                    break;
-                }
-                Extent::Fault { .. } => break,
-            }
-        }
+        let begins = self.begins();
+        let from = self.within.saturating_sub(begins);
+        let (at, long) = short_items(self.stream.rest(), from, self.job.limit);
         self.within = begins.saturating_add(at);
-        if self.long {
-            let before = self.stream.rest().get(..at).unwrap_or(b"");
-            self.stream = Stream::new(Vec::from_slice(self.rt.alloc(), before)?);
+        if long {
+            let before = first_bytes(self.rt.alloc(), self.stream.rest(), at)?;
+            self.stream = Stream::new(before);
             self.came = self.within;
+            self.long = true;
         }
         Ok(())
     }

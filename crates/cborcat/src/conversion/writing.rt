@@ -31,20 +31,30 @@ impl<'a> Conversion<'a> {
             return Ok(write(self.rt, self.target, &self.out));
         };
         if language == Language::Dump
-            && let Ok(dumps) = str::from_utf8(&self.out)
+            && let Some(shown) = self.shown_dumps()?
         {
-            let how = Dumps {
-                bytes: spelled_bytes(self.job, self.stream.passed(self.passed)),
-                embedded: style.embedded,
-                tables: self.tables_of_passed(),
-                most: self.job.elide,
-            };
-            if how.changes() {
-                let shown = how.shown(self.rt.alloc(), dumps)?;
-                return Ok(self.screen.write(self.target, &shown, language)?);
-            }
+            return Ok(self.screen.write(self.target, &shown, language)?);
         }
         Ok(self.screen.write(self.target, &self.out, language)?)
+    }
+
+    /// The dumps of the items that were passed last, if anything of them is shown in another way.
+    fn shown_dumps(&self) -> Result<Option<Vec<u8>>, Error> {
+        let tables = self.tables_of_passed();
+        let Ok(dumps) = str::from_utf8(&self.out) else {
+            return Ok(None);
+        };
+        let how = Dumps {
+            bytes: spelled_bytes(self.job, self.stream.passed(self.passed)),
+            embedded: self.job.show.style.embedded,
+            tables,
+            most: self.job.elide,
+        };
+        if how.changes() {
+            Ok(Some(how.shown(self.rt.alloc(), dumps)?))
+        } else {
+            Ok(None)
+        }
     }
 
     /// The names that the items may have that were passed last.
