@@ -224,6 +224,7 @@ check-arm64:
 	machines/check_arm64 $(DIST)/arm64 $(PACKAGES)
 
 release: check-packages vectors arm64-packages
+	@$(MAKE) --no-print-directory check-arm64
 	packages/version
 	cd $(PACKAGES) && sha256sum *$(VERSION)* > SHA256SUMS && cat SHA256SUMS
 
