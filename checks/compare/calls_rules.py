@@ -21,5 +21,4 @@ CALLS = {
     "innermost": traced,
     "end_at": traced,
     "head_at": traced,
-    "chunk_at": traced,
 }

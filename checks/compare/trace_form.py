@@ -93,24 +93,6 @@ def cuts(data):
     return changes(way(data[:end], end) for end in range(len(data) + 1))
 
 
-def chunk_at(data, start, at):
-    """The index of the chunk that a byte belongs to, and where it begins; or None."""
-    found = head(data, start)
-    if not found or found[0] not in (2, 3) or found[2] is not None:
-        return None
-    place, index = found[3], 0
-    while place <= at:
-        if data[place:place + 1] == bytes([BREAK]):
-            return None
-        # a chunk is whole if it is an item of this kind with a length
-        whole = data[place:place + 1] and data[place] >> 5 == found[0] and data[place] & 31 < 28
-        end = end_of(data, place, 1) if whole else None
-        if end is None or at < end:
-            return index, place
-        place, index = end, index + 1
-    return None
-
-
 def head_text(data, start):
     """The kind and the length of a string and the place after its head, or of another head that place."""
     found = head(data, start)
@@ -135,6 +117,4 @@ def called(call, data, numbers):
     if call == "end_at":
         end = end_of(data, *numbers)
         return "none" if end is None else str(end)
-    if call == "head_at":
-        return head_text(data, *numbers)
-    return words(chunk_at(data, *numbers))
+    return head_text(data, *numbers)

@@ -8,7 +8,7 @@ use crate::piece::Places;
 use cbor_grammar::argument::Argument;
 use cbor_grammar::head::ItemHead;
 use cbor_grammar::strings::StringKind;
-use cbor_trace::{Open, chunk_at, head_at};
+use cbor_trace::{Open, head_at};
 use std::alloc::AllocError;
 use std::fmt::Write;
 
@@ -114,11 +114,29 @@ impl Around<'_> {
         }
         let noun = format!(in *out.allocator(); "{noun} of indefinite length")?;
         self.push_subject(out, places, (&noun, self.named()))?;
-        let chunks = chunk_at(bytes, self.spot.start, bytes.len()).map_or(0, |chunk| chunk.index);
+        let chunks = whole_chunks(bytes, content);
         let what = if chunks < 2 { " chunk" } else { " chunks" };
         out.push_str("no end, ")?;
         push_number_there(out, chunks as u64, what)
     }
+}
+
+/// How many chunks of a string are whole, of which the first begins at a place, and which is cut.
+fn whole_chunks(bytes: &[u8], first: usize) -> usize {
+    let mut at = first;
+    let mut count = 0usize;
+    for _ in 0..bytes.len() {
+        let Some((ItemHead::String(_, Argument::Number(len, _)), content)) = head_at(bytes, at)
+        else {
+            break;
+        };
+        at = content.saturating_add(usize::try_from(len).unwrap_or(usize::MAX));
+        if at > bytes.len() {
+            break;
+        }
+        count = count.saturating_add(1);
+    }
+    count
 }
 
 /// How many bytes a head has, by its first.

@@ -4,5 +4,4 @@ pub mod Ways
 pub mod Insides
 pub mod Carried
 pub mod Ends
-pub mod Chunks
 pub mod Members

@@ -1,4 +1,3 @@
 pub mod Around
-pub mod Chunks
 pub mod Members
 pub mod mirror

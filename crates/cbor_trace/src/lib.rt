@@ -1,9 +1,8 @@
 //! Which containers are open at a byte of an item, and where an item is cut or has a fault.
 //!
-//! [`part_at`] goes one container inwards, and [`innermost`] all the way. [`chunk_at`] finds the
-//! chunk of a string of indefinite length, [`head_at`] the head of an item, and [`end_at`] where an
-//! item ends. [`place_of_fault`] finds the byte that is at fault in bytes that are no item. None of
-//! them takes memory.
+//! [`part_at`] goes one container inwards, and [`innermost`] all the way. [`head_at`] finds the
+//! head of an item, and [`end_at`] where an item ends. [`place_of_fault`] finds the byte that is at
+//! fault in bytes that are no item. None of them takes memory.
 //!
 //! The containers around a byte, the outermost first:
 //!
@@ -28,17 +27,17 @@
 //! ```
 #![tactic(auto)]
 
-mod chunk;
 pub mod heads;
 mod item;
 mod laws;
 mod open;
 mod part;
+mod span;
 mod walk;
 
-pub use chunk::{Chunk, chunk_at};
 pub use heads::place_of_fault;
 pub use item::{end_at, head_at};
 pub use open::Open;
 pub use part::{Part, Spot, part_at};
+pub use span::Span;
 pub use walk::innermost;

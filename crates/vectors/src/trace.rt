@@ -3,7 +3,7 @@
 //! - `part_at START LEVEL AT`: the step from the item at START to its part at AT, and where that
 //!   begins. `[1/2]` is the member at index 1 of 2, `{0/2}` the key of the pair at index 0,
 //!   `{0/2=3}` the value of it, whose key begins at 3, and `(1)` the item of tag 1.
-//! - `innermost AT`, `end_at START LEVEL`, `head_at START`, `chunk_at START AT`.
+//! - `innermost AT`, `end_at START LEVEL`, `head_at START`.
 //! - `place_of_fault ERROR END`, with ERROR `Utf8`, `Head` or `CutShort`.
 //! - `paths`: for each byte, and behind the last, where the innermost item begins, and all steps to
 //!   it; a line for each byte at which that changes. `cuts`: the same of the bytes that are cut
@@ -15,7 +15,7 @@ use cbor_grammar::Error;
 use cbor_grammar::argument::Argument;
 use cbor_grammar::head::ItemHead;
 use cbor_grammar::strings::StringKind;
-use cbor_trace::{Open, Spot, chunk_at, end_at, head_at, innermost, part_at, place_of_fault};
+use cbor_trace::{Open, Spot, end_at, head_at, innermost, part_at, place_of_fault};
 use std::alloc::{AllocError, Global};
 
 /// What the call of a row gives; none if it is no call of this subject.
@@ -29,7 +29,6 @@ pub fn answer(alloc: Global, row: &Row) -> Result<Option<String>, AllocError> {
         "innermost" => spot_text(alloc, innermost(bytes, start)),
         "end_at" => place_text(alloc, end_at(bytes, spot(first, second))),
         "head_at" => head_text(alloc, bytes, start),
-        "chunk_at" => chunk_text(alloc, bytes, start, at),
         "place_of_fault" => {
             let place = place_of_fault(bytes, error_of(first), at);
             place_text(alloc, Some(place))
@@ -98,14 +97,6 @@ fn head_text(alloc: Global, bytes: &[u8], start: usize) -> Result<String, AllocE
         _ => return format!(in alloc; "{end}"),
     };
     format!(in alloc; "{kind} {} {end}", count_text(alloc, length)?)
-}
-
-/// The index of a chunk, and where it begins.
-fn chunk_text(alloc: Global, bytes: &[u8], start: usize, at: usize) -> Result<String, AllocError> {
-    match chunk_at(bytes, start, at) {
-        Some(chunk) => format!(in alloc; "{} {}", chunk.index, chunk.start),
-        None => String::from_str(alloc, "none"),
-    }
 }
 
 /// A count or a length; `*` if it is indefinite.
