@@ -4,7 +4,7 @@ import extents
 from bytes_form import head_at, item_at
 from edn_text import Writer
 from item import Refused
-from places import Decoder, Stop, said
+from places import Decoder, Stop, said, starts
 
 BEGINS = 10
 # the longest key in lines of paths
@@ -12,9 +12,9 @@ IN_PATHS = 1024
 NOUNS = {2: "bytes", 3: "text", 4: "array", 5: "map", 6: "tag"}
 
 
-def decoded(data, longest=40):
+def decoded(data, longest=40, writer=None):
     """A decoder of data, as far as it came."""
-    decoder = Decoder(data, BEGINS, longest)
+    decoder = Decoder(data, BEGINS, longest, writer)
     try:
         decoder.items()
     except Stop:
@@ -22,9 +22,10 @@ def decoded(data, longest=40):
     return decoder
 
 
-def spot_at(data, place):
+def spot_at(data, place, writer=None):
     """The spot of the innermost item that a byte belongs to. What is not whole goes on to the end."""
-    around = [spot for spot in decoded(data).spots if spot[0] <= place and (spot[1] is None or place < spot[1])]
+    spots = decoded(data, writer=writer).spots
+    around = [spot for spot in spots if spot[0] <= place and (spot[1] is None or place < spot[1])]
     return around[-1] if around else None
 
 
@@ -62,7 +63,10 @@ def head_words(data, start):
 def lines_at(row):
     """The path, the head and the bytes of the item that a byte of the input belongs to."""
     data = row.bytes()
-    start, end, path, in_key, _ = spot_at(data, int(row.argument) - BEGINS)
+    byte, _, word = row.argument.partition(" ")
+    place = int(byte) - BEGINS
+    start, end, path, in_key, _ = spot_at(data, place, Writer(embedded=word == "embedded"))
+    number = sum(it <= place for it in starts(data)) - 1
     first = BEGINS + start
     item = f"from byte {first} (0x{first:x}) on, not whole"
     if end == start + 1:
@@ -70,14 +74,18 @@ def lines_at(row):
     elif end is not None:
         last = BEGINS + end - 1
         item = f"bytes {first} to {last} (0x{first:x} to 0x{last:x})"
-    path = (path or "/") + (", in a key" if in_key else "")
+    path = (f"{number}:" if number > 0 else "") + (path or "/") + (", in a key" if in_key else "")
     return f"path: {path}\nhead: {head_words(data, start)}\nitem: {item}"
 
 
 def leaves(row):
     """The lines of -t paths."""
-    found = decoded(row.bytes(), IN_PATHS).leaves
-    return "\n".join(f"0x{BEGINS + at:x}  {path}  {Writer().item(item_at(part, 0, 1)[0])}" for at, path, part in found)
+    writer = Writer(embedded=row.argument == "embedded")
+    lines = []
+    for at, path, part in decoded(row.bytes(), IN_PATHS, writer).leaves:
+        place = f"0x{BEGINS + at:x}  " if row.argument == "places" else ""
+        lines.append(f"{place}{path}  {writer.item(item_at(part, 0, 1)[0])}")
+    return "\n".join(lines)
 
 
 def place_of_fault(row):

@@ -16,6 +16,7 @@ def check(run, same, examples):
     steps_at(run, same, examples)
     each_member(run, same)
     keys_in_notation(run, same)
+    inside_strings(run, same, examples)
     nowhere(run, same)
     any_paths(run, same)
 
@@ -69,14 +70,60 @@ def keys_in_notation(run, same):
     ]
     digits = f"b5{''.join(f'{key}{place:02x}' for place, (_, key) in enumerate(keys))}"
     out, said, status = run("-t", "paths", "-f", "hex", "-x", digits)
-    lines = [line.split("  ", 1)[1] for line in out.decode().splitlines()]
-    same("the paths of all keys", (lines, said, status),
+    same("the paths of all keys", (out.decode().splitlines(), said, status),
          ([f"{path}  {place}" for place, (path, _) in enumerate(keys)], "", 0))
     for place, (path, _) in enumerate(keys):
         same(f"the value of {path}", run("-p", path, "-t", "diag", "-f", "hex", "-x", digits),
              (f"{place}\n".encode(), "", 0))
     same("a number of another width in an array", run("-p", "[1]", "-t", "diag", "-f", "hex", "-x", "a1 811801 05"),
          (b"", "cborcat: -x: [1]: no such key; the map has [1_0]\n", 1))
+
+
+# The lines of a signed token (RFC 8392, A.3) by the names of COSE, by -e, and by tags alone.
+BY_NAMES = ["0/@/1", "1/4", *(f"2/@/{key}" for key in range(1, 8)), "3"]
+BY_TAGS = ["0", "1/4", "2", "3"]
+
+
+def inside_strings(run, same, examples):
+    """Lines of items in byte strings that are shown as items: each path leads to the value of its line."""
+    token, webauthn, log = (f"{examples}/{name}" for name in ("cwt-signed.hex", "webauthn.hex", "log.cbor"))
+    for words, wanted in (([], BY_NAMES), (["-e"], BY_NAMES), (["--no-names"], BY_TAGS), (["--no-notes"], BY_TAGS),
+                          (["--no-names", "-e"], BY_NAMES), (["--no-notes", "-e"], BY_NAMES)):
+        lines = run("-t", "paths", *words, token)[0].decode().splitlines()
+        same(f"the paths of a token with {words}", [line.split("  ", 1)[0] for line in lines], wanted)
+    texts = ["<<[1, {'a': <<2>>}]>>", "24(<<<<[5]>>>>)", "63(<<1, [2], \"a\">>)", "63(<<>>)", "[24(<<24(<<[7]>>)>>)]",
+             "{24(<<5>>): 24(<<5>>)}", "2(h'80')", "24(h'')", "[1, 63(<<63(<<0>>), {\"k\": 24(<<-1>>)}>>)]"]
+    inputs = [(["-f", "diag", "-x", text], words) for text in texts for words in ([], ["-e"])]
+    inputs += [([file], words) for file in (token, webauthn) for words in ([], ["-e"])]
+    inputs += [(["-f", "hex", "-x", "8443a10126a04043010203"], words) for words in ([], ["--as=COSE_Sign1"])]
+    for given, words in inputs:
+        lines = run("-t", "paths", *words, *given)[0].decode().splitlines()
+        same(f"some paths of {given} with {words}", lines != [], True)
+        for line in lines:
+            path, text = line.split("  ", 1)
+            how = [word for word in words if word == "-e"]
+            same(f"{path} of {given} with {words}", run("-t", "diag", *how, "-p", path, *given),
+                 (f"{text}\n".encode(), "", 0))
+    same("the type that is asked for", run("-t", "paths", "--as=COSE_Sign1", "-f", "hex", "-x", "8443a10126a04043010203"),
+         (b"0/@/1  -7\n1  {}\n2  h''\n3  h'010203'\n", "", 0))
+    for text, wanted in (
+        ("24(<<[1, 2]>>)", "@/0  1\n@/1  2\n"),
+        ("63(<<1, [2]>>)", "@0  1\n@1/0  2\n"),
+        ("24(<<256>>)", "@  256\n"),
+        ("63(<<>>)", "63(<<>>)"),
+        ("<<[1]>>", "/  h'8101'\n"),
+        ("24(<<<<[5]>>>>)", "@  h'8105'\n"),
+    ):
+        wanted = wanted if wanted.endswith("\n") else f"/  {wanted}\n"
+        same(f"the lines of {text}", run("-t", "paths", "-f", "diag", "-x", text), (wanted.encode(), "", 0))
+    items = run("-t", "paths", log)[0].decode().splitlines()
+    same("lines of later items", [line.partition(":")[0] for line in items if line[:1].isdigit()],
+         ["1"] * 3 + ["2"] * 3 + ["3"] * 2)
+    same("the second item", run("-t", "paths", "-f", "hex", "-x", "01 8102 d8184103"),
+         (b"/  1\n1:0  2\n2:@  3\n", "", 0))
+    for byte, wanted in ((2, "0"), (3, "0/@"), (4, "0/@, in a key"), (5, "0/@/1"), (6, "1")):
+        line = run(f"--at={byte}", "-f", "hex", "-x", "d28443a10126a04043010203")[0].decode().splitlines()[0]
+        same(f"--at={byte} by names", line, f"path: {wanted}")
 
 
 def nowhere(run, same):

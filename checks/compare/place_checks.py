@@ -5,6 +5,7 @@ import random
 import places
 from bytes_form import to_bytes
 from cases import any_item
+from edn_text import Writer
 
 
 # what is wrong with the byte 1f
@@ -20,6 +21,11 @@ class Program:
 
     def data(self, name):
         return self.run("-t", "bytes", f"{self.examples}/{name}")[0]
+
+    def lines(self, *words, **how):
+        """The lines of -t paths: places, paths and texts."""
+        shown = self.run("-t", "paths", "--places", *words, **how)[0].decode()
+        return [it.split("  ", 2) for it in shown.splitlines()]
 
     def as_bytes(self, text):
         return self.run("-f", "diag", "-t", "bytes", data=text.encode())[0]
@@ -61,15 +67,18 @@ def leaves(program):
         if name == "log.cbor":  # of its items each path leads to a part of several
             continue
         data = program.data(name)
-        lines = [it.split("  ", 2) for it in run("-t", "paths", f"{program.examples}/{name}")[0].decode().splitlines()]
-        decoder = places.Decoder(data)
+        lines = program.lines("--no-names", f"{program.examples}/{name}")
+        decoder = places.Decoder(data, writer=Writer())
         decoder.items()
         found = [(int(at, 16), path, program.as_bytes(text)) for at, path, text in lines]
         same(f"{name}: lines", found, decoder.leaves)
+        lines += program.lines(f"{program.examples}/{name}") + program.lines("-e", f"{program.examples}/{name}")
         for at, path, text in lines:
             part = run("-f", "bytes", "-t", "bytes", "-p", path, data=data)[0]
             same(f"{name}: {path}", part, program.as_bytes(text))
-            shown = run("-f", "bytes", f"--at={int(at, 16)}", data=data)[0].decode()
+            byte = int(at, 16)
+            words = ["-e"] if "@" in path else ["--no-names"]
+            shown = run("-f", "bytes", f"--at={byte}", *words, data=data)[0].decode()
             same(f"{name}: --at={at}", shown.splitlines()[0], f"path: {path}")
 
 
@@ -78,32 +87,35 @@ def any_leaves(program):
     chance = random.Random(2)
     for _ in range(100):
         data = b"".join(to_bytes(any_item(chance)) for _ in range(chance.randrange(1, 4)))
-        for line in program.run("-f", "bytes", "-t", "paths", data=data)[0].decode().splitlines():
-            at, last = int(line.split("  ")[0], 16), line.rsplit("  ", 1)[1]
-            item = program.as_bytes(last)
-            program.same(f"{data.hex()}: {line}", data[at:at + len(item)], item)
+        for at, path, text in program.lines("-f", "bytes", data=data):
+            at, item = int(at, 16), program.as_bytes(text.rsplit("  ", 1)[-1])
+            program.same(f"{data.hex()}: {path}", data[at:at + len(item)], item)
 
 
 ODD = r"""{"": 0, "@": 1, "a b": 2, "\\": 3, "a/b": 4, "1": 5, 1: 6, "true": 7, "a\"b": 8, {"\"/": 1}: 9, h'2f': 10,
-    "\u00e9": 11, 1.5: 12, [1, 2]: 13, "(x": 14, "a'": 15, "*": 16}"""
+    "\u00e9": 11, 1.5: 12, [1, 2]: 13, "(x": 14, "a'": 15, "*": 16, "1:a": 17,
+    ":": 18}"""
 
 
 def odd_paths(program):
     """Keys that need quotes, a value in more than one item, many lines, and what has no paths."""
     run, same = program.run, program.same
     lines = run("-t", "paths", "-f", "diag", "-x", f"[{ODD}]")[0].decode().splitlines()
-    same("odd keys", len(lines), 17)
+    same("odd keys", len(lines), 19)
     for number, line in enumerate(lines):
-        path, text = line.split("  ", 1)[1].rsplit("  ", 1)
+        path, text = line.rsplit("  ", 1)
         same(f"the path {path}", text, str(number))
         found = run("-f", "diag", "-t", "diag", "-p", path, "-x", f"[{ODD}]")[0]
         same(f"-p {path}", found, f"{number}\n".encode())
-    same("of two items", run("-t", "paths", "-f", "hex", "-x", "01 8102"), (b"0x0  /  1\n0x2  0  2\n", "", 0))
+    same("of two items", run("-t", "paths", "-f", "hex", "-x", "01 8102"), (b"/  1\n1:0  2\n", "", 0))
+    same("with places", run("-t", "paths", "--places", "-f", "hex", "-x", "01 8102"),
+         (b"0x0  /  1\n0x2  1:0  2\n", "", 0))
+    same("--places of another form", run("--places", "-x", "1"), (b"", "cborcat: --places is for -t paths\n", 2))
     many = b"\x99\xea\x60" + b"\x01" * 60000
     same("many lines", run("-t", "paths", data=many)[0].count(b"\n"), 60000)
     same("no -p", run("-t", "paths", "-p", "1", "-x", "[1, 2]")[::2], (b"", 2))
     same("before a cut", run("-t", "paths", data=b"\x01\x82\x02"), (
-        b"0x0  /  1\n", "cborcat: standard input: cut short: the array at byte 1 has 2 items, 1 is there\n", 1))
+        b"/  1\n", "cborcat: standard input: cut short: the array at byte 1 has 2 items, 1 is there\n", 1))
 
 
 def bytes_at(program):
@@ -115,7 +127,7 @@ def bytes_at(program):
     item = "8201a16161420001"
     same_at("in a string", 6, item, ["path: 1/a", "head: 42 # bytes(2)", "item: bytes 5 to 7 (0x5 to 0x7)"])
     same_at("in a key", 3, item, ["path: 1, in a key", "head: 61 # text(1)", "item: bytes 3 to 4 (0x3 to 0x4)"])
-    same_at("in a later item", 2, "01810200", ["path: 0", "head: 02 # 2", "item: byte 2 (0x2)"])
+    same_at("in a later item", 2, "01810200", ["path: 1:0", "head: 02 # 2", "item: byte 2 (0x2)"])
     same_at("after an offset", 2, "ff018102", ["path: /", "head: 81 # array(1)", "item: bytes 2 to 3 (0x2 to 0x3)"],
             words=["--offset=1"])
     same_at("past the end", 2, "0105", [],
@@ -171,8 +183,7 @@ def examples_in_part(program, name):
     """An example that is cut at each place, or wrong at each head, is shown with every member before that."""
     data = program.data(name)
     whole = program.run("-f", "bytes", "-t", "diag", data=data)[0].decode()
-    lines = [it.split("  ", 2) for it in program.run("-f", "bytes", "-t", "paths", data=data)[0].decode().splitlines()]
-    leaves = [(int(at, 16), text) for at, _, text in lines]
+    leaves = [(int(at, 16), text) for at, _, text in program.lines("-f", "bytes", "--no-names", data=data)]
     starts = places.starts(data)
     shown = [(data[:end], end, "/cut short/") for end in range(1, len(data)) if end not in starts]
     shown += [(data[:at] + b"\x1f" + data[at + 1:], at, f"/fault: {WRONG}/") for at in places.heads(data)]

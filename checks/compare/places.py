@@ -38,16 +38,17 @@ def is_notation(text):
 def is_plain(text):
     """Whether a step can be the text as it stands: it is read as no other step."""
     odd = any(one in "\"'/ \t\r\n" or ord(one) in HIDDEN for one in text)
-    return not (text == "" or odd or is_notation(text) or re.fullmatch(r"\*|@[0-9]*", text))
+    return not (text == "" or odd or is_notation(text) or re.fullmatch(r"\*|@[0-9]*", text) or re.match("[0-9]+:", text))
 
 
 class Decoder:
     """Reads one item after the other from data that begins at a byte of an input. It gathers the lines of -t paths and
-    the spots of all items: where each begins and ends, its path, whether it is in a key, and the line that says so."""
+    the spots of all items: where each begins and ends, its path, whether it is in a key, and the line that says so.
+    With a writer it enters the byte strings that the writer shows as items."""
 
-    def __init__(self, data, begins=0, longest=LONGEST):
-        self.data, self.begins, self.longest = data, begins, longest
-        self.at, self.leaves, self.spots = 0, [], []
+    def __init__(self, data, begins=0, longest=LONGEST, writer=None):
+        self.data, self.begins, self.longest, self.writer = data, begins, longest, writer
+        self.at, self.leaves, self.spots, self.number = 0, [], [], 0
         # the open tags and containers: what each is called, whether a break ends it, the key of the value that is next
         self.open = []
 
@@ -88,6 +89,11 @@ class Decoder:
     def items(self):
         while self.at < len(self.data):
             self.item("", False, "")
+            self.number += 1
+
+    def numbered(self, path):
+        """A path of -t paths and --at: after the number of its item, if that is not the first."""
+        return (f"{self.number}:" if self.number else "") + (path or "/")
 
     def item(self, path, in_key, line, begins=None):
         """Reads an item. The line says where it is; its tags begin at a place."""
@@ -96,7 +102,7 @@ class Decoder:
         number = len(self.spots)
         self.spots.append((start, None, path, in_key, line))
         if self.content(path, in_key, line, begins) and not in_key:
-            self.leaves.append((begins, path or "/", self.data[begins:self.at]))
+            self.leaves.append((begins, self.numbered(path), self.data[begins:self.at]))
         self.spots[number] = (start, self.at, path, in_key, line)
 
     def content(self, path, in_key, line, begins):
@@ -125,6 +131,20 @@ class Decoder:
             self.at += 1
         if major in (2, 3):
             self.string(path, in_key, line, (start, "text" if major == 3 else "byte string", number))
+        return not (major == 2 and number and self.writer and not in_key and self.enters(path, line, number))
+
+    def enters(self, path, line, count):
+        """Reads the items in the byte string of which the last bytes were read, if they are shown; whether they are."""
+        end, around = self.at, self.open
+        tag = int(around[-1][0].removeprefix("tag ")) if around and around[-1][0].startswith("tag ") else None
+        if self.writer.items_in(self.data[end - count:end], len(around) + 1, tag) is None:
+            return False
+        self.at = end - count
+        self.open = around + [("byte string", False, None)]
+        while self.at < end:
+            step = f"@{self.at + count - end}" if tag == 63 else "@"
+            self.item(joined(path, step), False, line)
+        self.open = around
         return True
 
     def string(self, path, in_key, line, head):
@@ -143,7 +163,7 @@ class Decoder:
                     kind = "text string" if noun == "text" else noun
                     self.fault(place, line, f"a chunk of a {kind} has to be a {kind} of definite length")
             try:
-                self.content("", False, "", place)
+                self.content("", True, "", place)
             except (Stop, IndexError):
                 self.cut(f"{noun} of indefinite length", path, in_key, start, f"no end, {there(chunks, 'chunk')}")
             chunks += 1
@@ -214,7 +234,10 @@ def starts(data):
     found, decoder = [], Decoder(data)
     while decoder.at < len(data):
         found.append(decoder.at)
-        decoder.item("", False, "")
+        try:
+            decoder.item("", False, "")
+        except Stop:
+            break
     return found
 
 

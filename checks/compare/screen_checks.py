@@ -25,6 +25,8 @@ def colors(run, same):
     same("a dump", run("--color=always", "-t", "hex", "-f", "hex", "-x", "6161")[0],
          colored((BYTES, b"61    "), (NOTE, b"# text(1)"), b"\n   ", (BYTES, b"61 "), (NOTE, b'#   "a"'), b"\n"))
     same("paths", run("--color=always", "-t", "paths", "-f", "hex", "-x", "a1 64 61202022 f4")[0],
+         colored((KEY, b'"a  \\u0022"  '), (NUMBER, b"false"), b"\n"))
+    same("with places", run("--color=always", "-t", "paths", "--places", "-f", "hex", "-x", "a1 64 61202022 f4")[0],
          colored((KEY, b'0x6  "a  \\u0022"  '), (NUMBER, b"false"), b"\n"))
     same("JSON", run("--color=always", "-t", "json", "-f", "hex", "-x", "a161610a")[0],
          colored(b"{", (KEY, b'"a"'), b": ", (NUMBER, b"10"), b"}\n"))
@@ -78,7 +80,7 @@ def elided(run, same):
     same("33 bytes", run("--elide", "-f", "hex", "-x", "5821" + "00" * 33)[0].decode(),
          "h'" + "00" * 32 + "...' /33 bytes/\n")
     same("paths are whole", run("--elide=1", "-t", "paths", "-f", "hex", "-x", "a1 6461202061 426162")[0],
-         b"0x6  \"a  a\"  h'61...' /2 bytes/\n")
+         b"\"a  a\"  h'61...' /2 bytes/\n")
     same("in colours", run("--elide=1", "--color=always", "-f", "hex", "-x", "a1 426162 00")[0],
          colored(b"{", (KEY, b"h'61...'"), b" ", (NOTE, b"/2 bytes/"), b" ", (NOTE, b"/'ab'/"), b": ",
                  (NUMBER, b"0"), b"}\n"))
@@ -120,7 +122,8 @@ def widthless(run, same):
     item = "9803 fb3ff8000000000000 1800 d90001 7800"
     for words, text in [
         (["-t", "diag"], '[1.5, 0, 1("")]\n'), ([], '[1.5, 0, 1("")]\n'),
-        (["-t", "paths"], '0x2  0  1.5\n0xb  1  0\n0xd  2  1("")\n'),
+        (["-t", "paths"], '0  1.5\n1  0\n2  1("")\n'),
+        (["-t", "paths", "--places"], '0x2  0  1.5\n0xb  1  0\n0xd  2  1("")\n'),
     ]:
         same(f"no widths {words}", run("--no-widths", *words, "-f", "hex", "-x", item)[0].decode(), text)
     same("an indefinite length", run("--no-widths", "-t", "diag", "-f", "hex", "-x", "9f 7f7800ff 1800 ff")[0],

@@ -43,8 +43,9 @@ def check(run, in_terminal, same):
         same(f"what {text} looks like", looks("-f", "diag", "-x", text), [f"{word}: --as={word}"] if word else [])
     text = "{1: 2, -1: 1}, {1: 2, -1: 1}"
     same("once", looks("-f", "diag", "-x", text), ["COSE_Key: --as=COSE_Key"])
+    for words in (["-t", "paths"], ["--at=1"]):
+        same(f"with {words}", looks(*words, "-f", "diag", "-x", text), ["COSE_Key: --as=COSE_Key"])
     same("in a dump", looks("-t", "hex", "-f", "diag", "-x", text), ["COSE_Key: --as=COSE_Key"])
     same("not in a pipe", run("-f", "diag", "-x", text)[1], "")
-    for words in (["--as=COSE_Key"], ["--no-names"], ["--no-notes"], ["-c"], ["-t", "diag"], ["-t", "json"], ["-p", "1"],
-                  ["-t", "paths"], ["--at=1"]):
+    for words in (["--as=COSE_Key"], ["--no-names"], ["--no-notes"], ["-c"], ["-t", "diag"], ["-t", "json"], ["-p", "1"]):
         same(f"not with {words}", looks(*words, "-f", "diag", "-x", text), [])

@@ -1,10 +1,12 @@
 //! What is around a byte of the data: the path, the open containers, the innermost item.
 
+use crate::entered::{ByteString, Entered, content_at};
 use crate::nouns::{count_of, noun_of_open, push_there};
 use crate::path::Path;
 use crate::piece::{Piece, Places};
 use cbor_bytes::{Extent, extent};
 use cbor_grammar::argument::Argument;
+use cbor_grammar::layout::Content;
 use cbor_trace::{Open, Part, Spot, part_at};
 use std::alloc::{AllocError, Global};
 use std::fmt::Write;
@@ -15,7 +17,7 @@ pub(crate) const LONGEST: usize = 40;
 /// An item, and where it is.
 #[derive(Clone, Copy)]
 pub(crate) struct Named {
-    /// Where it begins in the piece.
+    /// Where it begins in the data.
     pub(crate) start: usize,
     /// How long the path to it is; if it is in a key, to the outermost map of which it is.
     pub(crate) path_len: usize,
@@ -33,7 +35,7 @@ pub(crate) struct Inside {
 /// What is around a byte.
 #[derive(Drop)]
 pub struct Around<'a> {
-    /// The bytes that are looked at, which begin with the item.
+    /// The bytes that are looked at, which begin with the item, or with one in a byte string of it.
     pub(crate) piece: Piece<'a>,
     /// The path to the innermost item; if that is in a key, to the outermost map of which it is.
     pub path: Path,
@@ -49,9 +51,11 @@ pub struct Around<'a> {
     around: Option<Inside>,
 }
 
-/// The bytes from the item on that has this byte of the data, if items are before it.
-pub fn item_with(piece: Piece, byte: usize) -> Piece {
+/// How many items are before the one that has this byte of the data, and the bytes from that one
+/// on.
+pub fn item_with(piece: Piece, byte: usize) -> (usize, Piece) {
     let mut item = piece;
+    let mut before = 0usize;
     for _ in 0..u64::MAX {
         let Extent::Item(len) = extent(item.bytes) else {
             break;
@@ -64,8 +68,9 @@ pub fn item_with(piece: Piece, byte: usize) -> Piece {
             begins: end,
             bytes: item.bytes.get(len..).unwrap_or(b""),
         };
+        before = before.saturating_add(1);
     }
-    item
+    (before, item)
 }
 
 impl<'a> Around<'a> {
@@ -86,19 +91,78 @@ impl<'a> Around<'a> {
             in_indefinite: false,
             around: None,
         };
+        around.go_to(at)?;
+        Ok(around)
+    }
+
+    /// Goes on to the innermost item that has the byte at a place of the piece.
+    fn go_to(&mut self, at: usize) -> Result<(), AllocError> {
         for _ in 0..=u8::MAX {
-            let Some(part) = part_at(piece.bytes, around.spot, at) else {
+            let Some(part) = part_at(self.piece.bytes, self.spot, at) else {
                 break;
             };
-            around.enter(part)?;
+            self.enter(part)?;
         }
-        Ok(around)
+        Ok(())
+    }
+
+    /// Goes on into byte strings that paths enter, to the innermost item that has this byte of the
+    /// data.
+    pub(crate) fn go_inside(&mut self, byte: usize, entered: Entered) -> Result<(), AllocError> {
+        for _ in 0..=u8::MAX {
+            let Some((step, piece)) = self.held_at(byte, entered) else {
+                break;
+            };
+            self.path.push_inside(step)?;
+            self.piece = piece;
+            self.last = None;
+            self.spot = Spot {
+                start: 0,
+                level: self.spot.level.saturating_add(1),
+            };
+            self.go_to(byte.saturating_sub(piece.begins))?;
+        }
+        Ok(())
+    }
+
+    /// If the innermost item is a byte string that paths enter, and has this byte of the data in
+    /// its content: the byte of the content that the step has, and the bytes from the item there
+    /// on.
+    fn held_at(&self, byte: usize, entered: Entered) -> Option<(Option<usize>, Piece<'a>)> {
+        let content = content_at(self.piece.bytes, self.spot.start)?;
+        let begins = self.piece.number(content.start);
+        if self.in_key || byte < begins || self.piece.number(content.end) <= byte {
+            return None;
+        }
+        let bytes = content.bytes(self.piece.bytes);
+        let items = Piece { begins, bytes };
+        match entered.content(self.byte_string(), bytes) {
+            Content::Bytes => None,
+            Content::Item => Some((None, items)),
+            Content::Sequence => {
+                let (_, item) = item_with(items, byte);
+                Some((Some(item.begins.saturating_sub(begins)), item))
+            }
+        }
+    }
+
+    /// Where the innermost item is, which is a byte string.
+    fn byte_string(&self) -> ByteString {
+        let tag = match self.last.map(|inside| inside.open) {
+            Some(Open::Tag { number, .. }) => Some(number),
+            _ => None,
+        };
+        ByteString {
+            start: self.piece.number(self.spot.start),
+            level: self.spot.level,
+            tag,
+        }
     }
 
     /// The innermost item.
     pub(crate) fn named(&self) -> Named {
         Named {
-            start: self.spot.start,
+            start: self.piece.number(self.spot.start),
             path_len: self.path.len(),
             in_key: self.in_key,
         }
@@ -155,7 +219,7 @@ impl<'a> Around<'a> {
             Some(Argument::Number(count, _)) => write!(out, " of {count} at ")?,
             _ => out.push_str(" of indefinite length at ")?,
         }
-        places.push_byte(&mut out, self.piece.number(inside.item.start))?;
+        places.push_byte(&mut out, inside.item.start)?;
         if !whole {
             out.push_str(", of which ")?;
             push_there(&mut out, inside.open)?;

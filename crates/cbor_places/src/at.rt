@@ -3,7 +3,9 @@ ghost use Rattle.std.specs.Prelude.{◌≡◌, ◌∷◌, ◌++◌, [], ℕ, Lis
 ghost use Rattle.std.specs.String.{string_bytes};
 ghost use Rattle.cbor_places.specs.Heads.{counted, head_digits, kind_word, IsHeadWords, head_line};
 
-use crate::around::{Around, item_with};
+use crate::around::Around;
+use crate::entered::Entered;
+use crate::path::push_number;
 use crate::piece::Piece;
 use cbor_edn_writer::bytes_to_edn;
 use cbor_grammar::Error;
@@ -15,18 +17,27 @@ use cbor_trace::{end_at, head_at};
 use std::alloc::{AllocError, Global};
 use std::fmt::Write;
 
-/// What is said of this byte of the data, which is one of these: the path, the head, and where the
-/// item begins and ends, in a line each.
-pub fn lines_at(alloc: Global, piece: Piece, byte: usize) -> Result<String, Error> {
-    let item = item_with(piece, byte);
-    let around = Around::new(alloc, item, byte.saturating_sub(item.begins))?;
-    let key = if around.in_key { ", in a key" } else { "" };
-    let mut out = format!(in alloc; "path: {}{key}\n", around.path.as_str())?;
-    push_head(&mut out, item.bytes, around.spot.start)?;
-    let first = item.number(around.spot.start);
-    match end_at(item.bytes, around.spot) {
+/// What is said of this byte of the data: the path, the head, and where the item begins and ends,
+/// in a line each. The byte is in the item with which these bytes begin, before which there are so
+/// many items of the data.
+pub fn lines_at(
+    alloc: Global,
+    nth_item: (usize, Piece),
+    byte: usize,
+    entered: Entered,
+) -> Result<String, Error> {
+    let (number, item) = nth_item;
+    let mut around = Around::new(alloc, item, byte.saturating_sub(item.begins))?;
+    around.go_inside(byte, entered)?;
+    let mut out = String::from_str(alloc, "path: ")?;
+    push_number(&mut out, number)?;
+    out.push_str(around.path.as_str())?;
+    out.push_str(if around.in_key { ", in a key\n" } else { "\n" })?;
+    push_head(&mut out, around.piece.bytes, around.spot.start)?;
+    let first = around.piece.number(around.spot.start);
+    match end_at(around.piece.bytes, around.spot) {
         Some(end) => {
-            let last = item.number(end.saturating_sub(1));
+            let last = around.piece.number(end.saturating_sub(1));
             push_place(&mut out, first, last)?;
         }
         None => write!(out, "item: from byte {first} (0x{first:x}) on, not whole\n")?,

@@ -46,7 +46,7 @@ impl Around<'_> {
         }
         let named = item.in_key || !path.is_empty();
         out.push_str(if named { " (" } else { " at " })?;
-        places.push_byte(out, self.piece.number(item.start))?;
+        places.push_byte(out, item.start)?;
         out.push_str(if named { ") has " } else { " has " })
     }
 

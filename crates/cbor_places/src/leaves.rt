@@ -1,13 +1,15 @@
 //! Where each item is that holds no other: a line for each, with its path.
 
-use crate::path::Path;
+use crate::entered::{ByteString, Entered, content_behind};
+use crate::path::{Path, push_number};
 use crate::piece::Piece;
 use cbor_bytes::{Extent, extent};
 use cbor_edn_writer::{EdnStyle, push_bytes_to_edn};
 use cbor_grammar::Error;
 use cbor_grammar::argument::Argument;
 use cbor_grammar::head::ItemHead;
-use cbor_trace::head_at;
+use cbor_grammar::layout::Content;
+use cbor_trace::{Span, head_at};
 use std::alloc::{AllocError, Global};
 use std::fmt::Write;
 
@@ -17,16 +19,40 @@ const BLOCK: usize = 64 * 1024;
 /// A longer key is named by its place.
 const LONGEST: usize = 1024;
 
-/// An array or a map, as far as it was passed.
+/// What holds the items that come next.
+#[derive(Clone, Copy)]
+enum Inside {
+    /// An array of that count.
+    Array(Argument),
+    /// A map of that count.
+    Map(Argument),
+    /// A byte string that is an item.
+    Item,
+    /// A byte string that is items, with this content.
+    Items(Span),
+}
+
+/// What holds items, as far as it was passed.
 #[derive(Clone, Copy)]
 struct Level {
-    is_map: bool,
-    /// How many items or pairs it has.
-    count: Argument,
-    /// How many of these were passed.
+    inside: Inside,
+    /// How many items or pairs of it were passed.
     index: usize,
     /// How long the path to it is.
     path_len: usize,
+    /// The level of the items in it.
+    level: u8,
+}
+
+/// The head of the item that comes next, below its tags.
+#[derive(Clone, Copy)]
+struct Next {
+    head: ItemHead,
+    /// Where the head ends.
+    end: usize,
+    /// The tag right above it.
+    tag: Option<u64>,
+    level: u8,
 }
 
 /// Whole items, of which lines are written.
@@ -34,28 +60,57 @@ struct Level {
 pub struct Leaves<'a> {
     items: Piece<'a>,
     style: EdnStyle,
+    entered: Entered<'a>,
+    /// How many items of the data begin before what comes next.
+    number: usize,
+    /// Whether each line has the place before the path.
+    places: bool,
     /// What comes next.
     at: usize,
-    /// The containers around that, the outermost first.
+    /// What is around that, the outermost first.
     levels: Vec<Level>,
     path: Path,
 }
 
 impl<'a> Leaves<'a> {
-    /// The lines of these items. Each is in EDN on one line without notes, and otherwise in this
-    /// style.
-    pub fn new(alloc: Global, items: Piece<'a>, style: EdnStyle) -> Leaves<'a> {
+    /// The lines of these items: the path of each that holds no other, and the item in EDN on one
+    /// line without notes, with the widths of this style.
+    pub fn new(
+        alloc: Global,
+        items: Piece<'a>,
+        style: EdnStyle,
+        entered: Entered<'a>,
+    ) -> Leaves<'a> {
         Leaves {
             items,
             style: EdnStyle {
-                embedded: style.embedded,
+                embedded: entered.embedded,
                 widths: style.widths,
                 ..EdnStyle::LINE
             },
+            entered,
+            number: 0,
+            places: false,
             at: 0,
             levels: Vec::new(alloc),
             path: Path::new(alloc, LONGEST),
         }
+    }
+
+    /// The same lines, if so many items of the data are before these. Then the lines of each item
+    /// but the first of the data begin with its number and a colon.
+    pub fn numbered_from(self, number: usize) -> Leaves<'a> {
+        Leaves { number, ..self }
+    }
+
+    /// The same lines, if asked with the place before each path at which the item begins.
+    pub fn with_places(self, places: bool) -> Leaves<'a> {
+        Leaves { places, ..self }
+    }
+
+    /// How many items of the data begin before what comes next.
+    pub fn number(&self) -> usize {
+        self.number
     }
 
     /// Whether all lines were written.
@@ -86,55 +141,76 @@ impl<'a> Leaves<'a> {
         self.at = self.at.saturating_add(len.max(1));
     }
 
-    /// Takes the path back to the innermost container. If that ends here, goes past its end, and
-    /// returns true.
+    /// Takes the path back to what is around the next item. If that ends here, goes past its end,
+    /// and returns true.
     fn ends(&mut self) -> bool {
         let Some(level) = self.levels.last().copied() else {
             self.path.cut(0);
             return false;
         };
         self.path.cut(level.path_len);
-        let ends = match level.count {
-            Argument::Number(count, _) => level.index as u64 >= count,
-            Argument::Indefinite => self.rest().first() == Some(&0xff),
-        };
-        if !ends {
+        if !self.is_end_of(level) {
             return false;
         }
         let _ = self.levels.pop();
-        if let Argument::Indefinite = level.count {
+        if let Inside::Array(Argument::Indefinite)
+        | Inside::Map(Argument::Indefinite) = level.inside
+        {
             self.pass(1);
         }
         true
     }
 
+    /// Whether no item of a level comes next.
+    fn is_end_of(&self, level: Level) -> bool {
+        match level.inside {
+            Inside::Array(Argument::Indefinite) | Inside::Map(Argument::Indefinite) => {
+                self.rest().first() == Some(&0xff)
+            }
+            Inside::Array(Argument::Number(count, _)) | Inside::Map(Argument::Number(count, _)) => {
+                level.index as u64 >= count
+            }
+            Inside::Item => level.index > 0,
+            Inside::Items(content) => self.at >= content.end,
+        }
+    }
+
     /// Goes past the next item, or into it.
     fn push_next(&mut self, out: &mut String) -> Result<(), Error> {
+        if self.levels.is_empty() {
+            self.number = self.number.saturating_add(1);
+        }
         self.push_step()?;
         let start = self.at;
-        match self.pass_tags() {
-            Some((ItemHead::Array(count), end)) if has_parts(self.items.bytes, count, end) => {
-                self.enter(false, count, end)?;
-            }
-            Some((ItemHead::Map(count), end)) if has_parts(self.items.bytes, count, end) => {
-                self.enter(true, count, end)?;
-            }
-            _ => self.push_line(out, start)?,
+        if let Some(next) = self.pass_tags()
+            && let Some(inside) = self.inside_of(next)
+        {
+            self.enter(next, inside)?;
+            return Ok(());
         }
-        Ok(())
+        self.push_line(out, start)
     }
 
     /// Appends the step to what comes next, after its key if it has one.
-    fn push_step(&mut self) -> Result<(), Error> {
+    fn push_step(&mut self) -> Result<(), AllocError> {
         let Some(level) = self.levels.last_mut() else {
             return Ok(());
         };
-        let index = level.index;
+        let (inside, index) = (level.inside, level.index);
         level.index = index.saturating_add(1);
-        if !level.is_map {
-            self.path.push_index(index)?;
-            return Ok(());
+        match inside {
+            Inside::Array(_) => self.path.push_index(index),
+            Inside::Map(_) => self.push_key(),
+            Inside::Item => self.path.push_inside(None),
+            Inside::Items(content) => {
+                let byte = self.at.saturating_sub(content.start);
+                self.path.push_inside(Some(byte))
+            }
         }
+    }
+
+    /// Appends the step to the value of the key that comes next, and goes past that.
+    fn push_key(&mut self) -> Result<(), AllocError> {
         let rest = self.rest();
         let len = len_of(rest);
         let byte = self.items.number(self.at);
@@ -143,26 +219,67 @@ impl<'a> Leaves<'a> {
         Ok(())
     }
 
-    /// Goes past the tags of the next item. Returns its head and where that ends.
-    fn pass_tags(&mut self) -> Option<(ItemHead, usize)> {
+    /// Goes past the tags of the next item, and returns what is below them.
+    fn pass_tags(&mut self) -> Option<Next> {
+        let mut level = self.levels.last().map_or(1, |around| around.level);
+        let mut tag = None;
         for _ in 0..=u8::MAX {
             let (head, end) = head_at(self.items.bytes, self.at)?;
-            let ItemHead::Tag(..) = head else {
-                return Some((head, end));
+            let ItemHead::Tag(number, _) = head else {
+                return Some(Next {
+                    head,
+                    end,
+                    tag,
+                    level,
+                });
             };
             self.at = end;
+            tag = Some(number);
+            level = level.saturating_add(1);
         }
         None
     }
 
-    /// Goes into a container whose head ends at that place.
-    fn enter(&mut self, is_map: bool, count: Argument, end: usize) -> Result<(), AllocError> {
-        self.at = end;
+    /// What the next item is, if it has parts, which then have lines in place of it.
+    fn inside_of(&self, next: Next) -> Option<Inside> {
+        match next.head {
+            ItemHead::Array(count) if has_parts(self.items.bytes, count, next.end) => {
+                Some(Inside::Array(count))
+            }
+            ItemHead::Map(count) if has_parts(self.items.bytes, count, next.end) => {
+                Some(Inside::Map(count))
+            }
+            ItemHead::String(..) => self.inside_string(next),
+            _ => None,
+        }
+    }
+
+    /// The same of a string: a byte string that is entered.
+    fn inside_string(&self, next: Next) -> Option<Inside> {
+        let content = content_behind(self.items.bytes, next.head, next.end)?;
+        let string = ByteString {
+            start: self.items.number(self.at),
+            level: next.level,
+            tag: next.tag,
+        };
+        match self
+            .entered
+            .content(string, content.bytes(self.items.bytes))
+        {
+            Content::Item => Some(Inside::Item),
+            Content::Sequence if content.len() > 0 => Some(Inside::Items(content)),
+            _ => None,
+        }
+    }
+
+    /// Goes into the next item.
+    fn enter(&mut self, next: Next, inside: Inside) -> Result<(), AllocError> {
+        self.at = next.end;
         self.levels.push(Level {
-            is_map,
-            count,
+            inside,
             index: 0,
             path_len: self.path.len(),
+            level: next.level.saturating_add(1),
         })?;
         Ok(())
     }
@@ -171,8 +288,13 @@ impl<'a> Leaves<'a> {
     fn push_line(&mut self, out: &mut String, start: usize) -> Result<(), Error> {
         let len = len_of(self.rest());
         self.pass(len);
-        let byte = self.items.number(start);
-        write!(out, "0x{byte:x}  {}  ", self.path.as_str())?;
+        if self.places {
+            let byte = self.items.number(start);
+            write!(out, "0x{byte:x}  ")?;
+        }
+        push_number(out, self.number.saturating_sub(1))?;
+        out.push_str(self.path.as_str())?;
+        out.push_str("  ")?;
         let item = self.items.bytes.get(start..self.at).unwrap_or(b"");
         push_bytes_to_edn(*out.allocator(), item, self.style, out)?;
         out.push('\n')?;

@@ -3,7 +3,8 @@
 //!
 //! [`Around`] has what is around a byte, and says it: the path that `cborcat -p` reads, the
 //! container, and what an item that is cut lacks. [`lines_at`] says which item has a byte,
-//! [`Leaves`] goes from one item that holds no other to the next, and [`partial_edn`] and
+//! [`Leaves`] goes from one item that holds no other to the next, also in byte strings that are
+//! [`Entered`], and [`partial_edn`] and
 //! [`partial_dump`] show an item that is not whole.
 //!
 //! ```rust
@@ -25,6 +26,7 @@
 mod around;
 mod at;
 mod cut;
+mod entered;
 mod fault;
 mod laws;
 mod leaves;
@@ -36,6 +38,7 @@ mod piece;
 
 pub use around::{Around, item_with};
 pub use at::lines_at;
+pub use entered::Entered;
 pub use fault::{Fault, fault_of};
 pub use leaves::Leaves;
 pub use partial::{partial_dump, partial_edn};

@@ -79,6 +79,16 @@ impl Path {
         write!(self.text, "{index}")
     }
 
+    /// Appends the step to the item that a byte string is, or of several to the one at that byte of
+    /// the string.
+    pub(crate) fn push_inside(&mut self, byte: Option<usize>) -> Result<(), AllocError> {
+        self.push_slash()?;
+        match byte {
+            Some(byte) => write!(self.text, "@{byte}"),
+            None => self.text.push('@'),
+        }
+    }
+
     /// Appends the step to the value of a key, which begins at that byte of the data.
     /// A key that is no item is named by its place, as a long one is.
     pub fn push_key(&mut self, key: &[u8], byte: usize) -> Result<(), AllocError> {
@@ -94,6 +104,15 @@ impl Path {
             Err(Error::Memory) => Err(AllocError),
             _ => write!(self.text, "(key at byte {byte})"),
         }
+    }
+}
+
+/// Appends what a path begins with in the item of the data before which there are so many: nothing
+/// in the first.
+pub(crate) fn push_number(out: &mut String, number: usize) -> Result<(), AllocError> {
+    match number {
+        0 => Ok(()),
+        _ => write!(out, "{number}:"),
     }
 }
 
@@ -113,13 +132,20 @@ fn is_plain(c: char) -> bool {
     !(c.is_whitespace() || c == '"' || c == '/' || c == '\'')
 }
 
+/// Whether a text begins as a path in an item does that is not the first: with digits and a colon.
+fn begins_with_number(text: &str) -> bool {
+    let digits = text.bytes().take_while(|byte| byte.is_ascii_digit());
+    let count = digits.count();
+    count > 0 && text.as_bytes().get(count) == Some(&b':')
+}
+
 /// The text that a key is, if it is a step as it is: no notation, and without blanks.
 fn plain_word(alloc: Global, key: &[u8]) -> Result<Option<&str>, AllocError> {
     let Some(text) = text_of(key) else {
         return Ok(None);
     };
     let is_mark = text == "*" || text.starts_with('@') || text.starts_with('(');
-    if text.is_empty() || is_mark || !is_shown(false, text.as_bytes()) {
+    if text.is_empty() || is_mark || begins_with_number(text) || !is_shown(false, text.as_bytes()) {
         return Ok(None);
     }
     for c in text.chars() {

@@ -9,8 +9,10 @@ use crate::quoted::{byte_at, comment_end, string_end};
 pub enum Language {
     /// EDN, of which JSON is a part.
     Edn,
-    /// Lines of a place, a path and EDN, with two blanks after each of the first two.
+    /// Lines of a path and EDN, with two blanks between them.
     Paths,
+    /// The same with a place and two blanks before each.
+    Places,
     /// A dump: digits, and comments from `#` to the end of a line.
     Dump,
 }
@@ -33,17 +35,21 @@ impl Language {
         match self {
             Language::Paths if all => Token {
                 kind: Kind::Key,
-                end: path_end(line),
+                end: path_end(line, 1),
             },
-            Language::Edn | Language::Paths => edn_token(line),
+            Language::Places if all => Token {
+                kind: Kind::Key,
+                end: path_end(line, 2),
+            },
+            Language::Edn | Language::Paths | Language::Places => edn_token(line),
             Language::Dump => dump_token(line),
         }
     }
 }
 
-/// Where the place and the path end that a line begins with: after the second two blanks that are
-/// not between quotes, or at the end of the line.
-fn path_end(line: &[u8]) -> usize
+/// Where the path ends that a line begins with, maybe after a place: after this many times two
+/// blanks that are not between quotes, or at the end of the line.
+fn path_end(line: &[u8], most: u8) -> usize
     requires { 0 < length line.now }
     ensures some { 0 < result }
     ensures within { result ≤ length line.now }
@@ -52,7 +58,7 @@ fn path_end(line: &[u8]) -> usize
     let mut gaps = 0u8;
     let mut before = line[0];
     let mut quoted = false;
-    'path: while at < line.len() && gaps < 2 {
+    'path: while at < line.len() && gaps < most {
         let byte = line[at];
         let ends = !quoted && byte == b' ' && before == b' ';
         if ends {

@@ -54,6 +54,8 @@ pub struct Conversion<'a> {
     found: bool,
     /// How many bytes were passed last.
     passed: usize,
+    /// How many items were before these, as far as paths are asked for.
+    number: usize,
     /// How the output is shown.
     screen: Screen<'a>,
     /// What is written next.
@@ -119,6 +121,7 @@ impl<'a> Conversion<'a> {
             broken: false,
             found: false,
             passed: 0,
+            number: 0,
             screen: Screen::new(rt, job),
             out: Vec::new(rt.alloc()),
         }

@@ -163,7 +163,7 @@ pub fn report_byte(
 ) -> Result<(), Error> {
     let (at_fault, what) = message;
     let byte = left.number(at_fault);
-    let item = item_with(left, byte);
+    let (_, item) = item_with(left, byte);
     let around = Around::new(rt.alloc(), item, byte.saturating_sub(item.begins))?;
     let words = around.words(place, true)?;
     say_byte(rt, place, left, at_fault, (what, &words));

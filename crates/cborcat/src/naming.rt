@@ -2,9 +2,11 @@
 
 use crate::messages::{label, say};
 use crate::status::Status;
+use cbor_bytes::{Extent, extent};
 use cbor_inspect::Naming;
 use cbor_json::KeyName;
-use cbor_names::{Names, Notes, Type, known_names, with_file};
+use cbor_names::{Names, Notes, Type, known_names, notes, with_file};
+use cbor_places::Piece;
 use cbor_tokens::is_shown;
 use cborcat_arguments::Job;
 use std::alloc::{AllocError, Global};
@@ -63,6 +65,58 @@ impl<'a> Tables<'a> {
     pub fn may_name(self, bytes: &[u8]) -> bool {
         self.naming().may_name(bytes)
     }
+}
+
+/// Where the byte strings begin in the data that hold an item by the names of these items, in
+/// order.
+pub fn encoded_in(
+    alloc: Global,
+    tables: Option<Tables>,
+    items: Piece,
+) -> Result<Vec<usize>, AllocError> {
+    let mut places = Vec::new(alloc);
+    let Some(tables) = tables else {
+        return Ok(places);
+    };
+    let naming = tables.naming();
+    let mut rest = items;
+    for _ in 0..u64::MAX {
+        if rest.bytes.is_empty() {
+            break;
+        }
+        let len = match extent(rest.bytes) {
+            Extent::Item(len) => len,
+            _ => rest.bytes.len(),
+        };
+        let (bytes, after) = rest.bytes.split_at(len.min(rest.bytes.len()));
+        let end = rest.number(bytes.len());
+        if naming.may_name(bytes) {
+            push_encoded(&mut places, tables, bytes, end)?;
+        }
+        rest = Piece {
+            begins: end,
+            bytes: after,
+        };
+    }
+    Ok(places)
+}
+
+/// Appends the places of those in an item that ends there.
+fn push_encoded(
+    places: &mut Vec<usize>,
+    tables: Tables,
+    item: &[u8],
+    end: usize,
+) -> Result<(), AllocError> {
+    let alloc = *places.allocator();
+    let found = notes(alloc, item, tables.names, tables.outer)?;
+    let list = found.list(alloc)?;
+    for note in &list {
+        if note.encoded {
+            places.push(end.saturating_sub(note.at))?;
+        }
+    }
+    Ok(())
 }
 
 /// The names in the notes of an item that takes `len` bytes, as JSON is told them.

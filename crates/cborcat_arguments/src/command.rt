@@ -45,7 +45,7 @@ enum Takes {
 /// An option: its name, which `--` precedes, its letter, which `-` precedes, and what it takes.
 type Row<'a> = (&'a str, Option<char>, Takes);
 
-const OPTIONS: [Row<'static>; 24] = [
+const OPTIONS: [Row<'static>; 25] = [
     ("from", Some('f'), Takes::From),
     ("text", Some('x'), Takes::Text),
     ("one", Some('1'), Takes::Nothing),
@@ -63,6 +63,7 @@ const OPTIONS: [Row<'static>; 24] = [
     ("check", Some('c'), Takes::Rules),
     ("encode", None, Takes::Encoding),
     ("at", None, Takes::Bytes),
+    ("places", None, Takes::Nothing),
     ("partial", None, Takes::Nothing),
     ("color", None, Takes::When),
     ("elide", None, Takes::Length),

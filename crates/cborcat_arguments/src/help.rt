@@ -54,6 +54,7 @@ Output:
                      if NO_COLOR is not set)
   -o, --output=FILE  write FILE, once all input is converted
       --partial      show also what is there of an item that is not whole
+      --places       the place of each item before its path (-t paths)
       --at=N         the path, the head and the place of the item that byte N
                      of the data belongs to
   -c, --check[=RULES]
@@ -75,7 +76,7 @@ Forms, i of an input and o of the output:
   base64      i   either alphabet, with padding or without
   json        io  JSON, a line an item; an input is read as diag
   raw          o  the content of a byte or text string
-  paths        o  a line for each item that holds no other: place, path, EDN
+  paths        o  a line for each item that holds no other: its path, and EDN
 
 Without -f, an input is bytes as soon as a byte comes that no text has, and is
 shown as it arrives. Text is read to its end. Pairs of hex digits are hex, also

@@ -73,6 +73,8 @@ pub struct Job<'a> {
     pub tables: Option<&'a str>,
     /// Whether names stand in place of the keys of JSON.
     pub names_as_keys: bool,
+    /// Whether the lines of paths have the place of each item.
+    pub places: bool,
     /// The path as it was given.
     pub path: &'a str,
     /// Whether what is there of an item that is not whole is written.
@@ -116,14 +118,16 @@ impl Job<'_> {
         }
     }
 
-    /// Whether items are shown with their names.
+    /// Whether items are shown with their names, or as their names say.
     pub fn has_names(&self) -> bool {
         let style = self.show.style;
         let has_comments = matches!(style.form, Form::Pretty | Form::Hex) && style.notes;
         let is_named = match self.view {
             View::Items => has_comments && !self.check,
             View::Json => self.names_as_keys,
-            View::Raw | View::Paths | View::At(_) => false,
+            // Names say which byte strings paths enter.
+            View::Paths | View::At(_) => style.notes,
+            View::Raw => false,
         };
         is_named && self.names
     }

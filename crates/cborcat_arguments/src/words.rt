@@ -131,10 +131,11 @@ fn refusal(job: &Job, matches: &ArgMatches) -> Option<&'static str> {
     match job.view {
         _ if has_tables && !job.has_names() => {
             Some(
-                "--as and --names are for names, which pretty notation and dumps have, with notes, \
-                 and -t json with --names-as-keys",
+                "--as and --names are for names, which pretty notation, dumps and paths have, \
+                 without --no-notes, and -t json with --names-as-keys",
             )
         }
+        _ if job.places && job.view != View::Paths => Some("--places is for -t paths"),
         _ if job.elide.is_some() && !is_notation && job.show.style.form != Form::Hex => {
             Some("--elide cuts strings of pretty, diag, hex and paths alone")
         }
@@ -209,6 +210,7 @@ fn job_of<'a>(rt: &HostRuntime, matches: &ArgMatches<'a>) -> Asked<'a> {
         tables: matches.get_str("names"),
         names_as_keys: matches.get_flag("names-as-keys"),
         path,
+        places: matches.get_flag("places"),
         partial: matches.get_flag("partial"),
         strict: matches.get_flag("strict"),
         output: matches.get_str("output"),

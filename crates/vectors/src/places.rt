@@ -1,13 +1,15 @@
 //! Where a byte of an item is, which begins at byte 10 of an input: `words` and `cut_words` of the
-//! end of the bytes, `fault_words`, `words PLACE` of a place in a whole item, `lines_at BYTE`,
-//! `leaves`. What is shown of an item that is not whole: `partial_dump`, `partial_edn`,
-//! `partial_edn COLUMNS`.
+//! end of the bytes, `fault_words`, `words PLACE` of a place in a whole item. Of items from byte 10
+//! on: `lines_at BYTE` and `leaves`, also with `embedded`, and `leaves places`. What is shown of an
+//! item that is not whole: `partial_dump`, `partial_edn`, `partial_edn COLUMNS`.
 
 use crate::row::Row;
 use crate::texts::{lines_text, number_of, refused_text};
 use cbor_diag::{Error, Extent, extent};
 use cbor_edn::EdnStyle;
-use cbor_places::{Around, ByteNumbers, Leaves, Piece, lines_at, partial_dump, partial_edn};
+use cbor_places::{
+    Around, ByteNumbers, Entered, Leaves, Piece, item_with, lines_at, partial_dump, partial_edn,
+};
 use std::alloc::{AllocError, Global};
 
 /// What is said of the items of `partial_dump` and `partial_edn`.
@@ -19,7 +21,7 @@ pub fn answer(alloc: Global, row: &Row) -> Result<Option<String>, AllocError> {
         "words" => words(alloc, row),
         "cut_words" => cut_words(alloc, row),
         "fault_words" => fault_words(alloc, row),
-        "lines_at" => shown(alloc, lines_at(alloc, piece(row), number_of(row.argument))),
+        "lines_at" => shown(alloc, lines_of_byte(alloc, row)),
         "leaves" => shown(alloc, leaves(alloc, row)),
         "partial_dump" => shown(alloc, partial_dump(alloc, &row.bytes, SAID)),
         "partial_edn" => shown(alloc, partial_edn(alloc, style(row), &row.bytes, SAID)),
@@ -71,9 +73,29 @@ fn fault_words(alloc: Global, row: &Row) -> Result<String, AllocError> {
     Around::of_end(alloc, piece(row).first(end))?.fault_words(&ByteNumbers, error)
 }
 
+/// The byte strings that paths enter: those below tags, or by this word all that hold items.
+fn entered<'a>(word: &str) -> Entered<'a> {
+    Entered {
+        embedded: word == "embedded",
+        encoded: &[],
+    }
+}
+
+/// The lines of a byte of items.
+fn lines_of_byte(alloc: Global, row: &Row) -> Result<String, Error> {
+    let (byte, word) = row.argument.split_once(" ").unwrap_or((row.argument, ""));
+    let byte = number_of(byte);
+    lines_at(alloc, item_with(piece(row), byte), byte, entered(word))
+}
+
 /// The first block of the lines of paths.
 fn leaves(alloc: Global, row: &Row) -> Result<String, Error> {
-    let mut leaves = Leaves::new(alloc, piece(row), EdnStyle::LINE);
+    let mut leaves = Leaves::new(
+        alloc,
+        piece(row),
+        EdnStyle::LINE,
+        entered(row.argument),
+    ).with_places(row.argument == "places");
     let mut out = String::new(alloc);
     leaves.push_block(&mut out)?;
     Ok(out)

@@ -2,13 +2,14 @@
 
 use super::Conversion;
 use crate::dumps::Dumps;
-use crate::naming::Tables;
+use crate::naming::{Tables, encoded_in};
 use crate::output::{Written, write};
 use crate::screen::language_of;
 use crate::shown::spelled_bytes;
+use cbor_bytes::{Extent, extent};
 use cbor_grammar::Error;
 use cbor_inspect::{End, Form};
-use cbor_places::{Around, Leaves, Piece, lines_at, partial_dump, partial_edn};
+use cbor_places::{Around, Entered, Leaves, Piece, item_with, lines_at, partial_dump, partial_edn};
 use cbor_screen::Language;
 use cborcat_arguments::View;
 
@@ -71,7 +72,20 @@ impl<'a> Conversion<'a> {
         let begins = self.begins().saturating_sub(self.passed);
         let bytes = self.stream.passed(self.passed);
         let items = Piece { begins, bytes };
-        let mut leaves = Leaves::new(alloc, items, self.job.show.style.edn());
+        let encoded = encoded_in(alloc, self.tables, items)?;
+        let mut leaves = Leaves::new(
+            alloc,
+            items,
+            self.job.show.style.edn(),
+            self.entered(&encoded),
+        )
+        .numbered_from(self.number)
+        .with_places(self.job.places);
+        let language = if self.job.places {
+            Language::Places
+        } else {
+            Language::Paths
+        };
         let mut lines = String::new(alloc);
         for _ in 0..u64::MAX {
             if leaves.is_done() {
@@ -80,25 +94,49 @@ impl<'a> Conversion<'a> {
             lines.clear();
             leaves.push_block(&mut lines)?;
             let text = lines.as_bytes();
-            match self.screen.write(self.target, text, Language::Paths)? {
+            match self.screen.write(self.target, text, language)? {
                 Written::Whole => {}
                 end => return Ok(end),
             }
         }
+        self.number = leaves.number();
         Ok(Written::Whole)
+    }
+
+    /// The byte strings that paths enter, where these hold items by names.
+    fn entered<'n>(&self, encoded: &'n [usize]) -> Entered<'n> {
+        Entered {
+            embedded: self.job.show.style.embedded,
+            encoded,
+        }
     }
 
     /// Writes what is said of a byte of the data, if it is in the items that were passed last.
     fn write_at(&mut self, byte: usize) -> Result<Written, Error> {
         let end = self.begins();
         let begins = end.saturating_sub(self.passed);
+        let bytes = self.stream.passed(self.passed);
+        let (before, item) = item_with(Piece { begins, bytes }, byte);
+        let number = self.number.saturating_add(before);
         if byte < begins || byte >= end {
+            self.number = number;
             return Ok(Written::Whole);
         }
-        let bytes = self.stream.passed(self.passed);
-        let lines = lines_at(self.rt.alloc(), Piece { begins, bytes }, byte)?;
+        let lines = self.lines_at((number, item), byte)?;
         self.found = true;
         Ok(write(self.rt, self.target, lines.as_bytes()))
+    }
+
+    /// The lines of a byte in the item at the front, before which there are so many in the data.
+    fn lines_at(&self, nth_item: (usize, Piece), byte: usize) -> Result<String, Error> {
+        let alloc = self.rt.alloc();
+        let (number, items) = nth_item;
+        let item = match extent(items.bytes) {
+            Extent::Item(len) => items.first(len),
+            _ => items,
+        };
+        let encoded = encoded_in(alloc, self.tables, item)?;
+        lines_at(alloc, (number, item), byte, self.entered(&encoded))
     }
 
     /// Writes what is there of an item that is not whole, if it is asked for.
@@ -141,8 +179,7 @@ impl<'a> Conversion<'a> {
         if byte < begins || byte >= self.came {
             return Ok(Written::Whole);
         }
-        let bytes = self.stream.rest();
-        let lines = lines_at(self.rt.alloc(), Piece { begins, bytes }, byte)?;
+        let lines = self.lines_at((self.number, self.left()), byte)?;
         Ok(write(self.rt, self.target, lines.as_bytes()))
     }
 }
