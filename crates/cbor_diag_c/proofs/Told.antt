@@ -11,7 +11,7 @@ use Rattle.cbor_rules.specs.Keeps.{KeepsRules, without_memory}
 use Rattle.cbor_reencode.specs.declared.error.ReencodeError.{ReencodeError}
 use Rattle.cbor_reencode.specs.declared.error.ReencodeError.TheVariants as reencode_error
 use Rattle.cbor_reencode.specs.OneKey.{IsBreach, KeepsWithKeys}
-use Rattle.cbor_reencode.specs.Reencoded.{IsFound, lasting, FixesKeys, KeysOnce}
+use Rattle.cbor_reencode.specs.Reencoded.{lasting, FixesKeys, KeysOnce}
 use Rattle.cbor_messages.specs.Kinds.{kind_number}
 use Rattle.cbor_diag_c.specs.Breaches.{rules_of, IsTold, IsFoundBy, KeepsBy}
 use Rattle.cbor_diag_c.specs.Reencodings.{StaysBy, Breaks, BreaksBy, IsToldWhy, IsToldWhyNot}
@@ -171,19 +171,17 @@ why_at : (rules : Rules) (b : List ℕ) (e : ReencodeError) (n place detail : �
     → first_breach (lasting rules) b ≡ lasting_breach
     → ((breach : Breach) → first_breach (lasting rules) b ≡ Some breach
     → (e ≡ reencode_error.Breach breach) ⊎ (e ≡ reencode_error.Memory))
-    → (first_breach (lasting rules) b ≡ None → IsFound rules b e)
     → IsToldWhy e n place detail → IsToldWhyNot rules b n place detail
-why_at rules b e n place detail None is lasts found told = inr (e, inr (is, found is), told)
-why_at rules b e n place detail (Some breach) is lasts found told =
+why_at rules b e n place detail None is lasts told = inr (e, inr is, told)
+why_at rules b e n place detail (Some breach) is lasts told =
     inr (e, inl (breach, only_breach e breach n place detail (lasts breach is) told, is), told)
 
 -- what is told of the error of `reencoded` is told of the input
 pub why : (rules : Rules) (b : List ℕ) (e : ReencodeError) (n place detail : ℕ)
     → ((breach : Breach) → first_breach (lasting rules) b ≡ Some breach
     → (e ≡ reencode_error.Breach breach) ⊎ (e ≡ reencode_error.Memory))
-    → (first_breach (lasting rules) b ≡ None → IsFound rules b e)
     → IsToldWhy e n place detail → IsToldWhyNot rules b n place detail
-why rules b e n place detail lasts found told =
-    why_at rules b e n place detail (first_breach (lasting rules) b) refl lasts found told
+why rules b e n place detail lasts told =
+    why_at rules b e n place detail (first_breach (lasting rules) b) refl lasts told
 
 pub ruleset why_laws = (some_why, no_memory, why)

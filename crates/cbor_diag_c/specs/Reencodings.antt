@@ -1,12 +1,12 @@
 -- What C is told of items that are encoded again so that they keep a set of rules.
-use Rattle.std.specs.Prelude.{◌≡◌, ◌≢◌, ◌⊎◌, ℕ, List, Some, None, length}
+use Rattle.std.specs.Prelude.{◌≡◌, ◌⊎◌, ℕ, List, Some, None, length}
 use Rattle.cbor_rules.specs.declared.rules.Rules.{Rules}
 use Rattle.cbor_rules.specs.declared.kind.Breach.{Breach}
 use Rattle.cbor_rules.specs.FirstBreach.{first_breach}
 use Rattle.cbor_rules.specs.Keeps.{KeepsRules}
 use Rattle.cbor_reencode.specs.declared.error.ReencodeError.{ReencodeError}
 use Rattle.cbor_reencode.specs.declared.error.ReencodeError.TheVariants as reencode_error
-use Rattle.cbor_reencode.specs.Reencoded.{IsReencoded, IsFound, lasting, FixesKeys, KeysOnce}
+use Rattle.cbor_reencode.specs.Reencoded.{IsReencoded, lasting, FixesKeys, KeysOnce}
 use Rattle.cbor_diag_c.specs.Answers.{written}
 use Rattle.cbor_messages.specs.Kinds.{kind_number}
 use Rattle.cbor_diag_c.specs.Breaches.{rules_of, IsTold}
@@ -37,26 +37,13 @@ Breaks rules input = (breach : Breach) × (first_breach (lasting rules) input �
 abbrev pub BreaksBy : ℕ → List ℕ → Type 0
 BreaksBy number input = (rules : Rules) × (rules_of number ≡ Some rules) × Breaks rules input
 
--- why the input is not encoded again: it breaks such a rule; or else two keys of a map are one or become one, or what is
--- written breaks a rule whose check takes memory
-abbrev pub IsNotEncodable : Rules → List ℕ → Type 0
-IsNotEncodable rules input =
-    Breaks rules input
-    ⊎ ((first_breach (lasting rules) input ≡ None)
-    × (e : ReencodeError) × (e ≢ reencode_error.Memory) × IsFound rules input e)
-
-abbrev pub IsNotEncodableBy : ℕ → List ℕ → Type 0
-IsNotEncodableBy number input =
-    (rules : Rules) × (rules_of number ≡ Some rules) × IsNotEncodable rules input
-
 -- ---- why there is no encoding
 
--- The error that the input has: it breaks a rule that no choice keeps, and this is the first place; or else what was
--- found by encoding it.
+-- The error that the input has. Where it breaks a rule that no choice keeps, that is the first such breach.
 abbrev pub IsWhyNot : Rules → List ℕ → ReencodeError → Type 0
 IsWhyNot rules input e =
     ((breach : Breach) × (e ≡ reencode_error.Breach breach) × (first_breach (lasting rules) input ≡ Some breach))
-    ⊎ ((first_breach (lasting rules) input ≡ None) × IsFound rules input e)
+    ⊎ (first_breach (lasting rules) input ≡ None)
 
 -- What is told of an error: the number of what is wrong, its place and its detail. What was written is not there.
 abbrev pub IsToldWhy : ReencodeError → ℕ → ℕ → ℕ → Type 0

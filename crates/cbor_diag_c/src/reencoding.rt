@@ -8,7 +8,6 @@ ghost use Rattle.cbor_diag_c.specs.Breaches.{rules_of};
 ghost use Rattle.cbor_diag_c.specs.Places.{no_place};
 ghost use Rattle.cbor_diag_c.specs.Reencodings.{IsWrittenText, IsAgain, IsAgainBy};
 ghost use Rattle.cbor_diag_c.specs.Reencodings.{Breaks, BreaksBy, StaysBy};
-ghost use Rattle.cbor_diag_c.specs.Reencodings.{IsNotEncodable, IsNotEncodableBy};
 ghost use Rattle.cbor_diag_c.specs.Reencodings.{IsToldWhy, IsToldWhyNot, IsToldWhyNotBy};
 
 use crate::answer::{refused, write};
@@ -30,8 +29,7 @@ fn encode(alloc: Global, rules: Rules, input: &[u8], output: &mut [u8]) -> i64
         → IfReturned result (IsWrittenText input.now output.old output.new) (λ n. n ≡ 1) }
     ensures breaks { Breaks rules input.now → IfReturned result
         (λ n. ⊥) (λ n. (n ≡ 1) ⊎ (n ≡ not_encodable)) }
-    ensures why { IfError result (λ n. (n ≡ 1)
-        ⊎ ((n ≡ not_encodable) × IsNotEncodable rules input.now)) }
+    ensures why { IfError result (λ n. (n ≡ 1) ⊎ (n ≡ not_encodable)) }
     ensures unchanged { IfError result (λ n. output.new ≡ output.old) }
 {
     match reencoded(alloc, input, rules) {
@@ -62,7 +60,7 @@ pub extern "C" fn cbor_diag_reencode(
         (λ n. ⊥) (λ n. (n ≡ 1) ⊎ (n ≡ not_encodable)) }
     ensures why { IfError result (λ n. (n ≡ 1)
         ⊎ ((n ≡ no_rules) × (rules_of rules ≡ None))
-        ⊎ ((n ≡ not_encodable) × IsNotEncodableBy rules input.now)) }
+        ⊎ (n ≡ not_encodable)) }
     ensures unchanged { IfError result (λ n. output.new ≡ output.old) }
     ensures unknown_rules { rules_of rules ≡ None → result ≡ negsuc 11 }
 {

@@ -1,7 +1,7 @@
--- What is written for an item that holds no item keeps the rules, and is the same item.
-use Rattle.std.proofs.Common.{◌≡◌, ℕ, Bool, true, false, List, [], ◌∷◌, ◌++◌, length}
-use Rattle.std.proofs.Common.{None, refl, sym, ap, subst, ◌∙◌, append_assoc, arith}
-use Rattle.std.proofs.lemmas.List.{append-nil}
+-- What is written for an item that holds no item is the same item.
+use Rattle.std.proofs.Common.{◌≡◌, ℕ, Bool, true, false, List, [], ◌∷◌, ◌++◌, length, take}
+use Rattle.std.proofs.Common.{drop, None, refl, sym, ap, subst, ◌∙◌, append_assoc, arith}
+use Rattle.std.proofs.lemmas.List.{append-nil, take-append-drop}
 use Rattle.std.proofs.lemmas.Str.{IsUtf8-append, IsUtf8-nil}
 use Rattle.cbor_grammar.specs.declared.width.IntegerWidth.{IntegerWidth}
 use Rattle.cbor_grammar.specs.declared.width.IntegerWidth.TheVariants.{Unknown}
@@ -23,21 +23,19 @@ use Rattle.cbor_floats.specs.Value.{bits_of}
 use Rattle.cbor_floats.specs.declared.float.EncodedFloat.{EncodedFloat}
 use Rattle.cbor_floats.specs.declared.float.EncodedFloat.TheVariants.{Half, Single, Double}
 use Rattle.cbor_rules.specs.declared.rules.Rules.{Rules}
-use Rattle.cbor_rules.specs.FirstBreach.{simple_breach}
-use Rattle.cbor_rules.specs.Keeps.{float_of, IsReduced}
-use Rattle.cbor_rules.specs.Reduced.{integer_of}
-use Rattle.std.specs.Prelude.{is_nan, from_bits, IsTrue}
-use Rattle.std.specs.Float.Ieee.{binary64}
-use Rattle.cbor_reencode.specs.mirror.Checked.{checked_rules}
+use Rattle.cbor_rules.specs.declared.rules.TheConstants.Rules.{CORE}
+use Rattle.cbor_rules.specs.FirstBreach.{simple_breach, two_byte_breach, breach_or_else}
+use Rattle.cbor_rules.specs.Keeps.{float_of}
 use Rattle.cbor_rules.specs.Same.{said, said_float}
 use Rattle.cbor_reencode.specs.declared.numbers.Reduced.{Reduced}
 use Rattle.cbor_reencode.specs.declared.numbers.Reduced.TheVariants as code
 use Rattle.cbor_reencode.specs.Reduction.{reduced_atom}
 use Rattle.cbor_reencode.specs.mirror.Numbers.{float_atom, atom_of, FitsNumber, number_bytes, IsNumber}
 use Rattle.cbor_rules.proofs.Heads.{simple_found}
-use Rattle.cbor_reencode.specs.mirror.Chosen.{chosen_width, IsChosen, float_width_of}
-use Rattle.cbor_reencode.specs.mirror.Rewritten.{ChunkAt, contents, Joined, RewrittenChunks, RewrittenAtom}
-use Rattle.cbor_reencode.proofs.Choices.{chosen_fits, chosen_keeps, content_keeps, shortest_fits, stated_head}
+use Rattle.cbor_reencode.specs.mirror.Chosen.{chosen_width, float_width_of}
+use Rattle.cbor_reencode.specs.mirror.Rewritten.{ContentAt, ChunkAt, contents, Joined, RewrittenChunks}
+use Rattle.cbor_reencode.specs.mirror.Rewritten.{RewrittenAtom}
+use Rattle.cbor_reencode.proofs.Choices.{chosen_fits, shortest_fits, stated_head}
 
 -- ---- chunks
 
@@ -63,7 +61,6 @@ chunks_end rules kind b rest old is = record {
   added = sym (append-nil old);
   written = [];
   written_spells = λ end. refl;
-  keeps = tt;
   same = refl;
 }
 
@@ -89,7 +86,6 @@ chunks_more rules kind b piece w r after old mid new is e j =
       written = d ∷ j.written;
       written_spells = λ end.
           (is.0, (fits, piece ++ (j.bytes ++ end), parts end, (j.bytes ++ end, refl, j.written_spells end)));
-      keeps = ((chosen_keeps rules (length piece) w, content_keeps rules kind piece), j.keeps);
       same = ap (λ (x : List ℕ). piece ++ x) j.same;
     }
 
@@ -128,7 +124,6 @@ integer_again rules n w b rest old new h e =
       added = e;
       written = integer n v;
       written_spells = alone_written 0 n v (chosen_fits rules n w h.0);
-      keeps = chosen_keeps rules n w;
       same = refl;
     }
 
@@ -146,16 +141,14 @@ negative_again rules n w b rest old new h e =
       added = e;
       written = negative n v;
       written_spells = alone_written 1 n v (chosen_fits rules n w h.0);
-      keeps = chosen_keeps rules n w;
       same = refl;
     }
 
 pub simple_again : (rules : Rules) (n : ℕ) (b rest old new : List ℕ) → HeadIs (item_head.Simple n) b rest
-    → simple_breach (checked_rules rules) n b ≡ None → new ≡ old ++ encoded_simple n
-    → RewrittenAtom rules b rest old new
+    → two_byte_breach b ≡ None → new ≡ old ++ encoded_simple n → RewrittenAtom rules b rest old new
 simple_again rules n b rest old new h none e =
-    let last = checked_rules rules in
-    let found = simple_found last n h.0 rest h.2 (subst (λ x. simple_breach last n x ≡ None) h.1 none) in
+    let found = simple_found CORE n h.0 rest h.2 (subst (λ x. simple_breach CORE n x ≡ None) h.1
+    (ap (λ k. breach_or_else k None) none)) in
     let is : h.0 ≡ encoded_simple n = strict_only 1 h.0 (atom (simple n)) (omega arith, found.0) in
     record {
       atom = simple n;
@@ -166,7 +159,6 @@ simple_again rules n b rest old new h none e =
       added = e ∙ ap (λ (x : List ℕ). old ++ x) (sym is);
       written = simple n;
       written_spells = found.0;
-      keeps = found.1;
       same = refl;
     }
 
@@ -196,7 +188,7 @@ float_spelled (Half bits) fits = (fits, refl)
 float_spelled (Single bits) fits = (fits, refl)
 float_spelled (Double bits) fits = (fits, refl)
 
-pub float_is : (f : EncodedFloat) → float_of (bits_of f) (float_width_of f) ≡ f
+float_is : (f : EncodedFloat) → float_of (bits_of f) (float_width_of f) ≡ f
 float_is (Half bits) = refl
 float_is (Single bits) = refl
 float_is (Double bits) = refl
@@ -210,15 +202,6 @@ said_again false bits w f bits_are width_is same kept =
     let is : f ≡ float_of bits w = kept (λ e. absurd cc) in
     ap (λ n. float n w) (sym bits_are ∙ ap bits_of (sym is))
     ∙ ap (λ (v : FloatWidth). float (bits_of f) v) (sym width_is ∙ ap float_width_of (sym is))
-
--- what is chosen for a float that is reduced
-pub reduced_again : (rules : Rules) (f g : EncodedFloat) → IsChosen rules f g → IsReduced f → IsReduced g
-reduced_again rules f g is h = (
-  subst (λ n. integer_of (from_bits binary64 n) ≡ None) (sym is.same) h.0,
-  λ nan.
-      let usual = h.1 (subst (λ n. IsTrue (is_nan (from_bits binary64 n))) is.same nan) in
-      is.half 0x7e00 usual ∙ usual,
-)
 
 -- what is written for a float
 pub number_again : (rules : Rules) (bits : ℕ) (w : FloatWidth) (n : Reduced) (b rest old new : List ℕ)
@@ -238,7 +221,6 @@ number_again rules bits w n b rest old new h is e =
       added = e;
       written = atom_of n;
       written_spells = number_spelled n is.fits;
-      keeps = is.keeps;
       same = ap (λ (x : Atom). said rules.shortest_floats (reduced_atom rules x)) (sym same) ∙ is.same;
     }
   where
@@ -248,6 +230,16 @@ number_again rules bits w n b rest old new h is e =
     number_spelled (code.Float f) fits = float_spelled f fits
 
 -- ---- strings
+
+-- a content of this many bytes
+pub content_at : (kind : StringKind) (n : ℕ) (b content rest : List ℕ) → content ≡ take n b → rest ≡ drop n b
+    → length content ≡ n → IsContent kind content → ContentAt kind n b content rest
+content_at kind n b content rest front back size holds = record {
+  parts = sym (take-append-drop n b) ∙ ap (λ (x : List ℕ). x ++ drop n b) (sym front)
+      ∙ ap (λ (x : List ℕ). content ++ x) (sym back);
+  size = size;
+  holds = holds;
+}
 
 -- a content after a head that has its length
 pub content_written : (kind : StringKind) (content : List ℕ) (v : IntegerWidth) → FitsStated v (length content)
@@ -292,7 +284,6 @@ string_again rules kind n w b r content rest old new h parts len is e =
       added = e ∙ ap (λ k. old ++ (encoded_head m (length content) (chosen_width rules k w) ++ content)) (sym len);
       written = string kind d;
       written_spells = content_written kind content v (chosen_fits rules (length content) w fits) is;
-      keeps = (chosen_keeps rules (length content) w, content_keeps rules kind content);
       same = refl;
     }
 
@@ -317,7 +308,6 @@ joined_again rules kind b r rest content old new is j few e =
       written = string kind d;
       written_spells = content_written kind content (shortest (length content))
           few holds;
-      keeps = (λ on. refl, content_keeps rules kind content);
       same = ap (λ (x : List ℕ). string kind (record { bytes = x; width = Unknown })) (sym j.added);
     }
 
@@ -339,6 +329,5 @@ chunked_again rules kind b r rest old start mid new is off s j e =
           ∙ append_assoc old (o ∷ j.bytes) (break_byte ∷ []);
       written = chunked_string kind j.written;
       written_spells = (j.bytes ++ break_byte ∷ [], refl, j.written_spells (break_byte ∷ []));
-      keeps = (λ on. absurd cc, j.keeps);
       same = ap (λ (x : List ℕ). string kind (record { bytes = x; width = Unknown })) j.same;
     }

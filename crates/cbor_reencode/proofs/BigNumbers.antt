@@ -1,10 +1,8 @@
--- What is written for a tag and its item keeps the rules, and is the same number where it is a big one.
-use Rattle.std.proofs.Common.{◌≡◌, ◌≢◌, ℕ, ◌+◌, ◌*◌, ◌^◌, ◌<◌, ◌≤◌, ◌⊎◌, Bool, true, false, cond, ltb, eqb, List, []}
-use Rattle.std.proofs.Common.{◌∷◌}
-use Rattle.std.proofs.Common.{◌++◌, length, get_or, Option, Some, None, Ok, inl, inr, refl, sym, ap, subst, ◌∙◌, arith}
-use Rattle.std.proofs.lemmas.Bool.{ltb-false, ltb-true, eqb-false, eqb-true}
+-- What is written for a tag and its item is the same item, and the same number where it is a big one.
+use Rattle.std.proofs.Common.{◌≡◌, ℕ, ◌+◌, ◌*◌, ◌^◌, ◌<◌, ◌≤◌, Bool, true, false, cond, ltb, eqb, List, [], ◌∷◌, ◌++◌}
+use Rattle.std.proofs.Common.{length, Option, Some, None, Ok, inl, inr, refl, sym, ap, subst, ◌∙◌, arith}
+use Rattle.std.proofs.lemmas.Bool.{ltb-true, eqb-true}
 use Rattle.std.proofs.lemmas.List.{append-nil}
-use Rattle.std.proofs.Math.Seq.{drop-append_seam}
 use Rattle.cbor_grammar.specs.declared.width.IntegerWidth.{IntegerWidth}
 use Rattle.cbor_grammar.specs.declared.width.IntegerWidth.TheVariants as width
 use Rattle.cbor_grammar.specs.declared.argument.Argument.TheVariants.{Number}
@@ -19,21 +17,18 @@ use Rattle.cbor_grammar.specs.WellFormed.{deepest}
 use Rattle.cbor_grammar.specs.Bytes.{strict, Spells}
 use Rattle.cbor_grammar.specs.Written.{encoded_head}
 use Rattle.cbor_grammar.specs.Reading.{Read, read_head}
-use Rattle.cbor_grammar.proofs.bytes.Heads.{IsBytes, IsBytes-drop, IsBytes-rest}
 use Rattle.cbor_rules.specs.declared.rules.Rules.{Rules}
-use Rattle.cbor_rules.specs.FirstBreach.{big_breach, tag_breach}
-use Rattle.cbor_rules.specs.Keeps.{Keeps, without_memory}
 use Rattle.cbor_rules.specs.Same.{said, whole, IsSame}
 use Rattle.cbor_rules.proofs.Again.{string_read}
-use Rattle.cbor_rules.proofs.BigNumbers.{IsOther, bytes_or_not, other_read, big_found}
-use Rattle.cbor_reencode.specs.Reencoded.{Again}
+use Rattle.cbor_rules.proofs.BigNumbers.{IsOther, bytes_or_not, other_read}
 use Rattle.cbor_reencode.specs.Reduction.{big_endian, without_zeros, content_of, small_number, big_number, big_or}
 use Rattle.cbor_reencode.specs.Reduction.{is_big, reduced_tag, reduced_item, IsSameNumbered}
 use Rattle.cbor_reencode.specs.mirror.Chosen.{chosen_width}
 use Rattle.cbor_reencode.specs.mirror.Numbers.{content_read, big_content, string_bytes, big_bytes, tag_bytes}
 use Rattle.cbor_reencode.specs.mirror.Numbers.{tagged_bytes}
+use Rattle.cbor_reencode.specs.mirror.Rewritten.{Written}
 use Rattle.cbor_reencode.proofs.Atoms.{alone_written, content_written}
-use Rattle.cbor_reencode.proofs.Choices.{chosen_fits, chosen_keeps, fits_number, shortest_fits, stated_head}
+use Rattle.cbor_reencode.proofs.Choices.{chosen_fits, fits_number, shortest_fits, stated_head}
 use Rattle.cbor_reencode.proofs.Kept.{same_item}
 
 -- ---- bytes as a number
@@ -51,15 +46,6 @@ zeros_out (d ∷ c) = by (eqb d 0) refl (zeros_out c)
         again ∙ ap (λ n. big_endian n c) same
     by false is again = refl
 
-no_zero : (c : List ℕ) → (without_zeros c ≡ []) ⊎ (get_or (without_zeros c) 0 0 ≢ 0)
-no_zero [] = inl refl
-no_zero (d ∷ c) = by (eqb d 0) refl (no_zero c)
-  where
-    by : (t : Bool) → eqb d 0 ≡ t → (without_zeros c ≡ []) ⊎ (get_or (without_zeros c) 0 0 ≢ 0)
-        → (cond t (without_zeros c) (d ∷ c) ≡ []) ⊎ (get_or (cond t (without_zeros c) (d ∷ c)) 0 0 ≢ 0)
-    by true is again = again
-    by false is again = inr (eqb-false d 0 is)
-
 zeros_once : (c : List ℕ) → without_zeros (without_zeros c) ≡ without_zeros c
 zeros_once [] = refl
 zeros_once (d ∷ c) = by (eqb d 0) refl (zeros_once c)
@@ -68,14 +54,6 @@ zeros_once (d ∷ c) = by (eqb d 0) refl (zeros_once c)
         → without_zeros (cond t (without_zeros c) (d ∷ c)) ≡ cond t (without_zeros c) (d ∷ c)
     by true is again = again
     by false is again = ap (λ (t : Bool). cond t (without_zeros c) (d ∷ c)) is
-
-zeros_bytes : (c : List ℕ) → IsBytes c → IsBytes (without_zeros c)
-zeros_bytes [] fits = fits
-zeros_bytes (d ∷ c) fits = by (eqb d 0) (zeros_bytes c (IsBytes-rest d c fits))
-  where
-    by : (t : Bool) → IsBytes (without_zeros c) → IsBytes (cond t (without_zeros c) (d ∷ c))
-    by true again = again
-    by false again = fits
 
 zeros_fewer : (c : List ℕ) → length (without_zeros c) ≤ length c
 zeros_fewer [] = omega arith
@@ -94,22 +72,6 @@ grows n (d ∷ c) = omega (arith, grows (256 * n + d) c)
 pub grows_more : (n : ℕ) (c : List ℕ) → 0 < length c → 256 * n ≤ big_endian n c
 grows_more n [] some = absurd (omega arith)
 grows_more n (d ∷ c) some = omega (arith, grows (256 * n + d) c)
-
--- a number of more than 64 bits takes more than 8 bytes
-long : (c : List ℕ) → IsBytes c → 2 ^ 64 ≤ big_endian 0 c → 8 < length c
-long [] fits le = absurd (omega (arith, le))
-long (a ∷ []) fits le = absurd (omega (arith, le, fits 0))
-long (a ∷ b ∷ []) fits le = absurd (omega (arith, le, fits 0, fits 1))
-long (a ∷ b ∷ c ∷ []) fits le = absurd (omega (arith, le, fits 0, fits 1, fits 2))
-long (a ∷ b ∷ c ∷ d ∷ []) fits le = absurd (omega (arith, le, fits 0, fits 1, fits 2, fits 3))
-long (a ∷ b ∷ c ∷ d ∷ e ∷ []) fits le = absurd (omega (arith, le, fits 0, fits 1, fits 2, fits 3, fits 4))
-long (a ∷ b ∷ c ∷ d ∷ e ∷ f ∷ []) fits le =
-    absurd (omega (arith, le, fits 0, fits 1, fits 2, fits 3, fits 4, fits 5))
-long (a ∷ b ∷ c ∷ d ∷ e ∷ f ∷ g ∷ []) fits le =
-    absurd (omega (arith, le, fits 0, fits 1, fits 2, fits 3, fits 4, fits 5, fits 6))
-long (a ∷ b ∷ c ∷ d ∷ e ∷ f ∷ g ∷ h ∷ []) fits le =
-    absurd (omega (arith, le, fits 0, fits 1, fits 2, fits 3, fits 4, fits 5, fits 6, fits 7))
-long (a ∷ b ∷ c ∷ d ∷ e ∷ f ∷ g ∷ h ∷ i ∷ r) fits le = omega arith
 
 -- ---- the same content
 
@@ -168,17 +130,6 @@ other_content : (h : ItemHead) (r : List ℕ) → IsOther h → content_read (Ok
 other_content (item_head.String Bytes (Number n w)) r other = absurd other
 other_content h r other = refl
 
-breach_none : (read : Read ItemHead) → content_read read ≡ None → big_breach read ≡ None
-breach_none (Ok (item_head.String Bytes (Number n w), rest)) e = absurd cc
-breach_none read e = refl
-
-none_breach : (rules : Rules) (tag : ℕ) (y : List ℕ) → big_content rules tag y ≡ None → tag_breach rules tag y ≡ None
-none_breach rules tag y e = by (is_big rules tag) e
-  where
-    by : (s : Bool) → cond s (content_read (read_head y)) None ≡ None → cond s (big_breach (read_head y)) None ≡ None
-    by true e = breach_none (read_head y) e
-    by false e = refl
-
 record IsContent (rules : Rules) (tag : ℕ) (j : Item) (content : List ℕ) : Type 0 where
   pub big : is_big rules tag ≡ true
   pub chunk : Chunk
@@ -222,36 +173,23 @@ small_spells : (u : Bool) (level n : ℕ) → level ≤ deepest → n < 2 ^ 64
 small_spells true level n le lt = (le, alone_written 1 n (shortest n) (shortest_fits n lt))
 small_spells false level n le lt = (le, alone_written 0 n (shortest n) (shortest_fits n lt))
 
-small_keeps : (rules : Rules) (u : Bool) (level n : ℕ)
-    → Keeps (without_memory rules) level (atom (cond u (negative n (shortest n)) (integer n (shortest n))))
-small_keeps rules true level n = λ on. refl
-small_keeps rules false level n = λ on. refl
-
 small_same : (rules : Rules) (t : Bool) (u : Bool) (n : ℕ)
     → IsSame t (atom (cond u (negative n width.Unknown) (integer n width.Unknown)))
     (reduced_item rules (atom (cond u (negative n (shortest n)) (integer n (shortest n)))))
 small_same rules t true n = refl
 small_same rules t false n = refl
 
-module _ (rules : Rules) (level tag : ℕ) (w : IntegerWidth) (i : Item) (le : level ≤ deepest) (tags : rules.tags ≡ true)
+module _ (rules : Rules) (level tag : ℕ) (w : IntegerWidth) (i : Item) (le : level ≤ deepest)
     (fits : FitsStated w tag) where
   -- a tag before an item as it was encoded again
-  plain_again : (y : List ℕ) (j : Item) → Spells strict (level + 1) y j → Keeps (without_memory rules) (level + 1) j
-      → IsSameNumbered rules i j → big_content rules tag y ≡ None
-      → Again rules level (tagged tag w i) (encoded_head 6 tag (chosen_width rules tag w) ++ y)
-  plain_again y j spells keeps same none =
+  plain_again : (y : List ℕ) (j : Item) → Spells strict (level + 1) y j → IsSameNumbered rules i j
+      → Written rules level (tagged tag w i) (encoded_head 6 tag (chosen_width rules tag w) ++ y)
+  plain_again y j spells same =
       let c = chosen_width rules tag w in
       let good = chosen_fits rules tag w fits in
       record {
         item = tagged tag c j;
         spells = (le, (good, y, ap (λ (x : List ℕ). x ++ y) (stated_head 6 tag c good), spells));
-        keeps = (
-          tags,
-          chosen_keeps rules tag w,
-          big_found rules tag j (level + 1) y [] spells (ap (λ (x : List ℕ). tag_breach rules tag x) (append-nil y)
-              ∙ none_breach rules tag y none),
-          keeps,
-        );
         same = same_tag rules tag w c (reduced_item rules i) (reduced_item rules j) same;
       }
 
@@ -265,7 +203,7 @@ module _ (rules : Rules) (level tag : ℕ) (w : IntegerWidth) (i : Item) (le : l
 
   -- an integer
   small_again : (content : List ℕ) → is_big rules tag ≡ true → content_of (reduced_item rules i) ≡ Some content
-      → ltb (big_endian 0 content) (2 ^ 64) ≡ true → Again rules level (tagged tag w i) (big_bytes rules tag w content)
+      → ltb (big_endian 0 content) (2 ^ 64) ≡ true → Written rules level (tagged tag w i) (big_bytes rules tag w content)
   small_again content on e small =
       let n = big_endian 0 content in
       let u = eqb tag 3 in
@@ -280,17 +218,16 @@ module _ (rules : Rules) (level tag : ℕ) (w : IntegerWidth) (i : Item) (le : l
         item = atom (cond u (negative n (shortest n)) (integer n (shortest n)));
         spells = subst (λ (x : List ℕ). Spells strict level x
             (atom (cond u (negative n (shortest n)) (integer n (shortest n))))) short (small_spells u level n le lt);
-        keeps = small_keeps rules u level n;
         same = subst (λ (x : Item). IsSame rules.shortest_floats x
             (reduced_item rules (atom (cond u (negative n (shortest n)) (integer n (shortest n))))))
             (number ∙ sym (number_is content on e)) (small_same rules rules.shortest_floats u n);
       }
 
   -- a big number without zero bytes in front
-  big_again : (content : List ℕ) → level + 1 ≤ deepest → length content < 2 ^ 64 → IsBytes content
-      → is_big rules tag ≡ true → content_of (reduced_item rules i) ≡ Some content
-      → ltb (big_endian 0 content) (2 ^ 64) ≡ false → Again rules level (tagged tag w i) (big_bytes rules tag w content)
-  big_again content deep short bytes on e big =
+  big_again : (content : List ℕ) → level + 1 ≤ deepest → length content < 2 ^ 64 → is_big rules tag ≡ true
+      → content_of (reduced_item rules i) ≡ Some content → ltb (big_endian 0 content) (2 ^ 64) ≡ false
+      → Written rules level (tagged tag w i) (big_bytes rules tag w content)
+  big_again content deep short on e big =
       let z = without_zeros content in
       let n = big_endian 0 content in
       let c = chosen_width rules tag w in
@@ -299,14 +236,7 @@ module _ (rules : Rules) (level tag : ℕ) (w : IntegerWidth) (i : Item) (le : l
       let inner = shortest_fits (length z) few in
       let k : Chunk = record { bytes = z; width = shortest (length z) } in
       let y = string_bytes z in
-      let le64 : 2 ^ 64 ≤ n = ltb-false n (2 ^ 64) big in
       let same_number = zeros_out content in
-      let many : 8 < length z = long z (zeros_bytes content bytes) (omega (arith, same_number, le64)) in
-      let first : get_or z 0 0 ≢ 0 =
-      elim (no_zero content) [
-        | inl none ↦ absurd (omega (arith, ap length none, many))
-        | inr other ↦ other
-      ] in
       let is : encoded_head 6 tag c ++ y ≡ big_bytes rules tag w content =
       ap (λ (t : Bool). cond t (encoded_head (cond (eqb tag 3) 1 0) n (shortest n)) (encoded_head 6 tag c ++ y))
       (sym big) in
@@ -331,20 +261,18 @@ module _ (rules : Rules) (level tag : ℕ) (w : IntegerWidth) (i : Item) (le : l
             (deep, content_written Bytes z (shortest (length z)) inner tt),
           ),
         );
-        keeps = (tags, chosen_keeps rules tag w, λ asked is_one. (many, first), ((λ asked. refl), tt));
         same = subst (λ (x : Item). IsSame rules.shortest_floats x
             (reduced_item rules (tagged tag c (atom (string Bytes k))))) (sym given)
             (subst (λ (x : Item). IsSame rules.shortest_floats form x) (sym written)
             (same_item rules.shortest_floats form));
       }
 
-  pub tag_again : (y : List ℕ) (j : Item) → IsBytes y → Spells strict (level + 1) y j
-      → Keeps (without_memory rules) (level + 1) j → IsSameNumbered rules i j
-      → Again rules level (tagged tag w i) (tagged_bytes rules tag w y)
-  tag_again y j bytes spells keeps same = by (big_content rules tag y) refl
+  pub tag_again : (y : List ℕ) (j : Item) → Spells strict (level + 1) y j → IsSameNumbered rules i j
+      → Written rules level (tagged tag w i) (tagged_bytes rules tag w y)
+  tag_again y j spells same = by (big_content rules tag y) refl
     where
       of_content : (content : List ℕ) (t : Bool) → ltb (big_endian 0 content) (2 ^ 64) ≡ t
-          → big_content rules tag y ≡ Some content → Again rules level (tagged tag w i) (big_bytes rules tag w content)
+          → big_content rules tag y ≡ Some content → Written rules level (tagged tag w i) (big_bytes rules tag w content)
       of_content content t size e =
           let c = content_is rules tag (level + 1) y content j spells e in
           let s = subst (λ (k : Item). Spells strict (level + 1) y k) c.is spells in
@@ -354,27 +282,19 @@ module _ (rules : Rules) (level tag : ℕ) (w : IntegerWidth) (i : Item) (le : l
           let sized : FitsStated c.chunk.width (length c.chunk.bytes) = s.1.1.0 in
           let short : length content < 2 ^ 64 =
           omega (arith, fits_number c.chunk.width (length c.chunk.bytes) sized, ap length c.bytes) in
-          let behind : y ≡ head 2 (length c.chunk.bytes) c.chunk.width ++ s.1.1.1 = s.1.1.2 in
-          let tail = s.1.1.3 in
-          let held : IsBytes s.1.1.1 =
-          subst IsBytes (drop-append_seam (head 2 (length c.chunk.bytes) c.chunk.width) s.1.1.1)
-          (IsBytes-drop (length (head 2 (length c.chunk.bytes) c.chunk.width))
-          (head 2 (length c.chunk.bytes) c.chunk.width ++ s.1.1.1) (subst IsBytes behind bytes)) in
-          let whole_content : s.1.1.1 ≡ content =
-          tail.1 ∙ ap (λ (x : List ℕ). c.chunk.bytes ++ x) tail.2 ∙ append-nil c.chunk.bytes ∙ c.bytes in
-          of_size content t size c.big given s.0 short (subst IsBytes whole_content held)
+          of_size content t size c.big given s.0 short
         where
           of_size : (content : List ℕ) (t : Bool) → ltb (big_endian 0 content) (2 ^ 64) ≡ t → is_big rules tag ≡ true
               → content_of (reduced_item rules i) ≡ Some content → level + 1 ≤ deepest → length content < 2 ^ 64
-              → IsBytes content → Again rules level (tagged tag w i) (big_bytes rules tag w content)
-          of_size content true size on given deep short held = small_again content on given size
-          of_size content false size on given deep short held = big_again content deep short held on given size
+              → Written rules level (tagged tag w i) (big_bytes rules tag w content)
+          of_size content true size on given deep short = small_again content on given size
+          of_size content false size on given deep short = big_again content deep short on given size
 
       by : (o : Option (List ℕ)) → big_content rules tag y ≡ o
-          → Again rules level (tagged tag w i) (tag_bytes rules tag w y (big_content rules tag y))
+          → Written rules level (tagged tag w i) (tag_bytes rules tag w y (big_content rules tag y))
       by None e =
-          subst (λ (o : Option (List ℕ)). Again rules level (tagged tag w i) (tag_bytes rules tag w y o)) (sym e)
-          (plain_again y j spells keeps same e)
+          subst (λ (o : Option (List ℕ)). Written rules level (tagged tag w i) (tag_bytes rules tag w y o)) (sym e)
+          (plain_again y j spells same)
       by (Some content) e =
-          subst (λ (o : Option (List ℕ)). Again rules level (tagged tag w i) (tag_bytes rules tag w y o)) (sym e)
+          subst (λ (o : Option (List ℕ)). Written rules level (tagged tag w i) (tag_bytes rules tag w y o)) (sym e)
           (of_content content (ltb (big_endian 0 content) (2 ^ 64)) refl e)

@@ -4,7 +4,7 @@ use Rattle.cbor_rules.specs.declared.rules.Rules.{Rules}
 use Rattle.cbor_rules.specs.declared.kind.Breach.{Breach}
 use Rattle.cbor_rules.specs.Keeps.{KeepsRules}
 use Rattle.cbor_reencode.specs.OneKey.{KeepsWithKeys}
-use Rattle.cbor_reencode.specs.Reencoded.{AreOneKey, KeysOnce}
+use Rattle.cbor_reencode.specs.Reencoded.{KeysOnce}
 
 pub broken : (rules : Rules) (b : List ℕ) (breach : Breach) (found : Option Breach) → found ≡ Some breach
     → ((found ≡ None) ↔ KeepsRules rules b) → ((Some breach ≡ None) ↔ KeepsWithKeys rules b)
@@ -14,13 +14,8 @@ pub any_keys : (rules : Rules) (b : List ℕ) (found : Option Breach) → found 
     → ((found ≡ None) ↔ KeepsRules rules b) → ((◌≡◌ {A = Option Breach} None None) ↔ KeepsWithKeys rules b)
 any_keys rules b found is unasked kept = (λ none. (kept.0 is, λ on. absurd cc), λ keeps. refl)
 
-pub keys_once : (rules : Rules) (b : List ℕ) (found : Option Breach) → found ≡ None → KeysOnce b
-    → ((found ≡ None) ↔ KeepsRules rules b) → ((◌≡◌ {A = Option Breach} None None) ↔ KeepsWithKeys rules b)
-keys_once rules b found is once kept = (λ none. (kept.0 is, λ on. once), λ keeps. refl)
+pub key_again : (rules : Rules) (b : List ℕ) (breach : Breach) → rules.distinct_keys ≡ true → ¬ (KeysOnce b)
+    → ((Some breach ≡ None) ↔ KeepsWithKeys rules b)
+key_again rules b breach on twice = (λ none. absurd cc, λ keeps. absurd (twice (keeps.1 on)))
 
-pub key_again : (rules : Rules) (b : List ℕ) (breach : Breach) (first second : ℕ) → rules.distinct_keys ≡ true
-    → AreOneKey b first second → ((Some breach ≡ None) ↔ KeepsWithKeys rules b)
-key_again rules b breach first second on twice =
-    (λ none. absurd cc, λ keeps. absurd (keeps.1 on first second twice))
-
-pub ruleset broken_laws = (broken, any_keys, keys_once, key_again)
+pub ruleset broken_laws = (broken, any_keys, key_again)

@@ -1,10 +1,9 @@
--- What is written for an item at its level keeps the rules, and is the same item.
+-- What is written for an item at its level is the same item.
 use Rattle.std.proofs.Common.{◌≡◌, ℕ, zero, suc, ◌+◌, ◌-◌, ◌^◌, ◌<◌, ◌≤◌, Bool, true, false, List, [], ◌∷◌, ◌++◌}
 use Rattle.std.proofs.Common.{length, cond, Option, Some, None, refl, sym, ap, subst, ◌∙◌, append_assoc, arith}
 use Rattle.std.proofs.Common.{add-zero, zero-add}
 use Rattle.std.proofs.lemmas.List.{append-nil, length-append}
 use Rattle.std.proofs.lemmas.List.Sorted.{length_permutation}
-use Rattle.std.specs.List.{AllAdjacentBelow}
 use Rattle.std.specs.List.Sorted.{IsPermutation}
 use Rattle.cbor_grammar.specs.declared.width.IntegerWidth.{IntegerWidth}
 use Rattle.cbor_grammar.specs.declared.argument.Argument.{Argument}
@@ -15,25 +14,20 @@ use Rattle.cbor_grammar.specs.Item.{no_pairs, pair, item_count, pair_count}
 use Rattle.cbor_grammar.specs.Head.{opening, break_byte, head, HeadThen, FitsStated, shortest}
 use Rattle.cbor_grammar.specs.WellFormed.{deepest}
 use Rattle.cbor_grammar.specs.Bytes.{strict, MembersThen, Spells, SpellsItems, SpellsPairs}
-use Rattle.cbor_grammar.specs.Written.{encoded, encoded_open, encoded_close}
+use Rattle.cbor_grammar.specs.Written.{encoded_open, encoded_close}
 use Rattle.cbor_grammar.specs.Reading.{after_members, count_width}
 use Rattle.cbor_grammar.specs.mirror.Lengths.{left_of}
-use Rattle.cbor_grammar.proofs.bytes.Heads.{ArgumentThen, IsBytes}
+use Rattle.cbor_grammar.proofs.bytes.Heads.{ArgumentThen}
 use Rattle.cbor_grammar.proofs.bytes.Found.{after_break_is}
-use Rattle.cbor_grammar.proofs.bytes.Strict.{strict_only}
 use Rattle.cbor_rules.specs.declared.rules.Rules.{Rules}
-use Rattle.cbor_rules.specs.FirstBreach.{place_of}
-use Rattle.cbor_rules.specs.Keeps.{KeepsCount, without_memory}
 use Rattle.cbor_reencode.specs.declared.pairs.Pair.{Pair}
 use Rattle.cbor_reencode.specs.mirror.Chosen.{chosen_count, FitsHeld}
-use Rattle.cbor_reencode.specs.Reencoded.{Again}
-use Rattle.cbor_reencode.specs.mirror.Rewritten.{Rewritten, RewrittenAtom, CountIs, close, PairsAre}
-use Rattle.cbor_reencode.specs.mirror.Rewritten.{PlacesAre}
+use Rattle.cbor_reencode.specs.mirror.Rewritten.{Written, Rewritten, RewrittenAtom, CountIs, close, PairsAre}
 use Rattle.cbor_reencode.specs.mirror.Rewritten.{RewrittenItems}
-use Rattle.cbor_reencode.specs.mirror.Rewritten.{RewrittenPairs, pair_bytes, Rises, Sequence}
+use Rattle.cbor_reencode.specs.mirror.Rewritten.{RewrittenPairs, pair_bytes, Sequence}
 use Rattle.cbor_reencode.specs.mirror.Numbers.{tagged_bytes}
 use Rattle.cbor_reencode.proofs.BigNumbers.{tag_again}
-use Rattle.cbor_reencode.proofs.Choices.{shortest_fits, chosen_fits, stated_head, count_keeps}
+use Rattle.cbor_reencode.proofs.Choices.{shortest_fits, chosen_fits, stated_head}
 use Rattle.cbor_reencode.proofs.Sorted.{ordered}
 
 pub atom_done : (rules : Rules) (level : ℕ) (b rest old new : List ℕ) → level ≤ deepest
@@ -45,7 +39,7 @@ atom_done rules level b rest old new le a = record {
   spells = (le, a.spells);
   bytes = a.bytes;
   added = a.added;
-  again = record { item = atom a.written; spells = (le, a.written_spells); keeps = a.keeps; same = a.same };
+  again = record { item = atom a.written; spells = (le, a.written_spells); same = a.same };
 }
 
 -- ---- how many are still to come
@@ -104,7 +98,6 @@ items_end rules level a b after old e =
       written = no_items;
       written_number = refl;
       written_spells = λ end. refl;
-      keeps = tt;
       same = tt;
     }
 
@@ -132,7 +125,6 @@ items_more rules level a held b r after old mid new n none one m = record {
   written_number = ap suc m.written_number;
   written_spells = λ end.
       (one.bytes, m.bytes ++ end, append_assoc one.bytes m.bytes end, one.again.spells, m.written_spells end);
-  keeps = (one.again.keeps, m.keeps);
   same = (one.again.same, m.same);
 }
 
@@ -156,7 +148,6 @@ items_start rules level a b written e = λ after new n m. record {
   written = m.written;
   written_number = m.written_number ∙ sym (zero-add n);
   written_spells = m.written_spells;
-  keeps = m.keeps;
   same = m.same;
 }
 
@@ -177,9 +168,9 @@ items_whole rules level a held b rest after written more e =
 
 -- ---- pairs
 
-pub pairs_end : (rules : Rules) (len level : ℕ) (a : Argument) (b after : List ℕ) (old : List Pair)
-    → after_members a b ≡ Some after → RewrittenPairs rules len level a b after old old
-pairs_end rules len level a b after old e =
+pub pairs_end : (rules : Rules) (level : ℕ) (a : Argument) (b after : List ℕ) (old : List Pair)
+    → after_members a b ≡ Some after → RewrittenPairs rules level a b after old old
+pairs_end rules level a b after old e =
     let s = ended a b after e in
     record {
       pairs = no_pairs;
@@ -190,21 +181,14 @@ pairs_end rules len level a b after old e =
       kept = [];
       added = sym (append-nil old);
       are = tt;
-      places = tt;
     }
 
--- where the bytes after an item are
-pub passed : (len level : ℕ) (b front rest : List ℕ) (i : Item) → length b ≤ len → b ≡ front ++ rest
-    → Spells strict level front i → place_of len rest ≡ place_of len b + length (encoded i)
-passed len level b front rest i le parts spells =
-    omega (arith, ap length parts, length-append front rest, ap length (strict_only level front i spells), le)
-
-pub pairs_more : (rules : Rules) (len level : ℕ) (a : Argument) (held : ℕ) (b r s after : List ℕ) (p : Pair)
-    (old mid new : List Pair) → length b ≤ len → p.place ≡ place_of len b → after_members (left_of a held) b ≡ None
+pub pairs_more : (rules : Rules) (level : ℕ) (a : Argument) (held : ℕ) (b r s after : List ℕ) (p : Pair)
+    (old mid new : List Pair) → after_members (left_of a held) b ≡ None
     → Rewritten rules level b r [] p.key.items → Rewritten rules level r s [] p.value.items → mid ≡ old ++ (p ∷ [])
-    → RewrittenPairs rules len level (left_of a (held + 1)) s after mid new
-    → RewrittenPairs rules len level (left_of a held) b after old new
-pairs_more rules len level a held b r s after p old mid new le at none key value e m = record {
+    → RewrittenPairs rules level (left_of a (held + 1)) s after mid new
+    → RewrittenPairs rules level (left_of a held) b after old new
+pairs_more rules level a held b r s after p old mid new none key value e m = record {
   pairs = pair key.item value.item m.pairs;
   front = key.front ++ (value.front ++ m.front);
   parts = key.parts ∙ ap (λ (x : List ℕ). key.front ++ x) (value.parts ∙ ap (λ (x : List ℕ). value.front ++ x) m.parts
@@ -224,28 +208,21 @@ pairs_more rules len level a held b r s after p old mid new le at none key value
   added = m.added ∙ ap (λ (x : List Pair). x ++ m.kept) e ∙ append_assoc old (p ∷ []) m.kept;
   are = (
     record {
-      key = subst (λ (x : List ℕ). Again rules level key.item x) (sym key.added) key.again;
-      value = subst (λ (x : List ℕ). Again rules level value.item x) (sym value.added) value.again;
+      key = subst (λ (x : List ℕ). Written rules level key.item x) (sym key.added) key.again;
+      value = subst (λ (x : List ℕ). Written rules level value.item x) (sym value.added) value.again;
     },
     m.are,
   );
-  places =
-      let here = passed len level b key.front r key.item le key.parts key.spells in
-      let shorter : length r ≤ len = omega (arith, ap length key.parts, length-append key.front r, le) in
-      let next = passed len level r value.front s value.item shorter value.parts value.spells in (
-        at,
-        subst (λ n. PlacesAre n m.pairs m.kept) (next ∙ ap (λ n. n + length (encoded value.item)) here) m.places,
-      );
 }
 
-abbrev pub PairsMore : Rules → ℕ → ℕ → Argument → List ℕ → List ℕ → List Pair → Type 0
-PairsMore rules len level a b rest kept = (after : List ℕ) (new : List Pair)
-    → RewrittenPairs rules len level (left_of a (length kept)) rest after kept new
-    → RewrittenPairs rules len level a b after [] new
+abbrev pub PairsMore : Rules → ℕ → Argument → List ℕ → List ℕ → List Pair → Type 0
+PairsMore rules level a b rest kept = (after : List ℕ) (new : List Pair)
+    → RewrittenPairs rules level (left_of a (length kept)) rest after kept new
+    → RewrittenPairs rules level a b after [] new
 
-pub pairs_start : (rules : Rules) (len level : ℕ) (a : Argument) (b : List ℕ) (kept : List Pair) → kept ≡ []
-    → PairsMore rules len level a b b kept
-pairs_start rules len level a b kept e = subst (λ (x : List Pair). PairsMore rules len level a b b x) (sym e)
+pub pairs_start : (rules : Rules) (level : ℕ) (a : Argument) (b : List ℕ) (kept : List Pair) → kept ≡ []
+    → PairsMore rules level a b b kept
+pairs_start rules level a b kept e = subst (λ (x : List Pair). PairsMore rules level a b b x) (sym e)
     (λ after new m. record {
       pairs = m.pairs;
       front = m.front;
@@ -255,24 +232,23 @@ pairs_start rules len level a b kept e = subst (λ (x : List Pair). PairsMore ru
       kept = m.kept;
       added = m.added;
       are = m.are;
-      places = m.places;
     })
 
-pub pairs_step : (rules : Rules) (len level : ℕ) (a : Argument) (b rest r s : List ℕ) (p : Pair)
-    (kept mid : List Pair) → length rest ≤ len → p.place ≡ place_of len rest
-    → PairsMore rules len level a b rest kept → after_members (left_of a (length kept)) rest ≡ None
+pub pairs_step : (rules : Rules) (level : ℕ) (a : Argument) (b rest r s : List ℕ) (p : Pair)
+    (kept mid : List Pair)
+    → PairsMore rules level a b rest kept → after_members (left_of a (length kept)) rest ≡ None
     → Rewritten rules level rest r [] p.key.items → Rewritten rules level r s [] p.value.items
-    → mid ≡ kept ++ (p ∷ []) → PairsMore rules len level a b s mid
-pairs_step rules len level a b rest r s p kept mid le at more none key value e = λ after new m.
+    → mid ≡ kept ++ (p ∷ []) → PairsMore rules level a b s mid
+pairs_step rules level a b rest r s p kept mid more none key value e = λ after new m.
     let longer : length mid ≡ length kept + 1 = omega (arith, ap length e, length-append kept (p ∷ [])) in
-    more after new (pairs_more rules len level a (length kept) rest r s after p kept mid new le at none key value e
-    (subst (λ k. RewrittenPairs rules len level (left_of a k) s after mid new) longer m))
+    more after new (pairs_more rules level a (length kept) rest r s after p kept mid new none key value e
+    (subst (λ k. RewrittenPairs rules level (left_of a k) s after mid new) longer m))
 
-pub pairs_whole : (rules : Rules) (len level : ℕ) (a : Argument) (b rest after : List ℕ) (kept : List Pair)
-    → PairsMore rules len level a b rest kept → after_members (left_of a (length kept)) rest ≡ Some after
-    → RewrittenPairs rules len level a b after [] kept
-pairs_whole rules len level a b rest after kept more e =
-    more after kept (pairs_end rules len level (left_of a (length kept)) rest after kept e)
+pub pairs_whole : (rules : Rules) (level : ℕ) (a : Argument) (b rest after : List ℕ) (kept : List Pair)
+    → PairsMore rules level a b rest kept → after_members (left_of a (length kept)) rest ≡ Some after
+    → RewrittenPairs rules level a b after [] kept
+pairs_whole rules level a b rest after kept more e =
+    more after kept (pairs_end rules level (left_of a (length kept)) rest after kept e)
 
 -- ---- a container as a whole
 
@@ -325,11 +301,11 @@ count_fits rules (Number n w) k few fits = chosen_fits rules k w fits
 count_fits rules Indefinite k few fits = shortest_open rules.definite_lengths k few
 
 pub array_done : (rules : Rules) (level : ℕ) (a : Argument) (b r after inner old new : List ℕ) (n : ℕ)
-    → level ≤ deepest → level ≤ rules.deepest → n < 2 ^ 64 → ArgumentThen 4 a b r
+    → level ≤ deepest → n < 2 ^ 64 → ArgumentThen 4 a b r
     → RewrittenItems rules (level + 1) a r after [] inner n
     → new ≡ old ++ (encoded_open 4 n (chosen_count rules a n) ++ (inner ++ encoded_close (chosen_count rules a n)))
     → Rewritten rules level b after old new
-array_done rules level a b r after inner old new n le deep few is m e =
+array_done rules level a b r after inner old new n le few is m e =
     let v : Option IntegerWidth = chosen_count rules a n in
     let count = subst (λ k. CountIs a k) (sym m.number) m.count in
     let w = whole 4 (item_count m.items) a b r m.front after
@@ -352,11 +328,6 @@ array_done rules level a b r after inner old new n le deep few is m e =
           subst (λ k. MembersThen 4 k v bytes (λ x end. SpellsItems strict (level + 1) x m.written end))
               (sym m.written_number) written,
         );
-        keeps = (
-          deep,
-          subst (λ k. KeepsCount (without_memory rules) k v) (sym m.written_number) (count_keeps rules a n),
-          m.keeps,
-        );
         same = m.same;
       };
     }
@@ -369,28 +340,27 @@ pairs_number rules level (pair k v ps) [] h = absurd h
 pairs_number rules level (pair k v ps) (x ∷ xs) h = ap suc (pairs_number rules level ps xs h.1)
 
 -- the pairs of a map are as many as were kept
-pub pairs_count : (rules : Rules) (len level : ℕ) (a : Argument) (r after : List ℕ) (xs : List Pair)
-    → RewrittenPairs rules len level a r after [] xs → CountIs a (length xs)
-pairs_count rules len level a r after xs m =
+pub pairs_count : (rules : Rules) (level : ℕ) (a : Argument) (r after : List ℕ) (xs : List Pair)
+    → RewrittenPairs rules level a r after [] xs → CountIs a (length xs)
+pairs_count rules level a r after xs m =
     subst (λ k. CountIs a k)
     (pairs_number rules level m.pairs m.kept m.are ∙ ap (λ (x : List Pair). length x) (sym m.added)) m.count
 
-pub map_done : (rules : Rules) (len level : ℕ) (a : Argument) (b r after old new : List ℕ) (xs ys : List Pair)
-    → level ≤ deepest → level ≤ rules.deepest → length ys < 2 ^ 64 → ArgumentThen 5 a b r
-    → RewrittenPairs rules len (level + 1) a r after [] xs → IsPermutation xs ys
-    → AllAdjacentBelow (Rises rules.key_order) ys (length ys)
+pub map_done : (rules : Rules) (level : ℕ) (a : Argument) (b r after old new : List ℕ) (xs ys : List Pair)
+    → level ≤ deepest → length ys < 2 ^ 64 → ArgumentThen 5 a b r
+    → RewrittenPairs rules (level + 1) a r after [] xs → IsPermutation xs ys
     → new ≡ old ++ (encoded_open 5 (length ys) (chosen_count rules a (length ys))
     ++ (pair_bytes ys ++ encoded_close (chosen_count rules a (length ys))))
     → Rewritten rules level b after old new
-map_done rules len level a b r after old new xs ys le deep few is m moves up e =
+map_done rules level a b r after old new xs ys le few is m moves e =
     let n : ℕ = length ys in
     let v : Option IntegerWidth = chosen_count rules a n in
     let o = ordered rules (level + 1) m.pairs xs ys
-    (subst (λ (x : List Pair). PairsAre rules (level + 1) m.pairs x) (sym m.added) m.are) moves up in
+    (subst (λ (x : List Pair). PairsAre rules (level + 1) m.pairs x) (sym m.added) m.are) moves in
     let w = whole 5 (pair_count m.pairs) a b r m.front after
     (λ x end. SpellsPairs strict (level + 1) x m.pairs end) is m.parts m.count m.spells in
     let count : CountIs a n =
-    subst (λ k. CountIs a k) (sym (length_permutation xs ys moves)) (pairs_count rules len (level + 1) a r after xs m)
+    subst (λ k. CountIs a k) (sym (length_permutation xs ys moves)) (pairs_count rules (level + 1) a r after xs m)
     in
     let bytes : List ℕ = encoded_open 5 n v ++ (pair_bytes ys ++ encoded_close v) in
     let fits = count_fits rules a n few (held_fits 5 a n b r is count) in
@@ -410,21 +380,14 @@ map_done rules len level a b r after old new xs ys le deep few is m moves up e =
           subst (λ k. MembersThen 5 k v bytes (λ x end. SpellsPairs strict (level + 1) x o.pairs end)) (sym o.number)
               written,
         );
-        keeps = (
-          deep,
-          subst (λ k. KeepsCount (without_memory rules) k v) (sym o.number) (count_keeps rules a n),
-          o.keeps,
-          o.keys,
-          λ on. absurd cc,
-        );
         same = o.same;
       };
     }
 
 pub tag_done : (rules : Rules) (level t : ℕ) (w : IntegerWidth) (b r rest y old new : List ℕ) → level ≤ deepest
-    → rules.tags ≡ true → HeadThen 6 t w b (λ x. x ≡ r) → Rewritten rules (level + 1) r rest [] y → IsBytes y
+    → HeadThen 6 t w b (λ x. x ≡ r) → Rewritten rules (level + 1) r rest [] y
     → new ≡ old ++ tagged_bytes rules t w y → Rewritten rules level b rest old new
-tag_done rules level t w b r rest y old new le on h inner bytes e =
+tag_done rules level t w b r rest y old new le h inner e =
     let h_bytes = head 6 t w in
     let i = inner.again in
     let is = sym inner.added in
@@ -436,8 +399,8 @@ tag_done rules level t w b r rest y old new le on h inner bytes e =
       spells = (le, (h.0, inner.front, refl, inner.spells));
       bytes = tagged_bytes rules t w y;
       added = e;
-      again = tag_again rules level t w inner.item le on h.0 y i.item bytes
-          (subst (λ (x : List ℕ). Spells strict (level + 1) x i.item) is i.spells) i.keeps i.same;
+      again = tag_again rules level t w inner.item le h.0 y i.item
+          (subst (λ (x : List ℕ). Spells strict (level + 1) x i.item) is i.spells) i.same;
     }
 
 -- ---- items one after the other
@@ -451,7 +414,6 @@ sequence_end rules [] old e = record {
   added = sym (append-nil old);
   written = no_items;
   written_spells = refl;
-  keeps = tt;
   same = tt;
 }
 
@@ -464,6 +426,5 @@ sequence_more rules b r old mid new one m = record {
   added = m.added ∙ ap (λ (x : List ℕ). x ++ m.bytes) one.added ∙ append_assoc old one.bytes m.bytes;
   written = item one.again.item m.written;
   written_spells = (one.bytes, m.bytes, refl, one.again.spells, m.written_spells);
-  keeps = (one.again.keeps, m.keeps);
   same = (one.again.same, m.same);
 }

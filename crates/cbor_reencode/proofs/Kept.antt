@@ -7,6 +7,7 @@ use Rattle.cbor_grammar.specs.declared.width.IntegerWidth.{IntegerWidth}
 use Rattle.cbor_grammar.specs.Item as spec
 use Rattle.cbor_grammar.specs.Item.{Chunk, Atom, integer, negative, string, chunked_string, float, simple, Item, atom}
 use Rattle.cbor_grammar.specs.Item.{array, tagged, Items, no_items, item, Pairs, no_pairs, pair, item_count, pair_count}
+use Rattle.cbor_grammar.specs.Bytes.{strict, SpellsItems}
 use Rattle.cbor_grammar.specs.Written.{encoded}
 use Rattle.cbor_rules.specs.declared.rules.Rules.{Rules}
 use Rattle.cbor_rules.specs.declared.rules.KeyOrder.{KeyOrder}
@@ -21,8 +22,8 @@ use Rattle.cbor_rules.specs.Keeps.{KeepsPairs, KeepsRules}
 use Rattle.cbor_rules.specs.Same.{IsSame, SameItems, SamePairs, AreKept}
 use Rattle.cbor_reencode.specs.Reduction.{reduced_items}
 use Rattle.cbor_reencode.specs.Reencoded.{IsReencoded, lasting}
-use Rattle.cbor_reencode.specs.mirror.Checked.{checked_rules}
 use Rattle.cbor_reencode.specs.mirror.Rewritten.{Sequence}
+use Rattle.cbor_reencode.proofs.Spelled.{items_once}
 
 -- ---- rules that ask for less
 
@@ -108,7 +109,7 @@ module _ (rules less : Rules) (l : AsksLess rules less) where
       item_kept (level + 1) i h.3,
     )
 
-    items_kept : (level : ℕ) (is : Items) → KeepsItems rules level is → KeepsItems less level is
+    pub items_kept : (level : ℕ) (is : Items) → KeepsItems rules level is → KeepsItems less level is
     items_kept level no_items h = tt
     items_kept level (item i is) h = (item_kept level i h.0, items_kept level is h.1)
 
@@ -154,31 +155,6 @@ free_less rules = record {
   deepest = refl;
 }
 
--- without the rules whose check takes memory, the rules that last are those that the items were checked by
-pub last_free : (rules : Rules) (b : List ℕ) → KeepsRules (lasting rules) b
-    → first_breach (checked_rules rules) b ≡ None
-last_free rules b h =
-    rules_again (checked_rules rules) b
-    (rules_kept (lasting rules) (without_memory (lasting rules)) (free_less (lasting rules)) b h)
-
--- where neither rule is asked for that takes memory
-pub all_free : (rules : Rules) (b : List ℕ) → rules.nfc ≡ false → rules.distinct_keys ≡ false
-    → KeepsRules (without_memory rules) b → KeepsRules rules b
-all_free rules b nfc distinct h =
-    rules_kept (without_memory rules) rules (record {
-      heads = λ on. on;
-      floats = λ on. on;
-      reduced = λ on. on;
-      simple = λ on. on;
-      lengths = λ on. on;
-      big = λ on. on;
-      nfc = λ on. off (sym nfc ∙ on);
-      order = inr refl;
-      distinct = λ on. off (sym distinct ∙ on);
-      tags = λ on. on;
-      deepest = refl;
-    }) b h
-
 -- ---- the same items
 
 mutual
@@ -207,17 +183,21 @@ reencoded_itself rules b h = record {
   same = same_items rules.shortest_floats (reduced_items rules h.0);
 }
 
-pub reencoded_keeps : (rules : Rules) (b again : List ℕ) → IsReencoded rules b again
-    → KeepsRules (without_memory rules) again
-reencoded_keeps rules b again h = (h.written, h.kept.spells, h.kept.keeps)
-
--- items that were written one after the other into no bytes
-pub sequence_reencoded : (rules : Rules) (b new : List ℕ) → Sequence rules b [] new → IsReencoded rules b new
-sequence_reencoded rules b new s = record {
-  items = s.items;
-  spells = s.spells;
-  written = s.written;
-  kept = subst (λ (x : List ℕ). AreKept (without_memory rules) x s.written) (sym s.added)
-      (record { spells = s.written_spells; keeps = s.keeps });
-  same = s.same;
-}
+-- what was written for the items, where it keeps the rules
+pub sequence_reencoded : (rules : Rules) (b new : List ℕ) → Sequence rules b [] new → KeepsRules rules new
+    → IsReencoded rules b new
+sequence_reencoded rules b new s keeps =
+    let spells : SpellsItems strict 1 new s.written [] =
+    subst (λ (x : List ℕ). SpellsItems strict 1 x s.written []) (sym s.added) s.written_spells in
+    let one = items_once keeps.0 s.written new new refl keeps.1 spells in
+    record {
+      items = s.items;
+      spells = s.spells;
+      written = s.written;
+      kept = record {
+        spells = spells;
+        keeps = items_kept rules (without_memory rules) (free_less rules) 1 s.written
+            (subst (λ (is : Items). KeepsItems rules 1 is) one keeps.2);
+      };
+      same = s.same;
+    }

@@ -1,6 +1,5 @@
+pub mod Spelled
 pub mod Removals
-pub mod Checked
-pub mod Orders
 pub mod Choices
 pub mod Chunks
 pub mod Atoms
@@ -9,11 +8,9 @@ pub mod Kept
 pub mod Reductions
 pub mod BigNumbers
 pub mod Containers
-pub mod Twice
-pub mod Inwards
 pub mod Around
-pub mod Formed
 pub mod Unreduced
-pub mod Twins
+pub mod Euclid
 pub mod Once
+pub mod Twice
 pub mod Broken

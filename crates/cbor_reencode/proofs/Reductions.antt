@@ -1,21 +1,20 @@
--- What the rules leave of a float is the same number, and keeps them.
+-- What the rules leave of a float is the same number.
 use Rattle.std.proofs.Common.{◌≡◌, ◌≢◌, ℕ, ◌-◌, Bool, true, false, cond, ltb, not, ◌&&◌, Option, Some, None}
 use Rattle.std.proofs.Common.{refl, sym, ap, subst, ◌∙◌, arith}
 use lib.Ieee.{is_nan, of_bits}
-use Rattle.std.specs.Prelude.{IsTrue, from_bits}
+use Rattle.std.specs.Prelude.{from_bits}
 use Rattle.std.specs.Float.Ieee.{binary64}
 use Rattle.cbor_grammar.specs.declared.width.IntegerWidth.TheVariants as width
 use Rattle.cbor_grammar.specs.declared.width.FloatWidth.TheVariants as float_width
 use Rattle.cbor_grammar.specs.Item.{Atom, integer, negative, float}
 use Rattle.cbor_floats.specs.Value.{half_value}
-use Rattle.cbor_floats.specs.Preferred.{widened, IsPreferred}
+use Rattle.cbor_floats.specs.Preferred.{widened}
 use Rattle.cbor_floats.specs.declared.float.EncodedFloat.{EncodedFloat}
 use Rattle.cbor_floats.specs.declared.float.EncodedFloat.TheVariants.{Half, Single, Double}
 use Rattle.cbor_rules.specs.declared.rules.Rules.{Rules}
 use Rattle.cbor_rules.specs.declared.kind.BreachKind.{BreachKind}
 use Rattle.cbor_rules.specs.declared.kind.BreachKind.TheVariants as kind
 use Rattle.cbor_rules.specs.FirstBreach.{integer_float, nan_breach, reduced_breach, breach_or_else, is_usual_nan}
-use Rattle.cbor_rules.specs.Keeps.{IsReduced, KeepsFloat, without_memory}
 use Rattle.cbor_rules.specs.Reduced.{integer_of, number_of, reduced}
 use Rattle.cbor_rules.specs.Same.{said}
 use Rattle.cbor_reencode.specs.declared.numbers.Reduced.{Reduced}
@@ -23,7 +22,7 @@ use Rattle.cbor_reencode.specs.declared.numbers.Reduced.TheVariants as code
 use Rattle.cbor_reencode.specs.Reduction.{sized, sized_or, reduced_float, reduced_atom}
 use Rattle.cbor_reencode.specs.mirror.Chosen.{IsChosen}
 use Rattle.cbor_reencode.specs.mirror.Numbers.{float_atom, plain, FitsNumber, IsNumber}
-use Rattle.cbor_reencode.proofs.Atoms.{float_is, said_again, reduced_again}
+use Rattle.cbor_reencode.proofs.Atoms.{said_again}
 
 -- ---- the same number
 
@@ -63,13 +62,11 @@ by_flag t true f g same e = same_form t f g (float_atom f) (float_atom g) same e
 by_flag t false f g same e = e
 
 pub chosen_number : (rules : Rules) (f g : EncodedFloat) → IsChosen rules f g
-    → (IsTrue rules.reduced_floats → IsReduced f) → IsNumber rules f (code.Float g)
-chosen_number rules f g is red =
+    → IsNumber rules f (code.Float g)
+chosen_number rules f g is =
     let t = rules.shortest_floats in
     record {
       fits = is.fits;
-      keeps = subst (λ (h : EncodedFloat). KeepsFloat (without_memory rules) h) (sym (float_is g))
-          (λ on. reduced_again rules f g is (red on), is.preferred);
       same = ap (λ (a : Atom). said t a) (atom_reduced rules f)
           ∙ by_flag t rules.reduced_floats f g is.same (chosen_said rules f g is)
           ∙ sym (ap (λ (a : Atom). said t a) (atom_reduced rules g));
@@ -90,7 +87,6 @@ pub integer_number : (rules : Rules) (f : EncodedFloat) (n : Reduced) (o : Bool 
     → reduced f ≡ Some o → plain n ≡ sized o.0 o.1 → FitsNumber n → IsNumber rules f n
 integer_number rules f (code.Unsigned m) o on is e fits = record {
   fits = fits;
-  keeps = λ shortest. refl;
   same = ap (λ (a : Atom). said rules.shortest_floats a) (atom_reduced rules f
       ∙ on_flag rules.reduced_floats (reduced_float f (float_atom f)) (float_atom f) on
       ∙ ap (λ (k : Option (Bool × ℕ)). sized_or k (cond (is_nan (number_of f)) (float 0x7e00 float_width.Sixteen)
@@ -98,7 +94,6 @@ integer_number rules f (code.Unsigned m) o on is e fits = record {
 }
 integer_number rules f (code.Negative m) o on is e fits = record {
   fits = fits;
-  keeps = λ shortest. refl;
   same = ap (λ (a : Atom). said rules.shortest_floats a) (atom_reduced rules f
       ∙ on_flag rules.reduced_floats (reduced_float f (float_atom f)) (float_atom f) on
       ∙ ap (λ (k : Option (Bool × ℕ)). sized_or k (cond (is_nan (number_of f)) (float 0x7e00 float_width.Sixteen)
@@ -108,11 +103,6 @@ integer_number rules f (code.Float g) o on is e fits =
     absurd (no_float (o.0 && ltb 0 o.1) g (o.1 - 1) o.1 e)
 
 -- ---- the one NaN
-
-half_preferred : (n : ℕ) → IsPreferred (Half n)
-half_preferred n (Half m) fits short = absurd (omega (arith, short))
-half_preferred n (Single m) fits short = absurd (omega (arith, short))
-half_preferred n (Double m) fits short = absurd (omega (arith, short))
 
 usual_widened : widened (Half 0x7e00) ≡ 0x7ff8000000000000
 unfolding widened half_value is_nan
@@ -140,7 +130,6 @@ nan_number rules f on none nan =
     ∙ same_ways (is_nan (number_of (Half 0x7e00))) u in
     record {
       fits = omega arith;
-      keeps = (λ asked. (usual_reduced, λ is. refl), λ asked. half_preferred 0x7e00);
       same = ap (λ (a : Atom). said rules.shortest_floats a) (of_f ∙ sym of_usual);
     }
 

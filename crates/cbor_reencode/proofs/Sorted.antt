@@ -1,35 +1,25 @@
--- The pairs of a map in another order: they are the same pairs, and keep the rules if their keys rise.
-use Rattle.std.proofs.Common.{◌≡◌, ℕ, suc, ◌+◌, List, [], ◌∷◌, ◌++◌, length, get_or, refl, sym, ap, subst}
-use Rattle.std.proofs.Common.{◌∙◌, append_assoc, arith}
-use Rattle.std.specs.List.{AllAdjacentBelow}
+-- The pairs of a map in another order are the same pairs.
+use Rattle.std.proofs.Common.{◌≡◌, ℕ, suc, List, [], ◌∷◌, ◌++◌, length, refl, sym, ap, subst, ◌∙◌, append_assoc}
 use Rattle.std.specs.List.Sorted.{IsPermutation}
-use Rattle.std.specs.declared.cmp.Ordering.TheVariants.{Less}
 use Rattle.cbor_grammar.specs.Item.{Item, Pairs, no_pairs, pair, pair_count}
 use Rattle.cbor_grammar.specs.Bytes.{strict, Spells, SpellsPairs}
-use Rattle.cbor_grammar.specs.Written.{encoded}
 use Rattle.cbor_grammar.specs.Reading.{joined_pairs}
-use Rattle.cbor_grammar.proofs.bytes.Strict.{strict_only}
 use Rattle.cbor_rules.specs.declared.rules.Rules.{Rules}
-use Rattle.cbor_rules.specs.declared.rules.KeyOrder.{KeyOrder}
-use Rattle.cbor_rules.specs.KeyOrder.{key_cmp}
-use Rattle.cbor_rules.specs.Keeps.{Keeps, KeepsPairs, KeysAfter, KeysInOrder, without_memory}
 use Rattle.cbor_rules.specs.Same.{SamePairs}
 use Rattle.cbor_reencode.specs.declared.pairs.Pair.{Pair}
 use Rattle.cbor_reencode.specs.Reduction.{reduced_item, reduced_pairs}
-use Rattle.cbor_reencode.specs.mirror.Rewritten.{PairsAre, pair_bytes, Rises}
+use Rattle.cbor_reencode.specs.mirror.Rewritten.{PairsAre, pair_bytes}
 use Rattle.cbor_reencode.proofs.Removals.{Removes, removes}
 
--- a pair that is this key and this value, and keeps the rules
-record Writes (rules : Rules) (level : ℕ) (k v : Item) (p : Pair) : Type 0 where
+-- a pair that is this key and this value
+record Writes (level : ℕ) (k v : Item) (p : Pair) : Type 0 where
   pub key : Spells strict level p.key.items k
   pub value : Spells strict level p.value.items v
-  pub key_keeps : Keeps (without_memory rules) level k
-  pub value_keeps : Keeps (without_memory rules) level v
 
 module _ (rules : Rules) (level : ℕ) where
   abbrev WritesAre : Pairs → List Pair → Type 0
   WritesAre no_pairs [] = Unit {0}
-  WritesAre (pair k v ps) (x ∷ xs) = Writes rules level k v x × WritesAre ps xs
+  WritesAre (pair k v ps) (x ∷ xs) = Writes level k v x × WritesAre ps xs
   WritesAre ps xs = ⊥
 
   -- ---- two lists of pairs
@@ -87,11 +77,9 @@ module _ (rules : Rules) (level : ℕ) where
       let s = split h.0 h.1 m.pairs m.are in
       let key = are.0.key in
       let value = are.0.value in
-      let one : Writes rules level key.item value.item x = record {
+      let one : Writes level key.item value.item x = record {
         key = key.spells;
         value = value.spells;
-        key_keeps = key.keeps;
-        value_keeps = value.keeps;
       } in
       record {
         pairs = joined_pairs s.before (pair key.item value.item s.after);
@@ -128,42 +116,11 @@ module _ (rules : Rules) (level : ℕ) where
     spelled qs ys end h.1,
   )
 
-  keep : (qs : Pairs) (ys : List Pair) → WritesAre qs ys → KeepsPairs (without_memory rules) level qs
-  keep no_pairs ys h = tt
-  keep (pair k v qs) [] h = absurd h
-  keep (pair k v qs) (y ∷ ys) h = (h.0.key_keeps, h.0.value_keeps, keep qs ys h.1)
-
   number : (qs : Pairs) (ys : List Pair) → WritesAre qs ys → pair_count qs ≡ length ys
   number no_pairs [] h = refl
   number no_pairs (y ∷ ys) h = absurd h
   number (pair k v qs) [] h = absurd h
   number (pair k v qs) (y ∷ ys) h = ap suc (number qs ys h.1)
-
-  -- ---- their order
-
-  later : (order : KeyOrder) (y : Pair) (zs : List Pair) → AllAdjacentBelow (Rises order) (y ∷ zs) (length (y ∷ zs))
-      → AllAdjacentBelow (Rises order) zs (length zs)
-  later order y zs h = λ k d lt.
-      let e : suc k + 1 ≡ suc (k + 1) = omega arith in
-      subst (λ j. Rises order (get_or zs k d) (get_or (y ∷ zs) j d)) e (h (suc k) d (omega arith))
-
-  keys_after : (order : KeyOrder) (y : Pair) (qs : Pairs) (ys : List Pair) → WritesAre qs ys
-      → AllAdjacentBelow (Rises order) (y ∷ ys) (length (y ∷ ys)) → KeysAfter order y.key.items qs
-  keys_after order y no_pairs ys h up = tt
-  keys_after order y (pair k v qs) [] h up = absurd h
-  keys_after order y (pair k v qs) (z ∷ ys) h up =
-      let is : z.key.items ≡ encoded k = strict_only level z.key.items k h.0.key in (
-        subst (λ (b : List ℕ). key_cmp order y.key.items b ≡ Less) is (up 0 y (omega arith)),
-        subst (λ (b : List ℕ). KeysAfter order b qs) is (keys_after order z qs ys h.1 (later order y (z ∷ ys) up)),
-      )
-
-  keys_rise : (order : KeyOrder) (qs : Pairs) (ys : List Pair) → WritesAre qs ys
-      → AllAdjacentBelow (Rises order) ys (length ys) → KeysInOrder order qs
-  keys_rise order no_pairs ys h up = tt
-  keys_rise order (pair k v qs) [] h up = absurd h
-  keys_rise order (pair k v qs) (y ∷ ys) h up =
-      subst (λ (b : List ℕ). KeysAfter order b qs) (strict_only level y.key.items k h.0.key)
-      (keys_after order y qs ys h.1 up)
 
   -- ---- all of it
 
@@ -171,19 +128,15 @@ module _ (rules : Rules) (level : ℕ) where
     pub pairs : Pairs
     pub spells : (end : List ℕ) → SpellsPairs strict level (pair_bytes ys ++ end) pairs end
     pub number : pair_count pairs ≡ length ys
-    pub keeps : KeepsPairs (without_memory rules) level pairs
-    pub keys : KeysInOrder rules.key_order pairs
     pub same : SamePairs rules.shortest_floats (reduced_pairs rules ps) (reduced_pairs rules pairs)
 
   pub ordered : (ps : Pairs) (xs ys : List Pair) → PairsAre rules level ps xs → IsPermutation xs ys
-      → AllAdjacentBelow (Rises rules.key_order) ys (length ys) → Ordered ps ys
-  ordered ps xs ys are moves up =
+      → Ordered ps ys
+  ordered ps xs ys are moves =
       let m = moved ps xs ys are (removes xs ys moves) in
       record {
         pairs = m.pairs;
         spells = λ end. spelled m.pairs ys end m.are;
         number = number m.pairs ys m.are;
-        keeps = keep m.pairs ys m.are;
-        keys = keys_rise rules.key_order m.pairs ys m.are up;
         same = m.same;
       }

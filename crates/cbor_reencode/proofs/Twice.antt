@@ -1,149 +1,229 @@
--- Sorting the keys of maps: two neighbours among sorted pairs whose keys are the same bytes are two keys of the map
--- that become one.
-use Rattle.std.proofs.Common.{◌≡◌, ◌≢◌, ℕ, ◌+◌, ◌≤◌, ◌<◌, false, List, [], ◌∷◌, length, get_or, map}
-use Rattle.std.proofs.Common.{inl, inr, refl, sym, ap, subst, ◌∙◌, arith}
-use Rattle.std.proofs.lemmas.Bool.{cases_eq, eqb-false, ne_eqb}
-use Rattle.std.proofs.lemmas.List.{get_or-map, length-map}
-use Rattle.std.proofs.lemmas.List.Elements.{All-nil, All-cons, All-weaker}
-use Rattle.std.proofs.lemmas.List.Sorted.{All-permutation, IsPermutation-map}
-use Rattle.std.proofs.lemmas.Map.Keys.{IsDistinct-cons, IsDistinct-IsPermutation, apart_from_distinct}
-use Rattle.std.proofs.lemmas.Map.Text.{is_eq-slice_cmp}
-use Rattle.std.specs.Cmp.Lexicographic.{bytes_decides}
-use Rattle.std.proofs.Math.Dec.{eqb}
-use Rattle.std.specs.List.{All, AllByRecursion, IsDistinct}
-use Rattle.std.specs.List.Sorted.{IsPermutation}
-use Rattle.std.specs.Ordering.{is_eq, nat_cmp, ordering_then}
-use Rattle.std.specs.Cmp.Lexicographic.{slice_cmp}
-use Rattle.std.specs.declared.cmp.Ordering.{Ordering}
-use Rattle.std.specs.declared.cmp.Ordering.TheVariants.{Less, Equal, Greater}
-use Rattle.cbor_grammar.specs.Item.{Item, Pairs, no_pairs, pair}
-use Rattle.cbor_grammar.specs.Bytes.{strict, Spells, SpellsPairs}
+-- Where no two keys of a map are one, none become the same bytes by core deterministic encoding.
+use Rattle.std.proofs.Common.{◌≡◌, ◌≢◌, ℕ, ◌+◌, ◌-◌, ◌^◌, ◌⊎◌, Bool, true, false, cond, ltb, eqb, List, [], ◌++◌, Option}
+use Rattle.std.proofs.Common.{Some, None, inl, inr, refl, sym, ap, subst, ◌∙◌, arith}
+use Rattle.cbor_grammar.specs.declared.width.IntegerWidth.{IntegerWidth}
+use Rattle.cbor_grammar.specs.declared.width.IntegerWidth.TheVariants as width
+use Rattle.cbor_grammar.specs.declared.strings.StringKind.TheVariants.{Bytes, Text}
+use Rattle.cbor_grammar.specs.Item as spec
+use Rattle.cbor_grammar.specs.Item.{Atom, integer, negative, string, chunked_string, float, simple, Item, atom}
+use Rattle.cbor_grammar.specs.Item.{array, tagged, Items, no_items, item, Pairs, no_pairs, pair, item_count, pair_count}
+use Rattle.cbor_grammar.specs.Bytes.{SpellsItems, strict}
+use Rattle.cbor_grammar.specs.Reading.{joined_pairs, read_item}
 use Rattle.cbor_grammar.specs.Written.{encoded}
-use Rattle.cbor_grammar.proofs.bytes.Sizes.{one_byte}
+use Rattle.cbor_grammar.proofs.bytes.FoundAgain.{item_again, spelled_level}
+use Rattle.cbor_grammar.proofs.bytes.Heads.{ok_is}
 use Rattle.cbor_grammar.proofs.bytes.Strict.{strict_any, strict_only}
 use Rattle.cbor_rules.specs.declared.rules.Rules.{Rules}
-use Rattle.cbor_rules.specs.declared.rules.KeyOrder.{KeyOrder}
-use Rattle.cbor_rules.specs.declared.rules.KeyOrder.TheVariants.{Any, Bytes, Length, MajorType}
-use Rattle.cbor_rules.specs.KeyOrder.{key_cmp, major_type}
-use Rattle.cbor_reencode.specs.declared.pairs.Pair.{Pair}
-use Rattle.cbor_reencode.specs.Reencoded.{Again, IsKeyAt, BecomeOne}
-use Rattle.cbor_reencode.specs.mirror.Rewritten.{PairsAre, PlacesAre, AreTwice}
+use Rattle.cbor_rules.specs.declared.rules.TheConstants.Rules.{CORE}
+use Rattle.cbor_rules.specs.Keeps.{IsNoKey, KeysDiffer, KeepsAtom, KeepsCount, Keeps, KeepsItems, KeepsPairs}
+use Rattle.cbor_rules.specs.Keeps.{KeepsRules}
+use Rattle.cbor_rules.specs.Same.{whole, IsSame, SameItems, SamePairs}
+use Rattle.cbor_rules.proofs.Deterministic.{Good, GoodItems, GoodPairs, good_items, good_pairs, members_of, taken}
+use Rattle.cbor_reencode.specs.Reduction.{big_endian, without_zeros, content_of, small_number, big_or, is_big}
+use Rattle.cbor_reencode.specs.Reduction.{reduced_tag, reduced_item, reduced_items, reduced_pairs}
+use Rattle.cbor_reencode.specs.Reencoded.{IsNoneOf, KeysApart, MapsApart, MapsApartItems, MapsApartPairs, KeysOnce}
+use Rattle.cbor_reencode.specs.mirror.Rewritten.{Sequence}
+use Rattle.cbor_reencode.specs.mirror.Twice.{unordered}
+use Rattle.cbor_reencode.proofs.Euclid.{same_to}
+use Rattle.cbor_reencode.proofs.Spelled.{items_once}
+use Rattle.cbor_reencode.proofs.Unreduced.{loose, unreduced_items}
 
--- ---- keys that compare as equal are the same
+-- the same rules, and keys that differ
+abbrev distinct : Rules
+distinct = unordered true
 
-then_equal : (a b : Ordering) → ordering_then a b ≡ Equal → b ≡ Equal
-then_equal Less b e = absurd cc
-then_equal Equal b e = e
-then_equal Greater b e = absurd cc
+-- ---- keys that differ
 
-same_bytes : (k l : List ℕ) → slice_cmp nat_cmp k l ≡ Equal → k ≡ l
-same_bytes k l e =
-    (bytes_decides k l).0 (sym (is_eq-slice_cmp k l) ∙ ap is_eq e)
+no_key_in : (x : List ℕ) (before after : Pairs) (l w : Item) → x ≢ encoded l → IsNoKey x (joined_pairs before after)
+    → IsNoKey x (joined_pairs before (pair l w after))
+no_key_in x no_pairs after l w other h = (other, h)
+no_key_in x (pair m v before) after l w other h = (h.0, no_key_in x before after l w other h.1)
 
-pub same_key : (order : KeyOrder) (k l : List ℕ) → key_cmp order k l ≡ Equal → k ≡ l
-same_key Any k l e = absurd cc
-same_key Bytes k l e = same_bytes k l e
-same_key Length k l e = same_bytes k l (then_equal (nat_cmp (length k) (length l)) (slice_cmp nat_cmp k l) e)
-same_key MajorType k l e =
-    same_bytes k l (then_equal (nat_cmp (length k) (length l)) (slice_cmp nat_cmp k l)
-    (then_equal (nat_cmp (major_type k) (major_type l))
-    (ordering_then (nat_cmp (length k) (length l)) (slice_cmp nat_cmp k l)) e))
+differ_in : (before after : Pairs) (l w : Item) → IsNoKey (encoded l) (joined_pairs before after)
+    → KeysDiffer (joined_pairs before after) → KeysDiffer (joined_pairs before (pair l w after))
+differ_in no_pairs after l w none differ = (none, differ)
+differ_in (pair m v before) after l w none differ = (
+  no_key_in (encoded m) before after l w (λ same. none.0 (sym same)) differ.0,
+  differ_in before after l w none.1 differ.1,
+)
 
--- ---- where the keys are
+-- bytes are one item
+encoded_once : (level : ℕ) (l m : Item) → Good loose level l → Good loose level m → encoded l ≡ encoded m → l ≡ m
+encoded_once level l m good other e =
+    let x = good.0.0 in
+    let y = other.0.0 in
+    let le = spelled_level level x l (strict_any level x l good.0.1) in
+    let sum : level + (129 - level) ≡ 129 = omega (arith, le) in
+    let same = strict_only level x l good.0.1 ∙ e ∙ sym (strict_only level y m other.0.1) in
+    let both = sym (item_again level (129 - level) x l [] sum (strict_any level x l good.0.1))
+    ∙ ap (λ (b : List ℕ). read_item (129 - level) (b ++ [])) same
+    ∙ item_again level (129 - level) y m [] sum (strict_any level y m other.0.1) in
+    ap (λ (p : Item × List ℕ). p.0) (ok_is (l, []) (m, []) both)
 
-module _ (rules : Rules) (level : ℕ) where
-  -- what was kept for a key of these pairs, which is at its place
-  record Stands (start : ℕ) (ps : Pairs) (x : Pair) : Type 0 where
-    pub key : Item
-    pub key_at : IsKeyAt start ps x.place key
-    pub again : Again rules level key x.key.items
+-- A key that is one with none of others is encoded to none of the keys that they are encoded to.
+no_key : (k l : Item) (ps qs : Pairs) (level : ℕ) → IsSame true (reduced_item CORE k) l → Good loose level l
+    → SamePairs true (reduced_pairs CORE ps) qs → GoodPairs loose level qs → IsNoneOf k ps → IsNoKey (encoded l) qs
+no_key k l no_pairs qs level is it same good none = subst (IsNoKey (encoded l)) (sym same) tt
+no_key k l (pair m w ps) qs level is it same good none =
+    let t = taken loose level same.0 same.1 same.2 same.3 (subst (GoodPairs loose level) same.4 good) in
+    subst (IsNoKey (encoded l)) (sym same.4) (no_key_in (encoded l) same.0 same.1 same.2 same.3
+    (λ e. none.0 (same_to true (reduced_item CORE k) (reduced_item CORE m) l is
+    (subst (λ (i : Item). IsSame true (reduced_item CORE m) i) (sym (encoded_once level l same.2 it t.key e)) same.5)))
+    (no_key k l ps (joined_pairs same.0 same.1) level is it same.7 t.others none.1))
 
-  stand : (start : ℕ) (ps : Pairs) (xs : List Pair) → PairsAre rules level ps xs → PlacesAre start ps xs
-      → All (Stands start ps) xs
-  stand start no_pairs [] are at = All-nil (Stands start no_pairs)
-  stand start no_pairs (x ∷ xs) are at = absurd are
-  stand start (pair k v ps) [] are at = absurd are
-  stand start (pair k v ps) (x ∷ xs) are at =
-      let P = Stands start (pair k v ps) in
-      let next = start + length (encoded k) + length (encoded v) in
-      All-cons P x xs (record { key = k; key_at = inl (at.0, refl); again = are.0.key })
-      (All-weaker (Stands next ps) P
-      (λ y s. record { key = s.key; key_at = inr s.key_at; again = s.again }) xs (stand next ps xs are.1 at.1))
+keys_differ : (ps qs : Pairs) (level : ℕ) → SamePairs true (reduced_pairs CORE ps) qs → GoodPairs loose level qs
+    → KeysApart ps → KeysDiffer qs
+keys_differ no_pairs qs level same good h = subst KeysDiffer (sym same) tt
+keys_differ (pair k v ps) qs level same good h =
+    let t = taken loose level same.0 same.1 same.2 same.3 (subst (GoodPairs loose level) same.4 good) in
+    subst KeysDiffer (sym same.4) (differ_in same.0 same.1 same.2 same.3
+    (no_key k same.2 ps (joined_pairs same.0 same.1) level same.5 t.key same.7 t.others h.0)
+    (keys_differ ps (joined_pairs same.0 same.1) level same.7 t.others h.1))
 
-  -- each is behind this place
-  abbrev From : ℕ → List Pair → Type 0
-  From start xs = AllByRecursion (λ n. start ≤ n) (map (λ (p : Pair). p.place) xs)
+-- ---- what has no keys
 
-  later : (n m : ℕ) (xs : List Pair) → n ≤ m → From m xs → From n xs
-  later n m [] le h = tt
-  later n m (x ∷ xs) le h = (omega (arith, h.0), later n m xs le h.1)
+atom_kept : (a : Atom) → KeepsAtom loose a → KeepsAtom distinct a
+atom_kept (integer n w) h = h
+atom_kept (negative n w) h = h
+atom_kept (string Text c) h = h
+atom_kept (string Bytes c) h = h
+atom_kept (chunked_string Text cs) h = h
+atom_kept (chunked_string Bytes cs) h = h
+atom_kept (float bits w) h = h
+atom_kept (simple n) h = h
 
-  others : (n m : ℕ) (xs : List Pair) → n < m → From m xs
-      → AllByRecursion (λ k. eqb n k ≡ false) (map (λ (p : Pair). p.place) xs)
-  others n m [] lt h = tt
-  others n m (x ∷ xs) lt h =
-      let apart : n ≢ x.place = omega (arith, h.0) in
-      (ne_eqb n x.place apart, others n m xs lt h.1)
+count_kept : (n : ℕ) (w : Option IntegerWidth) → KeepsCount loose n w → KeepsCount distinct n w
+count_kept n (Some w) h = h
+count_kept n None h = h
 
-  size : (x : List ℕ) (i : Item) → Spells strict level x i → 1 ≤ length (encoded i)
-  size x i h = omega (arith, one_byte level x i (strict_any level x i h), ap length (strict_only level x i h))
+-- ---- tags
 
-  apart : (start : ℕ) (ps : Pairs) (xs : List Pair) (front end : List ℕ) → SpellsPairs strict level front ps end
-      → PlacesAre start ps xs → From start xs × IsDistinct eqb (map (λ (p : Pair). p.place) xs)
-  unfolding IsDistinct
-  apart start no_pairs [] front end spells at = (tt, tt)
-  apart start no_pairs (x ∷ xs) front end spells at = absurd at
-  apart start (pair k v ps) [] front end spells at = absurd at
-  apart start (pair k v ps) (x ∷ xs) front end spells at =
-      let next = start + length (encoded k) + length (encoded v) in
-      let more = apart next ps xs spells.2 end spells.6 at.1 in
-      let some = size spells.0 k spells.4 in
-      let here : start ≤ x.place = omega (arith, at.0) in
-      let lt : x.place < next = omega (arith, at.0, some) in (
-        (here, later start next xs (omega arith) more.0),
-        IsDistinct-cons eqb x.place (map (λ (p : Pair). p.place) xs) (others x.place next xs lt more.0) more.1,
+-- what is the same as a tag once it is reduced: no array or map, and if it is a tag, its item has no parts or is the
+-- same as the reduced one
+abbrev TagIs : Item → Item → Type 0
+TagIs r (atom a) = Unit {0}
+TagIs r (array js v) = ⊥
+TagIs r (spec.map qs v) = ⊥
+TagIs r (tagged u v j) = IsSame true r j ⊎ ((a : Atom) × (j ≡ atom a))
+
+as_it_is : (t : ℕ) (w : IntegerWidth) (r j : Item) → IsSame true (tagged t w r) j → TagIs r j
+as_it_is t w r (atom a) h = absurd h
+as_it_is t w r (array js v) h = absurd h
+as_it_is t w r (spec.map qs v) h = absurd h
+as_it_is t w r (tagged u v j) h = inl h.1
+
+no_parts : (a : Atom) (j : Item) → IsSame true (atom a) j → (b : Atom) × (j ≡ atom b)
+no_parts a (atom b) h = (b, refl)
+no_parts a (array js v) h = absurd h
+no_parts a (spec.map qs v) h = absurd h
+no_parts a (tagged u v j) h = absurd h
+
+as_number : (a : Atom) (r j : Item) → IsSame true (atom a) j → TagIs r j
+as_number a r (atom b) h = tt
+as_number a r (array js v) h = absurd h
+as_number a r (spec.map qs v) h = absurd h
+as_number a r (tagged u v j) h = absurd h
+
+as_content : (t : ℕ) (a : Atom) (r j : Item) → IsSame true (tagged t width.Unknown (atom a)) j → TagIs r j
+as_content t a r (atom b) h = absurd h
+as_content t a r (array js v) h = absurd h
+as_content t a r (spec.map qs v) h = absurd h
+as_content t a r (tagged u v j) h = inr (no_parts a j h.1)
+
+tag_is : (t : ℕ) (w : IntegerWidth) (r j : Item) → IsSame true (reduced_tag CORE t w r) j → TagIs r j
+tag_is t w r j h = by (is_big CORE t) (content_of r) h
+  where
+    small : (c : List ℕ) (s : Bool) → IsSame true (cond s (atom (small_number t (big_endian 0 c)))
+        (tagged t width.Unknown (atom (string Bytes (whole (without_zeros c)))))) j → TagIs r j
+    small c true h = as_number (small_number t (big_endian 0 c)) r j h
+    small c false h = as_content t (string Bytes (whole (without_zeros c))) r j h
+
+    by : (s : Bool) (o : Option (List ℕ)) → IsSame true (cond s (big_or t o (tagged t w r)) (tagged t w r)) j
+        → TagIs r j
+    by true (Some c) h = small c (ltb (big_endian 0 c) (2 ^ 64)) h
+    by true None h = as_it_is t w r j h
+    by false o h = as_it_is t w r j h
+
+-- ---- items
+
+pairs_in : (level : ℕ) (before after : Pairs) (k v : Item) → Keeps distinct level k → Keeps distinct level v
+    → KeepsPairs distinct level (joined_pairs before after)
+    → KeepsPairs distinct level (joined_pairs before (pair k v after))
+pairs_in level no_pairs after k v key value h = (key, value, h)
+pairs_in level (pair l w before) after k v key value h =
+    (h.0, h.1, pairs_in level before after k v key value h.2)
+
+mutual
+  kept : (i j : Item) (level : ℕ) → Good loose level j → IsSame true (reduced_item CORE i) j → MapsApart i
+      → Keeps distinct level j
+  kept i (atom a) level good same h = atom_kept a good.1
+  kept (array is w) (array js v) level good same h =
+      let x = members_of 4 (item_count js) v good.0.0 _ good.0.1.1 in (
+        good.1.0,
+        count_kept (item_count js) v good.1.1,
+        kept_items is js (level + 1) (good_items loose (level + 1) x.0 x.1 js x.2 good.1.2) same h,
       )
+  kept (spec.map ps w) (spec.map qs v) level good same h =
+      let x = members_of 5 (pair_count qs) v good.0.0 _ good.0.1.1 in
+      let pairs = good_pairs loose (level + 1) x.0 x.1 qs x.2 good.1.2 in (
+        good.1.0,
+        count_kept (pair_count qs) v good.1.1,
+        kept_pairs ps qs (level + 1) pairs same h.1,
+        good.1.3,
+        λ on. keys_differ ps qs (level + 1) same pairs h.0,
+      )
+  kept (tagged t w i) (tagged u v j) level good same h = (
+    good.1.0,
+    good.1.1,
+    good.1.2,
+    elim (tag_is t w (reduced_item CORE i) (tagged u v j) same) [
+      | inl s ↦ kept i j (level + 1) ((good.0.1.1.1, good.0.1.1.3), good.1.3) s h
+      | inr a ↦ subst (λ (k : Item). Keeps distinct (level + 1) k) (sym a.1)
+          (atom_kept a.0 (subst (λ (k : Item). Keeps loose (level + 1) k) a.1 good.1.3))
+    ],
+  )
+  kept (tagged t w i) (array js v) level good same h =
+      absurd (tag_is t w (reduced_item CORE i) (array js v) same)
+  kept (tagged t w i) (spec.map qs v) level good same h =
+      absurd (tag_is t w (reduced_item CORE i) (spec.map qs v) same)
+  kept (atom a) (array js v) level good same h = absurd same
+  kept (atom a) (spec.map qs v) level good same h = absurd same
+  kept (atom a) (tagged u v j) level good same h = absurd same
+  kept (array is w) (spec.map qs v) level good same h = absurd same
+  kept (array is w) (tagged u v j) level good same h = absurd same
+  kept (spec.map ps w) (array js v) level good same h = absurd same
+  kept (spec.map ps w) (tagged u v j) level good same h = absurd same
 
-  flips : (x y : ℕ) → eqb x y ≡ eqb y x
-  flips x y =
-      elim (cases_eq x y) [
-        | inl same ↦ rw same refl
-        | inr other ↦ ne_eqb x y other ∙ sym (ne_eqb y x (λ e. other (sym e)))
-      ]
+  kept_items : (is js : Items) (level : ℕ) → GoodItems loose level js → SameItems true (reduced_items CORE is) js
+      → MapsApartItems is → KeepsItems distinct level js
+  kept_items no_items no_items level good same h = tt
+  kept_items (item i is) (item j js) level good same h =
+      (kept i j level good.0 same.0 h.0, kept_items is js level good.1 same.1 h.1)
+  kept_items no_items (item j js) level good same h = absurd same
+  kept_items (item i is) no_items level good same h = absurd same
 
-  -- ---- neighbours
+  kept_pairs : (ps qs : Pairs) (level : ℕ) → GoodPairs loose level qs → SamePairs true (reduced_pairs CORE ps) qs
+      → MapsApartPairs ps → KeepsPairs distinct level qs
+  kept_pairs no_pairs qs level good same h = subst (KeepsPairs distinct level) (sym same) tt
+  kept_pairs (pair k v ps) qs level good same h =
+      let t = taken loose level same.0 same.1 same.2 same.3 (subst (GoodPairs loose level) same.4 good) in
+      subst (KeepsPairs distinct level) (sym same.4) (pairs_in level same.0 same.1 same.2 same.3
+      (kept k same.2 level t.key same.5 h.0) (kept v same.3 level t.value same.6 h.1)
+      (kept_pairs ps (joined_pairs same.0 same.1) level t.others same.7 h.2))
 
-  pub become_one : (order : KeyOrder) (start : ℕ) (ps : Pairs) (xs ys : List Pair) (front end : List ℕ)
-      (first second : ℕ) → SpellsPairs strict level front ps end → PairsAre rules level ps xs
-      → PlacesAre start ps xs → IsPermutation xs ys → AreTwice order ys first second
-      → BecomeOne rules first second level start ps
-  become_one order start ps xs [] front end first second spells are at moves t = absurd (omega (arith, t.within))
-  become_one order start ps xs (d ∷ ds) front end first second spells are at moves t =
-      let ys = d ∷ ds in
-      let all = All-permutation (Stands start ps) xs ys moves (stand start ps xs are at) in
-      let i = t.index in
-      let lt : i < length ys = omega (arith, t.within) in
-      let x = get_or ys i d in
-      let y = get_or ys (i + 1) d in
-      let one = all i d lt in
-      let two = all (i + 1) d t.within in
-      let place = λ (p : Pair). p.place in
-      let kept = IsDistinct-IsPermutation eqb flips (map place xs) (map place ys)
-      (IsPermutation-map place xs ys moves) (apart start ps xs front end spells at).1 in
-      let long : i + 1 < length (map place ys) = omega (arith, length-map ys place, t.within) in
-      let differ = apart_from_distinct eqb (map place ys) i (i + 1) 0 kept (omega arith) long in
-      let first_is : get_or (map place ys) i 0 ≡ first = get_or-map place ys i d 0 lt ∙ t.first_is d in
-      let second_is : get_or (map place ys) (i + 1) 0 ≡ second =
-      get_or-map place ys (i + 1) d 0 t.within ∙ t.second_is d in
-      let same = same_key order x.key.items y.key.items (t.same d) in
-      record {
-        key = one.key;
-        key_at = subst (λ n. IsKeyAt start ps n one.key) (t.first_is d) one.key_at;
-        other = two.key;
-        other_at = subst (λ n. IsKeyAt start ps n two.key) (t.second_is d) two.key_at;
-        two = λ e. eqb-false (get_or (map place ys) i 0) (get_or (map place ys) (i + 1) 0) differ
-            (first_is ∙ e ∙ sym second_is);
-        bytes = x.key.items;
-        key_again = one.again;
-        other_again = subst (λ (b : List ℕ). Again rules level two.key b) (sym same) two.again;
-      }
+-- ---- bytes
+
+-- If two keys are the same in what was written without an order, two keys are one.
+pub one_written : (b again : List ℕ) → Sequence CORE b [] again → KeepsRules loose again → ¬ (KeepsRules distinct again)
+    → ¬ (KeysOnce b)
+one_written b again s keeps twice = λ once.
+    let spells : SpellsItems strict 1 again s.written [] =
+    subst (λ (x : List ℕ). SpellsItems strict 1 x s.written []) (sym s.added) s.written_spells in
+    let one = items_once keeps.0 s.written again again refl keeps.1 spells in
+    let loosely = subst (λ (is : Items). KeepsItems loose 1 is) one keeps.2 in
+    twice (
+      s.written,
+      spells,
+      kept_items s.items s.written 1 (good_items loose 1 again [] s.written spells loosely)
+          (unreduced_items (reduced_items CORE s.items) s.written 1 loosely s.same) (once s.items s.spells),
+    )

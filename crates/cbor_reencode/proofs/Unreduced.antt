@@ -17,13 +17,34 @@ use Rattle.cbor_rules.specs.Keeps.{Keeps, KeepsItems, KeepsPairs, without_memory
 use Rattle.cbor_rules.specs.Same.{whole, IsSame, SameItems, SamePairs}
 use Rattle.cbor_reencode.specs.Reduction.{reduced_atom, big_endian, without_zeros, content_of, small_number, big_or}
 use Rattle.cbor_reencode.specs.Reduction.{is_big, reduced_tag, reduced_item, reduced_items, reduced_pairs}
-use Rattle.cbor_reencode.specs.Reencoded.{HasMap}
+use Rattle.cbor_reencode.specs.Reencoded.{MapsApart}
+use Rattle.cbor_reencode.specs.mirror.Twice.{unordered}
 use Rattle.cbor_reencode.proofs.BigNumbers.{grows}
+use Rattle.cbor_reencode.proofs.Kept.{AsksLess}
 use Rattle.cbor_reencode.proofs.Sorted.{reduced_joined}
 
 -- the rules that what is encoded keeps
 abbrev pub core : Rules
 core = without_memory CORE
+
+-- those that make the form of a number the one
+abbrev pub loose : Rules
+loose = unordered false
+
+pub core_loose : AsksLess core loose
+core_loose = record {
+  heads = λ on. on;
+  floats = λ on. on;
+  reduced = λ on. on;
+  simple = λ on. on;
+  lengths = λ on. on;
+  big = λ on. on;
+  nfc = λ on. on;
+  order = inl refl;
+  distinct = λ on. on;
+  tags = λ on. on;
+  deepest = refl;
+}
 
 -- no float is reduced
 same_atom : (a : Atom) → reduced_atom CORE a ≡ a
@@ -56,12 +77,11 @@ tagged_none : (t : ℕ) (w : IntegerWidth) (i : Item) → content_of (reduced_it
 tagged_none t w i = tag_none t w (reduced_item CORE i) (is_big CORE t) (content_of (reduced_item CORE i))
 
 -- nor is an item with a map in it
-pub map_none : (Holds : ℕ → ℕ → Pairs → Type 0) (level start : ℕ) (i : Item) → HasMap Holds level start i
-    → content_of (reduced_item CORE i) ≡ None
-map_none Holds level start (atom a) h = absurd h
-map_none Holds level start (array is w) h = refl
-map_none Holds level start (spec.map ps w) h = refl
-map_none Holds level start (tagged t w i) h = tagged_none t w i
+pub no_content : (i : Item) → (content_of (reduced_item CORE i) ≡ None) ⊎ MapsApart i
+no_content (atom a) = inr tt
+no_content (array is w) = inl refl
+no_content (spec.map ps w) = inl refl
+no_content (tagged t w i) = inl (tagged_none t w i)
 
 either_way : (s : Bool) (i : Item) → cond s i i ≡ i
 either_way true i = refl
@@ -134,7 +154,7 @@ whole_same (array is w) c same = absurd same
 whole_same (spec.map ps w) c same = absurd same
 whole_same (tagged t w i) c same = absurd same
 
-big : (t : ℕ) (w : IntegerWidth) (c : Chunk) (level : ℕ) → Keeps core level (tagged t w (atom (string Bytes c)))
+big : (t : ℕ) (w : IntegerWidth) (c : Chunk) (level : ℕ) → Keeps loose level (tagged t w (atom (string Bytes c)))
     → (s : Bool) → is_big CORE t ≡ s
     → TagIs t (atom (string Bytes c)) (reduced_item CORE (tagged t w (atom (string Bytes c))))
 big t w c level keeps false is = record {
@@ -159,7 +179,7 @@ big t w c level keeps true is =
           (subst (λ (b : List ℕ). IsSame true y (atom (string Bytes (whole b)))) none same);
     }
 
-tag_is : (t : ℕ) (w : IntegerWidth) (i : Item) (level : ℕ) → Keeps core level (tagged t w i)
+tag_is : (t : ℕ) (w : IntegerWidth) (i : Item) (level : ℕ) → Keeps loose level (tagged t w i)
     → TagIs t i (reduced_item CORE (tagged t w i))
 tag_is t w (atom (string Bytes c)) level keeps = big t w c level keeps (is_big CORE t) refl
 tag_is t w (atom (string Text c)) level keeps = plain t w (atom (string Text c)) refl
@@ -174,13 +194,13 @@ tag_is t w (tagged u v i) level keeps = plain t w (tagged u v i) (tagged_none u 
 
 -- ---- pairs
 
-first_key : (k l v w : Item) (ps qs : Pairs) → pair k v ps ≡ pair l w qs → k ≡ l
+pub first_key : (k l v w : Item) (ps qs : Pairs) → pair k v ps ≡ pair l w qs → k ≡ l
 first_key k l v w ps qs e = cc
 
-first_value : (k l v w : Item) (ps qs : Pairs) → pair k v ps ≡ pair l w qs → v ≡ w
+pub first_value : (k l v w : Item) (ps qs : Pairs) → pair k v ps ≡ pair l w qs → v ≡ w
 first_value k l v w ps qs e = cc
 
-other_pairs : (k l v w : Item) (ps qs : Pairs) → pair k v ps ≡ pair l w qs → ps ≡ qs
+pub other_pairs : (k l v w : Item) (ps qs : Pairs) → pair k v ps ≡ pair l w qs → ps ≡ qs
 other_pairs k l v w ps qs e = cc
 
 -- the pair that is this one once it is reduced
@@ -232,12 +252,12 @@ before_it (pair k v qs) (pair m x before) after l w e =
 
 -- a pair among others that keep the rules
 record KeepsOne (level : ℕ) (before after : Pairs) (k v : Item) : Type 0 where
-  pub key : Keeps core level k
-  pub value : Keeps core level v
-  pub others : KeepsPairs core level (joined_pairs before after)
+  pub key : Keeps loose level k
+  pub value : Keeps loose level v
+  pub others : KeepsPairs loose level (joined_pairs before after)
 
 keeps_one : (level : ℕ) (before after : Pairs) (k v : Item)
-    → KeepsPairs core level (joined_pairs before (pair k v after)) → KeepsOne level before after k v
+    → KeepsPairs loose level (joined_pairs before (pair k v after)) → KeepsOne level before after k v
 keeps_one level no_pairs after k v h = record { key = h.0; value = h.1; others = h.2 }
 keeps_one level (pair l w before) after k v h =
     let t = keeps_one level before after k v h.2 in
@@ -250,7 +270,7 @@ none_reduced (pair k v qs) e = absurd cc
 -- ---- items
 
 mutual
-  pub unreduced : (y a : Item) (level : ℕ) → Keeps core level a → IsSame true y (reduced_item CORE a) → IsSame true y a
+  pub unreduced : (y a : Item) (level : ℕ) → Keeps loose level a → IsSame true y (reduced_item CORE a) → IsSame true y a
   unreduced y (atom a) level g same = subst (λ (b : Atom). IsSame true y (atom b)) (same_atom a) same
   unreduced (array is w) (array js v) level g same = unreduced_items is js (level + 1) g.2 same
   unreduced (spec.map ps w) (spec.map qs v) level g same = unreduced_pairs ps qs (level + 1) g.2 same
@@ -272,7 +292,7 @@ mutual
   unreduced (tagged u v y) (array js w) level g same = absurd same
   unreduced (tagged u v y) (spec.map qs w) level g same = absurd same
 
-  pub unreduced_items : (is js : Items) (level : ℕ) → KeepsItems core level js
+  pub unreduced_items : (is js : Items) (level : ℕ) → KeepsItems loose level js
       → SameItems true is (reduced_items CORE js) → SameItems true is js
   unreduced_items no_items no_items level g same = tt
   unreduced_items (item i is) (item j js) level g same =
@@ -280,12 +300,12 @@ mutual
   unreduced_items no_items (item j js) level g same = absurd same
   unreduced_items (item i is) no_items level g same = absurd same
 
-  unreduced_pairs : (ps qs : Pairs) (level : ℕ) → KeepsPairs core level qs
+  unreduced_pairs : (ps qs : Pairs) (level : ℕ) → KeepsPairs loose level qs
       → SamePairs true ps (reduced_pairs CORE qs) → SamePairs true ps qs
   unreduced_pairs no_pairs qs level g same = none_reduced qs same
   unreduced_pairs (pair k v ps) qs level g same =
       let b = before_it qs same.0 same.1 same.2 same.3 same.4 in
-      let t = keeps_one level b.front b.back b.key b.value (subst (KeepsPairs core level) b.is g) in
+      let t = keeps_one level b.front b.back b.key b.value (subst (KeepsPairs loose level) b.is g) in
       let rest : reduced_pairs CORE (joined_pairs b.front b.back) ≡ joined_pairs same.0 same.1 =
       reduced_joined CORE level b.front b.back
       ∙ ap (λ (q : Pairs). joined_pairs q (reduced_pairs CORE b.back)) b.front_is

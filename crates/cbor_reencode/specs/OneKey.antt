@@ -6,18 +6,18 @@ use Rattle.cbor_rules.specs.declared.kind.Breach.{Breach}
 use Rattle.cbor_rules.specs.declared.kind.BreachKind.TheVariants.{KeyTwice}
 use Rattle.cbor_rules.specs.FirstBreach.{first_breach}
 use Rattle.cbor_rules.specs.Keeps.{KeepsRules}
-use Rattle.cbor_reencode.specs.Reencoded.{AreOneKey, KeysOnce}
+use Rattle.cbor_reencode.specs.Reencoded.{KeysOnce}
 
 -- The bytes are items that keep the rules, and where these ask for distinct keys, no two keys of a map are one.
 abbrev pub KeepsWithKeys : Rules → List ℕ → Type 0
 KeepsWithKeys rules b = KeepsRules rules b × (IsTrue rules.distinct_keys → KeysOnce b)
 
--- The second of two keys that are one, with the place of the first.
+-- It is said that a key is one with another, and two keys of a map are one.
 abbrev pub IsKeyAgain : List ℕ → Breach → Type 0
-IsKeyAgain b breach = (first : ℕ) × (breach.kind ≡ KeyTwice first) × AreOneKey b first breach.place
+IsKeyAgain b breach = (first : ℕ) × (breach.kind ≡ KeyTwice first) × ¬ (KeysOnce b)
 
 -- What breaks the rules, or nothing: their first breach, where keys are their bytes; or where there is none, and the
--- rules ask for distinct keys, the second of two keys that are one.
+-- rules ask for distinct keys, that two keys are one. Which two it names is not said here.
 abbrev pub IsBreach : Rules → List ℕ → Option Breach → Type 0
 IsBreach rules b None = (first_breach rules b ≡ None) × (IsTrue rules.distinct_keys → KeysOnce b)
 IsBreach rules b (Some breach) =

@@ -1,18 +1,12 @@
 -- Which bytes are the same items as others, encoded again so that they keep rules.
-use Rattle.std.specs.Prelude.{◌≡◌, ◌≢◌, ◌⊎◌, ℕ, ◌+◌, IsTrue, List, [], length, false, Some}
+use Rattle.std.specs.Prelude.{◌≢◌, ℕ, IsTrue, List, [], false}
 use Rattle.cbor_grammar.specs.Item as spec
 use Rattle.cbor_grammar.specs.Item.{Item, atom, array, tagged, Items, no_items, item, Pairs, no_pairs, pair}
-use Rattle.cbor_grammar.specs.Item.{item_count, pair_count}
-use Rattle.cbor_grammar.specs.Bytes.{strict, Spells, SpellsItems}
-use Rattle.cbor_grammar.specs.Written.{encoded, encoded_head, encoded_open}
+use Rattle.cbor_grammar.specs.Bytes.{strict, SpellsItems}
 use Rattle.cbor_rules.specs.declared.rules.Rules.{Rules}
 use Rattle.cbor_rules.specs.declared.rules.TheConstants.Rules.{CORE}
 use Rattle.cbor_rules.specs.declared.rules.KeyOrder.TheVariants.{Any}
-use Rattle.cbor_rules.specs.declared.kind.Breach as rule
-use Rattle.cbor_reencode.specs.declared.error.ReencodeError.{ReencodeError}
-use Rattle.cbor_reencode.specs.declared.error.ReencodeError.TheVariants.{Memory, Breach, KeyTwice, Written}
-use Rattle.cbor_rules.specs.FirstBreach.{first_breach}
-use Rattle.cbor_rules.specs.Keeps.{Keeps, KeepsRules, without_memory}
+use Rattle.cbor_rules.specs.Keeps.{without_memory}
 use Rattle.cbor_rules.specs.Same.{AreKept}
 use Rattle.cbor_reencode.specs.Reduction.{IsSameNumbered, SameNumbered}
 
@@ -43,71 +37,42 @@ lasting rules = record {
   deepest = rules.deepest;
 }
 
--- ---- keys that become one
-
--- These bytes are an item at this level which keeps the rules whose check takes no memory, and is the same as this one.
-pub record Again (rules : Rules) (level : ℕ) (i : Item) (bytes : List ℕ) : Type 0 where
-  pub item : Item
-  pub spells : Spells strict level bytes item
-  pub keeps : Keeps (without_memory rules) level item
-  pub same : IsSameNumbered rules i item
-
--- `place` bytes come before this key of these pairs, and `start` before the first of them.
-abbrev pub IsKeyAt : ℕ → Pairs → ℕ → Item → Type 0
-IsKeyAt start no_pairs place key = ⊥
-IsKeyAt start (pair k v ps) place key =
-    ((place ≡ start) × (key ≡ k)) ⊎ IsKeyAt (start + length (encoded k) + length (encoded v)) ps place key
-
--- The keys of these pairs at these two places, encoded again, are the same bytes.
-pub record BecomeOne (rules : Rules) (first second level start : ℕ) (ps : Pairs) : Type 0 where
-  pub key : Item
-  pub key_at : IsKeyAt start ps first key
-  pub other : Item
-  pub other_at : IsKeyAt start ps second other
-  pub two : first ≢ second
-  pub bytes : List ℕ
-  pub key_again : Again rules level key bytes
-  pub other_again : Again rules level other bytes
-
--- A map in this item has pairs of which this is so: of their level, of how many bytes come before them, and of the
--- pairs. `start` bytes come before the item.
-abbrev mutual
-  pub HasMap : (ℕ → ℕ → Pairs → Type 0) → ℕ → ℕ → Item → Type 0
-  HasMap Holds level start (atom a) = ⊥
-  HasMap Holds level start (array is w) =
-      HasMapItems Holds (level + 1) (start + length (encoded_open 4 (item_count is) w)) is
-  HasMap Holds level start (spec.map ps w) =
-      Holds (level + 1) (start + length (encoded_open 5 (pair_count ps) w)) ps
-      ⊎ HasMapPairs Holds (level + 1) (start + length (encoded_open 5 (pair_count ps) w)) ps
-  HasMap Holds level start (tagged t w i) = HasMap Holds (level + 1) (start + length (encoded_head 6 t w)) i
-
-  pub HasMapItems : (ℕ → ℕ → Pairs → Type 0) → ℕ → ℕ → Items → Type 0
-  HasMapItems Holds level start no_items = ⊥
-  HasMapItems Holds level start (item i is) =
-      HasMap Holds level start i ⊎ HasMapItems Holds level (start + length (encoded i)) is
-
-  pub HasMapPairs : (ℕ → ℕ → Pairs → Type 0) → ℕ → ℕ → Pairs → Type 0
-  HasMapPairs Holds level start no_pairs = ⊥
-  HasMapPairs Holds level start (pair k v ps) =
-      HasMap Holds level start k ⊎ HasMap Holds level (start + length (encoded k)) v
-      ⊎ HasMapPairs Holds level (start + length (encoded k) + length (encoded v)) ps
-
--- The bytes are items, one after the other, in which a map has keys at these two places that become one.
-pub record HasKeyTwice (rules : Rules) (b : List ℕ) (first second : ℕ) : Type 0 where
-  pub items : Items
-  pub spells : SpellsItems strict 1 b items []
-  pub twice : HasMapItems (BecomeOne rules first second) 1 0 items
-
 -- ---- keys that are one
 
--- Two keys of a map, at these two places, are one: core deterministic encoding gives the same bytes for both (RFC 8949
--- sections 4.2.1 and 5.6.1).
-abbrev pub AreOneKey : List ℕ → ℕ → ℕ → Type 0
-AreOneKey b first second = HasKeyTwice CORE b first second
+-- Two keys are one: they are the same item but for widths, kinds of length, the order of pairs, and the forms of numbers
+-- of which core deterministic encoding leaves one (RFC 8949 sections 4.2.1 and 5.6.1).
+abbrev pub AreOne : Item → Item → Type 0
+AreOne k l = IsSameNumbered CORE k l
 
--- No two keys of a map are one.
+-- This key is one with none of the keys of these pairs.
+abbrev pub IsNoneOf : Item → Pairs → Type 0
+IsNoneOf k no_pairs = Unit {0}
+IsNoneOf k (pair l w ps) = (¬ (AreOne k l)) × IsNoneOf k ps
+
+-- No two keys of these pairs are one.
+abbrev pub KeysApart : Pairs → Type 0
+KeysApart no_pairs = Unit {0}
+KeysApart (pair k v ps) = IsNoneOf k ps × KeysApart ps
+
+-- No two keys of a map in this item are one.
+abbrev mutual
+  pub MapsApart : Item → Type 0
+  MapsApart (atom a) = Unit {0}
+  MapsApart (array is w) = MapsApartItems is
+  MapsApart (spec.map ps w) = KeysApart ps × MapsApartPairs ps
+  MapsApart (tagged t w i) = MapsApart i
+
+  pub MapsApartItems : Items → Type 0
+  MapsApartItems no_items = Unit {0}
+  MapsApartItems (item i is) = MapsApart i × MapsApartItems is
+
+  pub MapsApartPairs : Pairs → Type 0
+  MapsApartPairs no_pairs = Unit {0}
+  MapsApartPairs (pair k v ps) = MapsApart k × MapsApart v × MapsApartPairs ps
+
+-- The bytes are no items, one after the other, in which two keys of a map are one.
 abbrev pub KeysOnce : List ℕ → Type 0
-KeysOnce b = (first second : ℕ) → ¬ (AreOneKey b first second)
+KeysOnce b = (items : Items) → SpellsItems strict 1 b items [] → MapsApartItems items
 
 -- Of keys that are one, these rules leave the same encoding, and by their order that is no encoding of two keys.
 pub record FixesKeys (rules : Rules) : Type 0 where
@@ -116,21 +81,3 @@ pub record FixesKeys (rules : Rules) : Type 0 where
   pub lengths : IsTrue rules.definite_lengths
   pub big : IsTrue rules.big_numbers
   pub order : rules.key_order ≢ Any
-
--- ---- why there is no encoding
-
--- What the items are encoded to breaks a rule whose check takes memory, and this is the first breach of it: a text whose
--- chunks, joined, are not in NFC, or a key that stands twice.
-abbrev pub BreaksWritten : Rules → List ℕ → rule.Breach → Type 0
-BreaksWritten rules b breach =
-    (IsTrue rules.nfc ⊎ IsTrue rules.distinct_keys)
-    × (again : List ℕ) × IsReencoded rules b again × (first_breach rules again ≡ Some breach)
-
--- What is found where all rules that last are kept: keys that are one, or that become one where keys have an order; or
--- a breach of what is written.
-abbrev pub IsFound : Rules → List ℕ → ReencodeError → Type 0
-IsFound rules b Memory = Unit {0}
-IsFound rules b (Breach breach) = ⊥
-IsFound rules b (KeyTwice first second) =
-    AreOneKey b first second ⊎ ((rules.key_order ≢ Any) × HasKeyTwice rules b first second)
-IsFound rules b (Written breach) = BreaksWritten rules b breach

@@ -1,5 +1,4 @@
 -- Definitions for the checker alone, which follow the code that encodes items again.
-pub mod Checked
 pub mod Chosen
 pub mod Numbers
 pub mod Rewritten

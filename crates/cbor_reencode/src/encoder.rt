@@ -3,28 +3,39 @@
 ghost use Rattle.std.specs.Prelude.{◌≡◌};
 ghost use Rattle.cbor_grammar.specs.Head.{FitsStated};
 ghost use Rattle.cbor_grammar.specs.WellFormed.{FitsCount};
-ghost use Rattle.cbor_rules.specs.FirstBreach.{place_of};
 ghost use Rattle.cbor_floats.specs.Preferred.{FitsWidth};
 ghost use Rattle.cbor_reencode.specs.mirror.Chosen.{chosen_width, chosen_count, FitsHeld, IsChosen};
 
+use crate::error::ReencodeError;
 use cbor_floats::EncodedFloat;
-use cbor_grammar::IntegerWidth;
 use cbor_grammar::argument::Argument;
-use cbor_rules::Rules;
+use cbor_grammar::{Error, IntegerWidth};
+use cbor_rules::{Breach, BreachKind, Rules};
 
-/// Bytes that are encoded again: the rules, and how many bytes there are.
+/// Bytes that are encoded again: the rules, how many bytes there are, and whether keys of a map
+/// that are the same once they are encoded are an error, where keys have an order.
 #[derive(Clone, Copy)]
 pub struct Encoder {
     pub rules: Rules,
     pub len: usize,
+    pub keys_differ: bool,
 }
 
 impl Encoder {
     /// How many bytes come before these last ones.
-    pub fn place(self, bytes: &[u8]) -> usize
-        ensures { result ≡ place_of self.len bytes.now }
-    {
+    pub fn place(self, bytes: &[u8]) -> usize {
         self.len.saturating_sub(bytes.len())
+    }
+
+    /// The error that no item is at these bytes.
+    pub fn no_item(self, bytes: &[u8], error: Error) -> ReencodeError {
+        match error {
+            Error::Memory => ReencodeError::Memory,
+            _ => ReencodeError::Breach(Breach {
+                place: self.place(bytes),
+                kind: BreachKind::NoItem(error),
+            }),
+        }
     }
 
     /// The width of a number that has this width.

@@ -1,8 +1,7 @@
 //! Items, encoded again from the left to the right. A container is a call of
 //! [`Encoder::push_item`], at most 128 deep.
-ghost use Rattle.std.specs.Prelude.{◌≡◌, ℕ, List, ◌++◌, ◌+◌, ◌<◌, ◌≤◌, length, [], Ok, Err, IfOk};
-ghost use Rattle.std.specs.Prelude.{MatchResult, Some, None, IfErr, ◌⊎◌};
-ghost use Rattle.std.specs.List.{AllAdjacentBelow};
+ghost use Rattle.std.specs.Prelude.{◌≡◌, ◌++◌, ◌+◌, ◌<◌, ◌≤◌, length, [], Ok, IfOk};
+ghost use Rattle.std.specs.Prelude.{MatchResult, Some, ◌⊎◌};
 ghost use Rattle.std.specs.List.Sorted.{IsPermutation};
 ghost use Rattle.cbor_grammar.specs.WellFormed.{deepest};
 ghost use Rattle.cbor_grammar.specs.Reading.{read_head};
@@ -10,22 +9,20 @@ ghost use Rattle.cbor_grammar.specs.declared.head.ItemHead.TheVariants as item_h
 ghost use Rattle.cbor_grammar.specs.Written.{encoded_open, encoded_close};
 ghost use Rattle.cbor_rules.specs.declared.kind.Breach.{Breach};
 ghost use Rattle.cbor_rules.specs.FirstBreach.{first_breach};
-ghost use Rattle.cbor_rules.specs.Keeps.{KeepsRules, without_memory};
+ghost use Rattle.cbor_rules.specs.Keeps.{KeepsRules};
 ghost use Rattle.cbor_reencode.specs.Reencoded.{IsReencoded, lasting};
-ghost use Rattle.cbor_reencode.specs.mirror.Checked.{Checked, checked_rules};
 ghost use Rattle.cbor_reencode.specs.mirror.Chosen.{chosen_count, FitsHeld};
-ghost use Rattle.cbor_reencode.specs.mirror.Rewritten.{Rewritten, RewrittenItems};
-ghost use Rattle.cbor_reencode.specs.mirror.Rewritten.{Rises, pair_bytes, IsStopped};
-ghost use Rattle.cbor_reencode.specs.mirror.Twice.{IsFoundAt, IsStoppedBy};
+ghost use Rattle.cbor_reencode.specs.mirror.Rewritten.{Rewritten, pair_bytes, Sequence};
 
 use crate::encoder::Encoder;
 use crate::error::ReencodeError;
 use crate::pairs::{Pair, check_rising, push_pairs, sort_pairs};
-use cbor_bytes::head::read_head;
+use cbor_bytes::head::{no_level_left, read_head};
 use cbor_bytes::write::{push_close, push_open};
 use cbor_grammar::IntegerWidth;
 use cbor_grammar::argument::Argument;
 use cbor_grammar::head::ItemHead;
+use cbor_grammar::level::DEEPEST;
 use cbor_grammar::major::Major;
 use cbor_rules::{KeyOrder, Rules, breach_in};
 use std::alloc::{AllocError, Global};
@@ -59,16 +56,15 @@ impl Encoder {
     ) -> Result<(), ReencodeError>
         requires { FitsHeld count (length pairs.old.items) }
         ensures sorts { IsPermutation pairs.old.items pairs.new.items }
-        ensures rises { IfOk result (λ x. AllAdjacentBelow (Rises self.rules.key_order)
-            pairs.new.items (length pairs.new.items)) }
         ensures writes { IfOk result (λ x. let number = length pairs.new.items in
             let width = chosen_count self.rules count number in out.new.items ≡ out.old.items
             ++ (encoded_open 5 number width
             ++ (pair_bytes pairs.new.items ++ encoded_close width))) }
-        ensures found { IfErr result (IsStopped self.rules.key_order pairs.new.items) }
     {
         sort_pairs(self.rules.key_order, pairs)?;
-        check_rising(self.rules.key_order, pairs)?;
+        if self.keys_differ {
+            check_rising(self.rules.key_order, pairs)?;
+        }
         let width = self.count_width(count, pairs.len());
         push_open(out, Major::Map, pairs.len(), width)?;
         push_pairs(out, pairs)?;
@@ -86,20 +82,17 @@ impl Encoder {
         bytes: &'a [u8],
         out: &mut Vec<u8>,
     ) -> Result<&'a [u8], ReencodeError>
-        requires level { level ≤ deepest + 1 }
-        requires within { length bytes.now ≤ self.len }
-        requires checked { (rest : List ℕ)
-            × Checked self.rules self.len level bytes.now rest }
+        requires { level ≤ deepest + 1 }
         ensures writes { IfOk result (λ rest.
             Rewritten self.rules level bytes.now rest.now out.old.items out.new.items) }
-        ensures checked { IfOk result (λ rest.
-            Checked self.rules self.len level bytes.now rest.now) }
         ensures shorter { IfOk result (λ rest. length rest.now < length bytes.now) }
-        ensures found { IfErr result (IsFoundAt self.rules self.len level bytes.now) }
     {
-        let Ok((head, rest)) = read_head(bytes) else {
-            // The item was checked.
-            unreachable!()
+        if level > DEEPEST {
+            return Err(self.no_item(bytes, no_level_left(bytes)));
+        }
+        let (head, rest) = match read_head(bytes) {
+            Ok(read) => read,
+            Err(error) => return Err(self.no_item(bytes, error)),
         };
         match head {
             ItemHead::Array(count) => self.push_array(alloc, level, bytes, count, rest, out),
@@ -107,7 +100,10 @@ impl Encoder {
             ItemHead::Tag(tag, width) => {
                 self.push_tagged(alloc, level, bytes, tag, width, rest, out)
             }
-            _ => Ok(self.push_atom(alloc, bytes, head, rest, out)?),
+            _ => match self.push_atom(alloc, bytes, head, rest, out) {
+                Ok(after) => Ok(after),
+                Err(error) => Err(self.no_item(bytes, error)),
+            },
         }
     }
 
@@ -123,16 +119,10 @@ impl Encoder {
         out: &mut Vec<u8>,
     ) -> Result<&'a [u8], ReencodeError>
         requires level { level ≤ deepest }
-        requires within { length bytes.now ≤ self.len }
         requires read { read_head bytes.now ≡ Ok (item_head.Array count, members.now) }
-        requires checked { (rest : List ℕ)
-            × Checked self.rules self.len level bytes.now rest }
         ensures writes { IfOk result (λ rest.
             Rewritten self.rules level bytes.now rest.now out.old.items out.new.items) }
-        ensures checked { IfOk result (λ rest.
-            Checked self.rules self.len level bytes.now rest.now) }
         ensures shorter { IfOk result (λ rest. length rest.now ≤ length members.now) }
-        ensures found { IfErr result (IsFoundAt self.rules self.len level bytes.now) }
     {
         let mut written = Vec::new(alloc);
         let mut number = 0;
@@ -159,16 +149,10 @@ impl Encoder {
         out: &mut Vec<u8>,
     ) -> Result<&'a [u8], ReencodeError>
         requires level { level ≤ deepest }
-        requires within { length bytes.now ≤ self.len }
         requires read { read_head bytes.now ≡ Ok (item_head.Map count, members.now) }
-        requires checked { (rest : List ℕ)
-            × Checked self.rules self.len level bytes.now rest }
         ensures writes { IfOk result (λ rest.
             Rewritten self.rules level bytes.now rest.now out.old.items out.new.items) }
-        ensures checked { IfOk result (λ rest.
-            Checked self.rules self.len level bytes.now rest.now) }
         ensures shorter { IfOk result (λ rest. length rest.now ≤ length members.now) }
-        ensures found { IfErr result (IsFoundAt self.rules self.len level bytes.now) }
     {
         let mut pairs = Vec::new(alloc);
         let mut rest = members;
@@ -199,21 +183,27 @@ impl Encoder {
         out: &mut Vec<u8>,
     ) -> Result<&'a [u8], ReencodeError>
         requires level { level ≤ deepest }
-        requires within { length bytes.now ≤ self.len }
         requires read { read_head bytes.now ≡ Ok (item_head.Tag tag width, content.now) }
-        requires checked { (rest : List ℕ)
-            × Checked self.rules self.len level bytes.now rest }
         ensures writes { IfOk result (λ rest.
             Rewritten self.rules level bytes.now rest.now out.old.items out.new.items) }
-        ensures checked { IfOk result (λ rest.
-            Checked self.rules self.len level bytes.now rest.now) }
         ensures shorter { IfOk result (λ rest. length rest.now ≤ length content.now) }
-        ensures found { IfErr result (IsFoundAt self.rules self.len level bytes.now) }
     {
         let mut item = Vec::new(alloc);
         let rest = self.push_item(alloc, level + 1, content, &mut item)?;
         self.push_tagged_item(out, tag, width, &item)?;
         Ok(rest)
+    }
+
+    /// The items, encoded again one after the other. What they are encoded to is not looked at.
+    pub fn items(self, alloc: Global, bytes: &[u8]) -> Result<Vec<u8>, ReencodeError>
+        ensures { IfOk result (λ out. Sequence self.rules bytes.now [] out.items) }
+    {
+        let mut out = Vec::new(alloc);
+        let mut rest = bytes;
+        'items: while !rest.is_empty() {
+            rest = self.push_item(alloc, 1, rest, &mut out)?;
+        }
+        Ok(out)
     }
 }
 
@@ -232,45 +222,6 @@ pub fn lasting(rules: Rules) -> Rules
     }
 }
 
-/// Writes the items one after the other.
-fn push_items(
-    alloc: Global,
-    bytes: &[u8],
-    rules: Rules,
-    out: &mut Vec<u8>,
-) -> Result<(), ReencodeError>
-    requires empty { out.old.items ≡ [] }
-    requires checked { first_breach (checked_rules rules) bytes.now ≡ None }
-    ensures is { IfOk result (λ x. IsReencoded rules bytes.now out.new.items) }
-    ensures found { IfErr result (IsStoppedBy rules bytes.now) }
-{
-    let encoder = Encoder {
-        rules,
-        len: bytes.len(),
-    };
-    let mut rest = bytes;
-    'items: while !rest.is_empty() {
-        rest = encoder.push_item(alloc, 1, rest, out)?;
-    }
-    Ok(())
-}
-
-/// Whether what was written keeps the rules whose check takes memory, too.
-fn check_written(alloc: Global, written: &[u8], rules: Rules) -> Result<(), ReencodeError>
-    requires { KeepsRules (without_memory rules) written.now }
-    ensures keeps { IfOk result (λ x. KeepsRules rules written.now) }
-    ensures found { (b : List ℕ) → IsReencoded rules b written.now
-        → IfErr result (IsStoppedBy rules b) }
-{
-    if !rules.nfc && !rules.distinct_keys {
-        return Ok(());
-    }
-    match breach_in(alloc, written, rules)? {
-        None => Ok(()),
-        Some(breach) => Err(ReencodeError::Written(breach)),
-    }
-}
-
 /// Encodes items again, where keys are compared only as the rules want them.
 pub fn encoded(alloc: Global, bytes: &[u8], rules: Rules) -> Result<Vec<u8>, ReencodeError>
     ensures is { IfOk result (λ out. IsReencoded rules bytes.now out.items) }
@@ -280,8 +231,6 @@ pub fn encoded(alloc: Global, bytes: &[u8], rules: Rules) -> Result<Vec<u8>, Ree
     ensures lasts { (b : Breach) → first_breach (lasting rules) bytes.now ≡ Some b
         → MatchResult result (λ out. ⊥)
         (λ e. (e ≡ ReencodeError.Breach b) ⊎ (e ≡ ReencodeError.Memory)) }
-    ensures found { first_breach (lasting rules) bytes.now ≡ None
-        → IfErr result (IsStoppedBy rules bytes.now) }
 {
     let Some(_) = breach_in(alloc, bytes, rules)? else {
         return Ok(Vec::from_slice(alloc, bytes)?);
@@ -289,8 +238,14 @@ pub fn encoded(alloc: Global, bytes: &[u8], rules: Rules) -> Result<Vec<u8>, Ree
     if let Some(found) = breach_in(alloc, bytes, lasting(rules))? {
         return Err(ReencodeError::Breach(found));
     }
-    let mut out = Vec::new(alloc);
-    push_items(alloc, bytes, rules, &mut out)?;
-    check_written(alloc, &out, rules)?;
-    Ok(out)
+    let encoder = Encoder {
+        rules,
+        len: bytes.len(),
+        keys_differ: true,
+    };
+    let out = encoder.items(alloc, bytes)?;
+    match breach_in(alloc, &out, rules)? {
+        None => Ok(out),
+        Some(breach) => Err(ReencodeError::Written(breach)),
+    }
 }

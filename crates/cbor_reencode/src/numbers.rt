@@ -6,7 +6,7 @@ ghost use Rattle.cbor_grammar.specs.Written.{encoded_head};
 ghost use Rattle.cbor_grammar.specs.mirror.MajorNumber.{major_number};
 ghost use Rattle.cbor_floats.specs.Preferred.{FitsWidth};
 ghost use Rattle.cbor_reencode.specs.Reduction.{big_endian, sized, without_zeros};
-ghost use Rattle.cbor_reencode.specs.mirror.Numbers.{big_content, tagged_bytes, plain, AreBytes};
+ghost use Rattle.cbor_reencode.specs.mirror.Numbers.{big_content, tagged_bytes, plain};
 ghost use Rattle.cbor_reencode.specs.mirror.Numbers.{FitsNumber};
 ghost use Rattle.cbor_reencode.specs.mirror.Numbers.{IsNumber, number_bytes};
 
@@ -137,9 +137,8 @@ impl Encoder {
         item: &[u8],
     ) -> Result<(), AllocError>
         requires { FitsStated width tag }
-        ensures writes { IfOk result (λ x. out.new.items
+        ensures { IfOk result (λ x. out.new.items
             ≡ out.old.items ++ tagged_bytes self.rules tag width item.now) }
-        ensures bytes { AreBytes item.now }
     {
         let Some(content) = self.big_content(tag, item) else {
             self.push_tag(out, tag, width)?;

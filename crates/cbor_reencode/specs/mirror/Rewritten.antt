@@ -1,31 +1,26 @@
 -- Encoding again: what was read, and what was written for it.
-use Rattle.std.specs.Prelude.{◌≡◌, ◌≢◌, slice_index_or, ℕ, ◌+◌, ◌<◌, List, [], ◌∷◌, ◌++◌, length}
-use Rattle.std.specs.List.{AllByRecursion, flat_map}
-use Rattle.std.specs.List.Sorted.{IsSortedBy}
-use Rattle.std.specs.Ordering.{is_lt}
-use Rattle.std.specs.declared.cmp.Ordering.TheVariants.{Less, Equal}
+use Rattle.std.specs.Prelude.{◌≡◌, ℕ, List, [], ◌∷◌, ◌++◌, length}
+use Rattle.std.specs.List.{flat_map}
 use Rattle.cbor_grammar.specs.declared.width.IntegerWidth.{IntegerWidth}
 use Rattle.cbor_grammar.specs.declared.argument.Argument.{Argument}
 use Rattle.cbor_grammar.specs.declared.argument.Argument.TheVariants.{Number, Indefinite}
 use Rattle.cbor_grammar.specs.declared.strings.StringKind.{StringKind}
+use Rattle.cbor_grammar.specs.StringKind.{IsContent}
 use Rattle.cbor_grammar.specs.Item.{Chunk, Atom, Item, Items, Pairs, no_pairs, pair, item_count, pair_count}
 use Rattle.cbor_grammar.specs.Head.{break_byte}
 use Rattle.cbor_grammar.specs.Bytes.{strict, ChunkThen, SpellsChunks, SpellsAtom, Spells, SpellsItems, SpellsPairs}
-use Rattle.cbor_grammar.specs.Written.{encoded}
 use Rattle.cbor_rules.specs.declared.rules.Rules.{Rules}
-use Rattle.cbor_rules.specs.declared.rules.KeyOrder.{KeyOrder}
-use Rattle.cbor_rules.specs.declared.rules.KeyOrder.TheVariants.{Any}
-use Rattle.cbor_reencode.specs.declared.error.ReencodeError.{ReencodeError}
-use Rattle.cbor_reencode.specs.declared.error.ReencodeError.TheVariants.{Memory, KeyTwice}
-use Rattle.cbor_rules.specs.KeyOrder.{key_cmp}
-use Rattle.cbor_rules.specs.Keeps.{KeepsChunk, KeepsAtom, KeepsItems, without_memory}
-use Rattle.cbor_rules.specs.FirstBreach.{place_of}
 use Rattle.cbor_rules.specs.Same.{said}
-use Rattle.cbor_reencode.specs.Reduction.{reduced_atom, SameNumbered}
-use Rattle.cbor_reencode.specs.Reencoded.{Again}
+use Rattle.cbor_reencode.specs.Reduction.{reduced_atom, IsSameNumbered, SameNumbered}
 use Rattle.cbor_reencode.specs.declared.pairs.Pair.{Pair}
 
 -- ---- strings
+
+-- a content of this many bytes at the front of the bytes
+pub record ContentAt (kind : StringKind) (n : ℕ) (b content rest : List ℕ) : Type 0 where
+  pub parts : b ≡ content ++ rest
+  pub size : length content ≡ n
+  pub holds : IsContent kind content
 
 -- a chunk of this content at the front of the bytes
 abbrev pub ChunkAt : StringKind → List ℕ → List ℕ → IntegerWidth → List ℕ → Type 0
@@ -48,10 +43,15 @@ pub record RewrittenChunks (rules : Rules) (kind : StringKind) (b rest old new :
   pub added : new ≡ old ++ bytes
   pub written : List Chunk
   pub written_spells : (end : List ℕ) → SpellsChunks kind (bytes ++ end) written end
-  pub keeps : AllByRecursion (KeepsChunk (without_memory rules) kind) written
   pub same : contents chunks ≡ contents written
 
 -- ---- items
+
+-- These bytes are an item at this level, and it is the same as this one.
+pub record Written (rules : Rules) (level : ℕ) (i : Item) (bytes : List ℕ) : Type 0 where
+  pub item : Item
+  pub spells : Spells strict level bytes item
+  pub same : IsSameNumbered rules i item
 
 -- an item at the front of b, for which bytes were appended
 pub record Rewritten (rules : Rules) (level : ℕ) (b rest old new : List ℕ) : Type 0 where
@@ -61,7 +61,7 @@ pub record Rewritten (rules : Rules) (level : ℕ) (b rest old new : List ℕ) :
   pub spells : Spells strict level front item
   pub bytes : List ℕ
   pub added : new ≡ old ++ bytes
-  pub again : Again rules level item bytes
+  pub again : Written rules level item bytes
 
 -- the same of an item that holds no item, at any level
 pub record RewrittenAtom (rules : Rules) (b rest old new : List ℕ) : Type 0 where
@@ -73,7 +73,6 @@ pub record RewrittenAtom (rules : Rules) (b rest old new : List ℕ) : Type 0 wh
   pub added : new ≡ old ++ bytes
   pub written : Atom
   pub written_spells : SpellsAtom strict bytes written
-  pub keeps : KeepsAtom (without_memory rules) written
   pub same : said rules.shortest_floats (reduced_atom rules atom)
       ≡ said rules.shortest_floats (reduced_atom rules written)
 
@@ -102,69 +101,33 @@ pub record RewrittenItems (rules : Rules) (level : ℕ) (a : Argument) (b rest o
   pub written : Items
   pub written_number : item_count written ≡ n
   pub written_spells : (end : List ℕ) → SpellsItems strict level (bytes ++ end) written end
-  pub keeps : KeepsItems (without_memory rules) level written
   pub same : SameNumbered rules items written
 
 -- what was written for a pair
 pub record PairIs (rules : Rules) (level : ℕ) (k v : Item) (p : Pair) : Type 0 where
-  pub key : Again rules level k p.key.items
-  pub value : Again rules level v p.value.items
+  pub key : Written rules level k p.key.items
+  pub value : Written rules level v p.value.items
 
 abbrev pub PairsAre : Rules → ℕ → Pairs → List Pair → Type 0
 PairsAre rules level no_pairs [] = Unit {0}
 PairsAre rules level (pair k v ps) (x ∷ xs) = PairIs rules level k v x × PairsAre rules level ps xs
 PairsAre rules level ps xs = ⊥
 
--- each key with how many bytes come before it, where this many come before the first
-abbrev pub PlacesAre : ℕ → Pairs → List Pair → Type 0
-PlacesAre start no_pairs [] = Unit {0}
-PlacesAre start (pair k v ps) (x ∷ xs) =
-    (x.place ≡ start) × PlacesAre (start + length (encoded k) + length (encoded v)) ps xs
-PlacesAre start ps xs = ⊥
-
 -- pairs, for which pairs were kept
-pub record RewrittenPairs (rules : Rules) (len level : ℕ) (a : Argument) (b rest : List ℕ) (old new : List Pair)
-    : Type 0 where
-  pub pairs : Pairs
-  pub front : List ℕ
-  pub parts : b ≡ front ++ rest
-  pub count : CountIs a (pair_count pairs)
-  pub spells : SpellsPairs strict level front pairs (close a)
-  pub kept : List Pair
-  pub added : new ≡ old ++ kept
-  pub are : PairsAre rules level pairs kept
-  pub places : PlacesAre (place_of len b) pairs kept
+pub record RewrittenPairs (rules : Rules) (level : ℕ) (a : Argument) (b rest : List ℕ) (old new : List Pair) : Type 0
+  where
+    pub pairs : Pairs
+    pub front : List ℕ
+    pub parts : b ≡ front ++ rest
+    pub count : CountIs a (pair_count pairs)
+    pub spells : SpellsPairs strict level front pairs (close a)
+    pub kept : List Pair
+    pub added : new ≡ old ++ kept
+    pub are : PairsAre rules level pairs kept
 
 -- the encoded pairs one after the other
 abbrev pub pair_bytes : List Pair → List ℕ
 pair_bytes xs = flat_map (λ p. p.key.items ++ p.value.items) xs
-
--- the first key comes before the second
-abbrev pub Rises : KeyOrder → Pair → Pair → Type 0
-Rises order x y = key_cmp order x.key.items y.key.items ≡ Less
-
--- where keys have an order, none comes before the one before it
-abbrev pub AreSorted : KeyOrder → List Pair → Type 0
-AreSorted order xs = order ≢ Any → IsSortedBy (λ x y. is_lt (key_cmp order x.key.items y.key.items)) xs
-
--- the places of two neighbours with one key
-pub record AreTwice (order : KeyOrder) (xs : List Pair) (first second : ℕ) : Type 0 where
-  pub ordered : order ≢ Any
-  pub index : ℕ
-  pub within : index + 1 < length xs
-  pub first_is : (d : Pair) → (slice_index_or xs index d).place ≡ first
-  pub second_is : (d : Pair) → (slice_index_or xs (index + 1) d).place ≡ second
-  pub same : (d : Pair)
-      → key_cmp order (slice_index_or xs index d).key.items (slice_index_or xs (index + 1) d).key.items ≡ Equal
-
-abbrev pub IsTwice : KeyOrder → List Pair → ReencodeError → Type 0
-IsTwice order xs (KeyTwice first second) = AreTwice order xs first second
-IsTwice order xs e = ⊥
-
--- why the pairs are not written
-abbrev pub IsStopped : KeyOrder → List Pair → ReencodeError → Type 0
-IsStopped order xs Memory = Unit {0}
-IsStopped order xs e = IsTwice order xs e
 
 -- items to the end, for which items were appended
 pub record Sequence (rules : Rules) (b old new : List ℕ) : Type 0 where
@@ -174,5 +137,4 @@ pub record Sequence (rules : Rules) (b old new : List ℕ) : Type 0 where
   pub added : new ≡ old ++ bytes
   pub written : Items
   pub written_spells : SpellsItems strict 1 bytes written []
-  pub keeps : KeepsItems (without_memory rules) 1 written
   pub same : SameNumbered rules items written

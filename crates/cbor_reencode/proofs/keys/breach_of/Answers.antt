@@ -1,10 +1,6 @@
--- Bytes that keep the rules are well-formed, and no keys are one where none are found.
+-- Bytes that keep the rules have no breach, and no keys are one where none are found.
 use Rattle.std.proofs.Common.{refl, sym, ◌∙◌}
-use Rattle.cbor_reencode.proofs.Formed.{well_formed}
 use Rattle.cbor_reencode.proofs.keys.breach_of.Goals as goal
-
-pub keys_twice-requires : goal.keys_twice-requires
-keys_twice-requires c = well_formed c.args.rules c.args.bytes.now (c.in_ok-found.ensures.none.0 c.in_default.is)
 
 pub returns-in_default-2-clause-is : goal.returns-in_default-2-clause-is
 returns-in_default-2-clause-is c = (

@@ -1,11 +1,6 @@
 -- What is written for the members that are left is written for all of them.
-use Rattle.std.proofs.Common.{◌≡◌, ◌≤◌, ◌+◌, ◌-◌, ◌*◌, ℕ, List, [], length}
-use Rattle.cbor_grammar.specs.mirror.Lengths.{left_of}
-use Rattle.cbor_grammar.proofs.bytes.Heads.{IsBytes}
-use Rattle.cbor_reencode.specs.declared.pairs.Pair.{Pair}
-use Rattle.cbor_reencode.specs.mirror.Checked.{MembersLeft, PairsLeft}
-use Rattle.cbor_reencode.specs.mirror.Rewritten.{RewrittenItems, RewrittenPairs}
-use Rattle.cbor_reencode.proofs.Inwards.{MembersInwards, PairsInwards}
+use Rattle.std.proofs.Common.{◌≡◌, ◌≤◌, ◌+◌, ◌-◌, ◌*◌, length}
+use Rattle.cbor_reencode.proofs.Containers.{ItemsMore, PairsMore}
 use Rattle.cbor_reencode.proofs.encoder.Encoder.+item.Given as goal
 
 abbrev pub decreases-push_item : goal.decreases-push_item
@@ -28,27 +23,14 @@ decreases-push_map-pairs l = length l.rest
 
 abbrev pub invariant-push_array-members : goal.invariant-push_array-members
 invariant-push_array-members l = record {
-  left : MembersLeft l.self.rules l.self.len l.level l.bytes l.count l.number l.rest;
   few : l.number + length l.rest ≤ length l.members;
-  within : length l.rest ≤ l.self.len;
-  fits : IsBytes l.rest;
   untouched : l.out.items ≡ l.fn.out.items;
-  more : (after new : List ℕ) (n : ℕ)
-      → RewrittenItems l.self.rules (l.level + 1) (left_of l.count l.number) l.rest after l.written.items new n
-      → RewrittenItems l.self.rules (l.level + 1) l.count l.members after [] new (l.number + n);
-  twice : MembersInwards l.self.rules l.self.len l.level l.bytes l.count l.number l.members l.rest;
+  more : ItemsMore l.self.rules (l.level + 1) l.count l.number l.members l.rest l.written.items;
 }
 
 abbrev pub invariant-push_map-pairs : goal.invariant-push_map-pairs
 invariant-push_map-pairs l = record {
-  left : PairsLeft l.self.rules l.self.len l.level l.bytes l.count (length l.pairs.items) l.rest;
   few : length l.pairs.items + length l.rest ≤ length l.members;
-  within : length l.rest ≤ l.self.len;
-  fits : IsBytes l.rest;
   untouched : l.out.items ≡ l.fn.out.items;
-  more : (after : List ℕ) (new : List Pair)
-      → RewrittenPairs l.self.rules l.self.len (l.level + 1) (left_of l.count (length l.pairs.items)) l.rest after
-      l.pairs.items new
-      → RewrittenPairs l.self.rules l.self.len (l.level + 1) l.count l.members after [] new;
-  twice : PairsInwards l.self.rules l.self.len l.level l.bytes l.count (length l.pairs.items) l.members l.rest;
+  more : PairsMore l.self.rules (l.level + 1) l.count l.members l.rest l.pairs.items;
 }

@@ -10,9 +10,7 @@ use Rattle.cbor_grammar.proofs.bytes.Heads.{head_takes, IsBytes, HeadIs}
 use Rattle.cbor_floats.specs.declared.float.EncodedFloat.{EncodedFloat}
 use Rattle.cbor_reencode.specs.mirror.Numbers.{IsNumber}
 use Rattle.std.proofs.Common.{None}
-use Rattle.cbor_rules.specs.declared.rules.Rules.{Rules}
-use Rattle.cbor_rules.specs.FirstBreach.{head_breach, simple_breach}
-use Rattle.cbor_reencode.specs.mirror.Checked.{checked_rules, CheckedHead}
+use Rattle.cbor_rules.specs.FirstBreach.{two_byte_breach}
 use Rattle.cbor_reencode.proofs.Atoms.{integer_again, negative_again, simple_again, number_again}
 use Rattle.cbor_reencode.proofs.encoder.Encoder.push_atom.Goals as goal
 use Rattle.cbor_reencode.proofs.encoder.Encoder.push_atom.Goals.{in-Integer+in_ok-push_number-in-Integer}
@@ -28,11 +26,6 @@ float_fits bits float_width.Unknown b rest h = absurd h
 float_fits bits float_width.Sixteen b rest h = h.0
 float_fits bits float_width.ThirtyTwo b rest h = h.0
 float_fits bits float_width.SixtyFour b rest h = h.0
-
-simple_kept : (rules : Rules) (n : ℕ) (h : ItemHead) (b rest : List ℕ) → h ≡ item_head.Simple n
-    → CheckedHead rules b h rest → simple_breach (checked_rules rules) n b ≡ None
-simple_kept rules n h b rest is c =
-    subst (λ (x : ItemHead). head_breach (checked_rules rules) c.0 b x rest ≡ None) is c.1
 
 pub push_number-requires : goal.push_number-requires
 push_number-requires c =
@@ -77,6 +70,6 @@ returns-clause-writes c =
       | in-Simple+in_ok-push_simple-in-Simple w ↦
           rw w.out-is (simple_again rules w.in-Simple.value b rest old w.push_simple.new.out.items
           (head_at c.args.head _ b rest fits c.requires.read w.in-Simple.is)
-          (simple_kept rules w.in-Simple.value c.args.head b rest w.in-Simple.is c.requires.head)
+          (short_simple c.is_long_simple.result b ? ?)
           w.in_ok-push_simple-in-Simple.ensures)
     ]

@@ -1,6 +1,5 @@
 -- What is written for the chunks that are left is written for all of them.
 use Rattle.std.proofs.Common.{◌≤◌, ℕ, List, length}
-use Rattle.cbor_reencode.specs.mirror.Checked.{CheckedChunks}
 use Rattle.cbor_reencode.specs.mirror.Rewritten.{RewrittenChunks}
 use Rattle.cbor_reencode.proofs.encoder.Encoder.push_chunks.Given as goal
 
@@ -12,6 +11,4 @@ invariant-chunks l = record {
   shorter : length l.rest ≤ length l.bytes;
   more : (after new : List ℕ) → RewrittenChunks l.self.rules l.kind l.rest after l.out.items new
       → RewrittenChunks l.self.rules l.kind l.bytes after l.fn.out.items new;
-  same : (after : List ℕ) → CheckedChunks l.self.rules l.self.len l.kind l.bytes after
-      → CheckedChunks l.self.rules l.self.len l.kind l.rest after;
 }

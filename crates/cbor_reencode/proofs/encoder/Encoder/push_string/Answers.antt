@@ -1,17 +1,15 @@
 -- A string is written as its length says.
-use Rattle.std.proofs.Common.{◌≡◌, ℕ, List, [], ◌∷◌, ◌++◌, length, drop, sym, ap, subst, ◌∙◌, arith, Ok}
+use Rattle.std.proofs.Common.{◌≡◌, ℕ, List, [], ◌∷◌, ◌++◌, length, sym, ap, subst, ◌∙◌, arith, Ok}
 use Rattle.cbor_grammar.specs.declared.width.IntegerWidth.{IntegerWidth}
 use Rattle.cbor_grammar.specs.declared.argument.Argument.{Argument}
 use Rattle.cbor_grammar.specs.declared.head.ItemHead.TheVariants as item_head
 use Rattle.cbor_grammar.specs.declared.strings.StringKind.{StringKind}
-use Rattle.cbor_grammar.specs.StringKind.{major_of, IsContent}
+use Rattle.cbor_grammar.specs.StringKind.{major_of}
 use Rattle.cbor_grammar.specs.Head.{FitsStated, shortest, opening}
 use Rattle.cbor_grammar.specs.Reading.{read_head}
 use Rattle.cbor_grammar.specs.Written.{encoded_head}
 use Rattle.cbor_grammar.proofs.bytes.Heads.{head_takes, IsBytes, ArgumentThen}
 use Rattle.cbor_reencode.specs.mirror.Rewritten.{Joined}
-use Rattle.std.proofs.lemmas.List.{take-append-drop}
-use Rattle.cbor_reencode.proofs.Checked.{string_content, string_chunks}
 use Rattle.cbor_reencode.proofs.Atoms.{string_again, joined_again, chunked_again}
 use Rattle.cbor_reencode.proofs.encoder.Encoder.push_string.Goals as goal
 
@@ -25,54 +23,26 @@ head_at kind size a b rest fits read is =
 pub width-requires : goal.width-requires
 width-requires c =
     (head_at c.args.kind c.args.size _ c.args.bytes.now c.args.rest.now (λ i. omega (arith, c.type_inv.bytes i))
-    c.requires.read c.in-Number.is).0
-
-pub split_at-requires : goal.split_at-requires
-split_at-requires c =
-    (string_content c.args.self.rules c.args.self.len c.args.bytes.now c.args.kind c.args.size c.in-Number.count
-    c.in-Number.width c.args.rest.now c.requires.checked.0 c.in-Number.is c.requires.checked.1).fits
+    c.requires c.in-Number.is).0
 
 pub returns-in_ok-push_content-in-Number-clause-writes : goal.returns-in_ok-push_content-in-Number-clause-writes
 returns-in_ok-push_content-in-Number-clause-writes c =
     let kind = c.args.kind in
-    let n = c.in-Number.count in
     let r = c.args.rest.now in
-    let h = head_at kind c.args.size _ c.args.bytes.now r (λ i. omega (arith, c.type_inv.bytes i)) c.requires.read
+    let h = head_at kind c.args.size _ c.args.bytes.now r (λ i. omega (arith, c.type_inv.bytes i)) c.requires
     c.in-Number.is in
-    let t = string_content c.args.self.rules c.args.self.len c.args.bytes.now kind c.args.size n c.in-Number.width r
-    c.requires.checked.0 c.in-Number.is c.requires.checked.1 in
-    let content = c.split_at.result.0.now in
-    let s = c.split_at.ensures in
-    let parts = sym (take-append-drop n r) ∙ ap (λ (x : List ℕ). x ++ drop n r) (sym s.front)
-    ∙ ap (λ (x : List ℕ). content ++ x) (sym s.back) in
-    let holds = subst (λ (x : List ℕ). IsContent kind x) (sym s.front) t.content in
+    let t = c.in_ok-content-after in
+    let content = t.content.now in
     let is = c.in_ok-push_content-in-Number.ensures ∙ ap (λ (w : IntegerWidth). c.args.out.now.items
     ++ (encoded_head (major_of kind) (length content) w ++ content)) c.width.ensures.is in
-    string_again c.args.self.rules kind n c.in-Number.width c.args.bytes.now r content c.split_at.result.1.now
-    c.args.out.now.items c.push_content.new.out.items h parts s.front_len holds is
-
-pub returns-in_ok-push_content-in-Number-clause-checked : goal.returns-in_ok-push_content-in-Number-clause-checked
-returns-in_ok-push_content-in-Number-clause-checked c = λ after checked.
-    c.split_at.ensures.back ∙ (string_content c.args.self.rules c.args.self.len c.args.bytes.now c.args.kind c.args.size
-    c.in-Number.count c.in-Number.width c.args.rest.now after c.in-Number.is checked).rest_is
-
-pub returns-in_ok-push_content-in-Indefinite-clause-checked :
-    goal.returns-in_ok-push_content-in-Indefinite-clause-checked
-returns-in_ok-push_content-in-Indefinite-clause-checked c = λ after checked.
-    c.in_ok-after-in-Indefinite.ensures.checked after (string_chunks c.args.self.rules c.args.self.len c.args.bytes.now
-    c.args.kind c.args.size c.args.rest.now after c.in-Indefinite.is checked)
-
-pub returns-in_ok-push_close-in-Indefinite-2-clause-checked :
-    goal.returns-in_ok-push_close-in-Indefinite-2-clause-checked
-returns-in_ok-push_close-in-Indefinite-2-clause-checked c = λ after checked.
-    c.in_ok-after-in-Indefinite-2.ensures.checked after (string_chunks c.args.self.rules c.args.self.len
-    c.args.bytes.now c.args.kind c.args.size c.args.rest.now after c.in-Indefinite-2.is checked)
+    string_again c.args.self.rules kind c.in-Number.count c.in-Number.width c.args.bytes.now r content t.after.now
+    c.args.out.now.items c.push_content.new.out.items h t.ensures.parts t.ensures.size t.ensures.holds is
 
 pub returns-in_ok-push_content-in-Indefinite-clause-writes :
     goal.returns-in_ok-push_content-in-Indefinite-clause-writes
 returns-in_ok-push_content-in-Indefinite-clause-writes c =
     let h = head_at c.args.kind c.args.size _ c.args.bytes.now c.args.rest.now
-    (λ i. omega (arith, c.type_inv.bytes i)) c.requires.read c.in-Indefinite.is in
+    (λ i. omega (arith, c.type_inv.bytes i)) c.requires c.in-Indefinite.is in
     let after = c.in_ok-after-in-Indefinite.after.now in
     let content = c.deref.result.now in
     let len : c.len.result ≡ length content = omega (arith, c.len.ensures, c.deref.ensures.len) in
@@ -95,7 +65,7 @@ pub returns-in_ok-push_close-in-Indefinite-2-clause-writes :
     goal.returns-in_ok-push_close-in-Indefinite-2-clause-writes
 returns-in_ok-push_close-in-Indefinite-2-clause-writes c =
     let h = head_at c.args.kind c.args.size _ c.args.bytes.now c.args.rest.now
-    (λ i. omega (arith, c.type_inv.bytes i)) c.requires.read c.in-Indefinite-2.is in
+    (λ i. omega (arith, c.type_inv.bytes i)) c.requires c.in-Indefinite-2.is in
     let opened = c.in_ok-push_open-in-Indefinite-2.ensures
     ∙ ap (λ m. c.args.out.now.items ++ (opening m ∷ [])) c.major.ensures in
     chunked_again c.args.self.rules c.args.kind c.args.bytes.now c.args.rest.now c.in_ok-after-in-Indefinite-2.after.now

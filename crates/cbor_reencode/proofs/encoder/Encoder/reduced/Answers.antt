@@ -1,6 +1,5 @@
 -- What is wrong with a float says what is written for it.
 use Rattle.std.proofs.Common.{◌≡◌, Bool, true, false, not, Some, refl, sym, ap, ◌∙◌}
-use Rattle.cbor_rules.proofs.Floats.{reduced_found}
 use Rattle.cbor_reencode.proofs.Reductions.{chosen_number, integer_number, nan_number, found_integer, found_nan}
 use Rattle.cbor_reencode.specs.Reduction.{sized}
 use Rattle.cbor_reencode.proofs.encoder.Encoder.reduced.Goals as goal
@@ -29,4 +28,3 @@ returns-in_default-kind c =
 pub returns-in_default : goal.returns-in_default
 returns-in_default c =
     chosen_number c.args.self.rules c.args.float c.float-in_default.result c.float-in_default.ensures
-    (λ on. reduced_found c.args.float (sym c.reduced_breach.ensures ∙ c.in_default.is))

@@ -1,8 +1,7 @@
 -- What is appended for the chunks that are left is appended for all of them.
 use Rattle.std.proofs.Common.{◌≤◌, ℕ, List, length}
-use Rattle.cbor_reencode.specs.mirror.Checked.{CheckedChunks}
 use Rattle.cbor_reencode.specs.mirror.Rewritten.{Joined}
-use Rattle.cbor_reencode.proofs.encoder.Encoder.push_joined.Given as goal
+use Rattle.cbor_reencode.proofs.scalars.push_joined.Given as goal
 
 abbrev pub decreases-chunks : goal.decreases-chunks
 decreases-chunks l = length l.rest
@@ -12,6 +11,4 @@ invariant-chunks l = record {
   shorter : length l.rest ≤ length l.bytes;
   more : (after new : List ℕ) → Joined l.kind l.rest after l.content.items new
       → Joined l.kind l.bytes after l.fn.content.items new;
-  same : (after : List ℕ) → CheckedChunks l.self.rules l.self.len l.kind l.bytes after
-      → CheckedChunks l.self.rules l.self.len l.kind l.rest after;
 }
