@@ -244,11 +244,8 @@ static inline int64_t cbor_diag_extent_checked(const void *input, size_t input_l
  *   cbor_diag_extent. It is the end of bytes that are cut, and the first byte after an item that is not the last.
  * - In hex it is the first digit of that byte; or the digit that is wrong, which is the last of an odd number; or the
  *   end of a text whose bytes are cut.
- * - In notation it is the last of the first bytes after which no notation can follow; or the end of a text that may
- *   only be cut short. It may be inside a character. It is proved that no notation begins with the bytes up to it, or
- *   that it is the end of a text that is none; the rest is tested.
- * - In EDN it is where the reader stops: no EDN goes on so. It is proved to be in the text or at its end; the rest is
- *   tested.
+ * - In notation and EDN it is where the reader stops: before the first byte with which the text cannot go on, or at
+ *   the end of a text that is only truncated. It is proved to be in the text or at its end; the rest is tested.
  * - In hex, notation or EDN that is not UTF-8 it is the first byte that is not.
  *
  * `input` may be null if its length is 0, and `place` may be null.

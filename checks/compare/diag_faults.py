@@ -1,7 +1,8 @@
 """Where a text stops being notation: docs/NOTATION.md, "Errors".
 
 A front of a text is looked at alone. If reading it fails, and it had looked past the end of the front, then more text
-could go on so, and the front is only cut. The fault is shown by the shortest front of which this is not so.
+could go on so, and the front is only cut. The place is before the last character of the shortest front of which this is
+not so, or at the end of a text that is only cut.
 """
 
 import re
@@ -138,10 +139,9 @@ def diag_fault(text):
     if whole:
         return set(), 0
     if goes_on:
-        return {"CutShort"}, len(utf8(text))
+        return allowed_refusals(text), len(utf8(text))
     good, bad = 0, len(text)
     while bad - good > 1:
         half = (good + bad) // 2
         good, bad = (half, bad) if reads(text[:half])[1] else (good, half)
-    # the first byte of a character that is wrong shows it
-    return allowed_refusals(text), len(utf8(text[:bad - 1])) + 1
+    return allowed_refusals(text), len(utf8(text[:bad - 1]))

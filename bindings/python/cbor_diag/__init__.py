@@ -238,10 +238,9 @@ class CborDiagError(ValueError):
 
     The fault is the byte that no item can have there; the last byte of a text that is not UTF-8; the end of what is cut
     short; or the first byte after the item. In hex it is the first digit of that byte, or the digit that is wrong,
-    which is the last of an odd number. In notation it is where no notation can go on so, or the end of a text that may
-    only be cut short; it is proved that no notation begins with the bytes up to it, or that it is the end of a text
-    that is none. In EDN it is where the reader stops. In hex, notation or EDN that is not UTF-8 it is the first
-    byte that is not.
+    which is the last of an odd number. In notation and EDN it is where the reader stops: before the first byte with
+    which the text cannot go on, or at the end of a text that is only truncated. In hex, notation or EDN that is not
+    UTF-8 it is the first byte that is not.
 
     `path` leads to the item that is cut or has the fault, in steps joined by `/`, as `cborcat -p` reads them; `/` is the
     outermost item. It is `None` where there is none: in notation, EDN and hex whose digits are wrong, where more bytes

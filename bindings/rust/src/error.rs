@@ -91,10 +91,9 @@ impl Error {
     ///
     /// In bytes the fault is the byte that no item can have there, or the last byte of a text that is not UTF-8; the
     /// end of bytes that are cut short; or the first byte after an item that is not the last. In hex it is the first
-    /// digit of that byte; or the digit that is wrong, which is the last of an odd number. In notation it is where no
-    /// notation can go on so, or the end of a text that may only be cut short; it is proved that no notation begins
-    /// with the bytes up to it, or that it is the end of a text that is none. In EDN it is where the reader stops.
-    /// In hex, notation or EDN that is not UTF-8 it is the first byte that is not.
+    /// digit of that byte; or the digit that is wrong, which is the last of an odd number. In notation and EDN it is
+    /// where the reader stops: before the first byte with which the text cannot go on, or at the end of a text that is
+    /// only truncated. In hex, notation or EDN that is not UTF-8 it is the first byte that is not.
     ///
     /// Returns `None` if the input does not have this error, and if memory runs out.
     ///

@@ -3,16 +3,4 @@ pub mod Errors
 pub mod Loops
 pub mod Cores
 pub mod PublicReader
-pub mod GrownTokens
-pub mod DeadTokens
-pub mod LaterNumbers
-pub mod DeadNumbers
-pub mod DeadWords
-pub mod GrownReads
-pub mod GrownLists
-pub mod GrownStrings
-pub mod GrownItems
-pub mod DeadItems
-pub mod DeadCores
-pub mod Stops
 pub mod SoFar

@@ -1,7 +1,6 @@
 pub mod View
 pub mod mirror
 pub mod ItemAnswer
-pub mod DeadEnd
 pub mod Output
 -- what the crates below define, for callers
 pub use Rattle.cbor_grammar.specs.Answer

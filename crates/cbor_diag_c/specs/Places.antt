@@ -7,7 +7,6 @@ use Rattle.cbor_grammar.specs.declared.error.Error.{Error}
 use Rattle.cbor_grammar.specs.declared.error.Error.TheVariants as refusal
 use Rattle.cbor_grammar.specs.Item.{Item}
 use Rattle.cbor_grammar.specs.Facts.{BeginsWithItem, IsCut}
-use Rattle.cbor_diag.specs.DeadEnd.{IsDiagFault}
 use Rattle.cbor_bytes.specs.Extent.{FaultEnds}
 use Rattle.cbor_grammar.specs.HexText.{IsKeptByte, IsHexFault}
 use Rattle.cbor_grammar.specs.Refusals.{number_of}
@@ -42,28 +41,21 @@ IsHexPlace text e place =
     ⊎ ((bytes : List ℕ) × (n : ℕ) × (decode_of (uncommented text) ≡ Ok bytes)
     × IsBytesPlace bytes e n × IsDigitsPlace text n place)
 
--- In notation: the last of the first bytes that have a fault; or the end of a text that is cut short.
-abbrev pub IsDiagPlace : List ℕ → ℕ → Type 0
-IsDiagPlace text place =
-    ((place ≡ length text) × IsDiagFault text refusal.CutShort (length text))
-    ⊎ ((e : Error) × (e ≢ refusal.CutShort) × IsDiagFault text e (place + 1))
+-- In notation and EDN: after the longest front that is UTF-8, or in the text.
+abbrev pub IsTextPlace : List ℕ → ℕ → Type 0
+IsTextPlace input place =
+    (¬ IsUtf8 input × IsValidUpTo input place) ⊎ (IsUtf8 input × (place ≤ length input))
 
--- In text: after the longest front that is UTF-8, or where the text is no item in its form.
+-- In bytes, hex or notation. Hex that is not UTF-8 is wrong after the longest front that is.
 abbrev pub IsPlainPlace : Source → List ℕ → Error → ℕ → Type 0
 IsPlainPlace source.Bytes input e place = IsBytesPlace input e place
 IsPlainPlace source.Hex input e place =
     (¬ IsUtf8 input × IsValidUpTo input place) ⊎ (IsUtf8 input × IsHexPlace input e place)
-IsPlainPlace source.Diag input e place =
-    (¬ IsUtf8 input × IsValidUpTo input place) ⊎ (IsUtf8 input × IsDiagPlace input place)
-
--- In EDN: after the longest front that is UTF-8, or in the text.
-abbrev pub IsEdnPlace : List ℕ → ℕ → Type 0
-IsEdnPlace input place =
-    (¬ IsUtf8 input × IsValidUpTo input place) ⊎ (IsUtf8 input × (place ≤ length input))
+IsPlainPlace source.Diag input e place = IsTextPlace input place
 
 abbrev pub IsPlace : Form → List ℕ → Error → ℕ → Type 0
 IsPlace (form.Plain f) input e place = IsPlainPlace (read_as f) input e place
-IsPlace (form.Text t) input e place = IsEdnPlace input place
+IsPlace (form.Text t) input e place = IsTextPlace input place
 
 -- the input is an item in the form of this number
 abbrev pub IsItemIn : ℕ → List ℕ → Type 0

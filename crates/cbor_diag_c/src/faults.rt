@@ -3,21 +3,19 @@ ghost use Rattle.std.specs.Prelude.{◌≡◌, ◌≢◌, negsuc, None, IfSome, 
 ghost use Rattle.cbor_grammar.specs.Item.{Item};
 ghost use Rattle.cbor_grammar.specs.Facts.{IsItem, IsNoItem};
 ghost use Rattle.cbor_grammar.specs.HexText.{IsHexOf, IsHexRefused};
-ghost use Rattle.cbor_grammar.specs.Notation.{IsNotation};
-ghost use Rattle.cbor_grammar.specs.NotationRefused.{IsNoNotation};
 ghost use Rattle.cbor_diag.specs.Output.{Reads, Refuses};
 ghost use Rattle.cbor_diag_c.specs.Forms.{form_number, IsEdn, IsNoEdn, IsNoForm, IsRefusedIn};
 ghost use Rattle.cbor_diag_c.specs.Forms.{ReadsIn};
 ghost use Rattle.cbor_diag_c.specs.Answers.{IfLength, IfError};
 ghost use Rattle.cbor_diag_c.specs.Places.{no_place, IsBytesPlace, IsDigitsPlace, IsHexPlace};
-ghost use Rattle.cbor_diag_c.specs.Places.{IsDiagPlace, IsEdnPlace, IsPlainPlace};
-ghost use Rattle.cbor_diag_c.specs.Places.{IsPlace, IsItemIn, IsFaultIn};
+ghost use Rattle.cbor_diag_c.specs.Places.{IsTextPlace, IsPlainPlace, IsPlace, IsItemIn};
+ghost use Rattle.cbor_diag_c.specs.Places.{IsFaultIn};
 
 use crate::answer::refused;
 use crate::edn::edn_error;
 use crate::form::{Form, NO_FORM, read_as};
 use cbor_bytes::{Extent, extent, hex_bytes, hex_fault, hex_place};
-use cbor_diag::{Source, diag_fault, parse_diag};
+use cbor_diag::{Source, diag_fault};
 use cbor_edn_grammar::error::EdnError;
 use cbor_grammar::Error;
 use std::alloc::Global;
@@ -78,42 +76,11 @@ fn in_hex(alloc: Global, text: &str) -> Result<Fault, Error>
     }
 }
 
-/// The fault of notation. The only error is `Memory`.
-#[tactic(auto, using(crate::proofs::Refusals::diag_laws))]
-fn in_diag(alloc: Global, text: &str) -> Result<Fault, Error>
-    ensures none { IfOk result (λ f. f ≡ None → (i : Item) × IsNotation text.now i) }
-    ensures refused { IfOk result (λ f. IfSome f (λ x. IsNoNotation text.now x.0)) }
-    ensures place { IfOk result (λ f. IfSome f (λ x. IsDiagPlace text.now x.1)) }
-    ensures memory { IfErr result (λ e. e ≡ Error.Memory) }
-{
-    match diag_fault(alloc, text)? {
-        None => Ok(None),
-        Some((Error::CutShort, _)) => in_cut_diag(alloc, text),
-        Some((error, end)) => Ok(Some((error, end.saturating_sub(1)))),
-    }
-}
-
-/// The fault of notation that may only be cut short: what `parse_diag` calls it, at its end. The
-/// only error is `Memory`.
-#[tactic(auto, using(crate::proofs::Refusals::end_place))]
-fn in_cut_diag(alloc: Global, text: &str) -> Result<Fault, Error>
-    ensures none { IfOk result (λ f. f ≡ None → (i : Item) × IsNotation text.now i) }
-    ensures refused { IfOk result (λ f. IfSome f (λ x. IsNoNotation text.now x.0)) }
-    ensures place { IfOk result (λ f. IfSome f (λ x. IsDiagPlace text.now x.1)) }
-    ensures memory { IfErr result (λ e. e ≡ Error.Memory) }
-{
-    match parse_diag(alloc, text) {
-        Ok(_) => Ok(None),
-        Err(Error::Memory) => Err(Error::Memory),
-        Err(error) => Ok(Some((error, text.len()))),
-    }
-}
-
 /// The fault of EDN. The only error is `Memory`.
 fn in_edn(alloc: Global, input: &[u8]) -> Result<Fault, Error>
     ensures none { IfOk result (λ f. f ≡ None → (i : Item) × IsEdn input.now i) }
     ensures refused { IfOk result (λ f. IfSome f (λ x. IsNoEdn input.now x.0)) }
-    ensures place { IfOk result (λ f. IfSome f (λ x. IsEdnPlace input.now x.1)) }
+    ensures place { IfOk result (λ f. IfSome f (λ x. IsTextPlace input.now x.1)) }
     ensures memory { IfErr result (λ e. e ≡ Error.Memory) }
 {
     let text = match str::from_utf8(input) {
@@ -141,7 +108,7 @@ fn in_plain(alloc: Global, from: Source, input: &[u8]) -> Result<Fault, Error>
             Err(error) => Ok(Some((Error::Utf8, error.valid_up_to()))),
         },
         Source::Diag => match str::from_utf8(input) {
-            Ok(text) => in_diag(alloc, text),
+            Ok(text) => diag_fault(alloc, text),
             Err(error) => Ok(Some((Error::Utf8, error.valid_up_to()))),
         },
     }
@@ -171,10 +138,9 @@ pub(crate) fn fault(alloc: Global, from: Form, input: &[u8]) -> Result<Fault, Er
 /// In bytes it is the last of the first bytes that have the error, as `cbor_diag_extent` counts
 /// them; their end if they are cut; or the end of the item if more follow. In hex it is the first
 /// digit of that byte; or the digit that is wrong, which is the last one of an odd number. In
-/// notation it is the last of the first bytes after which no notation can follow, or the end of a
-/// text that may only be cut short. That these bytes are the fewest is in no clause. In EDN it is
-/// where the reader stops; the clause says that it is in the text or at its end. In a text that is
-/// not UTF-8 it is the end of the longest front that is.
+/// notation and EDN it is where the reader stops: before the first byte with which the text cannot
+/// go on, or at the end of a text that is only truncated. The clause says that it is in the text or
+/// at its end. In a text that is not UTF-8 it is the end of the longest front that is.
 #[unsafe(no_mangle)]
 #[tactic(auto, using(crate::proofs::FormNumbers::number_laws))]
 pub extern "C" fn cbor_diag_fault(alloc: Global, from: u32, input: &[u8], place: &mut usize) -> i64

@@ -142,9 +142,9 @@ fn of_digits_and_notation(rt: &impl Abort, alloc: Global) -> Result<(), Fail> {
     let bytes = hex_bytes(alloc, "82 01 # one of two")?;
     assert_eq!(rt; bytes.as_slice(), b"\x82\x01".as_slice());
     // After `1` the text cannot go on with `.`.
-    assert_eq!(rt; diag_fault(alloc, "[1.5]")?, Some((Error::Notation, 3)));
-    assert_eq!(rt; diag_fault(alloc, "[300_0]")?, Some((Error::PastWidth, 7)));
-    assert_eq!(rt; diag_fault(alloc, "[1, 2")?, Some((Error::CutShort, 5)));
+    assert_eq!(rt; diag_fault(alloc, "[1.5]")?, Some((Error::Notation, 2)));
+    assert_eq!(rt; diag_fault(alloc, "[300_0]")?, Some((Error::PastWidth, 6)));
+    assert_eq!(rt; diag_fault(alloc, "[1, 2")?, Some((Error::Notation, 5)));
     assert_eq!(rt; diag_fault(alloc, "[1, 2]")?, None);
     Ok(())
 }

@@ -1,27 +1,15 @@
 -- Reading notation part by part: what a reader returns after an error of a callee, or after what a callee returned.
-use Rattle.std.proofs.Common.{◌≡◌, ◌≢◌, ◌<◌, ℕ, List, length, map, ◌++◌, ◌∷◌, [], Result, Ok, Err, sym, subst, ◌∙◌}
+use Rattle.std.proofs.Common.{◌≡◌, List, map, ◌++◌, ◌∷◌, [], Result, Ok, Err, sym, subst}
 use Rattle.std.proofs.lemmas.List.{map_push}
 use Rattle.std.specs.Prelude.{IsErrAnd}
 use Rattle.cbor_grammar.specs.declared.error.Error.{Error}
-use Rattle.cbor_grammar.specs.declared.error.Error.TheVariants as refusal
 use Rattle.cbor_grammar.specs.Reading.{Fails, Gives}
-use Rattle.cbor_diag.specs.mirror.DeadEnds.{Stuck}
 
 -- the error that a `?` passes on
 pub error_given : {X Y : Type 0} (f : X → Y) (e : Error) (read : Result Y Error) (r : Result X Error)
     → IsErrAnd r (λ y. y ≡ e) → Fails e read → Gives f r read
 error_given f e read (Ok x) is h = absurd is
 error_given f e read (Err y) is h = subst (λ (d : Error). Fails d read) (sym is) h
-
-pub error_stuck : {X P Q : Type 0} {e : Error} (r : Result X Error) (rest : List ℕ) → IsErrAnd r (λ y. y ≡ e)
-    → (P → Q) → (e ≢ refusal.Memory → 0 < length rest → P) → Stuck r rest Q
-error_stuck (Ok x) rest is f h = absurd is
-error_stuck (Err y) rest is f h = λ real some. f (h (λ m. real (is ∙ m)) some)
-
--- what a callee's answer says, said of what it is part of
-pub stuck_from : {X P Q : Type 0} (r : Result X Error) (rest : List ℕ) → (P → Q) → Stuck r rest P → Stuck r rest Q
-stuck_from (Ok x) rest f h = tt
-stuck_from (Err e) rest f h = λ real some. f (h real some)
 
 -- a list of values, one longer, as a list of what they stand for
 pub pushed_view : {A B : Type 0} (f : A → B) (held new : List A) (x : A) → new ≡ held ++ x ∷ []

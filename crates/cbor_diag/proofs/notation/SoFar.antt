@@ -9,25 +9,12 @@ use Rattle.cbor_grammar.specs.Reading.{Read, Fails}
 use Rattle.cbor_notation.specs.mirror.NotationReading.{or_refused, after_byte, after_end, skip_blank, first_start}
 use Rattle.cbor_notation.specs.mirror.NotationReading.{members_from, read_members, read_item, begins_piece, read_piece}
 use Rattle.cbor_notation.specs.mirror.NotationReading.{read_pieces, read_pair, read_chunk}
-use Rattle.cbor_diag.specs.mirror.DeadEnds.{NeverReads, NeverBegins, NeverListed, NeverPieces, Open, is_firm}
 use Rattle.cbor_diag.proofs.notation.ChunkLoops.{onto}
 use Rattle.cbor_diag.proofs.notation.Loops.{members_begin, member_fails, member_last, no_comma}
 use Rattle.cbor_diag.proofs.notation.Loops.{member_more}
 use Rattle.cbor_diag.proofs.notation.Cores.{pieces_begin, pieces_end, piece_fails, piece_more}
-use Rattle.cbor_diag.proofs.notation.GrownReads.{Grows, Begins}
-use Rattle.cbor_diag.proofs.notation.GrownItems.{item_grows, item_begins}
-use Rattle.cbor_diag.proofs.notation.GrownLists.{pair_grows, pair_begins}
-use Rattle.cbor_diag.proofs.notation.GrownStrings.{chunk_grows, chunk_begins}
-use Rattle.cbor_diag.proofs.notation.DeadItems.{member_dead, piece_dead, pieces_next}
-use Rattle.cbor_diag.proofs.notation.Stops.{list_dead, no_comma_dead, next_dead, piece_ends}
 
 -- ---- the members of a list
-
--- a list that is not closed before any member
-module _ {X : Type 0} (read : List ℕ → Read X) (close : ℕ) (text : List ℕ) {core rest : List ℕ}
-    (blank : core ≡ skip_blank text) (none : (after_end close core ≡ None) × (rest ≡ core)) where
-  pub first_stuck : Open close rest → NeverListed read close rest → NeverBegins (read_members read close) text
-  first_stuck = list_dead read close text rest (none.1 ∙ blank)
 
 pub record ListSoFar {X : Type 0} (read : List ℕ → Read X) (close : ℕ) (held : List X) (text whole : List ℕ)
     : Type 0 where
@@ -36,22 +23,17 @@ pub record ListSoFar {X : Type 0} (read : List ℕ → Read X) (close : ℕ) (he
   pub so_far : onto (λ xs. held ++ xs) (members_from read close bound text)
       ≡ members_from read close (suc (length whole)) whole
   pub room : length text ≤ length whole
-  pub dead : NeverListed read close text → NeverListed read close whole
 
 pub list_begins : {X : Type 0} (read : List ℕ → Read X) (close : ℕ) (text : List ℕ) {held : List X} → held ≡ []
     → ListSoFar read close held text text
 list_begins read close text {held} none =
     let begun = members_begin read close text held none in
-    record { bound = begun.0; enough = begun.1; so_far = begun.2; room = omega arith; dead = λ never. never }
+    record { bound = begun.0; enough = begun.1; so_far = begun.2; room = omega arith }
 
 module _ {X : Type 0} {read : List ℕ → Read X} {close : ℕ} {held : List X} {text whole : List ℕ}
     (l : ListSoFar read close held text whole) where
   pub list_fails : (e : Error) → Fails e (read text) → Fails e (members_from read close (suc (length whole)) whole)
   list_fails e h = member_fails read close held l.bound text _ l.enough l.so_far e h
-
-  -- a member that is not read, whatever follows
-  pub member_stuck : NeverBegins read text → NeverListed read close whole
-  member_stuck never = l.dead (never.0, member_dead read close text never.1)
 
   module _ {x : X} {after : List ℕ} (found : read text ≡ Ok (x, after)) where
     pub list_ends : {end : List ℕ} {new : List X} → after_end close after ≡ Some end → new ≡ held ++ x ∷ []
@@ -65,39 +47,19 @@ module _ {X : Type 0} {read : List ℕ → Read X} {close : ℕ} {held : List X}
         → Fails e (members_from read close (suc (length whole)) whole)
     comma_fails e none = no_comma read close held l.bound text _ l.enough l.so_far e found none
 
-    module _ (grows : Grows read) (begins : Begins read) where
-      pub comma_stuck : after_end close after ≡ None → (is_firm after ≡ true) × (after_byte 44 after ≡ None)
-          → NeverListed read close whole
-      comma_stuck none at = l.dead (no_comma_dead read close grows begins text found none at.0 at.1)
-
-      pub list_goes_on : {next : List ℕ} {new : List X}
-          → (after_end close after ≡ None) × (or_refused (after_byte 44 after) ≡ Ok next)
-          → length after ≤ length text → length next < length after → new ≡ held ++ x ∷ []
-          → ListSoFar read close new next whole
-      list_goes_on {next} {new} comma shorter less pushed =
-          let more = member_more read close held l.bound text _ l.enough l.so_far found comma.0 comma.1 shorter less in
-          record {
-            bound = more.0;
-            enough = more.1;
-            so_far = subst (λ (xs : List X). onto (λ ys. xs ++ ys) (members_from read close more.0 next)
-                ≡ members_from read close (suc (length whole)) whole) (sym pushed) more.2;
-            room = omega (arith, less, shorter, l.room);
-            dead = λ never. l.dead (next_dead read close grows begins text found comma.0 comma.1 never);
-          }
-
--- what these members are where they end firmly, and how they begin
-
-pub pairs_grow : (left : ℕ) → Grows (read_pair (read_item left))
-pairs_grow left = pair_grows (read_item left) (item_grows left) (item_begins left)
-
-pub pairs_start : (left : ℕ) → Begins (read_pair (read_item left))
-pairs_start left = pair_begins (read_item left) (item_grows left) (item_begins left)
-
-pub chunks_grow : (left : ℕ) (kind : StringKind) → Grows (read_chunk (read_item left) kind)
-chunks_grow left kind = chunk_grows (read_item left) (item_grows left) (item_begins left) kind
-
-pub chunks_start : (left : ℕ) (kind : StringKind) → Begins (read_chunk (read_item left) kind)
-chunks_start left kind = chunk_begins (read_item left) (item_grows left) (item_begins left) kind
+    pub list_goes_on : {next : List ℕ} {new : List X}
+        → (after_end close after ≡ None) × (or_refused (after_byte 44 after) ≡ Ok next)
+        → length after ≤ length text → length next < length after → new ≡ held ++ x ∷ []
+        → ListSoFar read close new next whole
+    list_goes_on {next} {new} comma shorter less pushed =
+        let more = member_more read close held l.bound text _ l.enough l.so_far found comma.0 comma.1 shorter less in
+        record {
+          bound = more.0;
+          enough = more.1;
+          so_far = subst (λ (xs : List X). onto (λ ys. xs ++ ys) (members_from read close more.0 next)
+              ≡ members_from read close (suc (length whole)) whole) (sym pushed) more.2;
+          room = omega (arith, less, shorter, l.room);
+        }
 
 -- ---- the pieces of a string
 
@@ -107,14 +69,12 @@ pub record PiecesSoFar (left : ℕ) (kind : StringKind) (held text whole : List 
   pub so_far : onto (λ xs. held ++ xs) (read_pieces (read_item left) kind bound text)
       ≡ read_pieces (read_item left) kind (suc (length whole)) whole
   pub room : length text ≤ length whole
-  pub dead : begins_piece kind (first_start text) ≡ true → NeverPieces (read_item left) kind text
-      → NeverPieces (read_item left) kind whole
 
 pub pieces_begun : (left : ℕ) (kind : StringKind) (text : List ℕ) {held : List ℕ} → held ≡ []
     → PiecesSoFar left kind held text text
 pieces_begun left kind text {held} none =
     let begun = pieces_begin (read_item left) kind text held none in
-    record { bound = begun.0; enough = begun.1; so_far = begun.2; room = omega arith; dead = λ begins never. never }
+    record { bound = begun.0; enough = begun.1; so_far = begun.2; room = omega arith }
 
 module _ {left : ℕ} {kind : StringKind} {held text whole : List ℕ} (l : PiecesSoFar left kind held text whole) where
   pub pieces_ended : begins_piece kind (first_start text) ≡ false
@@ -125,9 +85,6 @@ module _ {left : ℕ} {kind : StringKind} {held text whole : List ℕ} (l : Piec
     pub pieces_fail : (e : Error) → Fails e (read_piece (read_item left) text)
         → Fails e (read_pieces (read_item left) kind (suc (length whole)) whole)
     pieces_fail e h = piece_fails (read_item left) kind held l.bound text _ l.enough l.so_far e begins h
-
-    pub pieces_stuck : NeverReads (read_piece (read_item left)) text → NeverPieces (read_item left) kind whole
-    pieces_stuck never = l.dead begins (piece_dead left kind text begins never)
 
     pub pieces_go_on : {piece after rest new : List ℕ} → read_piece (read_item left) text ≡ Ok (piece, after)
         → rest ≡ skip_blank after → length after < length text → length rest ≤ length after → new ≡ held ++ piece
@@ -141,6 +98,4 @@ module _ {left : ℕ} {kind : StringKind} {held text whole : List ℕ} (l : Piec
           so_far = subst (λ (xs : List ℕ). onto (λ ys. xs ++ ys) (read_pieces (read_item left) kind more.0 rest)
               ≡ read_pieces (read_item left) kind (suc (length whole)) whole) (sym added) more.2;
           room = omega (arith, less, shorter, l.room);
-          dead = λ goes never. l.dead begins (pieces_next left kind text piece after rest begins found blank
-              (piece_ends kind rest goes) never);
         }

@@ -3,7 +3,7 @@
 //!
 //! Each private function reads at a cursor over the text, as bytes of UTF-8. It returns a value and
 //! leaves the cursor behind it, or returns the first error from the left; then it leaves the cursor
-//! where `stop` says, which is what `diag_fault` asks for. The first byte decides what comes next,
+//! where `stop` says, which is the place of the error. The first byte decides what comes next,
 //! except for `''_` and `""_`, and for a list's last comma, after which whitespace and the closing
 //! byte are looked for. The text is read once, and a string's first piece once more if the fast
 //! path of `strings` does not apply.
@@ -12,7 +12,6 @@
 mod fault;
 mod stop;
 mod strings;
-mod tokens;
 mod word;
 
 ghost use Rattle.std.specs.Prelude.{◌≡◌, ◌-◌, ◌≤◌, ℕ, suc, length, map, true, IfOk};
@@ -28,9 +27,6 @@ ghost use Rattle.cbor_grammar.specs.Notation.{IsNotation, ReadsUnder};
 ghost use Rattle.cbor_grammar.specs.NotationRefused.{IsNoNotation};
 ghost use Rattle.cbor_diag.specs.ItemAnswer.{GaveOrTooDeep};
 ghost use Rattle.cbor_grammar.specs.Reading.{Gives};
-ghost use Rattle.cbor_diag.specs.DeadEnd.{IsDeadEnd};
-ghost use Rattle.cbor_diag.specs.mirror.DeadEnds.{NeverBegins, NeverListed, NeverReads, Stuck};
-ghost use Rattle.cbor_diag.specs.mirror.DeadEnds.{ends_blank};
 ghost use Rattle.cbor_notation.specs.mirror.NotationReading.{read_core, read_integer, read_item};
 ghost use Rattle.cbor_notation.specs.mirror.NotationReading.{read_tagged};
 ghost use Rattle.cbor_notation.specs.mirror.NotationReading.{members_from, notation_of, read_pair};
@@ -44,10 +40,11 @@ use cbor_notation::start::Start;
 pub use fault::diag_fault;
 use std::alloc::Global;
 use stop::{
-    expect_after_item, negative_number, stop_after_item, stop_in_list, take_comma, unsigned_number,
-    word,
+    expect_after_item, negative_number, stop_after_blank, stop_after_item, stop_in_list,
+    take_comma, unsigned_number,
 };
 use strings::{read_byte_item, read_chunks, read_text_item};
+use word::read_word;
 
 /// The item at the front, which is at `level`, from 1 to 129, with the blanks around it. No item is
 /// allowed at level 129.
@@ -59,11 +56,9 @@ fn read_item(alloc: Global, text: &mut Cursor<'_>, level: u8) -> Result<DataItem
         (read_item (levels_left level) text.old) }
     ensures shorter { IfOk result (λ _. length text.new ≤ length text.old) }
     ensures well { IfOk result (λ x. WellFormed level (view x)) }
-    ensures stuck { Stuck result text.new
-        (NeverBegins (read_item (levels_left level)) text.old) }
 {
     if level > DEEPEST {
-        stop_after_item(text);
+        stop_after_blank(text);
         return Err(Error::TooDeep);
     }
     text.skip_blank();
@@ -84,8 +79,6 @@ fn read_core(alloc: Global, text: &mut Cursor<'_>, inner: u8) -> Result<DataItem
         (read_core (read_item (levels_left inner)) text.old) }
     ensures shorter { IfOk result (λ _. length text.new ≤ length text.old) }
     ensures well { IfOk result (λ x. WellFormed (inner - 1) (view x)) }
-    ensures stuck { Stuck result text.new ((ends_blank text.old ≡ true)
-        × NeverReads (read_core (read_item (levels_left inner))) text.old) }
 {
     match text.start() {
         Start::Digit => integer_or_tag(alloc, text, inner),
@@ -114,7 +107,7 @@ fn read_core(alloc: Global, text: &mut Cursor<'_>, inner: u8) -> Result<DataItem
             read_byte_item(alloc, text, inner)
         }
         Start::Quote => read_text_item(alloc, text, inner),
-        Start::Other => word(text),
+        Start::Other => read_word(text),
     }
 }
 
@@ -127,8 +120,6 @@ fn integer_or_tag(alloc: Global, text: &mut Cursor<'_>, inner: u8) -> Result<Dat
         (read_integer (read_item (levels_left inner)) text.old) }
     ensures shorter { IfOk result (λ _. length text.new ≤ length text.old) }
     ensures well { IfOk result (λ x. WellFormed (inner - 1) (view x)) }
-    ensures stuck { Stuck result text.new
-        (NeverReads (read_integer (read_item (levels_left inner))) text.old) }
 {
     let (value, bitwidth) = unsigned_number(text)?;
     if text.take_byte(b'(') {
@@ -155,8 +146,6 @@ fn read_tagged(
         (read_tagged (read_item (levels_left inner)) number.0 number.1 text.old) }
     ensures shorter { IfOk result (λ _. length text.new ≤ length text.old) }
     ensures well { IfOk result (λ x. WellFormed (inner - 1) (view x)) }
-    ensures stuck { Stuck result text.new (NeverReads
-        (read_tagged (read_item (levels_left inner)) number.0 number.1) text.old) }
 {
     let item = read_item(alloc, text, inner)?;
     expect_after_item(text, b')')?;
@@ -177,8 +166,6 @@ fn read_items(alloc: Global, close: u8, text: &mut Cursor<'_>, level: u8) -> Res
         (read_members (read_item (levels_left level)) close text.old) }
     ensures shorter { IfOk result (λ _. length text.new ≤ length text.old) }
     ensures well { IfOk result (λ x. WellFormedItems level (items_view x.items)) }
-    ensures stuck { Stuck result text.new
-        (NeverReads (read_members (read_item (levels_left level)) close) text.old) }
 {
     text.skip_blank();
     if text.take_end(close) {
@@ -188,7 +175,7 @@ fn read_items(alloc: Global, close: u8, text: &mut Cursor<'_>, level: u8) -> Res
     match some_items(alloc, close, text, level) {
         Ok(items) => Ok(items),
         Err(error) => {
-            stop_in_list(first, close, text);
+            stop_in_list(first, text);
             Err(error)
         }
     }
@@ -205,8 +192,6 @@ fn some_items(alloc: Global, close: u8, text: &mut Cursor<'_>, level: u8) -> Res
         (members_from (read_item (levels_left level)) close (suc (length text.old)) text.old) }
     ensures shorter { IfOk result (λ _. length text.new ≤ length text.old) }
     ensures well { IfOk result (λ x. WellFormedItems level (items_view x.items)) }
-    ensures stuck { Stuck result text.new
-        (NeverListed (read_item (levels_left level)) close text.old) }
 {
     let mut items = Vec::with_capacity(alloc, 2)?;
     'items: loop {
@@ -228,8 +213,6 @@ fn read_pairs(alloc: Global, text: &mut Cursor<'_>, level: u8) -> Result<Vec<(Da
         (read_members (read_pair (read_item (levels_left level))) 125 text.old) }
     ensures shorter { IfOk result (λ _. length text.new ≤ length text.old) }
     ensures well { IfOk result (λ x. WellFormedPairs level (pairs_view x.items)) }
-    ensures stuck { Stuck result text.new
-        (NeverReads (read_members (read_pair (read_item (levels_left level))) 125) text.old) }
 {
     text.skip_blank();
     if text.take_end(b'}') {
@@ -239,7 +222,7 @@ fn read_pairs(alloc: Global, text: &mut Cursor<'_>, level: u8) -> Result<Vec<(Da
     match some_pairs(alloc, text, level) {
         Ok(pairs) => Ok(pairs),
         Err(error) => {
-            stop_in_list(first, b'}', text);
+            stop_in_list(first, text);
             Err(error)
         }
     }
@@ -257,8 +240,6 @@ fn some_pairs(alloc: Global, text: &mut Cursor<'_>, level: u8) -> Result<Vec<(Da
         text.old) }
     ensures shorter { IfOk result (λ _. length text.new ≤ length text.old) }
     ensures well { IfOk result (λ x. WellFormedPairs level (pairs_view x.items)) }
-    ensures stuck { Stuck result text.new
-        (NeverListed (read_pair (read_item (levels_left level))) 125 text.old) }
 {
     let mut pairs = Vec::with_capacity(alloc, 1)?;
     'pairs: loop {
@@ -277,7 +258,6 @@ fn some_pairs(alloc: Global, text: &mut Cursor<'_>, level: u8) -> Result<Vec<(Da
 fn whole_text(alloc: Global, text: &mut Cursor<'_>) -> Result<DataItem>
     ensures gives { Gives view result (notation_of deepest text.old) }
     ensures well_formed { IfOk result (λ i. IsWellFormed (view i)) }
-    ensures stuck { Stuck result text.new (IsDeadEnd text.old) }
 {
     let item = read_item(alloc, text, 1)?;
     if !text.is_empty() {

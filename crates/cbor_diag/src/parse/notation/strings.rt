@@ -13,9 +13,6 @@ ghost use Rattle.cbor_grammar.specs.Written.{encoded_items};
 ghost use Rattle.cbor_grammar.specs.Item.{Item, atom, chunked_string};
 ghost use Rattle.cbor_grammar.specs.Reading.{Gives, Read};
 ghost use Rattle.cbor_tokens.specs.HexDigits.{base16_of};
-ghost use Rattle.cbor_diag.specs.mirror.DeadEnds.{NeverBegins, NeverListed, NeverPieces};
-ghost use Rattle.cbor_diag.specs.mirror.DeadEnds.{NeverReads, Stuck, ends_blank};
-ghost use Rattle.cbor_grammar.specs.StringKind.{no_chunks};
 ghost use Rattle.cbor_grammar.specs.Strings.{text_chunk};
 ghost use Rattle.cbor_notation.specs.mirror.NotationReading.{read_string_item, checked};
 ghost use Rattle.cbor_notation.specs.mirror.NotationReading.{after_word, members_from, skip_blank};
@@ -27,10 +24,7 @@ ghost use Rattle.cbor_notation.specs.mirror.NotationReading.{read_string, read_c
 ghost use Rattle.cbor_diag.specs.mirror.ChunkList.{chunk_list, list_kind};
 
 use super::read_items;
-use super::stop::{
-    expect_here, letter_b, letter_h, quoted, stop_after_blank, stop_after_string, stop_in_list,
-    stop_unless_apart, take_comma,
-};
+use super::stop::{letter_b, letter_h, quoted, stop_after_blank, stop_in_list, take_comma};
 use crate::encode::push_items;
 use crate::syntax::DataItem;
 use cbor_grammar::strings::{DefiniteString, StringKind};
@@ -128,12 +122,10 @@ fn read_embedded(alloc: Global, text: &mut Cursor<'_>, inner: u8) -> cbor_gramma
     ensures gives { Gives (λ x. (x.items, text.new)) result
         (read_embedded (read_item (levels_left inner)) text.old) }
     ensures shorter { IfOk result (λ _. length text.new < length text.old) }
-    ensures stuck { Stuck result text.new
-        (NeverReads (read_embedded (read_item (levels_left inner))) text.old) }
 {
-    expect_here(text, b'<')?;
+    text.expect_byte(b'<')?;
     let items = read_items(alloc, b'>', text, inner)?;
-    expect_here(text, b'>')?;
+    text.expect_byte(b'>')?;
     Ok(encoded(alloc, &items)?)
 }
 
@@ -145,8 +137,6 @@ fn read_piece(alloc: Global, text: &mut Cursor<'_>, inner: u8) -> cbor_grammar::
     ensures gives { Gives (λ x. (x.items, text.new)) result
         (read_piece (read_item (levels_left inner)) text.old) }
     ensures shorter { IfOk result (λ _. length text.new < length text.old) }
-    ensures stuck { Stuck result text.new
-        (NeverReads (read_piece (read_item (levels_left inner))) text.old) }
 {
     let start = text.start();
     text.skip_byte();
@@ -173,8 +163,6 @@ fn read_pieces(
         (read_pieces (read_item (levels_left inner)) kind
         (suc (length text.old)) text.old) }
     ensures shorter { IfOk result (λ _. length text.new ≤ length text.old) }
-    ensures stuck { Stuck result text.new
-        (NeverPieces (read_item (levels_left inner)) kind text.old) }
 {
     let mut content = Vec::new(alloc);
     'pieces: while text.start().begins_piece(kind) {
@@ -198,8 +186,6 @@ fn read_content(
     ensures gives { Gives (λ x. (x.items, text.new)) result
         (read_content (read_item (levels_left inner)) kind text.old) }
     ensures shorter { IfOk result (λ _. length text.new ≤ length text.old) }
-    ensures stuck { Stuck result text.new ((ends_blank text.old ≡ true)
-        × NeverReads (read_content (read_item (levels_left inner)) kind) text.old) }
 {
     if !text.start().begins_string(kind) {
         stop_after_blank(text);
@@ -208,51 +194,17 @@ fn read_content(
     read_pieces(alloc, kind, text, inner)
 }
 
-/// The content of a string item, which is not an indefinite one of no chunks.
-#[cycle(diag)]
+/// The text string of this content, and the text after it.
 #[inline(always)]
-fn read_item_content(
-    alloc: Global,
-    kind: StringKind,
-    text: &mut Cursor<'_>,
-    inner: u8,
-) -> cbor_grammar::Result<Vec<u8>>
-    requires { inner ≤ 129 }
-    ensures gives { Gives (λ x. (x.items, text.new)) result
-        (read_content (read_item (levels_left inner)) kind text.old) }
-    ensures shorter { IfOk result (λ _. length text.new ≤ length text.old) }
-    ensures stuck { Stuck result text.new
-        (((more : List ℕ) → after_word (no_chunks kind) (text.old ++ more) ≡ None)
-        × NeverReads (read_content (read_item (levels_left inner)) kind) text.old) }
-{
-    let front = text.rest();
-    match read_content(alloc, kind, text, inner) {
-        Ok(content) => Ok(content),
-        Err(error) => {
-            stop_unless_apart(kind, front, text);
-            Err(error)
-        }
-    }
-}
-
-/// The text string of this content, which was read from `front`, and the text after it.
-#[inline(always)]
-fn checked_text<'a>(
-    content: Vec<u8>,
-    front: &'a [u8],
-    text: &mut Cursor<'a>,
-) -> cbor_grammar::Result<TextString>
+fn checked_text(content: Vec<u8>, text: &mut Cursor<'_>) -> cbor_grammar::Result<TextString>
     ensures gives { Gives text_chunk result (checked StringKind.Text content.items) }
     ensures well { IfOk result (λ x. IsChunk StringKind.Text (text_chunk x)) }
     ensures rest { IfOk result (λ _. text.new ≡ text.old) }
-    ensures stuck { Stuck result text.new ((ends_blank (skip_blank text.old) ≡ true)
-        × ((more : List ℕ) → after_word (no_chunks StringKind.Text) (front.now ++ more) ≡ None)) }
 {
     match unstated(content) {
         Ok(string) => Ok(string),
         Err(error) => {
-            stop_after_string(text);
-            stop_unless_apart(StringKind::Text, front, text);
+            stop_after_blank(text);
             Err(error)
         }
     }
@@ -299,8 +251,6 @@ pub(super) fn read_byte_item(
         (read_string_item (read_item (levels_left inner)) StringKind.Bytes text.old) }
     ensures shorter { IfOk result (λ _. length text.new ≤ length text.old) }
     ensures well { IfOk result (λ x. WellFormed (inner - 1) (view x)) }
-    ensures stuck { Stuck result text.new (NeverReads
-        (read_string_item (read_item (levels_left inner)) StringKind.Bytes) text.old) }
 {
     // The digits of most byte strings are decoded in place.
     if let Some((digits, rest)) = read_plain_hex(text.rest()) {
@@ -312,7 +262,7 @@ pub(super) fn read_byte_item(
     if text.take_word(b"''_") {
         return Ok(DataItem::IndefiniteByteString(Vec::new(alloc)));
     }
-    let content = read_item_content(alloc, StringKind::Bytes, text, inner)?;
+    let content = read_content(alloc, StringKind::Bytes, text, inner)?;
     Ok(DataItem::ByteString(unstated(content)?))
 }
 
@@ -347,8 +297,6 @@ pub(super) fn read_text_item(
         (read_string_item (read_item (levels_left inner)) StringKind.Text text.old) }
     ensures shorter { IfOk result (λ _. length text.new ≤ length text.old) }
     ensures well { IfOk result (λ x. WellFormed (inner - 1) (view x)) }
-    ensures stuck { Stuck result text.new (NeverReads
-        (read_string_item (read_item (levels_left inner)) StringKind.Text) text.old) }
 {
     // The content of most texts is copied from where it is.
     if let Some((content, rest)) = read_plain_text(text.rest()) {
@@ -357,12 +305,11 @@ pub(super) fn read_text_item(
             return Ok(DataItem::TextString(string));
         }
     }
-    let front = text.rest();
     if text.take_word(b"\"\"_") {
         return Ok(DataItem::IndefiniteTextString(Vec::new(alloc)));
     }
-    let content = read_item_content(alloc, StringKind::Text, text, inner)?;
-    Ok(DataItem::TextString(checked_text(content, front, text)?))
+    let content = read_content(alloc, StringKind::Text, text, inner)?;
+    Ok(DataItem::TextString(checked_text(content, text)?))
 }
 
 /// The chunks of an indefinite string of this kind after its opening, up to its closing byte.
@@ -381,8 +328,6 @@ fn read_chunk_list(
     ensures kind { IfOk result (λ x. list_kind x ≡ kind) }
     ensures well { IfOk result (λ x.
         AllByRecursion (IsChunk kind) (chunk_list x)) }
-    ensures stuck { Stuck result text.new (NeverBegins
-        (read_members (read_chunk (read_item (levels_left inner)) kind) 41) text.old) }
 {
     text.skip_blank();
     if text.take_end(b')') {
@@ -392,7 +337,7 @@ fn read_chunk_list(
     match some_chunks(alloc, kind, text, inner) {
         Ok(chunks) => Ok(chunks),
         Err(error) => {
-            stop_in_list(first, b')', text);
+            stop_in_list(first, text);
             Err(error)
         }
     }
@@ -414,8 +359,6 @@ fn some_chunks(
     ensures kind { IfOk result (λ x. list_kind x ≡ kind) }
     ensures well { IfOk result (λ x.
         AllByRecursion (IsChunk kind) (chunk_list x)) }
-    ensures stuck { Stuck result text.new
-        (NeverListed (read_chunk (read_item (levels_left inner)) kind) 41 text.old) }
 {
     let mut chunks = Chunks::new(alloc, kind);
     'chunks: loop {
@@ -424,7 +367,7 @@ fn some_chunks(
         match chunks.push(content) {
             Ok(()) => {}
             Err(error) => {
-                stop_after_string(text);
+                stop_after_blank(text);
                 return Err(error);
             }
         }
@@ -449,10 +392,8 @@ pub(super) fn read_chunks(
         (read_chunks (read_item (levels_left inner)) text.old) }
     ensures shorter { IfOk result (λ _. length text.new ≤ length text.old) }
     ensures well { IfOk result (λ x. WellFormed (inner - 1) (view x)) }
-    ensures stuck { Stuck result text.new
-        (NeverReads (read_chunks (read_item (levels_left inner))) text.old) }
 {
-    expect_here(text, b'_')?;
+    text.expect_byte(b'_')?;
     text.skip_blank();
     let kind = text.start().kind();
     let chunks = read_chunk_list(alloc, kind, text, inner)?;

@@ -9,20 +9,31 @@ ghost use Rattle.cbor_notation.specs.mirror.NotationReading.{or_refused, numeral
 ghost use Rattle.cbor_notation.specs.mirror.NotationReading.{read_simple};
 ghost use Rattle.cbor_notation.specs.mirror.NotationReading.{float_of, read_float, read_word};
 
+use super::stop::{stop_after_blank, stop_before_last, stop_in_word};
 use crate::syntax::DataItem;
 use cbor_grammar::{Error, FloatWidth, Result, Simple};
 use cbor_notation::cursor::Cursor;
 use cbor_notation::number::read_number;
 
+/// What simple values and floats begin with.
+const WORDS: [&[u8]; 6] = [
+    b"false",
+    b"true",
+    b"null",
+    b"undefined",
+    b"simple(",
+    b"float'",
+];
+
 /// Whether all of them are decimal digits.
-pub(super) fn are_decimal(digits: &[u8]) -> bool
+fn are_decimal(digits: &[u8]) -> bool
     ensures { result ≡ list_all (λ c. nat_lt (digit_value c) 10) digits.now }
 {
     digits.iter().all(|digit| char::from(*digit).is_digit(10))
 }
 
 /// A simple value after `simple(`: decimal digits of a value below 256, and `)`.
-pub(super) fn read_simple(text: &mut Cursor<'_>) -> Result<DataItem>
+fn read_simple(text: &mut Cursor<'_>) -> Result<DataItem>
     ensures gives { Gives (λ x. (view x, text.new)) result
         (read_simple text.old) }
     ensures shorter { IfOk result (λ _. length text.new ≤ length text.old) }
@@ -31,6 +42,7 @@ pub(super) fn read_simple(text: &mut Cursor<'_>) -> Result<DataItem>
     let digits = text.rest();
     let (value, _) = read_number(text)?;
     if value > 255 || !are_decimal(&digits[..digits.len() - text.rest().len()]) {
+        stop_before_last(digits, text);
         return Err(Error::Notation);
     }
     text.expect_byte(b')')?;
@@ -71,7 +83,7 @@ fn hex_number(digits: &[u8]) -> Result<u64>
 }
 
 /// The index of the first apostrophe.
-pub(super) fn find_apostrophe(text: &[u8]) -> Result<usize>
+fn find_apostrophe(text: &[u8]) -> Result<usize>
     ensures gives { Gives (λ n. n) result (or_refused (position (λ b. b == 39) text.now)) }
     ensures within { IfOk result (λ n. n < length text.now) }
 {
@@ -82,14 +94,16 @@ pub(super) fn find_apostrophe(text: &[u8]) -> Result<usize>
 }
 
 /// A float after `float'`: 4, 8 or 16 hex digits and `'`.
-pub(super) fn read_float(text: &mut Cursor<'_>) -> Result<DataItem>
+fn read_float(text: &mut Cursor<'_>) -> Result<DataItem>
     ensures gives { Gives (λ x. (view x, text.new)) result
         (read_float text.old) }
     ensures shorter { IfOk result (λ _. length text.new ≤ length text.old) }
     ensures well { IfOk result (λ x. (level : ℕ) → level ≤ deepest → WellFormed level (view x)) }
 {
     let digits = text.rest();
+    *text = Cursor::new(&[]);
     let count = find_apostrophe(digits)?;
+    *text = Cursor::new(&digits[count..]);
     let bitwidth = float_width(count)?;
     let bits = hex_number(&digits[..count])?;
     *text = Cursor::new(&digits[count + 1..]);
@@ -116,6 +130,8 @@ pub(super) fn read_word(text: &mut Cursor<'_>) -> Result<DataItem>
     } else if text.take_word(b"float'") {
         read_float(text)
     } else {
+        stop_after_blank(text);
+        stop_in_word(text, &WORDS);
         Err(Error::Notation)
     }
 }

@@ -1,29 +1,17 @@
 -- The functions that read notation return what the definition reads, and well-formed items alone.
-use Rattle.std.proofs.Common.{◌+◌, ◌-◌, ◌≤◌, refl, length, map, sym, ap, ◌∙◌, arith}
-use Rattle.cbor_grammar.specs.declared.strings.StringKind.TheVariants.{Bytes, Text}
-use Rattle.cbor_notation.specs.mirror.NotationReading.{begins_piece, begins_string, kind_from, read_chunk, read_item}
-use Rattle.cbor_notation.specs.mirror.NotationReading.{read_pair}
+use Rattle.std.proofs.Common.{◌+◌, ◌-◌, ◌≤◌, length, map, sym, ap, ◌∙◌, arith}
+use Rattle.cbor_notation.specs.mirror.NotationReading.{begins_piece, kind_from, read_chunk, read_item, read_pair}
 use Rattle.cbor_diag.specs.View.{view}
 use Rattle.cbor_diag.specs.mirror.ChunkList.{chunk_list}
 use Rattle.cbor_diag.proofs.shared.Views.{items_push, pairs_push, view-Array, view-Map, view-Negative}
-use Rattle.cbor_diag.proofs.notation.Errors.{error_given, error_stuck, stuck_from, pushed_view}
+use Rattle.cbor_diag.proofs.notation.Errors.{error_given, pushed_view}
 use Rattle.cbor_diag.proofs.notation.Loops.{members_closed}
-use Rattle.cbor_diag.proofs.notation.SoFar.{first_stuck, list_begins, list_fails, member_stuck, list_ends, comma_fails}
-use Rattle.cbor_diag.proofs.notation.SoFar.{comma_stuck, list_goes_on, pairs_grow, pairs_start, chunks_grow}
-use Rattle.cbor_diag.proofs.notation.SoFar.{chunks_start, pieces_begun, pieces_ended, pieces_fail, pieces_stuck}
-use Rattle.cbor_diag.proofs.notation.SoFar.{pieces_go_on}
+use Rattle.cbor_diag.proofs.notation.SoFar.{list_begins, list_fails, list_ends, comma_fails, list_goes_on}
+use Rattle.cbor_diag.proofs.notation.SoFar.{pieces_begun, pieces_ended, pieces_fail, pieces_go_on}
 use Rattle.cbor_diag.proofs.notation.Cores.{core_bytes, minus_fails, minus_read, array_fails, array_read, map_fails}
 use Rattle.cbor_diag.proofs.notation.Cores.{map_read, item_none, item_fails, item_read, no_content, no_string}
 use Rattle.cbor_diag.proofs.notation.Cores.{string_read, no_chunks, chunks_read, chunks_well, no_key, no_colon}
 use Rattle.cbor_diag.proofs.notation.Cores.{no_value, pair_read, pair_view, open_array_well, open_map_well}
-use Rattle.cbor_diag.proofs.notation.Stops.{deep_stuck, item_stuck, core_stuck, bytes_stuck, array_stuck, map_stuck}
-use Rattle.cbor_diag.proofs.notation.Stops.{minus_stuck, word_stuck, tag_stuck, close_stuck, key_stuck, colon_stuck}
-use Rattle.cbor_diag.proofs.notation.Stops.{value_stuck, string_stuck, content_stuck, embedded_stuck, chunks_stuck}
-use Rattle.cbor_diag.proofs.notation.Stops.{text_stuck, chunk_stuck, chunk_refused}
-use Rattle.cbor_diag.proofs.notation.DeadItems.{number_dead, string_dead}
-use Rattle.cbor_diag.proofs.notation.DeadCores.{piece_at}
-use Rattle.cbor_diag.proofs.notation.DeadTokens.{failed}
-use Rattle.cbor_diag.proofs.notation.GrownItems.{item_grows, item_begins}
 use Rattle.cbor_notation.specs.declared.start.Start.TheVariants as start
 use Rattle.cbor_diag.proofs.parse.notation.+diag.Goals as goal
 
@@ -55,10 +43,9 @@ some_items-returns-in_err-more-clause-gives t c =
 
 pub some_items-items-preserved : goal.some_items-items-preserved
 some_items-items-preserved t c =
-    let left = 129 - c.args.level in
     let item = c.in_ok-item.ensures in
     record {
-      list = list_goes_on c.items.invariant.list item.gives (item_grows left) (item_begins left)
+      list = list_goes_on c.items.invariant.list item.gives
           (rw c.if-not-more.false at c.in_ok-more.ensures.takes) item.shorter c.in_ok-more.ensures.shorter
           (pushed_view view _ _ _ c.in_ok-push.ensures.items);
       well = rw c.in_ok-push.ensures.items (items_push c.args.level c.items.items.items c.in_ok-item.item
@@ -119,7 +106,7 @@ some_pairs-pairs-preserved t c =
     let shorter : length c.read_item-in-pairs.new.text ≤ length c.pairs.text =
     omega (arith, k.shorter, colon.shorter, v.shorter) in
     record {
-      list = list_goes_on c.pairs.invariant.list read (pairs_grow left) (pairs_start left)
+      list = list_goes_on c.pairs.invariant.list read
           (rw c.if-not-more.false at c.in_ok-more.ensures.takes) shorter c.in_ok-more.ensures.shorter
           (pushed_view pair_view _ _ _ c.in_ok-push.ensures.items);
       well = rw c.in_ok-push.ensures.items (pairs_push c.args.level c.pairs.pairs.items
@@ -181,7 +168,7 @@ strings::some_chunks-chunks-preserved t c =
     let shorter : length c.read_content.new.text ≤ length c.chunks.text =
     omega (arith, c.in_ok-content.ensures.shorter, c.skip_blank.ensures.shorter) in
     record {
-      list = list_goes_on i.list added.2 (chunks_grow left c.args.kind) (chunks_start left c.args.kind)
+      list = list_goes_on i.list added.2
           (rw c.if-not-more.false at c.in_ok-more.ensures.takes) shorter c.in_ok-more.ensures.shorter added.1;
       well = (rw i.kind at c.in-Ok.ensures.well) i.well;
       kind = c.in-Ok.ensures.kind ∙ i.kind;
@@ -191,12 +178,12 @@ pub strings::read_chunks-returns-in_err-chunks-clause-gives :
     goal.strings::read_chunks-returns-in_err-chunks-clause-gives
 strings::read_chunks-returns-in_err-chunks-clause-gives t c =
     error_given _ _ _ _ c.from_residual-in_err-chunks.ensures.1 (no_chunks (read_item (129 - c.args.inner))
-    c.args.text.now c.in_ok-expect_here.ensures.gives c.skip_blank.ensures.rest
+    c.args.text.now c.in_ok-expect_byte.ensures.gives c.skip_blank.ensures.rest
     (c.kind-kind.ensures ∙ ap kind_from c.start.ensures) c.in_err-chunks.field-0.0 c.in_err-chunks.ensures.gives)
 
 pub strings::read_chunks-returns-clause-gives : goal.strings::read_chunks-returns-clause-gives
 strings::read_chunks-returns-clause-gives t c =
-    chunks_read (read_item (129 - c.args.inner)) c.args.text.now c.in_ok-expect_here.ensures.gives
+    chunks_read (read_item (129 - c.args.inner)) c.args.text.now c.in_ok-expect_byte.ensures.gives
     c.skip_blank.ensures.rest (c.kind-kind.ensures ∙ ap kind_from c.start.ensures) c.in_ok-chunks.ensures.gives
     (rw c.in_ok-chunks.ensures.kind at c.into_item.ensures)
 
@@ -290,208 +277,3 @@ pub strings::read_pieces-returns-clause-gives : goal.strings::read_pieces-return
 strings::read_pieces-returns-clause-gives t c =
     pieces_ended c.pieces.invariant
     (sym (c.begins_piece.ensures ∙ ap (begins_piece c.args.kind) c.start.ensures) ∙ c.pieces-test.false)
-
-pub read_items-returns-in-Err-clause-stuck : goal.read_items-returns-in-Err-clause-stuck
-read_items-returns-in-Err-clause-stuck t c real some =
-    (first_stuck (read_item (129 - c.args.level)) c.args.close c.args.text.now c.skip_blank.ensures.rest
-    (rw c.if-take_end.false at c.take_end.ensures.takes)
-    (rw c.rest-first.ensures at (c.stop_in_list.ensures.unended some))
-    (c.in-Err.ensures.stuck real (c.stop_in_list.ensures.left some))).1
-
-pub some_items-returns-in_err-item-clause-stuck : goal.some_items-returns-in_err-item-clause-stuck
-some_items-returns-in_err-item-clause-stuck t c =
-    error_stuck _ _ c.from_residual-in_err-item.ensures.1 (member_stuck c.items.invariant.list)
-    c.in_err-item.ensures.stuck
-
-pub some_items-returns-in_err-more-clause-stuck : goal.some_items-returns-in_err-more-clause-stuck
-some_items-returns-in_err-more-clause-stuck t c =
-    error_stuck _ _ c.from_residual-in_err-more.ensures.1 (comma_stuck c.items.invariant.list c.in_ok-item.ensures.gives
-    (item_grows _) (item_begins _) c.in_err-more.ensures.takes.0) c.in_err-more.ensures.stuck
-
-pub integer_or_tag-returns-in_err-value-clause-stuck : goal.integer_or_tag-returns-in_err-value-clause-stuck
-integer_or_tag-returns-in_err-value-clause-stuck t c =
-    error_stuck _ _ c.from_residual.ensures.1 (number_dead (129 - c.args.inner) c.args.text.now)
-    c.in_err-value.ensures.stuck
-
-pub integer_or_tag-returns-then-take_byte-clause-stuck : goal.integer_or_tag-returns-then-take_byte-clause-stuck
-integer_or_tag-returns-then-take_byte-clause-stuck t c =
-    stuck_from _ _ (tag_stuck (129 - c.args.inner) c.args.text.now c.in_ok-value.ensures.gives
-    (rw c.if-take_byte.true at c.take_byte.ensures.takes)) c.read_tagged.ensures.stuck
-
-pub read_core-returns-in_err-value-in-Minus-clause-stuck : goal.read_core-returns-in_err-value-in-Minus-clause-stuck
-read_core-returns-in_err-value-in-Minus-clause-stuck t c =
-    error_stuck _ _ c.from_residual.ensures.1 (minus_stuck (129 - c.args.inner) c.args.text.now c.start.ensures
-    c.skip_byte.ensures.rest c.in-Minus.is) c.in_err-value-in-Minus.ensures.stuck
-
-pub read_core-returns-in_err-content-in-Bracket-clause-stuck :
-    goal.read_core-returns-in_err-content-in-Bracket-clause-stuck
-read_core-returns-in_err-content-in-Bracket-clause-stuck t c =
-    error_stuck _ _ c.from_residual-in_err-content-in-Bracket.ensures.1 (array_stuck (129 - c.args.inner)
-    c.args.text.now c.start.ensures c.skip_byte-in-Bracket.ensures.rest c.take_length-bitwidth.ensures.rest
-    c.in-Bracket.is) c.in_err-content-in-Bracket.ensures.stuck
-
-pub read_core-returns-in_err-content-in-Brace-clause-stuck : goal.read_core-returns-in_err-content-in-Brace-clause-stuck
-read_core-returns-in_err-content-in-Brace-clause-stuck t c =
-    error_stuck _ _ c.from_residual-in_err-content-in-Brace.ensures.1 (map_stuck (129 - c.args.inner) c.args.text.now
-    c.start.ensures c.skip_byte-in-Brace.ensures.rest c.take_length-bitwidth-in-Brace.ensures.rest c.in-Brace.is)
-    c.in_err-content-in-Brace.ensures.stuck
-
-pub read_core-returns-in-Digit-clause-stuck : goal.read_core-returns-in-Digit-clause-stuck
-read_core-returns-in-Digit-clause-stuck t c =
-    stuck_from _ _ (core_stuck _ _ c.in-Digit.is c.start.ensures (λ e. absurd cc) refl) c.integer_or_tag.ensures.stuck
-
-pub read_core-returns-in-Parenthesis-clause-stuck : goal.read_core-returns-in-Parenthesis-clause-stuck
-read_core-returns-in-Parenthesis-clause-stuck t c =
-    stuck_from _ _ (core_stuck (129 - c.args.inner) c.args.text.now c.in-Parenthesis.is c.start.ensures (λ e. absurd cc)
-    c.skip_byte-in-Parenthesis.ensures.rest) c.read_chunks.ensures.stuck
-
-pub read_core-returns-in-Quote-clause-stuck : goal.read_core-returns-in-Quote-clause-stuck
-read_core-returns-in-Quote-clause-stuck t c =
-    stuck_from _ _ (core_stuck _ _ c.in-Quote.is c.start.ensures (λ e. absurd cc) refl) c.read_text_item.ensures.stuck
-
-pub read_core-returns-in-Apostrophe-clause-stuck : goal.read_core-returns-in-Apostrophe-clause-stuck
-read_core-returns-in-Apostrophe-clause-stuck t c =
-    stuck_from _ _ (bytes_stuck (129 - c.args.inner) c.start.result c.args.text.now c.in-Apostrophe.is c.start.ensures)
-    c.read_byte_item.ensures.stuck
-
-pub read_core-returns-in-Other-clause-stuck : goal.read_core-returns-in-Other-clause-stuck
-read_core-returns-in-Other-clause-stuck t c =
-    stuck_from _ _ (word_stuck (129 - c.args.inner) c.args.text.now c.in-Other.is c.start.ensures) c.word.ensures.stuck
-
-pub read_item-returns-then-level-gt-DEEPEST-clause-stuck : goal.read_item-returns-then-level-gt-DEEPEST-clause-stuck
-read_item-returns-then-level-gt-DEEPEST-clause-stuck t c real some =
-    deep_stuck (129 - c.args.level) c.args.text.now
-    (omega (arith, c.requires, c.if-level-gt-DEEPEST.true)) (c.stop_after_item.ensures some)
-
-pub read_item-returns-in_err-item-clause-stuck : goal.read_item-returns-in_err-item-clause-stuck
-read_item-returns-in_err-item-clause-stuck t c =
-    error_stuck _ _ c.from_residual.ensures.1 (item_stuck (129 - c.args.level) (129 - (c.args.level + 1))
-    c.args.text.now _ (omega (arith, c.requires, c.if-level-gt-DEEPEST.false)) c.skip_blank.ensures.rest)
-    c.in_err-item.ensures.stuck
-
-pub read_pairs-returns-in-Err-clause-stuck : goal.read_pairs-returns-in-Err-clause-stuck
-read_pairs-returns-in-Err-clause-stuck t c real some =
-    (first_stuck (read_pair (read_item (129 - c.args.level))) 125 c.args.text.now c.skip_blank.ensures.rest
-    (rw c.if-take_end.false at c.take_end.ensures.takes)
-    (rw c.rest-first.ensures at (c.stop_in_list.ensures.unended some))
-    (c.in-Err.ensures.stuck real (c.stop_in_list.ensures.left some))).1
-
-pub strings::read_chunk_list-returns-in-Err-clause-stuck : goal.strings::read_chunk_list-returns-in-Err-clause-stuck
-strings::read_chunk_list-returns-in-Err-clause-stuck t c real some =
-    first_stuck (read_chunk (read_item (129 - c.args.inner)) c.args.kind) 41 c.args.text.now c.skip_blank.ensures.rest
-    (rw c.if-take_end.false at c.take_end.ensures.takes)
-    (rw c.rest-first.ensures at (c.stop_in_list.ensures.unended some))
-    (c.in-Err.ensures.stuck real (c.stop_in_list.ensures.left some))
-
-pub read_tagged-returns-in_err-expect_after_item-clause-stuck :
-    goal.read_tagged-returns-in_err-expect_after_item-clause-stuck
-read_tagged-returns-in_err-expect_after_item-clause-stuck t c =
-    error_stuck _ _ c.from_residual-in_err-expect_after_item.ensures.1 (λ at. close_stuck (129 - c.args.inner)
-    c.args.number.0 c.args.number.1 c.args.text.now c.in_ok-item.ensures.gives at.0 at.1)
-    c.in_err-expect_after_item.ensures.stuck
-
-pub some_pairs-returns-in_err-key-clause-stuck : goal.some_pairs-returns-in_err-key-clause-stuck
-some_pairs-returns-in_err-key-clause-stuck t c =
-    error_stuck _ _ c.from_residual-in_err-key.ensures.1 (λ never. c.pairs.invariant.list.dead
-    (key_stuck (129 - c.args.level) c.pairs.text never)) c.in_err-key.ensures.stuck
-
-pub some_pairs-returns-in_err-expect_after_item-clause-stuck :
-    goal.some_pairs-returns-in_err-expect_after_item-clause-stuck
-some_pairs-returns-in_err-expect_after_item-clause-stuck t c =
-    error_stuck _ _ c.from_residual-in_err-expect_after_item.ensures.1 (λ at. c.pairs.invariant.list.dead
-    (colon_stuck (129 - c.args.level) c.pairs.text c.in_ok-key.ensures.gives at.0 at.1))
-    c.in_err-expect_after_item.ensures.stuck
-
-pub some_pairs-returns-in_err-value-clause-stuck : goal.some_pairs-returns-in_err-value-clause-stuck
-some_pairs-returns-in_err-value-clause-stuck t c =
-    error_stuck _ _ c.from_residual-in_err-value.ensures.1 (λ never. c.pairs.invariant.list.dead
-    (value_stuck (129 - c.args.level) c.pairs.text c.in_ok-key.ensures.gives c.in_ok-expect_after_item.ensures.gives
-    never.1)) c.in_err-value.ensures.stuck
-
-pub some_pairs-returns-in_err-more-clause-stuck : goal.some_pairs-returns-in_err-more-clause-stuck
-some_pairs-returns-in_err-more-clause-stuck t c =
-    let left = 129 - c.args.level in
-    let read = pair_read (read_item left) _ c.in_ok-key.ensures.gives c.in_ok-expect_after_item.ensures.gives
-    c.in_ok-value.ensures.gives in
-    error_stuck _ _ c.from_residual-in_err-more.ensures.1 (comma_stuck c.pairs.invariant.list read (pairs_grow left)
-    (pairs_start left) c.in_err-more.ensures.takes.0) c.in_err-more.ensures.stuck
-
-pub strings::read_byte_item-returns-in_err-content-2-clause-stuck :
-    goal.strings::read_byte_item-returns-in_err-content-2-clause-stuck
-strings::read_byte_item-returns-in_err-content-2-clause-stuck t c =
-    let none = rw c.if-take_word.false at c.take_word.ensures.takes in
-    error_stuck _ _ c.from_residual-in_err-content-2.ensures.1 (string_stuck (129 - c.args.inner) Bytes none.1)
-    c.in_err-content-2.ensures.stuck
-
-pub strings::read_text_item-returns-in_err-content-clause-stuck :
-    goal.strings::read_text_item-returns-in_err-content-clause-stuck
-strings::read_text_item-returns-in_err-content-clause-stuck t c =
-    let none = rw c.if-take_word.false at c.take_word.ensures.takes in
-    error_stuck _ _ c.from_residual-in_err-content.ensures.1 (string_stuck (129 - c.args.inner) Text none.1)
-    c.in_err-content.ensures.stuck
-
-pub strings::read_text_item-returns-in_err-checked_text-clause-stuck :
-    goal.strings::read_text_item-returns-in_err-checked_text-clause-stuck
-strings::read_text_item-returns-in_err-checked_text-clause-stuck t c =
-    let none = rw c.if-take_word.false at c.take_word.ensures.takes in
-    error_stuck _ _ c.from_residual-in_err-checked_text.ensures.1
-    (text_stuck (129 - c.args.inner) none.1 c.rest-front.ensures c.in_ok-content.ensures.gives)
-    (λ real some. let at = c.in_err-checked_text.ensures.stuck real some in
-    (failed _ c.in_err-checked_text.field-0.0 real c.in_err-checked_text.ensures.gives, at.0, at.1))
-
-pub strings::read_chunks-returns-in_err-chunks-clause-stuck :
-    goal.strings::read_chunks-returns-in_err-chunks-clause-stuck
-strings::read_chunks-returns-in_err-chunks-clause-stuck t c =
-    error_stuck _ _ c.from_residual-in_err-chunks.ensures.1 (chunks_stuck (129 - c.args.inner) c.args.text.now
-    c.in_ok-expect_here.ensures.gives c.skip_blank.ensures.rest (c.kind-kind.ensures ∙ ap kind_from c.start.ensures))
-    c.in_err-chunks.ensures.stuck
-
-pub strings::read_content-returns-clause-stuck : goal.strings::read_content-returns-clause-stuck
-strings::read_content-returns-clause-stuck t c =
-    let begins = sym (c.begins_string.ensures ∙ ap (begins_string c.args.kind) c.start.ensures) in
-    stuck_from _ _ (content_stuck (129 - c.args.inner) c.args.kind c.args.text.now
-    (begins ∙ c.if-not-begins_string.false)) c.read_pieces.ensures.stuck
-
-pub strings::read_embedded-returns-in_err-expect_here-2-clause-stuck :
-    goal.strings::read_embedded-returns-in_err-expect_here-2-clause-stuck
-strings::read_embedded-returns-in_err-expect_here-2-clause-stuck t c =
-    error_stuck _ _ c.from_residual-in_err-expect_here-2.ensures.1 (embedded_stuck (129 - c.args.inner) c.args.text.now
-    c.in_ok-expect_here.ensures.gives c.in_ok-items.ensures.gives) c.in_err-expect_here-2.ensures.stuck
-
-pub strings::read_piece-returns-in-LetterB-clause-stuck : goal.strings::read_piece-returns-in-LetterB-clause-stuck
-strings::read_piece-returns-in-LetterB-clause-stuck t c =
-    stuck_from _ _ (piece_at (129 - c.args.inner) start.LetterB c.args.text.now c.skip_byte.new.self (λ e. absurd cc)
-    (sym c.in-LetterB.is ∙ c.start-start.ensures) c.skip_byte.ensures.rest) c.letter_b.ensures.stuck
-
-pub strings::read_piece-returns-in-LetterH-clause-stuck : goal.strings::read_piece-returns-in-LetterH-clause-stuck
-strings::read_piece-returns-in-LetterH-clause-stuck t c =
-    stuck_from _ _ (piece_at (129 - c.args.inner) start.LetterH c.args.text.now c.skip_byte.new.self (λ e. absurd cc)
-    (sym c.in-LetterH.is ∙ c.start-start.ensures) c.skip_byte.ensures.rest) c.letter_h.ensures.stuck
-
-pub strings::read_pieces-returns-in_err-piece-clause-stuck : goal.strings::read_pieces-returns-in_err-piece-clause-stuck
-strings::read_pieces-returns-in_err-piece-clause-stuck t c =
-    error_stuck _ _ c.from_residual.ensures.1 (pieces_stuck c.pieces.invariant
-    (sym (c.begins_piece.ensures ∙ ap (begins_piece c.args.kind) c.start.ensures) ∙ c.pieces-test.true))
-    c.in_err-piece.ensures.stuck
-
-pub strings::some_chunks-returns-in_err-content-clause-stuck :
-    goal.strings::some_chunks-returns-in_err-content-clause-stuck
-strings::some_chunks-returns-in_err-content-clause-stuck t c =
-    error_stuck _ _ c.from_residual.ensures.1 (λ at. member_stuck c.chunks.invariant.list
-    (chunk_stuck (129 - c.args.inner) c.args.kind c.chunks.text _ c.skip_blank.ensures.rest at.0
-    (string_dead (129 - c.args.inner) c.args.kind _ at.1))) c.in_err-content.ensures.stuck
-
-pub strings::some_chunks-returns-in-Err-clause-stuck : goal.strings::some_chunks-returns-in-Err-clause-stuck
-strings::some_chunks-returns-in-Err-clause-stuck t c real some =
-    member_stuck c.chunks.invariant.list (chunk_refused (129 - c.args.inner) c.args.kind c.chunks.text _ c.in-Err.error
-    c.skip_blank.ensures.rest c.in_ok-content.ensures.gives c.chunks.invariant.kind c.in-Err.ensures.gives real
-    (c.stop_after_string.ensures some))
-
-pub strings::some_chunks-returns-in_err-more-clause-stuck : goal.strings::some_chunks-returns-in_err-more-clause-stuck
-strings::some_chunks-returns-in_err-more-clause-stuck t c =
-    let left = 129 - c.args.inner in
-    let added = string_read (read_item left) c.args.kind c.chunks.text c.skip_blank.ensures.rest
-    c.in_ok-content.ensures.gives _ c.chunks.invariant.kind c.in-Ok.ensures.gives in
-    error_stuck _ _ c.from_residual-in_err-more.ensures.1 (comma_stuck c.chunks.invariant.list added.2
-    (chunks_grow left c.args.kind) (chunks_start left c.args.kind) c.in_err-more.ensures.takes.0)
-    c.in_err-more.ensures.stuck

@@ -42,9 +42,6 @@ decreases-strings::read_pieces l = (130 - l.inner) * 11 + 5
 abbrev pub decreases-strings::read_content : goal.decreases-strings::read_content
 decreases-strings::read_content l = (130 - l.inner) * 11 + 6
 
-abbrev pub decreases-strings::read_item_content : goal.decreases-strings::read_item_content
-decreases-strings::read_item_content l = (130 - l.inner) * 11 + 7
-
 abbrev pub decreases-strings::read_byte_item : goal.decreases-strings::read_byte_item
 decreases-strings::read_byte_item l = (130 - l.inner) * 11 + 8
 
