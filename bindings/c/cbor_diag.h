@@ -45,7 +45,7 @@ enum cbor_diag_form {
 
 /*
  * EDN is what people write. There a float is decimal, texts have the escapes of JSON, and a width is stated where it is
- * not the shortest. What is written for an item is read back as the same bytes, but for a simple value below 24 in two
+ * not the shortest. What is written for an item is read back as the same bytes, but for a simple value below 32 in two
  * bytes, which RFC 8949 does not have. An output in EDN has no control characters but line feeds, which are outside of
  * texts.
  *

@@ -169,7 +169,7 @@ def simple(reader):
     reader.blank()
     begun, word = reader.at, reader.word()
     value = integer(word) if re.fullmatch(rb"[0-9]+|0x[0-9A-Fa-f]+|0o[0-7]+|0b[01]+", word) else 256
-    if value > 255:
+    if value > 255 or 24 <= value < 32:
         raise Refused("PastWidth", begun)
     reader.blank()
     reader.want(b")")

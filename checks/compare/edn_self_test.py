@@ -6,6 +6,7 @@ import sys
 import calls_edn
 import cases
 from bytes_form import sequence, to_bytes
+from edn_cases import strict
 from edn_examples import LINES, REFUSED
 from edn_form import edn_to_bytes
 from edn_text import Writer
@@ -34,7 +35,7 @@ def run(seed=1, count=2000):
         check(None, answer(text), text)
     for number in range(count):
         chance = random.Random(f"{seed} edn {number}")
-        item = cases.any_item(chance)
+        item = strict(cases.any_item(chance))
         for writer in (Writer(), Writer(widths=True), Writer(embedded=True), Writer(True, True), Writer(columns=20)):
             text = writer.item(sequence(to_bytes(item), 1)[0][0])
             check(to_bytes(item).hex(), answer(text), text)

@@ -24,6 +24,17 @@ HIDDEN = {
 LEAST = 20
 
 
+def is_reserved(item):
+    """Whether a simple value from 24 to 31 is in the item, which no text is read as."""
+    if isinstance(item, Simple):
+        return 24 <= item.value < 32
+    if isinstance(item, Array):
+        return any(map(is_reserved, item.members))
+    if isinstance(item, Map):
+        return any(map(is_reserved, sum(item.pairs, ())))
+    return isinstance(item, Tagged) and is_reserved(item.value)
+
+
 class Writer:
     """What is written beside the items: every width, and byte strings as the items that they are. With columns, lines
     are broken, without notes."""
@@ -81,7 +92,7 @@ class Writer:
     def items_in(self, content, level, tag):
         """The items that are written between `<<` and `>>`, if these give the same bytes."""
         found, rest = sequence(content, level + 1)
-        if rest or b"".join(map(to_bytes, found)) != content:
+        if rest or b"".join(map(to_bytes, found)) != content or any(map(is_reserved, found)):
             return None
         if tag == 63 or tag == 24 and len(found) == 1:
             return found

@@ -4,6 +4,7 @@ pub mod Chunks
 pub use Rattle.cbor_edn_grammar.specs.Edn
 pub use Rattle.cbor_edn_grammar.specs.Expectations
 pub use Rattle.cbor_edn_grammar.specs.Items
+pub use Rattle.cbor_edn_grammar.specs.Reserved
 pub use Rattle.cbor_edn_grammar.specs.Lists
 pub use Rattle.cbor_edn_grammar.specs.Strings
 pub use Rattle.cbor_tokens.specs.Hidden

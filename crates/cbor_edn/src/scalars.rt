@@ -140,7 +140,7 @@ fn read_simple(text: &mut Cursor<'_>) -> Result<DataItem, Stop>
     let IntegerWidth::Unknown = width else {
         return Err(Stop::At(Expected::SimpleNumber));
     };
-    if number > 255 {
+    if number > 255 || (24 <= number && number < 32) {
         return Err(Stop::At(Expected::SimpleNumber));
     }
     text.skip_word();

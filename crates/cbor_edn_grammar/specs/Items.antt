@@ -1,6 +1,7 @@
 -- In EDN, items: containers, tags, simple values, and which of all of them a text begins with.
 use Rattle.std.specs.Prelude.{ℕ, zero, suc, List, [], ◌∷◌, length, codes, Option, Some, None, Bool, true, false}
-use Rattle.std.specs.Prelude.{◌==◌, ◌&&◌, ◌||◌, ◌+◌, if◌then◌else◌, nat_lt, bytes_eq, take, drop, position, slice_index}
+use Rattle.std.specs.Prelude.{◌==◌, ◌&&◌, ◌||◌, ◌+◌, if◌then◌else◌, nat_le, nat_lt, bytes_eq, take, drop, position}
+use Rattle.std.specs.Prelude.{slice_index}
 use Rattle.std.specs.List.{list_any}
 use Rattle.std.specs.Str.{is_utf8}
 use Rattle.cbor_notes.specs.DateTime.{epoch_of_datetime}
@@ -131,9 +132,13 @@ named word =
     else if bytes_eq word (codes "undefined") then Some 23
     else None
 
--- a simple value's number, of no stated width and below 256
+-- a simple value has this number: RFC 8949 section 3.3 has none from 24 to 31
+abbrev pub is_simple : ℕ → Bool
+is_simple n = nat_lt n 24 || (nat_le 32 n && nat_lt n 256)
+
+-- a simple value's number, of no stated width
 abbrev pub simple_number : ℕ → IntegerWidth → Option ℕ
-simple_number n Unknown = if nat_lt n 256 then Some n else None
+simple_number n Unknown = if is_simple n then Some n else None
 simple_number n width = None
 
 -- what is in the parentheses of `simple(..)`, after they opened

@@ -11,5 +11,6 @@ pub mod Big
 pub mod Lists
 pub mod Address
 pub mod Items
+pub mod Reserved
 pub mod Edn
 pub mod Expectations

@@ -39,7 +39,7 @@ pub enum Expected {
     TagNumber,
     /// A number of 64 bits, before the parenthesis of a tag.
     LargestTag,
-    /// A number from 0 to 255, for a simple value.
+    /// A number from 0 to 23 or from 32 to 255, for a simple value.
     SimpleNumber,
     /// An opening parenthesis, after `simple`.
     SimpleParenthesis,
@@ -142,7 +142,7 @@ impl Expected {
             Expected::Number => "not a number",
             Expected::TagNumber => "the number of a tag is a number from 0 on",
             Expected::LargestTag => "a tag is at most 18446744073709551615",
-            Expected::SimpleNumber => "a simple value has a number from 0 to 255",
+            Expected::SimpleNumber => "a simple value has a number from 0 to 23 or from 32 to 255",
             Expected::SimpleParenthesis => "( has to follow simple",
             Expected::NoEllipsis => "an ellipsis has no bytes",
             Expected::Prefix => {

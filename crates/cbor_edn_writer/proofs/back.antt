@@ -7,6 +7,7 @@ pub mod Decimals
 pub mod Floats
 pub mod Quotes
 pub mod Strings
+pub mod Plain
 pub mod Same
 pub mod Lists
 pub mod Containers

@@ -1,5 +1,5 @@
--- In EDN, bytes that give the same bytes again when the items in them are written: no simple value in them takes a byte
--- too many.
+-- In EDN, bytes that give the same bytes again when the items in them are written and read: no simple value below 32 in
+-- them takes two bytes.
 use Rattle.std.specs.Prelude.{ℕ, zero, suc, ◌+◌, List, [], ◌∷◌, length, drop, Option, Some, None, Ok, Err, Bool}
 use Rattle.std.specs.Prelude.{true, false, ◌==◌, ◌&&◌, if◌then◌else◌, nat_lt, nat_le}
 use Rattle.cbor_grammar.specs.declared.argument.Argument.TheVariants.{Number}
@@ -19,10 +19,10 @@ abbrev pub after_length : ℕ → List ℕ → Option (List ℕ)
 after_length n b = if nat_le n (length b) then Some (drop n b) else None
 
 -- The bytes after this head, which was read and begins with that byte, and after the content of a string of definite
--- length; nothing after a simple value below 24 in two bytes.
+-- length; nothing after a simple value below 32 in two bytes.
 abbrev pub after_strict : ℕ → ItemHead × List ℕ → Option (List ℕ)
 after_strict first (item_head.String kind (Number n w), rest) = after_length n rest
-after_strict first (item_head.Simple n, rest) = if (first == 0xf8) && nat_lt n 24 then None else Some rest
+after_strict first (item_head.Simple n, rest) = if (first == 0xf8) && nat_lt n 32 then None else Some rest
 after_strict first (h, rest) = Some rest
 
 abbrev pub after_read : ℕ → Read ItemHead → Option (List ℕ)
@@ -44,7 +44,7 @@ are_heads n [] = true
 are_heads zero (b ∷ bs) = false
 are_heads (suc n) (b ∷ bs) = go_on (are_heads n) (after_head (b ∷ bs))
 
--- the bytes are heads with the content of strings, and breaks, and no head takes a byte too many
+-- the bytes are heads with the content of strings, and breaks, none of them of such a value
 abbrev pub is_strict : List ℕ → Bool
 is_strict b = are_heads (length b) b
 

@@ -11,6 +11,7 @@ use Rattle.cbor_edn_writer.specs.declared.print.place.EdnPlace.{EdnPlace}
 use Rattle.cbor_edn_writer.specs.declared.style.EdnStyle.{EdnStyle}
 use Rattle.cbor_edn_writer.specs.Breaks.{Nothing, BreaksApart}
 use Rattle.cbor_edn_grammar.specs.Edn.{bytes_of_edn}
+use Rattle.cbor_edn_grammar.specs.Reserved.{NoneReserved}
 use Rattle.cbor_edn_writer.specs.EdnLeaves.{edn_leaves, layout_of}
 use Rattle.cbor_tokens.specs.Hidden.{IsShown}
 
@@ -31,13 +32,13 @@ pub record IsOutermost (style : EdnStyle) (notes : List Note) (place : EdnPlace)
   pub found : place.found ≡ None
 
 -- The text is one that EDN has for the item, where these are the notes on it and on items in it: each part of it is
--- what `edn_leaves` says. It is read back as the bytes of the item, all widths included. No character in it is hidden.
--- Where it has lines, line feeds are in no quotes and in no comment.
+-- what `edn_leaves` says. It is read back as the bytes of the item, all widths included, if no simple value from 24 to 31
+-- is in it. No character in it is hidden. Where it has lines, line feeds are in no quotes and in no comment.
 pub record IsNotedText (style : EdnStyle) (notes : List Note) (i : Item) (text : List ℕ) : Type 0 where
   pub place : EdnPlace
   pub outermost : IsOutermost style notes place
   pub written : TextsAt edn_leaves place i text
-  pub read_back : bytes_of_edn text ≡ Some (encoded i)
+  pub read_back : NoneReserved i → bytes_of_edn text ≡ Some (encoded i)
   pub shown : IsShown style.lines text
   pub breaks : BreaksApart Nothing text
 

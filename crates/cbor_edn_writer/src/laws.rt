@@ -5,13 +5,15 @@ ghost use Rattle.cbor_grammar.specs.Item.{Item, items_of};
 ghost use Rattle.cbor_grammar.specs.WellFormed.{WellFormed};
 ghost use Rattle.cbor_grammar.specs.Written.{encoded_items};
 ghost use Rattle.cbor_edn_grammar.specs.Edn.{bytes_of_edn};
+ghost use Rattle.cbor_edn_grammar.specs.Reserved.{NoneReserved};
 ghost use Rattle.cbor_edn_writer.specs.Lines.{AreEdnLines};
 ghost use Rattle.cbor_edn_writer.specs.declared.style.EdnStyle.{EdnStyle};
 
 /// Items that are written one after the other, with a line feed after each, are read back as the
-/// bytes of these items.
+/// bytes of these items, if no simple value from 24 to 31 is in them.
 fn lines_back()
     ensures { (style : EdnStyle) (items : List Item) (text : List ℕ)
-        → AllByRecursion (WellFormed 1) items → AreEdnLines style items text
+        → AllByRecursion (WellFormed 1) items → AllByRecursion NoneReserved items
+        → AreEdnLines style items text
         → bytes_of_edn text ≡ Some (encoded_items (items_of items)) }
 {}

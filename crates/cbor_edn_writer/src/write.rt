@@ -4,13 +4,14 @@ ghost use Rattle.std.specs.Prelude.{◌≡◌, IfOk, IfErr, IfSome, OnOk, OnErr,
 ghost use Rattle.std.specs.Prelude.{None, Some, Ok};
 ghost use Rattle.std.specs.String.{string_bytes};
 ghost use Rattle.cbor_grammar.specs.Answer.{Outcome, GaveRefusal, RefusedSo};
-ghost use Rattle.cbor_grammar.specs.Facts.{IsItem, IsStrictItem, BeginsWithItem, IsCut, HasFault};
+ghost use Rattle.cbor_grammar.specs.Facts.{IsItem, BeginsWithItem, IsCut, HasFault};
 ghost use Rattle.cbor_grammar.specs.Facts.{IsNoItem, BeginsSo, BeginsInOneWay};
 ghost use Rattle.cbor_grammar.specs.Item.{Item};
 ghost use Rattle.cbor_grammar.specs.Reading.{Fails, read_item};
 ghost use Rattle.cbor_grammar.specs.WellFormed.{deepest};
 ghost use Rattle.cbor_notation_writer.specs.mirror.Straight.{Written};
 ghost use Rattle.cbor_edn_grammar.specs.Edn.{bytes_of_edn};
+ghost use Rattle.cbor_edn_grammar.specs.Reserved.{IsItem8949};
 ghost use Rattle.cbor_edn_writer.specs.Written.{IsEdnText, AppendsEdn, GaveEdn, line_style};
 ghost use Rattle.cbor_edn_writer.specs.Written.{pretty_style};
 ghost use Rattle.cbor_edn_writer.specs.Written.{IsNotedText, AppendsNoted, GaveNoted};
@@ -27,7 +28,8 @@ use std::alloc::Global;
 ///
 /// An encoding indicator stands exactly where a head is longer than it has to be, or a float wider
 /// than its value needs. So [`edn_to_bytes`] reads the same bytes, unless there is a simple value
-/// below 24 in two bytes, which RFC 8949 does not have and which is read back in one.
+/// below 32 in two bytes, which RFC 8949 does not have: one below 24 is read back in one byte, and
+/// from 24 on it is an error.
 ///
 /// ```rust
 /// use cbor_edn::bytes_to_edn;
@@ -44,8 +46,8 @@ pub fn bytes_to_edn(alloc: Global, bytes: &[u8]) -> cbor_grammar::Result<String>
     ensures every_item { (i : Item) → IsItem bytes.now i → MatchResult result
         (λ s. IsEdnText line_style i (string_bytes s)) (λ e. e ≡ Error.Memory) }
 
-    // The same bytes are read back, if no simple value below 24 takes two of them.
-    ensures lossless { (i : Item) → IsStrictItem bytes.now i
+    // The same bytes are read back, if no simple value below 32 takes two of them.
+    ensures lossless { (i : Item) → IsItem8949 bytes.now i
         → IfOk result (λ s. bytes_of_edn (string_bytes s) ≡ Some bytes.now) }
 
     // Each error, exactly if it is true.
@@ -72,8 +74,8 @@ pub fn bytes_to_edn_pretty(alloc: Global, bytes: &[u8]) -> cbor_grammar::Result<
     ensures every_item { (i : Item) → IsItem bytes.now i → MatchResult result
         (λ s. IsEdnText pretty_style i (string_bytes s)) (λ e. e ≡ Error.Memory) }
 
-    // The same bytes are read back, if no simple value below 24 takes two of them.
-    ensures lossless { (i : Item) → IsStrictItem bytes.now i
+    // The same bytes are read back, if no simple value below 32 takes two of them.
+    ensures lossless { (i : Item) → IsItem8949 bytes.now i
         → IfOk result (λ s. bytes_of_edn (string_bytes s) ≡ Some bytes.now) }
 
     // Each error, exactly if it is true.

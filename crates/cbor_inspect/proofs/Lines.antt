@@ -15,6 +15,7 @@ use Rattle.cbor_grammar.proofs.bytes.Sizes.{one_byte}
 use Rattle.cbor_grammar.proofs.bytes.Strict.{strict_any, strict_only}
 use Rattle.cbor_edn_writer.specs.declared.style.EdnStyle.{EdnStyle}
 use Rattle.cbor_edn_grammar.specs.Edn.{bytes_of_edn}
+use Rattle.cbor_edn_grammar.specs.Reserved.{NoneReserved}
 use Rattle.cbor_edn_writer.specs.Written.{IsNotedText}
 use Rattle.cbor_edn_writer.proofs.back.Lines.{AreTextsOf, lines_of, lines_back}
 use Rattle.cbor_edn_writer.proofs.back.Lines as edn
@@ -141,18 +142,21 @@ text_lines show is_edn whole (i ∷ is) b rest written (front, after, splits, s,
 
 pub items_read_back : (show : Show) (input rest written : List ℕ)
     (shown : IsShownOfFirst (Shows show) input written rest) → IsEdn show.style.form → steps_of show ≡ []
-    → AllBytes input → bytes_of_edn written ≡ Some (encoded_items (items_of shown.items))
-items_read_back show input rest written shown is_edn whole bytes =
+    → AllBytes input → AllByRecursion NoneReserved shown.items
+    → bytes_of_edn written ≡ Some (encoded_items (items_of shown.items))
+items_read_back show input rest written shown is_edn whole bytes free =
     let lines = text_lines show is_edn whole shown.items input rest written shown.input_is shown.output_is in
     let well = all_well input shown.items rest bytes shown.input_is in
     ap bytes_of_edn lines.whole
-    ∙ lines_back (items_of shown.items) lines.texts (edn.all_well shown.items well) lines.each
+    ∙ lines_back (items_of shown.items) lines.texts (edn.all_well shown.items well) (edn.all_free shown.items free)
+    lines.each
 
 pub bytes_read_back : (show : Show) (front rest written : List ℕ)
-    → IsShownOfFirst (Shows show) (front ++ rest) written rest → IsEdn show.style.form → steps_of show ≡ []
-    → AllBytes (front ++ rest) → IsStrictSequence front → bytes_of_edn written ≡ Some front
-bytes_read_back show front rest written shown edn whole bytes (js, strict) =
-    items_read_back show (front ++ rest) rest written shown edn whole bytes
+    (shown : IsShownOfFirst (Shows show) (front ++ rest) written rest) → IsEdn show.style.form → steps_of show ≡ []
+    → AllBytes (front ++ rest) → AllByRecursion NoneReserved shown.items → IsStrictSequence front
+    → bytes_of_edn written ≡ Some front
+bytes_read_back show front rest written shown edn whole bytes free (js, strict) =
+    items_read_back show (front ++ rest) rest written shown edn whole bytes free
     ∙ ap (λ (is : List Item). Some (encoded_items (items_of is)))
     (same_items shown.items js (front ++ rest) front rest refl shown.input_is strict)
     ∙ ap (λ b. Some b) (strict_encoded front js strict)

@@ -1,4 +1,5 @@
--- The law of EDN: a text that is written for an item is read back as an item of the same encoding.
+-- The law of EDN: a text that is written for an item is read back as an item of the same encoding, if no simple value
+-- from 24 to 31 is in it.
 use Rattle.std.proofs.Common.{◌≡◌, inl, inr, ℕ, zero, suc, ◌+◌, List, [], ◌∷◌, ◌++◌, length, codes, Option, Some, None}
 use Rattle.std.proofs.Common.{Bool, true, false, ◌==◌, ◌&&◌, ◌||◌, if◌then◌else◌, not, refl, sym, ap, subst, ◌∙◌}
 use Rattle.std.proofs.Common.{append-nil}
@@ -41,6 +42,7 @@ use Rattle.cbor_edn_writer.specs.EdnLeaves.{edn_leaves, marked, begins_container
 use Rattle.cbor_edn_writer.specs.EdnLeaves.{content_under, is_encoded, note_before, After, EdnLeaf, Noted}
 use Rattle.cbor_edn_writer.specs.EdnLeaves.{quoted_string, spaced}
 use Rattle.cbor_edn_grammar.specs.Items.{item_turn, read_item}
+use Rattle.cbor_edn_grammar.specs.Reserved.{NotReserved, NoneReserved, NoneReservedItems, NoneReservedPairs}
 use Rattle.cbor_edn_grammar.specs.Reading.{◌>>=◌, after_byte}
 use Rattle.cbor_edn_writer.specs.Same.{is_empty, is_strict, is_sequence}
 use Rattle.cbor_edn_writer.proofs.Places.{same_level}
@@ -54,7 +56,7 @@ use Rattle.cbor_edn_writer.proofs.back.Containers.{enclosed_reads}
 use Rattle.cbor_edn_writer.proofs.back.Embedded.{embedded_reads, one_embedded, none_embedded}
 use Rattle.cbor_edn_writer.proofs.back.Floats.{float_reads}
 use Rattle.cbor_edn_writer.proofs.back.Numbers.{leaf_reads, tag_reads, tag_begun}
-use Rattle.cbor_edn_writer.proofs.back.Same.{item_same, sequence_same}
+use Rattle.cbor_edn_writer.proofs.back.Same.{SameItems, item_same, sequence_same}
 use Rattle.cbor_edn_writer.proofs.back.Strings.{string_reads, no_parts_reads}
 use Rattle.cbor_edn_writer.proofs.back.Widths.{read_width, read_encoded}
 
@@ -146,24 +148,26 @@ tag_text left n w all i m t fits r e =
 -- ---- items
 
 module _ (level left : ℕ) (levels : level + left ≡ 129) (write : Writer EdnPlace)
-    (below : (p : EdnPlace) (i : Item) (t : List ℕ) → p.level ≡ level → WellFormed level i → write p i t
-    → ReadsNoted left i t) where
+    (below : (p : EdnPlace) (i : Item) (t : List ℕ) → p.level ≡ level → WellFormed level i → NoneReserved i
+    → write p i t → ReadsNoted left i t) where
   item_texts : (close : Close) (p : EdnPlace) (is : Items) (ms : List (List ℕ)) → p.level ≡ level
-      → WellFormedItems level is → ItemTexts edn_leaves write p is ms → ItemsRead left close is ms
-  item_texts close p no_items [] at well h = no_items_read left close
-  item_texts close p no_items (m ∷ ms) at well h = absurd h
-  item_texts close p (item i is) [] at well h = absurd h
-  item_texts close p (item i is) (m ∷ ms) at well h =
-      more_items_read left close i is m ms (below p i m at well.0 h.0) (item_texts close p is ms at well.1 h.1)
+      → WellFormedItems level is → NoneReservedItems is → ItemTexts edn_leaves write p is ms
+      → ItemsRead left close is ms
+  item_texts close p no_items [] at well free h = no_items_read left close
+  item_texts close p no_items (m ∷ ms) at well free h = absurd h
+  item_texts close p (item i is) [] at well free h = absurd h
+  item_texts close p (item i is) (m ∷ ms) at well free h =
+      more_items_read left close i is m ms (below p i m at well.0 free.0 h.0)
+      (item_texts close p is ms at well.1 free.1 h.1)
 
   pair_texts : (p : EdnPlace) (l : ContainerStyle) (ps : Pairs) (ms : List (List ℕ)) → p.level ≡ level
-      → WellFormedPairs level ps → PairTexts edn_leaves write l p ps ms → PairsRead left ps ms
-  pair_texts p l no_pairs [] at well h = no_pairs_read left
-  pair_texts p l no_pairs (m ∷ ms) at well h = absurd h
-  pair_texts p l (pair k v ps) [] at well h = absurd h
-  pair_texts p l (pair k v ps) (m ∷ ms) at well ((a, b, key, value, is), more) =
-      more_pairs_read left k v ps a b m ms (below p k a at well.0 key) (below p v b at well.1 value) is
-      (pair_texts p l ps ms at well.2 more)
+      → WellFormedPairs level ps → NoneReservedPairs ps → PairTexts edn_leaves write l p ps ms → PairsRead left ps ms
+  pair_texts p l no_pairs [] at well free h = no_pairs_read left
+  pair_texts p l no_pairs (m ∷ ms) at well free h = absurd h
+  pair_texts p l (pair k v ps) [] at well free h = absurd h
+  pair_texts p l (pair k v ps) (m ∷ ms) at well free ((a, b, key, value, is), more) =
+      more_pairs_read left k v ps a b m ms (below p k a at well.0 free.0 key) (below p v b at well.1 free.1 value) is
+      (pair_texts p l ps ms at well.2 free.2 more)
 
   one_text : (p : EdnPlace) (b : Chunk) (found : Option Item) (t : List ℕ) → p.level + 1 ≡ level → IsChunk kind.Bytes b
       → is_strict b.bytes ≡ true → embedded_at left b.bytes ≡ found → OneText edn_leaves write p b found t
@@ -172,9 +176,9 @@ module _ (level left : ℕ) (levels : level + left ≡ 129) (write : Writer EdnP
       let item_well = spells_well level b.bytes i (bytes_at b.bytes well.bytes)
       (embedded_spells level left b.bytes i levels (bytes_at b.bytes well.bytes) is) in
       let same = item_same level left b.bytes i levels well.bytes is strict in
-      let inner = below (edn_leaves.inside (embedding b) p.layout p) i m at item_well text in
+      let inner = below (edn_leaves.inside (embedding b) p.layout p) i m at item_well same.1 text in
       enclosed_reads (suc left) p (atom (string kind.Bytes b)) (embedding b) style.Compact m t
-      (λ u. one_embedded left b i m u well same inner) between
+      (λ u. one_embedded left b i m u well same.0 inner) between
   one_text p b None t at well strict is h = string_text left p kind.Bytes b t well h
 
   embedded_text : (p : EdnPlace) (b : Chunk) (bs : List ℕ) (t : List ℕ) → b.bytes ≡ bs → p.level + 1 ≡ level
@@ -195,13 +199,13 @@ module _ (level left : ℕ) (levels : level + left ≡ 129) (write : Writer EdnP
       let s = sequence_spells level left levels (length b.bytes) b.bytes (omega arith) (bytes_at b.bytes well.bytes) in
       let items_are = items_well level found.0 b.bytes found.1 well.bytes s.spelled_so in
       let here : left ≡ levels_left (p.level + 1) = omega (arith, at, levels) in
-      let bytes : encoded_items found.0 ≡ b.bytes =
-      ap (λ n. encoded_items (sequence_at n b.bytes).0) here ∙ sequence_same p.level b.bytes well.bytes is strict in
+      let same : SameItems left b.bytes =
+      subst (λ n. SameItems n b.bytes) (sym here) (sequence_same p.level b.bytes well.bytes is strict) in
       let l = sized_style edn_leaves p (sequence_size found) in
-      let rs = item_texts Angles _ found.0 ms at items_are.0 texts in
+      let rs = item_texts Angles _ found.0 ms at items_are.0 same.none texts in
       subst (ReadsNoted (suc left) (atom (string kind.Bytes b))) (sym (e ∙ ap (λ r. u ++ r) rest ∙ append-nil u))
       (enclosed_reads (suc left) p (atom (string kind.Bytes b)) (embedding b) l (edn_list l ms) u
-      (λ v. embedded_reads left b l found.0 ms v well bytes rs) between)
+      (λ v. embedded_reads left b l found.0 ms v well same.same rs) between)
 
   content_text : (p : EdnPlace) (content : Content) (b : Chunk) (t : List ℕ) → p.level + 1 ≡ level
       → IsChunk kind.Bytes b → Strict p.level b.bytes content → ContentText edn_leaves left write content p b t
@@ -220,31 +224,31 @@ module _ (level left : ℕ) (levels : level + left ≡ 129) (write : Writer EdnP
       enclosed_reads (suc left) p (atom (chunked_string kind (c ∷ cs))) (Chunks kind) l (edn_list l ms) t
       (λ u. chunks_read left p kind l c cs ms u well texts) between
 
-  leaf_text : (p : EdnPlace) (a : Atom) (t : List ℕ) → WellFormedAtom a → edn_leaves.leaf p a t
+  leaf_text : (p : EdnPlace) (a : Atom) (t : List ℕ) → WellFormedAtom a → NotReserved a → edn_leaves.leaf p a t
       → ReadsNoted (suc left) (atom a) t
-  leaf_text p a t well h =
+  leaf_text p a t well free h =
       beside_reads (suc left) p (atom a) (EdnLeaf p a) t
-      (λ core is. leaf_reads float_reads left p a core well is) h
+      (λ core is. leaf_reads float_reads left p a core well free is) h
 
-  atom_text : (p : EdnPlace) (a : Atom) (t : List ℕ) → p.level + 1 ≡ level → WellFormedAtom a
+  atom_text : (p : EdnPlace) (a : Atom) (t : List ℕ) → p.level + 1 ≡ level → WellFormedAtom a → NotReserved a
       → AtomText edn_leaves left write p a t → ReadsNoted (suc left) (atom a) t
-  atom_text p (string kind.Bytes b) t at well h =
+  atom_text p (string kind.Bytes b) t at well free h =
       let embedded = p.style.embedded || is_encoded p.found in
       content_text p (content_under embedded p.level p.tag b.bytes) b t at well
       (strict_content embedded p.level p.tag b.bytes) h
-  atom_text p (string kind.Text s) t at well h = string_text left p kind.Text s t well h
-  atom_text p (chunked_string kind cs) t at well h =
+  atom_text p (string kind.Text s) t at well free h = string_text left p kind.Text s t well h
+  atom_text p (chunked_string kind cs) t at well free h =
       chunks_text p kind (style_at edn_leaves p (atom (chunked_string kind cs))) cs t well h
-  atom_text p (integer n w) t at well h = leaf_text p (integer n w) t well h
-  atom_text p (negative n w) t at well h = leaf_text p (negative n w) t well h
-  atom_text p (float bits w) t at well h = leaf_text p (float bits w) t well h
-  atom_text p (simple n) t at well h = leaf_text p (simple n) t well h
+  atom_text p (integer n w) t at well free h = leaf_text p (integer n w) t well free h
+  atom_text p (negative n w) t at well free h = leaf_text p (negative n w) t well free h
+  atom_text p (float bits w) t at well free h = leaf_text p (float bits w) t well free h
+  atom_text p (simple n) t at well free h = leaf_text p (simple n) t well free h
 
   tag_reads_back : (p : EdnPlace) (n : ℕ) (w : IntegerWidth) (i : Item) (t : List ℕ) → p.level + 1 ≡ level
-      → FitsWidth w n → WellFormed level i → TagText edn_leaves write p n w i t
+      → FitsWidth w n → WellFormed level i → NoneReserved i → TagText edn_leaves write p n w i t
       → ReadsNoted (suc left) (tagged n w i) t
-  tag_reads_back p n w i t at fits well (o, m, e, opens, text, is_e, is) =
-      let inner = below (edn_leaves.below n p) i m at well text in
+  tag_reads_back p n w i t at fits well free (o, m, e, opens, text, is_e, is) =
+      let inner = below (edn_leaves.below n p) i m at well free text in
       after_reads (suc left) p (tagged n w i) (λ u. u ≡ front ++ (m ++ codes ")")) t
       (λ core. tag_text left n w p.style.widths i m core fits inner) (opened opens)
     where
@@ -260,38 +264,39 @@ module _ (level left : ℕ) (levels : level + left ≡ 129) (write : Writer EdnP
       )
 
   with_text : (p : EdnPlace) (i : Item) (t : List ℕ) (here : ℕ) → level ≡ here + 1 → p.level ≡ here → WellFormed here i
-      → TextWith edn_leaves left write p i t → ReadsNoted (suc left) i t
-  with_text p (atom a) t here e at well h = atom_text p a t (omega (arith, e, at)) well.1 h
-  with_text p (array is w) t here e at well (ms, texts, between) =
+      → NoneReserved i → TextWith edn_leaves left write p i t → ReadsNoted (suc left) i t
+  with_text p (atom a) t here e at well free h = atom_text p a t (omega (arith, e, at)) well.1 free h
+  with_text p (array is w) t here e at well free (ms, texts, between) =
       let l = style_at edn_leaves p (array is w) in
       let rs = item_texts Bracket _ is ms (omega (arith, e, at)) (subst (λ l. WellFormedItems l is) (sym e) well.2)
-      texts in
+      free texts in
       enclosed_reads (suc left) p (array is w) (Array (count_of w (item_count is))) l (edn_list l ms) t
       (λ u. array_reads left l is w ms u well.1 rs) between
-  with_text p (spec.map ps w) t here e at well (ms, texts, between) =
+  with_text p (spec.map ps w) t here e at well free (ms, texts, between) =
       let l = style_at edn_leaves p (spec.map ps w) in
-      let rs = pair_texts _ l ps ms (omega (arith, e, at)) (subst (λ l. WellFormedPairs l ps) (sym e) well.2) texts in
+      let rs = pair_texts _ l ps ms (omega (arith, e, at)) (subst (λ l. WellFormedPairs l ps) (sym e) well.2)
+      free texts in
       enclosed_reads (suc left) p (spec.map ps w) (Map (count_of w (pair_count ps))) l (edn_list l ms) t
       (λ u. map_reads left l ps w ms u well.1 rs) between
-  with_text p (tagged n w i) t here e at well h =
-      tag_reads_back p n w i t (omega (arith, e, at)) well.1 (subst (λ l. WellFormed l i) (sym e) well.2) h
+  with_text p (tagged n w i) t here e at well free h =
+      tag_reads_back p n w i t (omega (arith, e, at)) well.1 (subst (λ l. WellFormed l i) (sym e) well.2) free h
 
 -- each text of an item is read back, whatever follows it
 pub reads_back : (level left : ℕ) → level + left ≡ 129 → (p : EdnPlace) → p.level ≡ level → (i : Item) (t : List ℕ)
-    → WellFormed level i → TextsOf edn_leaves left p i t → ReadsNoted left i t
+    → WellFormed level i → NoneReserved i → TextsOf edn_leaves left p i t → ReadsNoted left i t
 unfolding TextsOf
-reads_back level zero levels p at i t well h = absurd h
-reads_back level (suc left) levels p at i t well h =
+reads_back level zero levels p at i t well free h = absurd h
+reads_back level (suc left) levels p at i t well free h =
     with_text (level + 1) left (omega (arith, levels)) (TextsOf edn_leaves left)
     (λ p i t at. reads_back (level + 1) left (omega (arith, levels)) p at i t) h.0 i t level refl
-    (same_level p h.0 h.1 ∙ at) well h.2
+    (same_level p h.0 h.1 ∙ at) well free h.2
 
 -- a whole text is read back as the encoding of the item that it was written for
-pub edn_back : (p : EdnPlace) (i : Item) (t : List ℕ) → p.level ≡ 1 → WellFormed 1 i → TextsAt edn_leaves p i t
-    → bytes_of_edn t ≡ Some (encoded i)
-edn_back p i t at well h =
+pub edn_back : (p : EdnPlace) (i : Item) (t : List ℕ) → p.level ≡ 1 → WellFormed 1 i → NoneReserved i
+    → TextsAt edn_leaves p i t → bytes_of_edn t ≡ Some (encoded i)
+edn_back p i t at well free h =
     let text : TextsOf edn_leaves 128 p i t = subst (λ n. TextsOf edn_leaves (levels_left n) p i t) at h in
-    let r = reads_back 1 128 refl p at i t well text in
+    let r = reads_back 1 128 refl p at i t well free text in
     let rs = more_items_read 128 End i no_items t [] r (no_items_read 128 End) in
     ap (λ x. (x >>= λ is. Some is.0) >>= λ items. Some (encoded_items (items_of items)))
     (members_read (item_turn (read_item 128) End) end_closes style.Compact t (t ∷ []) rs.items rs.taken

@@ -10,6 +10,7 @@ use Rattle.cbor_grammar.specs.WellFormed.{WellFormed, WellFormedItems, levels_le
 use Rattle.cbor_grammar.specs.Written.{encoded_items}
 use Rattle.cbor_notation_writer.specs.Dialect.{TextsOf, TextsAt}
 use Rattle.cbor_edn_grammar.specs.declared.close.Close.TheVariants.{End}
+use Rattle.cbor_edn_grammar.specs.Reserved.{NoneReserved, NoneReservedItems}
 use Rattle.cbor_edn_writer.specs.declared.print.place.EdnPlace.{EdnPlace}
 use Rattle.cbor_edn_writer.specs.declared.style.EdnStyle.{EdnStyle}
 use Rattle.cbor_edn_grammar.specs.Blank.{skip_blank, is_apart}
@@ -176,19 +177,21 @@ AreTextsOf (item i is) [] = ⊥
 AreTextsOf (item i is) (t ∷ ts) =
     ((p : EdnPlace) × (p.level ≡ 1) × TextsAt edn_leaves p i t) × AreTextsOf is ts
 
-texts_read : (is : Items) (ts : List (List ℕ)) → WellFormedItems 1 is → AreTextsOf is ts → ItemsRead 128 End is ts
-texts_read no_items [] well h = no_items_read 128 End
-texts_read no_items (t ∷ ts) well h = absurd h
-texts_read (item i is) [] well h = absurd h
-texts_read (item i is) (t ∷ ts) well ((p, at, text), more) =
+texts_read : (is : Items) (ts : List (List ℕ)) → WellFormedItems 1 is → NoneReservedItems is → AreTextsOf is ts
+    → ItemsRead 128 End is ts
+texts_read no_items [] well free h = no_items_read 128 End
+texts_read no_items (t ∷ ts) well free h = absurd h
+texts_read (item i is) [] well free h = absurd h
+texts_read (item i is) (t ∷ ts) well free ((p, at, text), more) =
     let here : TextsOf edn_leaves 128 p i t = subst (λ n. TextsOf edn_leaves (levels_left n) p i t) at text in
-    more_items_read 128 End i is t ts (reads_back 1 128 refl p at i t well.0 here) (texts_read is ts well.1 more)
+    more_items_read 128 End i is t ts (reads_back 1 128 refl p at i t well.0 free.0 here)
+    (texts_read is ts well.1 free.1 more)
 
 -- texts on lines are read back as the encoding of the items that they were written for, one after the other
-pub lines_back : (is : Items) (ts : List (List ℕ)) → WellFormedItems 1 is → AreTextsOf is ts
+pub lines_back : (is : Items) (ts : List (List ℕ)) → WellFormedItems 1 is → NoneReservedItems is → AreTextsOf is ts
     → bytes_of_edn (lines_of ts) ≡ Some (encoded_items is)
-lines_back is ts well h =
-    let rs = texts_read is ts well h in
+lines_back is ts well free h =
+    let rs = texts_read is ts well free h in
     ap (λ x. (x >>= λ is. Some is.0) >>= λ items. Some (encoded_items (items_of items)))
     (lines_read (item_turn (read_item 128) End) ts rs.items rs.taken)
     ∙ ap (λ e. Some e) rs.same
@@ -198,6 +201,10 @@ lines_back is ts well h =
 pub all_well : (is : List Item) → AllByRecursion (WellFormed 1) is → WellFormedItems 1 (items_of is)
 all_well [] well = tt
 all_well (i ∷ is) well = (well.0, all_well is well.1)
+
+pub all_free : (is : List Item) → AllByRecursion NoneReserved is → NoneReservedItems (items_of is)
+all_free [] free = tt
+all_free (i ∷ is) free = (free.0, all_free is free.1)
 
 -- the texts of the items on lines
 record Split (is : List Item) (text : List ℕ) : Type 0 where
@@ -216,7 +223,8 @@ split style (i ∷ is) text (first, more, whole, written, later) =
     }
 
 pub items_back : (style : EdnStyle) (is : List Item) (text : List ℕ) → AllByRecursion (WellFormed 1) is
-    → AreEdnLines style is text → bytes_of_edn text ≡ Some (encoded_items (items_of is))
-items_back style is text well written =
+    → AllByRecursion NoneReserved is → AreEdnLines style is text → bytes_of_edn text ≡ Some (encoded_items (items_of is))
+items_back style is text well free written =
     let parts = split style is text written in
-    ap bytes_of_edn parts.whole ∙ lines_back (items_of is) parts.texts (all_well is well) parts.each
+    ap bytes_of_edn parts.whole ∙ lines_back (items_of is) parts.texts (all_well is well) (all_free is free)
+    parts.each

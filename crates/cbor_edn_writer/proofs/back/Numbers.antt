@@ -7,7 +7,7 @@ use Rattle.std.specs.Char.{digit_value}
 use Rattle.std.specs.Str.Parse.{IsNumeral}
 use Rattle.std.specs.Option.{option_or}
 use Rattle.std.proofs.lemmas.Bool.{cond-true, cond-false, cond_both, agree_below, not-true, lt-ltb, ltb-true}
-use Rattle.std.proofs.lemmas.Bool.{eqb-true}
+use Rattle.std.proofs.lemmas.Bool.{eqb-true, le-leb, le-ltb}
 use Rattle.cbor_grammar.specs.declared.width.IntegerWidth.{IntegerWidth}
 use Rattle.cbor_grammar.specs.declared.width.IntegerWidth.TheVariants.{Unknown}
 use Rattle.cbor_grammar.specs.Head.{FitsWidth}
@@ -22,7 +22,8 @@ use Rattle.cbor_edn_grammar.specs.Blank.{after_space, skip_blank}
 use Rattle.cbor_edn_writer.specs.EdnLeaves.{marked, EdnLeaf, NoteAfter, AnyNote, Noted, FloatText}
 use Rattle.cbor_edn_grammar.specs.Float.{is_float}
 use Rattle.cbor_edn_grammar.specs.Items.{other_item, read_item, read_number, number_or_tag, read_tagged, number_item}
-use Rattle.cbor_edn_grammar.specs.Items.{name_item, read_simple, simple_number}
+use Rattle.cbor_edn_grammar.specs.Items.{name_item, read_simple, is_simple, simple_number}
+use Rattle.cbor_edn_grammar.specs.Reserved.{NotReserved}
 use Rattle.cbor_edn_grammar.specs.Big.{big_item}
 use Rattle.cbor_edn_grammar.specs.Number.{fits, unsigned, integer_of, zero_of}
 use Rattle.cbor_edn_grammar.specs.Strings.{opening_of, begins_string}
@@ -194,9 +195,14 @@ no_blank [] rest h = absurd (omega (arith, h.0))
 no_blank (d ∷ ds) rest h = skip_none (d ∷ (ds ++ rest)) (nothing_here (after_space true (d ∷ (ds ++ rest)))
     (digit_passes (λ d. is_none (after_space true (d ∷ (ds ++ rest)))) d refl h.1.0))
 
-simple_number_read : (n : ℕ) (rest : List ℕ) → n < 256
+-- CBOR has the value
+has_simple : (n : ℕ) → n < 256 → NotReserved (simple n) → is_simple n ≡ true
+has_simple n lt (inl low) = rw (lt-ltb n 24 low) refl
+has_simple n lt (inr high) = rw (le-ltb n 24 (omega (arith, high)), le-leb 32 n high, lt-ltb n 256 lt) refl
+
+simple_number_read : (n : ℕ) (rest : List ℕ) → n < 256 → NotReserved (simple n)
     → read_simple (decimal n ++ 41 ∷ rest) ≡ Some (atom (simple n), rest)
-simple_number_read n rest lt =
+simple_number_read n rest lt free =
     let le : n ≤ 2 ^ 64 = omega (arith, lt) in
     let word = subst IsWord (append-nil (decimal n)) (number_word n Unknown le) in
     let is = ap unsigned (sym (append-nil (decimal n)))
@@ -207,12 +213,12 @@ simple_number_read n rest lt =
     ∙ ap (λ u. u >>= λ u. simple_number u.0 u.1 >>= λ n. after_byte 41 (skip_blank (41 ∷ rest))
     >>= λ rest. Some (atom (simple n), rest)) is
     ∙ ap (λ k. k >>= λ n. after_byte 41 (skip_blank (41 ∷ rest)) >>= λ rest. Some (atom (simple n), rest))
-    (cond-true (nat_lt n 256) (Some n) None (lt-ltb n 256 lt))
+    (cond-true (is_simple n) (Some n) None (has_simple n lt free))
     ∙ ap (λ r. after_byte 41 r >>= λ rest. Some (atom (simple n), rest)) (skip_none (41 ∷ rest) refl)
 
-numbered_core : (left n : ℕ) → n < 256
+numbered_core : (left n : ℕ) → n < 256 → NotReserved (simple n)
     → IsCore (suc left) (atom (simple n)) (codes "simple(" ++ (decimal n ++ codes ")"))
-numbered_core left n lt = (
+numbered_core left n lt free = (
   refl,
   (λ rest f.
       let digits = digits_of n (omega (arith, lt)) in
@@ -220,17 +226,17 @@ numbered_core left n lt = (
       name_front left (codes "simple") (40 ∷ ((decimal n ++ codes ")") ++ rest)) refl
       record { some = omega arith; run = refl } refl
       ∙ ap (λ t. read_simple (skip_blank t)) inner
-      ∙ ap read_simple (no_blank (decimal n) (41 ∷ rest) digits) ∙ simple_number_read n rest lt),
+      ∙ ap read_simple (no_blank (decimal n) (41 ∷ rest) digits) ∙ simple_number_read n rest lt free),
 )
 
-simple_core : (left n : ℕ) → n < 256 → IsCore (suc left) (atom (simple n)) (simple_text n)
-simple_core left n lt =
+simple_core : (left n : ℕ) → n < 256 → NotReserved (simple n) → IsCore (suc left) (atom (simple n)) (simple_text n)
+simple_core left n lt free =
     let Core : List ℕ → Type 0 = λ t. IsCore (suc left) (atom (simple n)) t in
     cond_both (n == 20) (codes "false") _ Core (λ e. named 20 (codes "false") e refl refl refl refl refl refl)
     (λ _. cond_both (n == 21) (codes "true") _ Core (λ e. named 21 (codes "true") e refl refl refl refl refl refl)
     (λ _. cond_both (n == 22) (codes "null") _ Core (λ e. named 22 (codes "null") e refl refl refl refl refl refl)
     (λ _. cond_both (n == 23) (codes "undefined") (codes "simple(" ++ (decimal n ++ codes ")")) Core
-    (λ e. named 23 (codes "undefined") e refl refl refl refl refl refl) (λ _. numbered_core left n lt))))
+    (λ e. named 23 (codes "undefined") e refl refl refl refl refl refl) (λ _. numbered_core left n lt free))))
   where
     named : (k : ℕ) (word : List ℕ) → (n == k) ≡ true → nat_lt 0 (length word) ≡ true → StartsName word → IsBegun word
         → run_len (begins_number word) (begins_number word) word ≡ length word
@@ -261,24 +267,24 @@ noted_reads left p i found core t begun read same h = record {
 
 module _ (float_reads : (left : ℕ) (all : Bool) (bits : ℕ) (w : FloatWidth) (t : List ℕ) → FitsFloat w bits
     → FloatText all bits w t → ReadsAs (suc left) (atom (float bits w)) t) where
-  pub leaf_reads : (left : ℕ) (p : EdnPlace) (a : Atom) (t : List ℕ) → WellFormedAtom a → EdnLeaf p a t
-      → ReadsAs (suc left) (atom a) t
-  leaf_reads left p (integer n w) t well h =
+  pub leaf_reads : (left : ℕ) (p : EdnPlace) (a : Atom) (t : List ℕ) → WellFormedAtom a → NotReserved a
+      → EdnLeaf p a t → ReadsAs (suc left) (atom a) t
+  leaf_reads left p (integer n w) t well free h =
       let m = marked p.style.widths n w in
       let lt = below_limit n w well in
       noted_reads (suc left) p (atom (integer n w)) (atom (integer n (read_width m))) (number n m) t
       (subst IsBegun (append-nil (number n m)) (number_begun (number n m) [] (number_starts n m (omega (arith, lt)))))
       (λ rest f. integer_back left n m rest (marked_fits n w p.style.widths well) lt f.ended)
       (read_encoded 0 n w p.style.widths well) h
-  leaf_reads left p (negative n w) t well h =
+  leaf_reads left p (negative n w) t well free h =
       let m = marked p.style.widths n w in
       let lt = below_limit n w well in
       noted_reads (suc left) p (atom (negative n w)) (atom (negative n (read_width m))) (45 ∷ number (n + 1) m) t refl
       (λ rest f. negative_back left n m rest (marked_fits n w p.style.widths well) lt f.ended)
       (read_encoded 1 n w p.style.widths well) h
-  leaf_reads left p (float bits w) t well h = float_reads left p.style.widths bits w t well h
-  leaf_reads left p (simple n) t well h =
-      let core = simple_core left n well in
+  leaf_reads left p (float bits w) t well free h = float_reads left p.style.widths bits w t well h
+  leaf_reads left p (simple n) t well free h =
+      let core = simple_core left n well free in
       noted_reads (suc left) p (atom (simple n)) (atom (simple n)) (simple_text n) t core.0 core.1 refl h
-  leaf_reads left p (string kind c) t well h = absurd h
-  leaf_reads left p (chunked_string kind cs) t well h = absurd h
+  leaf_reads left p (string kind c) t well free h = absurd h
+  leaf_reads left p (chunked_string kind cs) t well free h = absurd h

@@ -1,4 +1,4 @@
--- In EDN, bytes that are shown as the items in them are the encodings of those items.
+-- In EDN, bytes that are shown as the items in them are the encodings of those items, and these are read back.
 use Rattle.std.proofs.Common.{◌≡◌, ℕ, zero, suc, ◌+◌, ◌/◌, ◌%◌, ◌≤◌, Bool, true, false, ◌==◌, ◌&&◌, if◌then◌else◌}
 use Rattle.std.proofs.Common.{nat_lt, List, [], ◌∷◌, ◌++◌, length, take, drop, Some, None, Ok, Err, refl, sym}
 use Rattle.std.proofs.Common.{ap, subst, ◌∙◌, ◌<◌, arith}
@@ -13,7 +13,6 @@ use Rattle.cbor_grammar.specs.declared.head.ItemHead.{ItemHead}
 use Rattle.cbor_grammar.specs.declared.head.ItemHead.TheVariants as item_head
 use Rattle.cbor_grammar.specs.declared.width.IntegerWidth.{IntegerWidth}
 use Rattle.cbor_grammar.specs.declared.width.IntegerWidth.TheVariants.{Zero, Eight, Sixteen, ThirtyTwo, SixtyFour}
-use Rattle.cbor_grammar.specs.mirror.StrictHeads.{StrictHeads, no_head, a_break, a_head}
 use Rattle.cbor_grammar.specs.Bytes.{any, Spells, SpellsItems}
 use Rattle.cbor_grammar.specs.Embedded.{embedded_at, sequence_at}
 use Rattle.cbor_grammar.specs.Head.{break_byte, opening}
@@ -29,6 +28,8 @@ use Rattle.cbor_grammar.proofs.shared.EmbeddedItems.{embedded_spells, sequence_s
 use Rattle.cbor_bytes.proofs.bytes.StrictHeads.{strictly_spelled}
 use Rattle.cbor_edn_writer.specs.Same.{is_empty, after_strict, after_read, after_head, go_on, are_heads, is_strict}
 use Rattle.cbor_edn_writer.specs.Same.{is_sequence}
+use Rattle.cbor_edn_grammar.specs.Reserved.{NoneReserved, NoneReservedItems}
+use Rattle.cbor_edn_writer.proofs.back.Plain.{PlainHeads, no_head, a_break, a_head, are_strict, free_item, free_items}
 
 -- ---- heads with more bytes after them
 
@@ -80,7 +81,7 @@ head_grows (first ∷ b) more h rest e =
     let c = bind_ok (head_of (first / 32) a.0.0) (λ h. Ok (h, a.0.1)) (h, rest) a.2 in
     rw (argument_grows (first % 32) b more a.0.0 a.0.1 a.1, c.1) (found_grows c.0 a.0.1 more h rest c.2)
 
--- ---- strict heads
+-- ---- plain heads
 
 if_held : (go : List ℕ → Bool) (t : Bool) (x : List ℕ) → go_on go (if t then Some x else None) ≡ true
     → (t ≡ true) × (go x ≡ true)
@@ -92,58 +93,62 @@ if_passed : (go : List ℕ → Bool) (t : Bool) (x : List ℕ) → go_on go (if 
 if_passed go true x is = absurd cc
 if_passed go false x is = (refl, is)
 
--- no simple value below 24 takes two bytes where that is what was tested
-least_of : (first n : ℕ) → ((first == 0xf8) && nat_lt n 24) ≡ false → first ≡ 0xf8 → 24 ≤ n
+-- no simple value below 32 takes two bytes where that is what was tested
+least_of : (first n : ℕ) → ((first == 0xf8) && nat_lt n 32) ≡ false → first ≡ 0xf8 → 32 ≤ n
 least_of first n none is =
-    ltb-false n 24 (sym (ap (λ (t : Bool). t && nat_lt n 24) (eq-eqb first 0xf8 is)) ∙ none)
+    ltb-false n 32 (sym (ap (λ (t : Bool). t && nat_lt n 32) (eq-eqb first 0xf8 is)) ∙ none)
 
 module _ (n first : ℕ) (b more : List ℕ)
-    (later : (rest : List ℕ) → are_heads n rest ≡ true → StrictHeads (rest ++ more)) where
+    (later : (rest : List ℕ) → are_heads n rest ≡ true → PlainHeads (rest ++ more)) where
   with_head : (h : ItemHead) (rest : List ℕ) → read_head (first ∷ b) ≡ Ok (h, rest)
-      → go_on (are_heads n) (after_strict first (h, rest)) ≡ true → StrictHeads (first ∷ (b ++ more))
+      → go_on (are_heads n) (after_strict first (h, rest)) ≡ true → PlainHeads (first ∷ (b ++ more))
   with_head (item_head.String kind (Number k w)) rest e is =
       let held = if_held (are_heads n) (nat_le k (length rest)) (drop k rest) is in
       let behind : drop k rest ++ more ≡ drop k (rest ++ more) =
       sym (drop-append-le k rest more (leb-true k (length rest) held.0)) in
       a_head (head_grows (first ∷ b) more (item_head.String kind (Number k w)) rest e) tt
-      (subst StrictHeads behind (later (drop k rest) held.1))
+      (subst PlainHeads behind (later (drop k rest) held.1))
   with_head (item_head.Simple k) rest e is =
-      let passed = if_passed (are_heads n) ((first == 0xf8) && nat_lt k 24) rest is in
+      let passed = if_passed (are_heads n) ((first == 0xf8) && nat_lt k 32) rest is in
       a_head (head_grows (first ∷ b) more (item_head.Simple k) rest e) (least_of first k passed.0)
       (later rest passed.1)
   with_head h rest e is = a_head (head_grows (first ∷ b) more h rest e) tt (later rest is)
 
   with_read : (read : Read ItemHead) → read_head (first ∷ b) ≡ read
-      → go_on (are_heads n) (after_read first read) ≡ true → StrictHeads (first ∷ (b ++ more))
+      → go_on (are_heads n) (after_read first read) ≡ true → PlainHeads (first ∷ (b ++ more))
   with_read (Ok (h, rest)) e is = with_head h rest e is
   with_read (Err error) e is = absurd cc
 
   with_first : (t : Bool) → (first == break_byte) ≡ t
       → go_on (are_heads n) (if t then Some b else after_read first (read_head (first ∷ b))) ≡ true
-      → StrictHeads (first ∷ (b ++ more))
+      → PlainHeads (first ∷ (b ++ more))
   with_first true e is =
-      subst (λ (f : ℕ). StrictHeads (f ∷ (b ++ more))) (sym (eqb-true first break_byte e)) (a_break (later b is))
+      subst (λ (f : ℕ). PlainHeads (f ∷ (b ++ more))) (sym (eqb-true first break_byte e)) (a_break (later b is))
   with_first false e is = with_read (read_head (first ∷ b)) refl is
 
--- bytes that are this many heads, before strict heads
-heads_strict : (n : ℕ) (b more : List ℕ) → are_heads n b ≡ true → StrictHeads more → StrictHeads (b ++ more)
+-- bytes that are this many heads, before such heads
+heads_plain : (n : ℕ) (b more : List ℕ) → are_heads n b ≡ true → PlainHeads more → PlainHeads (b ++ more)
 unfolding are_heads after_head
-heads_strict n [] more is s = s
-heads_strict zero (first ∷ b) more is s = absurd cc
-heads_strict (suc n) (first ∷ b) more is s =
-    with_first n first b more (λ rest holds. heads_strict n rest more holds s) (first == break_byte) refl is
+heads_plain n [] more is s = s
+heads_plain zero (first ∷ b) more is s = absurd cc
+heads_plain (suc n) (first ∷ b) more is s =
+    with_first n first b more (λ rest holds. heads_plain n rest more holds s) (first == break_byte) refl is
 
 -- ---- items
 
-spelled_same : (level : ℕ) (b : List ℕ) (i : Item) → Spells any level b i → StrictHeads b → b ≡ encoded i
-spelled_same level b i spelled s = strict_only level b i (strictly_spelled level b i spelled s)
+spelled_same : (level : ℕ) (b : List ℕ) (i : Item) → Spells any level b i → PlainHeads b → b ≡ encoded i
+spelled_same level b i spelled s = strict_only level b i (strictly_spelled level b i spelled (are_strict b s))
+
+all_plain : (b : List ℕ) → is_strict b ≡ true → PlainHeads b
+all_plain b strict = subst PlainHeads (append-nil b) (heads_plain (length b) b [] strict no_head)
 
 -- the item that the bytes are is encoded as these bytes
 pub item_same : (level left : ℕ) (b : List ℕ) (i : Item) → level + left ≡ 129 → AllByRecursion (λ b. b < 256) b
-    → embedded_at left b ≡ Some i → is_strict b ≡ true → encoded i ≡ b
+    → embedded_at left b ≡ Some i → is_strict b ≡ true → (encoded i ≡ b) × NoneReserved i
 item_same level left b i levels bytes is strict =
-    let s = subst StrictHeads (append-nil b) (heads_strict (length b) b [] strict no_head) in
-    sym (spelled_same level b i (embedded_spells level left b i levels (bytes_at b bytes) is) s)
+    let s = all_plain b strict in
+    let spelled = embedded_spells level left b i levels (bytes_at b bytes) is in
+    (sym (spelled_same level b i spelled s), free_item level b i spelled s)
 
 -- Items one after the other are encoded as their bytes: those of an array without its opening byte and its break.
 items_same : (level : ℕ) (b : List ℕ) (is : Items) → level ≤ deepest → SpellsItems any (level + 1) b is []
@@ -152,10 +157,10 @@ unfolding head_of
 items_same level b is le spelled strict =
     let end : List ℕ = break_byte ∷ [] in
     let listed : List ℕ = opening 4 ∷ (b ++ end) in
-    let s : StrictHeads listed =
+    let s : PlainHeads listed =
     a_head {h = item_head.Array Indefinite}
     (head_again 4 Indefinite (item_head.Array Indefinite) listed (b ++ end) (omega arith) refl refl) tt
-    (heads_strict (length b) b end strict (a_break no_head)) in
+    (heads_plain (length b) b end strict (a_break no_head)) in
     let same : listed ≡ opening 4 ∷ (encoded_items is ++ end) =
     spelled_same level listed (array is None) (le, (b ++ end, refl, items_append (level + 1) is b [] end spelled)) s in
     sym (append_cancel_right b (encoded_items is) end (cons_is _ _ _ _ same).1)
@@ -165,9 +170,13 @@ none_of [] is = refl
 none_of (first ∷ b) is = absurd cc
 
 -- the items below a byte string at this level, where that many levels are left for them
-pub sequence_same_at : (level left : ℕ) (b : List ℕ) → level + left ≡ 128 → AllByRecursion (λ b. b < 256) b
-    → is_sequence level b ≡ true → is_strict b ≡ true
-    → (encoded_items (sequence_at left b).0 ≡ b) × ((sequence_at left b).1 ≡ [])
+pub record SameItems (left : ℕ) (b : List ℕ) : Type 0 where
+  pub same : encoded_items (sequence_at left b).0 ≡ b
+  pub whole : (sequence_at left b).1 ≡ []
+  pub none : NoneReservedItems (sequence_at left b).0
+
+sequence_same_at : (level left : ℕ) (b : List ℕ) → level + left ≡ 128 → AllByRecursion (λ b. b < 256) b
+    → is_sequence level b ≡ true → is_strict b ≡ true → SameItems left b
 sequence_same_at level left b levels bytes is strict =
     let le : level ≤ deepest = omega (arith, levels) in
     let below : level + 1 + left ≡ 129 = omega (arith, levels) in
@@ -179,12 +188,16 @@ sequence_same_at level left b levels bytes is strict =
     let read = sequence_spells (level + 1) left below (length b) b (omega arith) (bytes_at b bytes) in
     let spelled : SpellsItems any (level + 1) b (sequence_at left b).0 [] =
     subst (λ (rest : List ℕ). SpellsItems any (level + 1) b (sequence_at left b).0 rest) none read.spelled_so in
-    (items_same level b (sequence_at left b).0 le spelled strict, none)
+    record {
+      same = items_same level b (sequence_at left b).0 le spelled strict;
+      whole = none;
+      none = free_items (level + 1) b (sequence_at left b).0 spelled (all_plain b strict);
+    }
 
 -- the same, as it is tested
 pub sequence_same : (level : ℕ) (b : List ℕ) → AllByRecursion (λ b. b < 256) b → is_sequence level b ≡ true
-    → is_strict b ≡ true → encoded_items (sequence_at (levels_left (level + 1)) b).0 ≡ b
+    → is_strict b ≡ true → SameItems (levels_left (level + 1)) b
 sequence_same level b bytes is strict =
     let both = and_parts (nat_le level deepest) (is_empty (sequence_at (levels_left (level + 1)) b).1) is in
     let le : level ≤ deepest = leb-true level deepest both.0 in
-    (sequence_same_at level (levels_left (level + 1)) b (omega (arith, le)) bytes is strict).0
+    sequence_same_at level (levels_left (level + 1)) b (omega (arith, le)) bytes is strict

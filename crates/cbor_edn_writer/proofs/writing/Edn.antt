@@ -3,8 +3,8 @@ use Rattle.std.proofs.Common.{◌≡◌, ℕ, suc, List, [], ◌∷◌, ◌++◌
 use Rattle.std.proofs.Common.{Some, Global, refl, sym, ap, subst, ◌∙◌}
 use Rattle.std.specs.String.{string_bytes}
 use Rattle.std.specs.declared.string.String.{String}
-use Rattle.cbor_grammar.specs.Facts.{IsItem, IsStrictItem}
-use Rattle.cbor_grammar.proofs.bytes.Strict.{strict_any, strict_only}
+use Rattle.cbor_grammar.specs.Facts.{IsItem}
+use Rattle.cbor_grammar.proofs.bytes.Strict.{strict_only}
 use Rattle.cbor_grammar.specs.Item.{Item}
 use Rattle.cbor_grammar.specs.Reading.{read_item}
 use Rattle.cbor_grammar.specs.WellFormed.{WellFormed}
@@ -16,6 +16,7 @@ use Rattle.cbor_grammar.specs.WellFormed.{levels_left}
 use Rattle.cbor_notation_writer.specs.Dialect.{TextsOf, TextsAt}
 use Rattle.cbor_notation_writer.specs.mirror.Straight.{Written}
 use Rattle.cbor_edn_grammar.specs.Edn.{bytes_of_edn}
+use Rattle.cbor_edn_grammar.specs.Reserved.{IsItem8949}
 use Rattle.cbor_edn_writer.specs.EdnLeaves.{edn_leaves, layout_of}
 use Rattle.cbor_edn_writer.specs.Written.{IsOutermost, IsNotedText, IsEdnText}
 use Rattle.cbor_edn_writer.specs.declared.note.Note.{Note}
@@ -52,7 +53,7 @@ module _ (style : EdnStyle) (notes : List Note) (p : EdnPlace) (outermost : IsOu
         place = p;
         outermost = outermost;
         written = text;
-        read_back = edn_back p i t outermost.level well text;
+        read_back = λ free. edn_back p i t outermost.level well free text;
         shown = is_shown apart;
         breaks = apart.breaks;
       }
@@ -64,10 +65,10 @@ module _ (style : EdnStyle) (notes : List Note) (p : EdnPlace) (outermost : IsOu
       (i, is, t, is_edn b i (f x) t bytes is text, written)
   edn_so (Err e) f b old new bytes h = tt
 
--- of bytes that are spelled as a writer spells them the text is read back as the bytes
+-- of an item by RFC 8949 the text is read back as its bytes
 pub kept : {E : Type 0} (style : EdnStyle) (b : List ℕ) (i : Item) (r : Result (String Global) E) (other : E → Type 0)
-    → ((i : Item) → IsItem b i → MatchResult r (λ s. IsEdnText style i (string_bytes s)) other) → IsStrictItem b i
+    → ((i : Item) → IsItem b i → MatchResult r (λ s. IsEdnText style i (string_bytes s)) other) → IsItem8949 b i
     → IfOk r (λ s. bytes_of_edn (string_bytes s) ≡ Some b)
-kept style b i (Ok s) other every strict =
-    (every i (strict_any 1 b i strict)).read_back ∙ sym (ap Some (strict_only 1 b i strict))
-kept style b i (Err e) other every strict = tt
+kept style b i (Ok s) other every is =
+    (every i is.0).read_back is.2 ∙ sym (ap Some (strict_only 1 b i is.1))
+kept style b i (Err e) other every is = tt

@@ -86,8 +86,8 @@ fn is_sequence(level: u8, bytes: &[u8]) -> bool
     }
 }
 
-/// Whether the bytes are heads with the content of strings, and breaks, and no head takes a byte
-/// too many: of items, the same bytes are written then.
+/// Whether the bytes are heads with the content of strings, and breaks, and no simple value below
+/// 32 takes two bytes: of items, the same bytes are read back then.
 fn is_strict(bytes: &[u8]) -> bool
     ensures { result ≡ has_same bytes.now }
 {
@@ -130,7 +130,8 @@ fn after_read(first: u8, bytes: &[u8]) -> Option<&[u8]>
     after_strict(first, head, rest)
 }
 
-/// The bytes after a head, which begins with this byte, and after the content of a string.
+/// The bytes after a head, which begins with this byte, and after the content of a string; none
+/// after a simple value below 32 in two bytes.
 fn after_strict(first: u8, head: ItemHead, rest: &[u8]) -> Option<&[u8]>
     ensures next { MatchOption result (next_after first (head, rest.now) ≡ None)
         (λ after. next_after first (head, rest.now) ≡ Some after.now) }
@@ -138,7 +139,7 @@ fn after_strict(first: u8, head: ItemHead, rest: &[u8]) -> Option<&[u8]>
 {
     match head {
         ItemHead::String(_, Argument::Number(count, _)) => after_content(count, rest),
-        ItemHead::Simple(value) if first == 0xf8 && value < 24 => None,
+        ItemHead::Simple(value) if first == 0xf8 && value < 32 => None,
         _ => Some(rest),
     }
 }

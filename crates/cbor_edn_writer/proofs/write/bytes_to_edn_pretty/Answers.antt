@@ -1,8 +1,8 @@
--- A text of bytes that are spelled as a writer spells them is read back as these bytes.
+-- A text of an item by RFC 8949 is read back as its bytes.
 use Rattle.cbor_edn_writer.specs.Written.{pretty_style}
 use Rattle.cbor_edn_writer.proofs.writing.Edn.{kept}
 use Rattle.cbor_edn_writer.proofs.write.bytes_to_edn_pretty.Goals as goal
 
 pub returns-clause-lossless : goal.returns-clause-lossless
-returns-clause-lossless c = λ i strict. kept pretty_style c.args.bytes.now i c.whole_text.result _
-    c.whole_text.ensures.every_item strict
+returns-clause-lossless c = λ i is. kept pretty_style c.args.bytes.now i c.whole_text.result _
+    c.whole_text.ensures.every_item is
