@@ -37,7 +37,7 @@ enum cbor_diag_form {
     CBOR_DIAG_FORM_HEX = 1,   /* hex with comments from # to the end of the line; the output is a dump */
     CBOR_DIAG_FORM_DIAG = 2,  /* diagnostic notation; the output has no line breaks of its own; a line feed ends it */
     CBOR_DIAG_FORM_PRETTY = 3, /* diagnostic notation; the output may have several lines; a line feed ends it */
-    CBOR_DIAG_FORM_EDN = 4,    /* one item in EDN, of which JSON is a part; the output is one line */
+    CBOR_DIAG_FORM_EDN = 4,    /* one item in EDN, as which JSON text is read, too; the output is one line */
     CBOR_DIAG_FORM_EDN_PRETTY = 5, /* one item in EDN; the output may have several lines, and has notes as comments */
     CBOR_DIAG_FORM_JSON = 6,       /* JSON on one line, which a line feed ends; an input is read as EDN */
     CBOR_DIAG_FORM_JSON_STRICT = 7 /* the same, but an output that JSON does not keep is an error */

@@ -82,11 +82,11 @@ class Form(enum.IntEnum):
     PRETTY = 3
     """Diagnostic notation. As an output it may have several lines, and a line feed ends it."""
     EDN = 4
-    """One item in EDN, of which JSON is a part. As an output it is one line, and a line feed ends it."""
+    """One item in EDN, as which JSON text is read, too. As an output it is one line, and a line feed ends it."""
     EDN_PRETTY = 5
     """One item in EDN. As an output it may have several lines, with notes as comments, and a line feed ends it."""
     JSON = 6
-    """JSON on one line, and a line feed ends it. An input is read as EDN, of which JSON is a part."""
+    """JSON on one line, and a line feed ends it. An input is read as EDN."""
     JSON_STRICT = 7
     """The same, but an output that JSON does not keep is an error."""
 
@@ -916,7 +916,7 @@ def hex_to_edn_pretty(text: Data) -> str:
 
 
 def edn_to_bytes(text: Data) -> bytes:
-    """The bytes of one item in EDN, of which JSON is a part."""
+    """The bytes of one item in EDN, as which JSON text is read, too."""
     return _convert(_EDN, _BYTES, text, bytes)
 
 

@@ -25,11 +25,11 @@ pub enum Form {
     Diag,
     /// Diagnostic notation. As an output it may have several lines, and a line feed ends it.
     Pretty,
-    /// One item in EDN, of which JSON is a part. As an output it is one line, and a line feed ends it.
+    /// One item in EDN, as which JSON text is read, too. As an output it is one line, and a line feed ends it.
     Edn,
     /// One item in EDN. As an output it may have several lines, with notes as comments, and a line feed ends it.
     EdnPretty,
-    /// JSON on one line, and a line feed ends it. An input is read as EDN, of which JSON is a part.
+    /// JSON on one line, and a line feed ends it. An input is read as EDN.
     Json,
     /// The same, but an output that JSON does not keep is an error.
     JsonStrict,
@@ -304,7 +304,7 @@ pub fn hex_to_edn_pretty(hex: &str) -> Result<String> {
     notation(Form::Hex, Form::EdnPretty, hex.as_bytes())
 }
 
-/// The bytes of one item in EDN, of which JSON is a part.
+/// The bytes of one item in EDN, as which JSON text is read, too.
 pub fn edn_to_bytes(edn: &str) -> Result<Vec<u8>> {
     convert(Form::Edn, Form::Bytes, edn.as_bytes())
 }

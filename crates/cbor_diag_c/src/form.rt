@@ -14,7 +14,7 @@ pub(crate) const NO_FORM: i64 = -11;
 pub(crate) enum Form {
     /// One that `cbor_diag` has.
     Plain(To),
-    /// One that is written straight from bytes. An input is read as EDN, of which JSON is a part.
+    /// One that is written straight from bytes. An input is read as EDN.
     Text(Text),
 }
 

@@ -68,7 +68,7 @@ Output:
 
 Forms, i of an input and o of the output:
   pretty       o  notation over several lines where it is long, with comments
-  diag, edn   io  diagnostic notation (EDN), of which JSON is a part
+  diag, edn   io  diagnostic notation (EDN), as which JSON is read, too
   hex         io  input: pairs of digits, also with blanks , : 0x \\x, and
                   comments after #; output: a dump with comments
   digits       o  hex on one line
