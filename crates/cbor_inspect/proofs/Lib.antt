@@ -1,4 +1,3 @@
-pub mod SimpleLemmas
 pub mod StreamLemmas
 pub mod OutputLemmas
 pub mod Lines

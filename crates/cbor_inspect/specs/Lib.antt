@@ -1,6 +1,5 @@
 pub mod Forms
 pub mod Shows
-pub mod Simple
 pub mod Raw
 pub mod PathText
 pub mod Named

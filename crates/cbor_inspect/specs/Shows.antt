@@ -1,16 +1,12 @@
--- What is written of an item, or of its part, and what the end of a check says.
+-- What is written of an item, or of its part.
 use Rattle.std.specs.Prelude.{◌≢◌, ℕ, List, [], map}
 use Rattle.cbor_grammar.specs.Item.{Item}
 use Rattle.cbor_grammar.specs.Written.{resolve}
-use Rattle.cbor_paths.specs.declared.end.End.{End}
-use Rattle.cbor_paths.specs.declared.end.End.TheVariants as end
 use Rattle.cbor_inspect.specs.declared.items.Show.{Show}
 use Rattle.cbor_paths.specs.declared.path.Step.{Step}
-use Rattle.cbor_paths.specs.Ends.{EndsSo}
 use Rattle.cbor_inspect.specs.Forms.{IsForm}
 use Rattle.cbor_paths.specs.Parts.{AreParts}
 use Rattle.cbor_paths.specs.Sequence.{ShowsEach}
-use Rattle.cbor_inspect.specs.Simple.{BeginsNo8949}
 
 -- What is written of each part that the steps lead to, in order, of which there is one at least. Their unstated widths
 -- are resolved, and what was read has none.
@@ -25,8 +21,3 @@ steps_of show = show.steps.items
 -- what is written of an item: the part that the path leads to
 abbrev pub Shows : Show → Item → List ℕ → Type 0
 Shows show i output = ShowsPart show (steps_of show) i output
-
--- what an end says of a check by RFC 8949: the same as of a call that writes, or that the next item is none by it
-abbrev pub ChecksSo : List ℕ → End → Type 0
-ChecksSo rest (end.TwoByteSimple at) = BeginsNo8949 rest at
-ChecksSo rest other = EndsSo [] rest other

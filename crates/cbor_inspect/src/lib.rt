@@ -23,16 +23,14 @@ mod naming;
 mod notation;
 mod part;
 mod raw;
-mod simple;
 mod steps;
 mod stream;
 
 pub use cbor_paths::{End, Lost, Shown, Step, lost_at, skip_items, untagged};
 pub use form::{Form, Style};
 pub use items::{Show, show_items};
-pub use name::{NameError, name_at};
+pub use name::{NameError, below_tags, name_at};
 pub use naming::Naming;
 pub use raw::{RawError, raw_content};
-pub use simple::two_byte_simple;
 pub use steps::steps_of;
 pub use stream::Stream;

@@ -37,8 +37,8 @@ struct Spot<'b> {
     behind: usize,
 }
 
-/// The bytes from the item below all tags on.
-fn below_tags(bytes: &[u8]) -> Option<&[u8]> {
+/// Returns the bytes from the item below all tags on; nothing of bytes that end before it begins.
+pub fn below_tags(bytes: &[u8]) -> Option<&[u8]> {
     let mut rest = bytes;
     for _ in 0..=u8::MAX {
         match read_head(rest) {

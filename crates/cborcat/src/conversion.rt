@@ -15,9 +15,10 @@ use crate::shown::show_of;
 use crate::status::{Next, Status};
 use cbor_bytes::{Extent, extent};
 use cbor_grammar::Error;
-use cbor_inspect::{End, Stream, two_byte_simple};
+use cbor_inspect::{End, Stream};
 use cbor_messages::{TWO_BYTES, first_breach};
 use cbor_places::Piece;
+use cbor_rules::two_byte_simple;
 use cborcat_arguments::{Job, View};
 use std::alloc::{AllocError, Global};
 use std::io;
@@ -222,7 +223,7 @@ impl<'a> Conversion<'a> {
             return End::Remaining;
         }
         let end = match self.job.view {
-            View::Items if self.job.check => self.stream.check(self.rt.alloc(), one),
+            View::Items if self.job.check => self.stream.check(one),
             View::Items if self.job.encode.is_some() => self.show_encoded(),
             View::Items => self.show_some(),
             View::Json | View::Raw => self.show_plain(),

@@ -2,7 +2,8 @@
 
 use crate::naming::Tables;
 use cbor_grammar::Error;
-use cbor_inspect::{Show, steps_of, two_byte_simple};
+use cbor_inspect::{Show, steps_of};
+use cbor_rules::two_byte_simple;
 use cborcat_arguments::Job;
 use std::alloc::Global;
 
