@@ -1,7 +1,7 @@
 //! The call for C that says what a part of an item is called.
 ghost use Rattle.std.specs.Prelude.{◌≡◌, ℕ, List, length, IfOk, IfErr};
 ghost use Rattle.cbor_diag_c.specs.Answers.{IfLength, IfError, written};
-ghost use Rattle.cbor_diag_c.specs.Names.{HasPart, IsNoName, IsNoNamed};
+ghost use Rattle.cbor_diag_c.specs.Names.{IsOneItem, IsNoName, IsNoNamed};
 
 use crate::answer::{refused, write};
 use cbor_grammar::Error;
@@ -31,7 +31,7 @@ fn name_of<'n>(
     input: &[u8],
     path: &[u8],
 ) -> Result<&'n str, NameError>
-    ensures part { IfOk result (λ _. HasPart input.now path.now) }
+    ensures item { IfOk result (λ _. IsOneItem input.now) }
     ensures refused { IfErr result (IsNoNamed input.now path.now) }
 {
     let Ok(path) = str::from_utf8(path) else {
@@ -63,7 +63,7 @@ pub extern "C" fn cbor_diag_name_at(
     kind: &[u8],
     output: &mut [u8],
 ) -> i64
-    ensures part { IfLength result (λ n. HasPart input.now path.now) }
+    ensures item { IfLength result (λ n. IsOneItem input.now) }
     ensures name { IfLength result (λ n. (name : List ℕ)
         × (n ≡ length name) × (output.new ≡ written name output.old)) }
     ensures error { IfError result (IsNoName input.now path.now kind.now) }

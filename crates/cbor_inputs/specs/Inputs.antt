@@ -65,4 +65,4 @@ IsWhy form text (refusal.Diag expected at) =
 IsWhy form text refusal.Base64 = form ≡ input.Base64
 IsWhy form text (refusal.Items other shown) =
     (other ≡ form) × (bytes : List ℕ) × Stands form text bytes × (shown.end ≢ end.Done)
-    × EndsSo [] (drop shown.used bytes) shown.end
+    × EndsSo (drop shown.used bytes) shown.end

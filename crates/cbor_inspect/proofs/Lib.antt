@@ -1,4 +1,3 @@
 pub mod StreamLemmas
 pub mod OutputLemmas
 pub mod Lines
-pub mod PathLemmas

@@ -23,10 +23,9 @@ use Rattle.cbor_inspect.specs.declared.form.Form.{Form}
 use Rattle.cbor_inspect.specs.declared.form.Form.TheVariants as form
 use Rattle.cbor_inspect.specs.declared.items.Show.{Show}
 use Rattle.cbor_inspect.specs.declared.naming.Naming.{Naming}
-use Rattle.cbor_paths.specs.declared.path.Step.{Step}
+use Rattle.cbor_paths.specs.declared.step.Step.{Step}
 use Rattle.cbor_inspect.specs.Shows.{Shows, steps_of}
 use Rattle.cbor_inspect.specs.Forms.{IsEdn, IsForm, IsFormOf, IsLineOf, edn_style}
-use Rattle.cbor_paths.specs.Parts.{AreParts}
 use Rattle.cbor_inspect.specs.Shows.{ShowsPart}
 use Rattle.cbor_paths.specs.Sequence.{ItemsThen, ShowsEach, IsShownOfFirst, AreStrictItems, IsStrictSequence}
 
@@ -116,12 +115,8 @@ record TextLines (is : List Item) (written : List ℕ) : Type 0 where
 
 -- of a whole item that item alone is written
 whole_shown : (show : Show) (steps : List Step) (i : Item) (output : List ℕ) → steps ≡ []
-    → ShowsPart show steps i output → IsForm show (resolve i) output
-whole_shown show steps i output none (parts, are, some, shown) =
-    let whole : parts ≡ i ∷ [] = subst (λ (s : List Step). AreParts s i parts) none are in
-    let one = subst (λ (l : List Item). ShowsEach (IsForm show) (map resolve l) output) whole shown in
-    let same : output ≡ one.0 = one.2 ∙ ap (λ (o : List ℕ). one.0 ++ o) one.4 ∙ append-nil one.0 in
-    subst (IsForm show (resolve i)) (sym same) one.3
+    → ShowsPart show steps i output → IsForm show i output
+whole_shown show steps i output none shown = subst (λ (s : List Step). ShowsPart show s i output) none shown
 
 text_lines : (show : Show) → IsEdn show.style.form → steps_of show ≡ [] → (is : List Item) (b rest written : List ℕ)
     → ItemsThen b is rest → ShowsEach (Shows show) is written → TextLines is written
@@ -129,10 +124,9 @@ text_lines show is_edn whole [] b rest written is none = record { texts = []; wh
 text_lines show is_edn whole (i ∷ is) b rest written (front, after, splits, s, later)
     (first, others, joined, part, more) =
     let one = whole_shown show (steps_of show) i first whole part in
-    let line = edn_line show.style.form show.names (edn_style show.style) (resolve i) first is_edn one in
+    let line = edn_line show.style.form show.names (edn_style show.style) i first is_edn one in
     let text : List ℕ = line.2 in
-    let read : resolve i ≡ i = resolved 1 front i s in
-    let noted = subst (λ x. IsNotedText (edn_style show.style) line.0 x text) read line.4 in
+    let noted = line.4 in
     let lines = text_lines show is_edn whole is after rest others later more in
     record {
       texts = text ∷ lines.texts;

@@ -1,12 +1,16 @@
 -- For viewers, the content of a string.
 use Rattle.std.specs.Prelude.{◌≡◌, ℕ, List, Option, Some, None}
 use Rattle.std.specs.List.{flat_map}
-use Rattle.cbor_grammar.specs.Item.{Chunk, Item, atom, string, chunked_string}
+use Rattle.cbor_grammar.specs.Item.{Chunk, Item, atom, string, chunked_string, tagged}
 use Rattle.cbor_grammar.specs.Facts.{IsItem, IsNoItem}
 use Rattle.cbor_grammar.specs.declared.error.Error.TheVariants as refusal
-use Rattle.cbor_paths.specs.Paths.{untagged}
 use Rattle.cbor_inspect.specs.declared.raw.RawError.{RawError}
 use Rattle.cbor_inspect.specs.declared.raw.RawError.TheVariants.{Cbor, NoString}
+
+-- the item below all tags
+abbrev pub untagged : Item → Item
+untagged (tagged t w i) = untagged i
+untagged i = i
 
 -- of a byte or text string, its chunks joined
 abbrev pub string_content : Item → Option (List ℕ)

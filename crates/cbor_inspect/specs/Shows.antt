@@ -1,23 +1,31 @@
--- What is written of an item, or of its part.
-use Rattle.std.specs.Prelude.{◌≢◌, ℕ, List, [], map}
+-- What is written of an item, or of parts of it.
+use Rattle.std.specs.Prelude.{◌≡◌, ℕ, List, [], ◌∷◌, ◌++◌}
+use Rattle.hex.specs.Hex.{encode_lower}
 use Rattle.cbor_grammar.specs.Item.{Item}
-use Rattle.cbor_grammar.specs.Written.{resolve}
-use Rattle.cbor_inspect.specs.declared.items.Show.{Show}
-use Rattle.cbor_paths.specs.declared.path.Step.{Step}
-use Rattle.cbor_inspect.specs.Forms.{IsForm}
-use Rattle.cbor_paths.specs.Parts.{AreParts}
+use Rattle.cbor_grammar.specs.Facts.{IsItem}
+use Rattle.cbor_paths.specs.declared.step.Step.{Step}
 use Rattle.cbor_paths.specs.Sequence.{ShowsEach}
+use Rattle.cbor_inspect.specs.declared.form.Form.{Form}
+use Rattle.cbor_inspect.specs.declared.form.Form.TheVariants as form
+use Rattle.cbor_inspect.specs.declared.items.Show.{Show}
+use Rattle.cbor_inspect.specs.Forms.{IsForm}
 
--- What is written of each part that the steps lead to, in order, of which there is one at least. Their unstated widths
--- are resolved, and what was read has none.
+-- what is written of a part: its bytes as they are, or their digits and a line feed, or what is written of its item
+abbrev pub IsPartForm : Form → Show → Item → List ℕ → Type 0
+IsPartForm form.Bytes show i output = IsItem output i
+IsPartForm form.Digits show i output = (b : List ℕ) × IsItem b i × (output ≡ encode_lower b ++ 10 ∷ [])
+IsPartForm other show i output = IsForm show i output
+
+-- what is written of a whole item, or with steps of items that are its parts
 abbrev pub ShowsPart : Show → List Step → Item → List ℕ → Type 0
-ShowsPart show steps i output =
-    (parts : List Item) × AreParts steps i parts × (parts ≢ []) × ShowsEach (IsForm show) (map resolve parts) output
+ShowsPart show [] i output = IsForm show i output
+ShowsPart show (s ∷ steps) i output =
+    (parts : List Item) × ShowsEach (IsPartForm show.style.form show) parts output
 
 -- the path to the part that is written
 abbrev pub steps_of : Show → List Step
 steps_of show = show.steps.items
 
--- what is written of an item: the part that the path leads to
+-- what is written of an item: all of it, or the parts that the path leads to
 abbrev pub Shows : Show → Item → List ℕ → Type 0
 Shows show i output = ShowsPart show (steps_of show) i output

@@ -5,13 +5,11 @@ ghost use Rattle.std.specs.Prelude.{None, Some};
 ghost use Rattle.std.specs.String.{string_bytes};
 ghost use Rattle.hex.specs.Hex.{encode_lower};
 ghost use Rattle.cbor_grammar.specs.Item.{Item};
-ghost use Rattle.cbor_diag.specs.View.{view};
 ghost use Rattle.cbor_grammar.specs.Answer.{RefusedSo};
 ghost use Rattle.cbor_dump.specs.Dump.{dump};
-ghost use Rattle.cbor_grammar.specs.Facts.{IsItem, IsWellFormed, BeginsWithItem, IsCut, HasFault};
+ghost use Rattle.cbor_grammar.specs.Facts.{IsItem, BeginsWithItem, IsCut, HasFault};
 ghost use Rattle.cbor_grammar.specs.Written.{encoded};
 ghost use Rattle.cbor_inspect.specs.Forms.{IsForm};
-ghost use Rattle.cbor_paths.specs.declared.path.Step.{Step};
 ghost use Rattle.cbor_paths.specs.Sequence.{IsShownOfFirst, ShowsFront, OneAtMost};
 ghost use Rattle.cbor_paths.specs.Ends.{EndsSo, StopsSo};
 ghost use Rattle.cbor_inspect.specs.Shows.{Shows, steps_of};
@@ -22,11 +20,11 @@ use crate::notation::{Work, push_notation};
 use crate::part::push_part;
 use cbor_bytes::strict::is_strict;
 use cbor_bytes::{Extent, extent};
-use cbor_diag::{DataItem, parse_bytes, parse_bytes_partial};
+use cbor_diag::parse_bytes;
 use cbor_dump::push_bytes_to_hex_partial;
 use cbor_edn_writer::EdnStyle;
 use cbor_grammar::Error;
-use cbor_paths::{End, Shown, Step};
+use cbor_paths::{End, Picture, Shown, Step};
 use cbor_tokens::push_hex;
 use std::alloc::{AllocError, Global};
 use std::mem;
@@ -75,6 +73,15 @@ impl<'a> Show<'a> {
             one: false,
         }
     }
+
+    /// Returns which byte strings are shown as the items in them, without names.
+    pub fn picture<'m>(&self) -> Picture<'m> {
+        Picture {
+            marks: &[],
+            tagged: true,
+            embedded: self.style.embedded,
+        }
+    }
 }
 
 /// Appends what is written of one item after the other, from the front of the bytes, until no whole
@@ -88,7 +95,7 @@ pub fn show_items(show: &Show, bytes: &[u8], out: &mut Vec<u8>) -> Shown
         × IsShownOfFirst (Shows show.now) bytes.now written (drop result.used bytes.now) }
 
     // Why none is written of the bytes after them.
-    ensures ends { EndsSo (steps_of show.now) (drop result.used bytes.now) result.end }
+    ensures ends { EndsSo (drop result.used bytes.now) result.end }
 
     // At least one byte is passed before a call stops without a look at what remains.
     ensures full { result.end ≡ End.Full → 1 ≤ result.used }
@@ -129,14 +136,14 @@ pub(crate) fn show_first(
     ensures written { IfOk result (λ used. (written : List ℕ)
         × (out.new.items ≡ out.old.items ++ written)
         × IsShownOfFirst (Shows show.now) bytes.now written (drop used bytes.now)) }
-    ensures ends { IfErr result (StopsSo (steps_of show.now) bytes.now) }
+    ensures ends { IfErr result (StopsSo bytes.now) }
     ensures unchanged { OnErr result (out.new.items ≡ out.old.items) }
 {
     work.text.clear();
     if show.steps.is_empty() {
         push_front(show, bytes, known, work, out)
     } else {
-        push_part(show, bytes, work, out)
+        push_part(show, bytes, known, work, out)
     }
 }
 
@@ -153,7 +160,7 @@ pub(crate) fn push_front(
     ensures written { IfOk result (λ used. (written : List ℕ)
         × (out.new.items ≡ out.old.items ++ written)
         × ShowsFront (IsForm show.now) bytes.now written used) }
-    ensures ends { (steps : List Step) → IfErr result (StopsSo steps bytes.now) }
+    ensures ends { IfErr result (StopsSo bytes.now) }
     ensures unchanged { OnErr result (out.new.items ≡ out.old.items) }
 {
     if show.style.form == Form::Bytes {
@@ -176,7 +183,7 @@ fn push_form(show: &Show, bytes: &[u8], known: Option<usize>, work: &mut Work) -
     requires empty { string_bytes work.old.text ≡ [] }
     ensures written { IfOk result (λ used.
         ShowsFront (IsForm show.now) bytes.now (string_bytes work.new.text) used) }
-    ensures ends { (steps : List Step) → IfErr result (StopsSo steps bytes.now) }
+    ensures ends { IfErr result (StopsSo bytes.now) }
 {
     match show.style.form {
         Form::Diag | Form::Pretty => push_notation(show, bytes, work),
@@ -191,7 +198,7 @@ const LONG: usize = 4096;
 
 /// Appends a text to the output. A long one takes the place of the output: so what was in the
 /// output is copied, which is not more than a block.
-fn push_text(text: &mut String, out: &mut Vec<u8>) -> Result<(), AllocError>
+pub(crate) fn push_text(text: &mut String, out: &mut Vec<u8>) -> Result<(), AllocError>
     ensures text { OnOk result (out.new.items ≡ out.old.items ++ string_bytes text.old) }
     ensures unchanged { OnErr result (out.new.items ≡ out.old.items) }
 {
@@ -212,7 +219,7 @@ fn push_encoding(bytes: &[u8], known: Option<usize>, out: &mut Vec<u8>) -> Resul
     ensures written { IfOk result (λ used. (written : List ℕ)
         × (out.new.items ≡ out.old.items ++ written)
         × (i : Item) × BeginsWithItem bytes.now i used × (written ≡ encoded i)) }
-    ensures ends { (steps : List Step) → IfErr result (StopsSo steps bytes.now) }
+    ensures ends { IfErr result (StopsSo bytes.now) }
     ensures unchanged { OnErr result (out.new.items ≡ out.old.items) }
 {
     let used = match first_len(bytes, known) {
@@ -247,7 +254,7 @@ fn push_digits(bytes: &[u8], known: Option<usize>, text: &mut String) -> Result<
     requires empty { string_bytes text.old ≡ [] }
     ensures written { IfOk result (λ used. (i : Item) × BeginsWithItem bytes.now i used
         × (string_bytes text.new ≡ encode_lower (encoded i) ++ 10 ∷ [])) }
-    ensures ends { (steps : List Step) → IfErr result (StopsSo steps bytes.now) }
+    ensures ends { IfErr result (StopsSo bytes.now) }
 {
     let used = match first_len(bytes, known) {
         Ok(used) => used,
@@ -291,7 +298,7 @@ fn push_dump(bytes: &[u8], text: &mut String) -> Result<usize, End>
     requires { string_bytes text.old ≡ [] }
     ensures written { IfOk result (λ used. (i : Item) × BeginsWithItem bytes.now i used
         × (string_bytes text.new ≡ dump i)) }
-    ensures ends { (steps : List Step) → IfErr result (StopsSo steps bytes.now) }
+    ensures ends { IfErr result (StopsSo bytes.now) }
 {
     let found = push_bytes_to_hex_partial(*text.allocator(), bytes, text);
     len_of(bytes, found)
@@ -299,10 +306,10 @@ fn push_dump(bytes: &[u8], text: &mut String) -> Result<usize, End>
 
 /// The length of the item at the front, which is found out unless it is known, or why there is
 /// none.
-fn first_len(bytes: &[u8], known: Option<usize>) -> Result<usize, End>
+pub(crate) fn first_len(bytes: &[u8], known: Option<usize>) -> Result<usize, End>
     requires { IfSome known (λ n. (i : Item) × BeginsWithItem bytes.now i n) }
     ensures found { IfOk result (λ n. (i : Item) × BeginsWithItem bytes.now i n) }
-    ensures ends { (steps : List Step) → IfErr result (StopsSo steps bytes.now) }
+    ensures ends { IfErr result (StopsSo bytes.now) }
 {
     if let Some(len) = known {
         return Ok(len);
@@ -320,7 +327,7 @@ pub(crate) fn len_of(bytes: &[u8], found: cbor_grammar::Result<Option<usize>>) -
     requires cut { found ≡ Ok None → IsCut bytes.now }
     requires refused { RefusedSo found (HasFault bytes.now) }
     ensures found { IfOk result (λ used. found ≡ Ok (Some used)) }
-    ensures ends { (steps : List Step) → IfErr result (StopsSo steps bytes.now) }
+    ensures ends { IfErr result (StopsSo bytes.now) }
 {
     match found {
         Ok(Some(used)) => Ok(used),
@@ -331,25 +338,10 @@ pub(crate) fn len_of(bytes: &[u8], found: cbor_grammar::Result<Option<usize>>) -
     }
 }
 
-/// The item at the front of the bytes and its length, or why there is none.
-pub(crate) fn first_item(alloc: Global, bytes: &[u8]) -> Result<(DataItem, usize), End>
-    ensures found { IfOk result (λ x. BeginsWithItem bytes.now (view x.0) x.1) }
-    ensures well_formed { IfOk result (λ x. IsWellFormed (view x.0)) }
-    ensures ends { (steps : List Step) → IfErr result (StopsSo steps bytes.now) }
-{
-    match parse_bytes_partial(alloc, bytes) {
-        Ok(Some(found)) => Ok(found),
-        Ok(None) if bytes.is_empty() => Err(End::Done),
-        Ok(None) => Err(End::Cut),
-        Err(Error::Memory) => Err(End::Memory),
-        Err(error) => Err(fault_of(bytes, error)),
-    }
-}
-
 /// The place of the fault of the bytes.
 fn fault_of(bytes: &[u8], error: Error) -> End
     requires { HasFault bytes.now error }
-    ensures { (steps : List Step) → StopsSo steps bytes.now result }
+    ensures { StopsSo bytes.now result }
 {
     match extent(bytes) {
         Extent::Fault { error, end } => End::Fault { error, end },

@@ -147,8 +147,8 @@ impl<'a> Naming<'a> {
         self.outer.is_some() || clear < NEAR || self.names.knows(bytes)
     }
 
-    /// The notes of the item at the front.
-    pub(crate) fn notes(self, alloc: Global, bytes: &[u8]) -> Result<Notes<'a>, AllocError> {
+    /// Returns the notes of the item at the front.
+    pub fn notes(self, alloc: Global, bytes: &[u8]) -> Result<Notes<'a>, AllocError> {
         notes(alloc, bytes, self.names, self.outer)
     }
 }

@@ -7,7 +7,6 @@ ghost use Rattle.cbor_edn_writer.specs.declared.note.Note.{Note};
 ghost use Rattle.cbor_edn_writer.specs.Written.{IsNotedText};
 ghost use Rattle.cbor_paths.specs.Ends.{StopsSo};
 ghost use Rattle.cbor_inspect.specs.Forms.{AreBeside, IsLineOf, edn_style};
-ghost use Rattle.cbor_paths.specs.declared.path.Step.{Step};
 
 use crate::items::{Show, len_of};
 use crate::naming::{Naming, edn_notes};
@@ -39,7 +38,7 @@ pub(crate) fn push_notation(show: &Show, bytes: &[u8], work: &mut Work) -> Resul
     requires { string_bytes work.old.text ≡ [] }
     ensures written { IfOk result (λ used. (i : Item) × BeginsWithItem bytes.now i used
         × IsLineOf show.now.names (edn_style show.now.style) i (string_bytes work.new.text)) }
-    ensures ends { (steps : List Step) → IfErr result (StopsSo steps bytes.now) }
+    ensures ends { IfErr result (StopsSo bytes.now) }
 {
     let found = match show.names {
         Some(naming) if show.style.has_notes() => push_named(naming, show, bytes, work),
@@ -61,7 +60,7 @@ fn push_named(naming: Naming<'_>, show: &Show, bytes: &[u8], work: &mut Work) ->
     ensures written { IfOk result (λ used. (i : Item) × BeginsWithItem bytes.now i used
         × (notes : List Note) × IsNotedText (edn_style show.now.style) notes i
         (string_bytes work.new.text)) }
-    ensures ends { (steps : List Step) → IfErr result (StopsSo steps bytes.now) }
+    ensures ends { IfErr result (StopsSo bytes.now) }
 {
     let style = show.style.edn();
     if work.clear == 0 {
@@ -95,7 +94,7 @@ fn push_noted(
         × IsNotedText style [] i (string_bytes text.old)) }
     ensures written { IfOk result (λ used. (i : Item) × BeginsWithItem front.entry.0.now i used
         × (notes : List Note) × IsNotedText style notes i (string_bytes text.new)) }
-    ensures ends { (steps : List Step) → IfErr result (StopsSo steps front.entry.0.now) }
+    ensures ends { IfErr result (StopsSo front.entry.0.now) }
 {
     let (bytes, plain) = front;
     let alloc = *text.allocator();
@@ -124,7 +123,7 @@ fn push_edn(
     requires { string_bytes text.old ≡ [] }
     ensures written { IfOk result (λ used. (i : Item) × BeginsWithItem bytes.now i used
         × IsNotedText style notes.now i (string_bytes text.new)) }
-    ensures ends { (steps : List Step) → IfErr result (StopsSo steps bytes.now) }
+    ensures ends { IfErr result (StopsSo bytes.now) }
 {
     let noted = NotedStyle { style, notes };
     let found = push_bytes_to_edn_noted_partial(*text.allocator(), bytes, noted, text);

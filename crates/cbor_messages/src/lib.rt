@@ -27,6 +27,7 @@ mod excerpt;
 mod json;
 mod kind;
 mod lost;
+mod way;
 mod widths;
 mod words;
 

@@ -5,25 +5,24 @@ use Rattle.cbor_grammar.specs.Item.{Item}
 use Rattle.cbor_grammar.specs.Facts.{BeginsWithItem}
 use Rattle.cbor_paths.specs.declared.end.End.{End}
 use Rattle.cbor_paths.specs.declared.end.End.TheVariants as end
-use Rattle.cbor_paths.specs.declared.path.Step.{Step}
 use Rattle.cbor_paths.specs.Sequence.{OneThen, OneAtMost}
 use Rattle.cbor_paths.specs.Ends.{EndsSo, StopsSo}
 use Rattle.cbor_paths.proofs.Fronts.{front_length}
 
 -- ---- ends
 
-pub ends_so : (steps : List Step) (rest : List ℕ) (e : End) → StopsSo steps rest e → EndsSo steps rest e
-ends_so steps rest end.Full h = absurd h
-ends_so steps rest end.Done h = h
-ends_so steps rest end.Cut h = h
-ends_so steps rest (end.Fault error shown) h = h
-ends_so steps rest end.Remaining h = h
-ends_so steps rest (end.TwoByteSimple at) h = h
-ends_so steps rest (end.Lost len) h = h
-ends_so steps rest end.Memory h = h
+pub ends_so : (rest : List ℕ) (e : End) → StopsSo rest e → EndsSo rest e
+ends_so rest end.Full h = absurd h
+ends_so rest end.Done h = h
+ends_so rest end.Cut h = h
+ends_so rest (end.Fault error shown) h = h
+ends_so rest end.Remaining h = h
+ends_so rest (end.TwoByteSimple at) h = h
+ends_so rest (end.Lost len) h = h
+ends_so rest end.Memory h = h
 
-pub not_full : (steps : List Step) (rest : List ℕ) (e : End) → StopsSo steps rest e → e ≡ end.Full → ⊥
-not_full steps rest e h is = subst (StopsSo steps rest) is h
+pub not_full : (rest : List ℕ) (e : End) → StopsSo rest e → e ≡ end.Full → ⊥
+not_full rest e h is = subst (StopsSo rest) is h
 
 -- ---- one item
 

@@ -1,6 +1,4 @@
 pub mod Sequences
-pub mod PathLemmas
-pub mod PartLemmas
-pub mod LostLemmas
+pub mod Parts
 pub mod Fronts
 pub mod EndLemmas

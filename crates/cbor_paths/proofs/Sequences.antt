@@ -20,7 +20,7 @@ items_then b [] js mid rest first more = subst (λ (x : List ℕ). ItemsThen x j
 items_then b (i ∷ is) js mid rest first more =
     (first.0, first.1, first.2, first.3, items_then first.1 is js mid rest first.4 more)
 
-shows_both : (Shows : Item → List ℕ → Type 0) (is js : List Item) (a b : List ℕ) → ShowsEach Shows is a
+pub shows_both : (Shows : Item → List ℕ → Type 0) (is js : List Item) (a b : List ℕ) → ShowsEach Shows is a
     → ShowsEach Shows js b → ShowsEach Shows (is ++ js) (a ++ b)
 shows_both Shows [] js a b none more = subst (λ (x : List ℕ). ShowsEach Shows js (x ++ b)) (sym none) more
 shows_both Shows (i ∷ is) js a b first more = (

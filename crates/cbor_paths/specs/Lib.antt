@@ -1,5 +1,3 @@
 pub mod Sequence
-pub mod Paths
-pub mod Parts
-pub mod Lost
+pub mod Followed
 pub mod Ends

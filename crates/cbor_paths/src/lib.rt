@@ -1,7 +1,7 @@
 //! Items one after the other, as far as they are passed, and parts of an item by a path.
 //!
 //! [`skip_items`] goes past items, and its [`End`] says what follows them. The steps of a path lead
-//! to parts of an item: [`push_parts`] appends their encodings, and [`lost_at`] says where a path
+//! to parts of an item: [`follow`] returns where they are in its bytes, and [`lost_at`] where a path
 //! ends that leads nowhere.
 //!
 //! ```rust
@@ -14,10 +14,18 @@
 #![tactic(auto)]
 
 mod end;
-mod laws;
-mod path;
+mod followed;
+mod key;
+mod members;
+mod part;
+mod picture;
 mod skip;
+mod step;
 
 pub use end::{End, Shown};
-pub use path::{Lost, Step, has_part, is_key, lost_at, push_parts, untagged};
+pub use followed::{Found, Lost, follow, lost_at};
+pub use key::is_key;
+pub use members::{At, Members};
+pub use picture::{Mark, Picture};
 pub use skip::{bytes_from, skip_items};
+pub use step::Step;

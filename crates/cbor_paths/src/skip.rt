@@ -3,7 +3,6 @@ ghost use Rattle.std.specs.Prelude.{◌≡◌, ◌↔◌, ℕ, ◌≤◌, List, 
 ghost use Rattle.cbor_grammar.specs.Item.{Item};
 ghost use Rattle.cbor_paths.specs.Sequence.{IsSequence, ItemsThen, OneAtMost};
 ghost use Rattle.cbor_paths.specs.Ends.{EndsSo};
-ghost use Rattle.cbor_paths.specs.declared.path.Step.{Step};
 
 use crate::end::{End, Shown};
 use cbor_bytes::{Extent, extent};
@@ -35,7 +34,7 @@ pub fn skip_items(bytes: &[u8], one: bool) -> Shown
     ensures items { (items : List Item) × ItemsThen bytes.now items (drop result.used bytes.now) }
 
     // Why none of the bytes after them are.
-    ensures ends { (steps : List Step) → EndsSo steps (drop result.used bytes.now) result.end }
+    ensures ends { EndsSo (drop result.used bytes.now) result.end }
 
     // The bytes are items alone exactly if none remain at the end.
     ensures clean { (one ≡ false) → (result.end ≡ End.Done) ↔ IsSequence bytes.now }

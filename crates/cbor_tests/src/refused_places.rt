@@ -2,10 +2,10 @@
 //! `checks/allocations/failing_calls` makes allocations fail, one after the other.
 
 use crate::refused_conversions::answer;
-use cbor_diag::{Error, parse_bytes};
+use cbor_diag::Error;
 use cbor_edn::EdnStyle;
 use cbor_inputs::{Input, Refusal, recognize};
-use cbor_inspect::{End, Form, Show, Stream, Style, lost_at, show_items, steps_of};
+use cbor_inspect::{End, Form, Picture, Show, Stream, Style, lost_at, show_items, steps_of};
 use cbor_places::{Around, ByteNumbers, Entered, Leaves, Piece, lines_at};
 use std::alloc::Global;
 use std::test::Fail;
@@ -136,11 +136,11 @@ fn recognized(alloc: Global, form: Input, text: &[u8]) -> Result<Vec<u8>, Error>
 
 /// How many steps lead to the farthest item where paths lead nowhere: a map, a number and a map.
 fn lost(alloc: Global) -> Result<Vec<u8>, Error> {
-    let item = parse_bytes(alloc, b"\x82\x01\x43\xa1\x01\x26")?;
+    let item = b"\x82\x01\x43\xa1\x01\x26";
     let mut out = Vec::new(alloc);
     for path in ["1/@/5", "1/@0/*/1", "*/@/5"] {
         let steps = steps_of(alloc, path)?;
-        let count = lost_at(alloc, &item, &steps)?.steps;
+        let count = lost_at(alloc, item, &steps, Picture::plain())?.steps;
         out.push(u8::try_from(count).unwrap_or(u8::MAX))?;
     }
     Ok(out)

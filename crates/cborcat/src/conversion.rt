@@ -4,7 +4,9 @@ mod writing;
 use crate::each::show_each;
 use crate::encode::Encoding;
 use crate::input::{MORE, block_len, read_into};
-use crate::messages::{Place, label, report_byte, report_end, report_long, report_lost, say};
+use crate::messages::{
+    Place, label, report_byte, report_end, report_few, report_long, report_lost, say,
+};
 use crate::naming::Tables;
 use crate::output::{Target, Written};
 use crate::plain::Plain;
@@ -47,6 +49,8 @@ pub struct Conversion<'a> {
     pub long: bool,
     /// Whether an item was converted.
     pub any: bool,
+    /// How many items were passed, if the number of one is asked for.
+    index: usize,
     /// Whether a simple value in two bytes was named.
     noted: bool,
     /// Whether a rule that the check names is broken.
@@ -118,6 +122,7 @@ impl<'a> Conversion<'a> {
             within: 0,
             long: false,
             any: false,
+            index: 0,
             noted: false,
             broken: false,
             found: false,
@@ -222,16 +227,13 @@ impl<'a> Conversion<'a> {
         if one && self.any && before > 0 {
             return End::Remaining;
         }
-        let end = match self.job.view {
-            View::Items if self.job.check => self.stream.check(one),
-            View::Items if self.job.encode.is_some() => self.show_encoded(),
-            View::Items => self.show_some(),
-            View::Json | View::Raw => self.show_plain(),
-            View::Paths | View::At(_) => self.stream.skip(one),
+        let end = match self.job.item {
+            Some(item) if item != self.index => self.skip_to(item),
+            _ => self.show_next(one),
         };
         let passed = before - self.stream.rest().len().min(before);
         self.passed = passed;
-        if !self.any && passed > 0 {
+        if !self.any && passed > 0 && self.job.item.is_none() {
             self.note_shape(passed);
         }
         self.any |= passed > 0;
@@ -240,6 +242,38 @@ impl<'a> Conversion<'a> {
             Ok(()) => end,
             Err(_) => End::Memory,
         }
+    }
+
+    /// Passes items up to that of the number that is asked for, or all of them after it, and tells
+    /// what follows them.
+    fn skip_to(&mut self, item: usize) -> End {
+        for _ in 0..u64::MAX {
+            let end = self.stream.skip(true);
+            if end != End::Full {
+                return end;
+            }
+            self.index = self.index.saturating_add(1);
+            if self.index == item {
+                break;
+            }
+        }
+        End::Full
+    }
+
+    /// Converts some items, or the next one, if that is asked for alone.
+    fn show_next(&mut self, one: bool) -> End {
+        let before = self.stream.rest().len();
+        let end = match self.job.view {
+            View::Items if self.job.check => self.stream.check(one),
+            View::Items if self.job.encode.is_some() => self.show_encoded(),
+            View::Items => self.show_some(),
+            View::Json | View::Raw => self.show_plain(),
+            View::Paths | View::At(_) => self.stream.skip(one),
+        };
+        if self.stream.rest().len() < before {
+            self.index = self.index.saturating_add(1);
+        }
+        end
     }
 
     /// Shows some items, and tells what follows them.
@@ -262,7 +296,7 @@ impl<'a> Conversion<'a> {
             set,
             tables: self.tables,
         };
-        let asked = (self.came, self.job.show.one);
+        let asked = (self.came, self.job.show.one || self.job.item.is_some());
         let (end, status) = show_each(&encoding, &mut self.stream, asked, &mut self.out);
         self.ended(status);
         end
@@ -276,7 +310,7 @@ impl<'a> Conversion<'a> {
             place: self.place,
             tables: self.tables,
         };
-        let asked = (self.came, self.job.show.one);
+        let asked = (self.came, self.job.show.one || self.job.item.is_some());
         let (end, status) = show_each(&plain, &mut self.stream, asked, &mut self.out);
         self.ended(status);
         end
@@ -354,6 +388,12 @@ impl<'a> Conversion<'a> {
         if self.job.show.one && !self.any {
             return self.stop(End::Cut);
         }
+        if let Some(item) = self.job.item
+            && self.index <= item
+        {
+            report_few(self.rt, self.place, item, self.index);
+            self.ended(Status::Bad);
+        }
         if let View::At(byte) = self.job.view {
             let count = self.came;
             let what = format_args!("no item has this byte; {count} bytes came");
@@ -367,10 +407,12 @@ impl<'a> Conversion<'a> {
     fn pass_lost(&mut self, len: usize) {
         let rest = self.stream.rest();
         let item = &rest[..len.min(rest.len())];
-        let status = report_lost(self.rt, self.job, self.place, item);
+        let asked = (self.job, self.tables);
+        let status = report_lost(self.rt, asked, self.place, item);
         self.ended(status);
         let _ = self.stream.skip(true);
         self.any = true;
+        self.index = self.index.saturating_add(1);
     }
 
     /// Leaves out the first item that is longer than is allowed, and what follows it. It looks at

@@ -35,7 +35,12 @@ impl ShowsItem for Encoding<'_> {
         let show = show_of(self.rt.alloc(), self.job, self.tables)?;
         match show_items(&show, &again, out).end {
             End::Memory => Err(Error::Memory),
-            End::Lost { .. } => Ok(report_lost(self.rt, self.job, self.place, &again)),
+            End::Lost { .. } => Ok(report_lost(
+                self.rt,
+                (self.job, self.tables),
+                self.place,
+                &again,
+            )),
             _ => Ok(Status::Fine),
         }
     }

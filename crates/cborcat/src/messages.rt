@@ -1,16 +1,18 @@
 //! Messages on standard error.
 
+use crate::naming::Tables;
 use crate::screen::say_excerpt;
+use crate::shown::show_of;
 use crate::status::Status;
 use cbor_grammar::Error;
 use cbor_inputs::{HexFault, Input, Pasted, Refusal, looks_like, place_of_digit};
-use cbor_inspect::End;
+use cbor_inspect::{End, Picture, marks_of};
 use cbor_messages::{Excerpt, Position, TWO_BYTES, lost_words, position_of};
 use cbor_places::{Around, Piece, Places, item_with};
 use cbor_tokens::is_shown;
 use cbor_trace::place_of_fault;
 use cborcat_arguments::{Color, Job};
-use std::alloc::AllocError;
+use std::alloc::{AllocError, Global};
 use std::fmt::{Display, Write};
 use std::io;
 
@@ -229,10 +231,38 @@ fn report_cut(rt: &HostRuntime, place: &Place, left: Piece) -> Result<(), Error>
     Ok(())
 }
 
+/// What is said of an item in which a path leads nowhere, by what is shown of it.
+fn words_of_lost(
+    alloc: Global,
+    job: &Job,
+    tables: Option<Tables<'_>>,
+    bytes: &[u8],
+) -> Result<String, Error> {
+    let show = show_of(alloc, job, tables)?;
+    let path = (job.path, show.steps.as_slice());
+    let naming = match show.names {
+        Some(naming) if naming.may_name(bytes) => naming,
+        _ => return lost_words(alloc, path, bytes, show.picture()),
+    };
+    let notes = naming.notes(alloc, bytes)?;
+    let marks = marks_of(alloc, &notes, bytes.len())?;
+    let picture = Picture {
+        marks: &marks,
+        ..show.picture()
+    };
+    lost_words(alloc, path, bytes, picture)
+}
+
 /// Says where the path of an item leads nowhere, and what is there.
-pub fn report_lost(rt: &HostRuntime, job: &Job, place: &Place, bytes: &[u8]) -> Status {
+pub fn report_lost(
+    rt: &HostRuntime,
+    asked: (&Job, Option<Tables<'_>>),
+    place: &Place,
+    bytes: &[u8],
+) -> Status {
+    let (job, tables) = asked;
     let name = label(place.name);
-    match lost_words(rt.alloc(), job.path, &job.show.steps, bytes) {
+    match words_of_lost(rt.alloc(), job, tables, bytes) {
         Ok(words) => {
             let _ = eprintln!(rt; "cborcat: {name}: {words}");
             Status::Bad
@@ -242,6 +272,13 @@ pub fn report_lost(rt: &HostRuntime, job: &Job, place: &Place, bytes: &[u8]) -> 
             Status::Trouble
         }
     }
+}
+
+/// Says that an input has too few items for the number of the one that is asked for.
+pub fn report_few(rt: &HostRuntime, place: &Place, item: usize, count: usize) {
+    let name = label(place.name);
+    let what = if count == 1 { "item" } else { "items" };
+    let _ = eprintln!(rt; "cborcat: {name}: {item}: no such item; {count} {what} came, from 0 on");
 }
 
 /// Says that an item is longer than is allowed.

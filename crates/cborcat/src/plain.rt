@@ -36,10 +36,13 @@ impl ShowsItem for Plain<'_> {
             return self.write(item, out);
         }
         let mut parts = Vec::new(self.rt.alloc());
-        let show = show_of(self.rt.alloc(), self.job, None)?;
+        let show = show_of(self.rt.alloc(), self.job, self.tables)?;
         match show_items(&show, item.bytes, &mut parts).end {
             End::Memory => return Err(Error::Memory),
-            End::Lost { .. } => return Ok(report_lost(self.rt, self.job, self.place, item.bytes)),
+            End::Lost { .. } => {
+                let asked = (self.job, self.tables);
+                return Ok(report_lost(self.rt, asked, self.place, item.bytes));
+            }
             _ => {}
         }
         self.write_parts(&parts, out)
@@ -94,7 +97,7 @@ impl Plain<'_> {
             strict: self.job.strict,
         };
         let tables = match self.tables {
-            Some(tables) if tables.may_name(bytes) => tables,
+            Some(tables) if self.job.shows_names() && tables.may_name(bytes) => tables,
             _ => return bytes_to_json(alloc, bytes, style),
         };
         let found = notes(alloc, bytes, tables.names, tables.outer)?;

@@ -91,8 +91,10 @@ one. They include rfc8949, the grammar, which -c alone checks. --encode takes
 them but for valid.
 
 A PATH has steps joined by /: an index of an array, a key of a map in
-notation or as a plain word, @ for the item that a byte string is, @N for
-the item at byte N of one, or * for each member. Tags need no step.
+notation or as a plain word, or a name that is shown; @ for the item that a
+byte string is, @N for the item at byte N of one, or * for each member. Tags
+need no step, and nor do byte strings that are shown as <<..>>. N: before a
+path is the item N of a sequence, the first is 0; N: alone is all of it.
 
 Exit status: 0 all input is CBOR; 1 some is not, or PATH leads nowhere;
 2 wrong arguments, out of memory, or a file cannot be read or written.

@@ -75,7 +75,9 @@ pub struct Job<'a> {
     pub names_as_keys: bool,
     /// Whether the lines of paths have the place of each item.
     pub places: bool,
-    /// The path as it was given.
+    /// The number of the item that is shown alone, counted from 0.
+    pub item: Option<usize>,
+    /// The path as it was given, without the number of an item before it.
     pub path: &'a str,
     /// Whether what is there of an item that is not whole is written.
     pub partial: bool,
@@ -118,8 +120,14 @@ impl Job<'_> {
         }
     }
 
-    /// Whether items are shown with their names, or as their names say.
+    /// Whether there are names: they are shown, or a path may have them.
     pub fn has_names(&self) -> bool {
+        let is_followed = !self.path.is_empty() && self.names && !self.check;
+        is_followed || self.shows_names()
+    }
+
+    /// Whether items are shown with their names.
+    pub fn shows_names(&self) -> bool {
         let style = self.show.style;
         let has_comments = matches!(style.form, Form::Pretty | Form::Hex) && style.notes;
         let is_named = match self.view {

@@ -145,7 +145,7 @@ fn refusal(job: &Job, matches: &ArgMatches) -> Option<&'static str> {
         _ if has_width && job.show.style.form != Form::Pretty => {
             Some("--width is for pretty notation alone")
         }
-        View::Paths if encoded || !job.path.is_empty() => {
+        View::Paths if encoded || !job.path.is_empty() || job.item.is_some() => {
             Some("-t paths shows all paths as they are, and has no -p or --encode")
         }
         View::Json | View::Raw if encoded || job.partial => {
@@ -173,6 +173,17 @@ fn files_of<'a>(alloc: Global, matches: &ArgMatches<'a>) -> Result<Vec<&'a str>,
 /// How long an item may be, unless the arguments say so.
 const LIMIT: usize = 256 * 1024 * 1024;
 
+/// The number of the item that a path begins with, before a colon, and the path in it.
+fn item_of(path: &str) -> (Option<usize>, &str) {
+    let Some((number, rest)) = path.split_once(":") else {
+        return (None, path);
+    };
+    if number.is_empty() || !number.bytes().all(|byte| byte.is_ascii_digit()) {
+        return (None, path);
+    }
+    (Some(number.parse::<usize>().unwrap_or(usize::MAX)), rest)
+}
+
 /// What the arguments ask for.
 fn job_of<'a>(rt: &HostRuntime, matches: &ArgMatches<'a>) -> Asked<'a> {
     let alloc = rt.alloc();
@@ -182,7 +193,7 @@ fn job_of<'a>(rt: &HostRuntime, matches: &ArgMatches<'a>) -> Asked<'a> {
         );
         return Asked::Ended(2);
     }
-    let path = matches.get_str("path").unwrap_or("");
+    let (item, path) = item_of(matches.get_str("path").unwrap_or(""));
     let (Ok(steps), Ok(files)) = (steps_of(alloc, path), files_of(alloc, matches)) else {
         return out_of_memory(rt);
     };
@@ -209,6 +220,7 @@ fn job_of<'a>(rt: &HostRuntime, matches: &ArgMatches<'a>) -> Asked<'a> {
         outer: matches.get_str("as"),
         tables: matches.get_str("names"),
         names_as_keys: matches.get_flag("names-as-keys"),
+        item,
         path,
         places: matches.get_flag("places"),
         partial: matches.get_flag("partial"),

@@ -5,7 +5,7 @@
 use crate::row::Row;
 use crate::texts::{number_of, refused_text};
 use cbor_diag::Error;
-use cbor_inspect::steps_of;
+use cbor_inspect::{Picture, steps_of};
 use cbor_json::{JsonStyle, bytes_to_json};
 use cbor_messages::{
     Excerpt, Message, first_breach, lost_words, not_encoded, not_json, position_of,
@@ -87,7 +87,8 @@ fn lost_said(alloc: Global, row: &Row) -> Result<String, AllocError> {
         Ok(steps) => steps,
         Err(error) => return refused_text(alloc, error),
     };
-    match lost_words(alloc, row.argument, &steps, &row.bytes) {
+    let path = (row.argument, steps.as_slice());
+    match lost_words(alloc, path, &row.bytes, Picture::plain()) {
         Ok(words) => Ok(words),
         Err(error) => refused_text(alloc, error),
     }

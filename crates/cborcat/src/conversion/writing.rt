@@ -45,8 +45,10 @@ impl<'a> Conversion<'a> {
         let Ok(dumps) = str::from_utf8(&self.out) else {
             return Ok(None);
         };
+        let items = self.stream.passed(self.passed);
+        let spelled = spelled_bytes(self.rt.alloc(), self.job, self.tables, items)?;
         let how = Dumps {
-            bytes: spelled_bytes(self.job, self.stream.passed(self.passed)),
+            bytes: &spelled,
             embedded: self.job.show.style.embedded,
             tables,
             most: self.job.elide,
@@ -61,7 +63,10 @@ impl<'a> Conversion<'a> {
     /// The names that the items may have that were passed last.
     fn tables_of_passed(&self) -> Option<Tables<'a>> {
         match self.tables {
-            Some(tables) if tables.may_name(self.stream.passed(self.passed)) => Some(tables),
+            Some(tables)
+                if self.job.shows_names() && tables.may_name(self.stream.passed(self.passed)) => {
+                Some(tables)
+            }
             _ => None,
         }
     }

@@ -9,9 +9,8 @@ returns-then-is_empty-clause-written c =
     let none = no_steps (steps_of c.args.show.now) zero in
     whole_appended c.args.show.now c.args.bytes.now _ _ c.push_front.result none c.push_front.ensures.written
 
-pub returns-then-is_empty-clause-ends : goal.returns-then-is_empty-clause-ends
-returns-then-is_empty-clause-ends c = c.push_front.ensures.ends (steps_of c.args.show.now)
-
 pub returns-else-is_empty-clause-written : goal.returns-else-is_empty-clause-written
 returns-else-is_empty-clause-written c =
-    first_appended c.args.show.now c.args.bytes.now _ _ c.push_part.result c.push_part.ensures.written
+    let some : length (steps_of c.args.show.now) ≡ 0 → ⊥ = search rules in
+    first_appended c.args.show.now c.args.bytes.now _ _ c.push_part.result some c.push_part.ensures.item
+    c.push_part.ensures.written

@@ -1,15 +1,8 @@
--- What was written is the output of the items so far.
-use Rattle.std.proofs.Common.{◌≡◌, ℕ, List, ◌++◌, ◌-◌, ◌≤◌, length, drop, vec_items}
-use Rattle.cbor_paths.specs.Sequence.{IsShownOfFirst}
-use Rattle.cbor_inspect.specs.Forms.{IsForm}
+-- What was written is that of parts.
+use Rattle.std.proofs.Common.{◌≡◌, List, ◌++◌, vec_items, ℕ}
+use Rattle.cbor_inspect.proofs.OutputLemmas.{ShowsParts}
 use Rattle.cbor_inspect.proofs.part.push_all.Given as goal
 
-abbrev pub invariant-items : goal.invariant-items
-invariant-items l = record {
-  within : l.used ≤ length l.bytes;
-  output : (written : List ℕ) × (vec_items l.out ≡ vec_items l.initial.out ++ written)
-      × IsShownOfFirst (IsForm l.show) l.bytes written (drop l.used l.bytes);
-}
-
-abbrev pub decreases-items : goal.decreases-items
-decreases-items l = length l.bytes - l.used
+abbrev pub invariant-each : goal.invariant-each
+invariant-each l =
+    (written : List ℕ) × (vec_items l.out ≡ vec_items l.initial.out ++ written) × ShowsParts l.show written

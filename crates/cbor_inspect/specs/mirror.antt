@@ -1,2 +1,0 @@
--- Definitions that mirror code, for proofs.
-pub mod PathReading

@@ -1,0 +1,58 @@
+//! Where paths lead in an item as it is shown: with its names, and in the items in byte strings.
+
+use crate::items::Show;
+use cbor_names::Notes;
+use cbor_paths::{Found, Lost, Mark, Picture, Step, follow, lost_at};
+use std::alloc::{AllocError, Global};
+
+/// Returns the notes of an item of that many bytes, as paths use them.
+pub fn marks_of<'n>(
+    alloc: Global,
+    notes: &'n Notes<'_>,
+    len: usize,
+) -> Result<Vec<Mark<'n>>, AllocError> {
+    let list = notes.list(alloc)?;
+    let mut marks = Vec::with_capacity(alloc, list.len())?;
+    for note in &list {
+        marks.push(Mark {
+            place: len.saturating_sub(note.at),
+            name: note.before,
+            encoded: note.encoded,
+        })?;
+    }
+    Ok(marks)
+}
+
+/// Whether a path may lead farther with the names of an item: it leads nowhere without them, or
+/// `*` leads to items of which some may.
+fn may_need_names(steps: &[Step], found: &[Found]) -> bool {
+    if found.is_empty() {
+        return true;
+    }
+    for step in steps {
+        if let Step::Each = step {
+            return true;
+        }
+    }
+    false
+}
+
+/// Returns the parts of an item that a path leads to, in order. A step goes into byte strings that
+/// are shown as the item in them, and leads to a name that is shown where it is no key and no index.
+pub fn parts_of(alloc: Global, show: &Show, item: &[u8]) -> Result<Vec<Found>, AllocError> {
+    let picture = show.picture();
+    let found = follow(alloc, item, &show.steps, picture)?;
+    let Some(naming) = show.names else {
+        return Ok(found);
+    };
+    if !may_need_names(&show.steps, &found) || !naming.may_name(item) {
+        return Ok(found);
+    }
+    let notes = naming.notes(alloc, item)?;
+    let marks = marks_of(alloc, &notes, item.len())?;
+    let named = Picture {
+        marks: &marks,
+        ..picture
+    };
+    follow(alloc, item, &show.steps, named)
+}

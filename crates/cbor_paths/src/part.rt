@@ -1,0 +1,152 @@
+//! Where one step of a path leads from an item.
+
+use crate::key::{index_of, is_key, text_of};
+use crate::members::{At, Below, Members};
+use crate::picture::Picture;
+use crate::step::Step;
+use cbor_bytes::{Extent, extent};
+use cbor_grammar::argument::Argument;
+use cbor_grammar::head::ItemHead;
+use cbor_grammar::strings::StringKind;
+use std::alloc::AllocError;
+
+/// The tag of a byte string that is one item.
+const ENCODED: u64 = 24;
+
+/// The tag of a byte string that is items, one after the other.
+const SEQUENCE: u64 = 63;
+
+/// The content of a byte string of definite length.
+fn content(bytes: &[u8], below: Below) -> Option<&[u8]> {
+    let ItemHead::String(StringKind::Bytes, Argument::Number(len, _)) = below.head else {
+        return None;
+    };
+    let len = usize::try_from(len).ok()?;
+    bytes.get(below.inner..below.inner.saturating_add(len))
+}
+
+/// The item that a byte string is, or the first of those in it below tag 63.
+fn inside(bytes: &[u8], below: Below) -> Option<At> {
+    let content = content(bytes, below)?;
+    match extent(content) {
+        Extent::Item(len) if len == content.len() || below.tag == Some(SEQUENCE) => {
+            Some(At::new(below.inner))
+        }
+        _ => None,
+    }
+}
+
+/// The item that begins at a byte of a byte string.
+fn inside_at(bytes: &[u8], below: Below, byte: usize) -> Option<At> {
+    let content = content(bytes, below)?;
+    match extent(content.get(byte..)?) {
+        Extent::Item(_) => Some(At::new(below.inner.saturating_add(byte))),
+        _ => None,
+    }
+}
+
+/// The item in a byte string that is shown as the item in it.
+pub(crate) fn shown_inside(bytes: &[u8], below: Below, picture: Picture) -> Option<At> {
+    let tagged = picture.tagged && matches!(below.tag, Some(ENCODED | SEQUENCE));
+    if tagged || picture.embedded || picture.is_encoded(below.start) {
+        inside(bytes, below)
+    } else {
+        None
+    }
+}
+
+/// The item itself, or the item in it, as long as it is a byte string that is shown so: the first
+/// that is none.
+pub(crate) fn shown_below(bytes: &[u8], start: usize, picture: Picture) -> Option<Below> {
+    let mut below = Below::new(bytes, start)?;
+    for _ in 0..bytes.len() {
+        match shown_inside(bytes, below, picture) {
+            Some(inner) => below = Below::new(bytes, inner.start)?,
+            None => break,
+        }
+    }
+    Some(below)
+}
+
+/// The member of an array at the index that a key is, or the value of that key in a map.
+fn keyed(bytes: &[u8], members: Members, key: &[u8]) -> Option<At> {
+    let mut members = members;
+    if members.is_map() {
+        for _ in 0..u64::MAX {
+            let at = members.next(bytes)?;
+            if is_key(key, bytes.get(at.named..at.start).unwrap_or(b"")) {
+                return Some(at);
+            }
+        }
+        return None;
+    }
+    for _ in 0..index_of(key)? {
+        let _ = members.next(bytes)?;
+    }
+    members.next(bytes)
+}
+
+/// The member that has this name in the picture.
+fn named(bytes: &[u8], members: Members, name: &str, picture: Picture) -> Option<At> {
+    let mut members = members;
+    for _ in 0..u64::MAX {
+        let at = members.next(bytes)?;
+        if picture.name_at(at.named) == name {
+            return Some(at);
+        }
+    }
+    None
+}
+
+/// Where a key leads: to an index or a key, or else to a name that is shown.
+fn member(bytes: &[u8], start: usize, key: &[u8], picture: Picture) -> Option<At> {
+    let members = Members::new(shown_below(bytes, start, picture)?)?;
+    if let Some(at) = keyed(bytes, members, key) {
+        return Some(at);
+    }
+    if picture.marks.is_empty() {
+        return None;
+    }
+    named(bytes, members, text_of(key)?, picture)
+}
+
+/// Appends each member.
+fn push_members(
+    places: &mut Vec<At>,
+    bytes: &[u8],
+    start: usize,
+    picture: Picture,
+) -> Result<(), AllocError> {
+    let Some(below) = shown_below(bytes, start, picture) else {
+        return Ok(());
+    };
+    let Some(mut members) = Members::new(below) else {
+        return Ok(());
+    };
+    'members: while let Some(at) = members.next(bytes) {
+        places.push(at)?;
+    }
+    Ok(())
+}
+
+/// Appends where a step leads from the item that begins at a place.
+pub(crate) fn push_next(
+    places: &mut Vec<At>,
+    bytes: &[u8],
+    start: usize,
+    way: (&Step, Picture),
+) -> Result<(), AllocError> {
+    let (step, picture) = way;
+    let below = Below::new(bytes, start);
+    let next = match (step, below) {
+        (Step::Each, _) => return push_members(places, bytes, start, picture),
+        (Step::Key(key), _) => member(bytes, start, key, picture),
+        (Step::Inside, Some(below)) => inside(bytes, below),
+        (Step::InsideAt(byte), Some(below)) => inside_at(bytes, below, *byte),
+        (_, None) => None,
+    };
+    if let Some(at) = next {
+        places.push(at)?;
+    }
+    Ok(())
+}

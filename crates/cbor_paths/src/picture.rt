@@ -1,0 +1,64 @@
+//! What is shown of an item beside its bytes, which paths may use.
+
+/// Something of an item that is shown.
+#[derive(Clone, Copy, PartialEq, Eq, Debug)]
+pub struct Mark<'a> {
+    /// Where it begins in the item's bytes.
+    pub place: usize,
+    /// The name before it; empty for none.
+    pub name: &'a str,
+    /// Whether it is a byte string that is shown as the item in it.
+    pub encoded: bool,
+}
+
+/// What is shown of an item.
+#[derive(Clone, Copy)]
+pub struct Picture<'a> {
+    /// Names, and byte strings that are shown as the item in them, in the order of their places.
+    pub marks: &'a [Mark<'a>],
+    /// Whether byte strings below tags 24 and 63 are shown as the items in them.
+    pub tagged: bool,
+    /// Whether each byte string that is one item is shown so.
+    pub embedded: bool,
+}
+
+impl<'a> Picture<'a> {
+    /// The bytes alone: no names, and byte strings as such.
+    pub fn plain() -> Picture<'a> {
+        Picture {
+            marks: &[],
+            tagged: false,
+            embedded: false,
+        }
+    }
+
+    /// The mark at a place.
+    fn mark_at(self, place: usize) -> Option<&'a Mark<'a>> {
+        let mut rest = self.marks;
+        for _ in 0..usize::BITS {
+            let (before, after) = rest.split_at(rest.len() / 2);
+            match after.first() {
+                Some(middle) if middle.place == place => return Some(middle),
+                Some(middle) if middle.place > place => rest = before,
+                _ => rest = after.get(1..).unwrap_or(&[]),
+            }
+        }
+        None
+    }
+
+    /// Returns the name before what begins at a place; empty for none.
+    pub fn name_at(self, place: usize) -> &'a str {
+        match self.mark_at(place) {
+            Some(mark) => mark.name,
+            None => "",
+        }
+    }
+
+    /// Whether what begins at a place has a mark that it is shown as the item in it.
+    pub(crate) fn is_encoded(self, place: usize) -> bool {
+        match self.mark_at(place) {
+            Some(mark) => mark.encoded,
+            None => false,
+        }
+    }
+}
