@@ -18,6 +18,9 @@ def check(run, same, examples):
     keys_in_notation(run, same)
     inside_strings(run, same, examples)
     nowhere(run, same)
+    in_shown_strings(run, same, examples)
+    by_names(run, same, examples)
+    by_number(run, same)
     any_paths(run, same)
 
 
@@ -153,6 +156,67 @@ def nowhere(run, same):
     for path, text, said in rows:
         same(f"{path} of {text}", run("-p", path, "-t", "diag", "-f", "diag", "-x", text),
              (b"", f"cborcat: -x: {said}\n", 1))
+
+
+def in_shown_strings(run, same, examples):
+    """Byte strings that are shown as the item in them need no `@`."""
+    token = f"{examples}/cwt-signed.hex"
+    same("by a name", run("-p", "2/1", "-t", "diag", token), (b'"coap://as.example.com"\n', "", 0))
+    same("without names", run("--no-names", "-p", "2/1", "-t", "diag", token)[::2], (b"", 1))
+    rows = [
+        ([], "a/0", "a1 6161 d818 42 8105", b"5\n"),
+        ([], "a/@/0", "a1 6161 d818 42 8105", b"5\n"),
+        ([], "0", "d818 45 d818 42 8105", b"5\n"),
+        ([], "*", "d818 43 820506", b"5\n6\n"),
+        ([], "0", "d83f 43 810506", b"5\n"),
+        ([], "@", "d83f 43 810506", b"[5]\n"),
+        ([], "@2", "d83f 43 810506", b"6\n"),
+        (["-e"], "0/1", "81 43 a10105", b"5\n"),
+        (["-e"], "0/@/1", "81 43 a10105", b"5\n"),
+    ]
+    for words, path, digits, wanted in rows:
+        same(f"{path} of {digits}", run(*words, "-p", path, "-t", "diag", "-f", "hex", "-x", digits), (wanted, "", 0))
+    said = [
+        ("0/1", "81 43 a10105", "0/1: a byte string is at 0; 0/@ is the item in it"),
+        ("1", "43 a10105", "1: a byte string is there; @ is the item in it"),
+        ("0/*", "81 43 a10105", "0/*: a byte string is at 0; 0/@ is the item in it"),
+        ("0/1", "81 43 a101ff", "0/1: no array or map is at 0"),
+        ("a/2", "a1 6161 d818 43 a10105", "a/2: no such key; the map at a/@ has 1"),
+    ]
+    for path, digits, words in said:
+        same(f"{path} of {digits}", run("-p", path, "-t", "diag", "-f", "hex", "-x", digits),
+             (b"", f"cborcat: -x: {words}\n", 1))
+
+
+def by_names(run, same, examples):
+    """A step may be a name that is shown, but a key and an index win."""
+    token = f"{examples}/cwt-signed.hex"
+    for form, wanted in (("diag", b'"coap://as.example.com"\n'), ("raw", b"coap://as.example.com"),
+                         ("json", b'"coap://as.example.com"\n')):
+        same(f"iss as {form}", run("-p", "payload/iss", "-t", form, token), (wanted, "", 0))
+    same("of a type", run("--as=COSE_Sign1", "-p", "payload", "-t", "diag", "-f", "hex", "-x", "84 40 a0 43 a10105 40"),
+         (b"h'a10105'\n", "", 0))
+    same("a key wins", run("--as=COSE_Key", "-p", "kty", "-t", "diag", "-f", "hex", "-x", "a2 01 04 636b7479 05"),
+         (b"5\n", "", 0))
+    same("without names", run("--no-names", "-p", "payload", "-t", "diag", token)[::2], (b"", 1))
+    same("no such name", run("-p", "payload/isss", token), (
+        b"", f"cborcat: {token}: payload/isss: no such key; the map at 2/@ has iss, sub, aud, exp, nbf, iat, cti\n", 1))
+    same("no such member", run("-p", "pay", token), (
+        b"", f"cborcat: {token}: pay: no such index; the array has 4 items: "
+        "protected, unprotected, payload, signature\n", 1))
+
+
+def by_number(run, same):
+    """The number of an item before a path."""
+    log = ("-t", "diag", "-f", "hex", "-x", "81 05 a1 6161 07 f5")
+    same("the first", run("-p", "0:0", *log), (b"5\n", "", 0))
+    same("the second", run("-p", "1:a", *log), (b"7\n", "", 0))
+    same("all of the last", run("-p", "2:", *log), (b"true\n", "", 0))
+    same("without such a part", run("-p", "1:b", *log), (b"", 'cborcat: -x: b: no such key; the map has "a"\n', 1))
+    same("too few", run("-p", "3:a", *log), (b"", "cborcat: -x: 3: no such item; 3 items came, from 0 on\n", 1))
+    same("a key with quotes", run("-p", '"3:a"', "-t", "diag", "-x", '{"3:a": 4}'), (b"4\n", "", 0))
+    same("as JSON", run("-p", "1:", "-t", "json", *log[2:]), (b'{"a": 7}\n', "", 0))
+    same("a fault behind it", run("-p", "0:", "-t", "diag", "-f", "hex", "-x", "01 1f")[::2], (b"1\n", 1))
 
 
 def nested(chance, depth):

@@ -49,15 +49,33 @@ def untagged(item):
     return item
 
 
+def tag_before(item):
+    """The innermost tag of an item, or none."""
+    tag = None
+    while isinstance(item, Tagged):
+        tag, item = item.number, item.value
+    return tag
+
+
+def shown_below(item):
+    """The item below its tags, or that in it, where that is a byte string below tag 24 or 63, which are shown so."""
+    while tag_before(item) in (24, 63):
+        inside = items_inside(item, "")
+        if not inside:
+            break
+        item = inside[0]
+    return untagged(item)
+
+
 def next_items(item, step):
     """Where one step leads: to one item or none, but for `*`."""
-    item = untagged(item)
+    if re.fullmatch("@[0-9]*", step):
+        return items_inside(item, step[1:])
+    item = shown_below(item)
     if step == "*":
         if isinstance(item, Array):
             return list(item.members)
         return [value for _, value in item.pairs] if isinstance(item, Map) else []
-    if re.fullmatch("@[0-9]*", step):
-        return items_inside(item, step[1:])
     wanted = parse_bytes(key_of(step))
     if isinstance(item, Array):
         return [item.members[wanted.value]] if isinstance(wanted, Integer) and wanted.value < len(item.members) else []
@@ -66,14 +84,16 @@ def next_items(item, step):
 
 
 def items_inside(item, digits):
-    """The item at a byte of a byte string, or with no digits the one that it is."""
+    """The item at a byte of a byte string, or with no digits the one that it is, or the first one below tag 63."""
+    is_sequence = tag_before(item) == 63
+    item = untagged(item)
     if not isinstance(item, Bytes) or int(digits or 0) >= len(item.content):
         return []
     try:
         inner, end = item_at(item.content, int(digits or 0), 1)
     except Refused:
         return []
-    return [inner] if digits or end == len(item.content) else []
+    return [inner] if digits or is_sequence or end == len(item.content) else []
 
 
 def parts_of(item, path):

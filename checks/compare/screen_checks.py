@@ -147,7 +147,9 @@ def spelled(run, same):
     same("after another item", dump("01 f814 02"), "01 # unsigned(1)\nf8 14 # false, simple(20)\n02 # unsigned(2)\n")
     same("in an array", dump("82 f800 f4"),
          "82       # array(2)\n   f8 00 #   unassigned, simple(0)\n   f4    #   false, simple(20)\n")
-    same("a part is encoded anew", dump("82 01 81f814", "-p", "1"), "81    # array(1)\n   f4 #   false, simple(20)\n")
+    same("in a part", dump("82 01 81f814", "-p", "1"), "81       # array(1)\n   f8 14 #   false, simple(20)\n")
+    same("in parts", dump("82 f800 81f814 01", "-p", "*"),
+         "f8 00 # unassigned, simple(0)\n81       # array(1)\n   f8 14 #   false, simple(20)\n")
     same("in a byte string", dump("43 81f814", "-e"),
          "43          # bytes(3)\n   81       #   array(1)\n      f8 14 #     false, simple(20)\n")
     same("with names", dump("d2 84 40 a0 f816 40").splitlines()[-3],
