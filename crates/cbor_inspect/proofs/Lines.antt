@@ -1,16 +1,16 @@
 -- For viewers, what is written of items in EDN, one after the other, is read back as their bytes.
 use Rattle.std.proofs.Common.{◌≡◌, ℕ, ◌≤◌, List, [], ◌∷◌, ◌++◌, length, Option, Some, refl, sym, ap, subst}
-use Rattle.std.proofs.Common.{◌∙◌, append_assoc, append-nil, length-append, arith, map}
+use Rattle.std.proofs.Common.{◌∙◌, append_assoc, append-nil, length-append, arith}
 use Rattle.std.specs.List.{AllByRecursion}
 use Rattle.cbor_grammar.specs.Bytes.{any, Spells}
 use Rattle.cbor_grammar.specs.Item.{Item, items_of}
 use Rattle.cbor_grammar.specs.Reading.{read_item}
 use Rattle.cbor_grammar.specs.WellFormed.{WellFormed}
-use Rattle.cbor_grammar.specs.Written.{encoded_items, resolve}
+use Rattle.cbor_grammar.specs.Written.{encoded_items}
 use Rattle.cbor_grammar.proofs.bytes.FoundAgain.{item_again}
 use Rattle.cbor_grammar.proofs.bytes.Heads.{ok_is}
 use Rattle.cbor_grammar.proofs.bytes.Laws.{AllBytes, all_bytes-front, all_bytes-rest, bytes_at}
-use Rattle.cbor_grammar.proofs.bytes.Resolved.{resolved, spells_well}
+use Rattle.cbor_grammar.proofs.bytes.Resolved.{spells_well}
 use Rattle.cbor_grammar.proofs.bytes.Sizes.{one_byte}
 use Rattle.cbor_grammar.proofs.bytes.Strict.{strict_any, strict_only}
 use Rattle.cbor_edn_writer.specs.declared.style.EdnStyle.{EdnStyle}
