@@ -9,15 +9,13 @@ use cbor_grammar::{Error, Result};
 use cbor_notation::cursor::Cursor;
 use std::alloc::Global;
 
-/// Finds where diagnostic notation is wrong: the error that [`parse_diag`] returns, and how many
-/// bytes come before its place. Returns `None` if `parse_diag` reads the text.
+/// Finds where diagnostic notation is wrong: the error that [`parse_diag`] returns, and its place.
+/// Returns `None` if `parse_diag` reads the text.
 ///
-/// At the place is the first byte with which the text cannot go on, or the place is the length of
-/// the text, if all of it was read and more was wanted, as in `[1, 2` or `"abc`. After a number it
-/// may be the byte behind it, as the `]` of `[300_0]`, because `300_03` is a number; in a number
-/// that is too large it is the last byte. Faults in strings of three kinds show late: in digits at
-/// their closing quote, in a text of several pieces that together are no UTF-8 behind the last of
-/// them.
+/// The place is how many bytes come before the first byte with which the text cannot go on. It is
+/// the length of the text if more was wanted, as in `[1, 2` or `"abc`. A fault in digits shows at
+/// their closing quote, and one in a number at its last byte or behind it: `300_0` is past its
+/// width, but `300_03` is a number. docs/NOTATION.md has the rules.
 ///
 /// It reads the text once, and allocates what it reads. Returns `Memory` if an allocation fails.
 ///
