@@ -17,7 +17,7 @@ use std::alloc::AllocError;
 
 /// What a line of a dump says of its digits.
 #[derive(Clone, Copy)]
-pub(super) enum Comment<'a> {
+pub enum Comment<'a> {
     /// The number of a head: an integer, a tag or a length.
     Head(Major, u64),
     /// A string or a container with its length or count, or none where that is indefinite.
@@ -42,9 +42,8 @@ pub(super) enum Comment<'a> {
 
 impl<'a> Comment<'a> {
     /// What is said of a head, whose bytes these are.
-    pub(super) fn of(head: ItemHead, bytes: &'a [u8]) -> Comment<'a>
-        requires { IsHead head bytes.now }
-        ensures { comment_text result ≡ head_said head }
+    pub fn of(head: ItemHead, bytes: &'a [u8]) -> Comment<'a>
+        ensures { IsHead head bytes.now → comment_text result ≡ head_said head }
     {
         match head {
             ItemHead::Integer(number, _) => Comment::Head(Major::Unsigned, number),
@@ -61,7 +60,7 @@ impl<'a> Comment<'a> {
 
 impl Comment<'_> {
     /// Appends the comment to a text.
-    pub(super) fn push(&self, out: &mut String) -> Result<(), AllocError>
+    pub fn push(&self, out: &mut String) -> Result<(), AllocError>
         ensures { OnOk result (string_bytes out.new ≡ string_bytes out.old
             ++ comment_text self.now) }
     {

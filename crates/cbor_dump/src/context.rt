@@ -9,22 +9,22 @@ use cbor_grammar::encoding::Encoding;
 
 /// Where in a dump an item is.
 #[derive(Clone, Copy)]
-pub(crate) struct DumpContext {
+pub struct DumpContext {
     /// The item's level: 1 plus the number of items round it, of those that embed it, too.
-    pub(crate) level: u8,
+    pub level: u8,
     /// The depth of its lines, which are indented by it.
-    pub(crate) depth: usize,
+    pub depth: usize,
     /// How byte strings are shown; they are quoted where there is none.
-    pub(crate) encoding: Option<Encoding>,
+    pub encoding: Option<Encoding>,
     /// The tag right above it.
-    pub(crate) tag: Option<Tag>,
+    pub tag: Option<Tag>,
     /// The number of values that were shared before that tag.
-    pub(crate) shared: u64,
+    pub shared: u64,
 }
 
 impl DumpContext {
     /// Outside of any item, where the next one is at `level`.
-    pub(crate) fn top(level: u8) -> DumpContext
+    pub fn top(level: u8) -> DumpContext
         ensures context { context_view result ≡ spec.top }
         ensures depth { result.depth ≡ 0 }
         ensures level { result.level ≡ level }
@@ -39,7 +39,7 @@ impl DumpContext {
     }
 
     /// In a container, or in a string in chunks.
-    pub(crate) fn inside(&self) -> DumpContext
+    pub fn inside(&self) -> DumpContext
         requires { IsContext self.now }
         ensures context { context_view result ≡ spec.inside (context_view self.now) }
         ensures depth { result.depth ≡ self.now.depth + 1 }
@@ -55,7 +55,7 @@ impl DumpContext {
     }
 
     /// Right below a tag, before which `known` values were shared.
-    pub(crate) fn below(&self, tag: Tag, known: u64) -> DumpContext
+    pub fn below(&self, tag: Tag, known: u64) -> DumpContext
         requires { IsContext self.now }
         ensures context { context_view result ≡ spec.below tag.0 known (context_view self.now) }
         ensures depth { result.depth ≡ self.now.depth + 1 }

@@ -10,7 +10,7 @@ use std::alloc::AllocError;
 
 /// How the bytes of a line are shown in digits.
 #[derive(Clone, Copy)]
-pub(super) enum HexStyle {
+pub enum HexStyle {
     /// A head: a blank follows the first byte, if it has others.
     Head,
     /// A piece of a string.

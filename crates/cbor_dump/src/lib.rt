@@ -3,6 +3,9 @@
 //!
 //! One recursion over the bytes finds the column of the digits, and one writes each line as soon as
 //! it is read.
+//!
+//! Lines, comments, columns and notes are public: `cbor_screen` makes the dumps of `cborcat` of
+//! them, with names and with the items that are in byte strings.
 #![tactic(auto)]
 
 pub mod addresses;

@@ -60,7 +60,7 @@ impl Writer {
 
     /// Writes a line at a depth: bytes, the style of their digits, and a comment. Digits that reach
     /// past the left column stay whole. The only error is out of memory.
-    pub(super) fn line(
+    pub fn line(
         &mut self,
         depth: usize,
         style: HexStyle,
@@ -115,7 +115,7 @@ impl Writer {
     }
 
     /// The line of a break.
-    pub(super) fn break_line(&mut self, depth: usize) -> Result<(), AllocError>
+    pub fn break_line(&mut self, depth: usize) -> Result<(), AllocError>
         requires { depth < 140 }
         ensures { OnOk result (Wrote self.old self.new (spec.break_line depth ∷ [])) }
     {
@@ -231,7 +231,7 @@ impl Writer {
     }
 
     /// The content of a string, one deeper than the context.
-    pub(super) fn string_content(
+    pub fn string_content(
         &mut self,
         context: &DumpContext,
         content: StringContent<'_>,

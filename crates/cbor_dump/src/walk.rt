@@ -40,13 +40,13 @@ const FAILED_REST: &str = "failed to parse remaining encoded cbor sequence";
 
 /// A walk over bytes, and what it has found so far.
 #[derive(Drop)]
-pub(crate) struct Walk {
+pub struct Walk {
     /// The lines so far.
-    pub(crate) writer: Writer,
+    pub writer: Writer,
     /// The number of values that were shared so far.
-    pub(crate) shared: u64,
+    pub shared: u64,
     /// What notes are allocated from.
-    pub(crate) alloc: Global,
+    pub alloc: Global,
 }
 
 /// The dump of the item at the front, which is at `level`, and the bytes after it.
@@ -183,7 +183,7 @@ fn dump_tagged<'a>(
 
 /// How many values were shared when the value below a tag begins. No memory holds more of them than
 /// fit.
-fn shared_below(shared: u64, tag: Tag) -> Result<u64, AllocError>
+pub fn shared_below(shared: u64, tag: Tag) -> Result<u64, AllocError>
     ensures { IfOk result (λ n. n ≡ spec.shared_from tag.0 shared) }
 {
     match tag {
@@ -251,7 +251,7 @@ fn dump_chunks<'a>(
 /// the only error is out of memory.
 #[cycle(walk)]
 #[inline(never)]
-fn dump_notes(
+pub fn dump_notes(
     walk: &mut Walk,
     context: &DumpContext,
     tag: Tag,

@@ -25,10 +25,10 @@ use cbor_grammar::strings::{StringContent, StringKind};
 use cbor_notes::element_size;
 
 /// How many bytes of a string a line shows at most.
-pub(crate) const PIECE: usize = 16;
+pub const PIECE: usize = 16;
 
 /// How many bytes a text has at most that is shown in one line.
-pub(crate) const SHORT_TEXT: usize = 24;
+pub const SHORT_TEXT: usize = 24;
 
 /// Where in a dump an item is, as far as its digits depend on it.
 #[derive(Clone, Copy)]
@@ -75,7 +75,7 @@ impl Place {
 
 /// The width of the left column of the dump of the item at the front, which is at `level`, and the
 /// bytes after it. The error is the one of reading it; `Memory` never comes.
-pub(super) fn dump_width(bytes: &[u8], level: u8) -> cbor_grammar::Result<(usize, &[u8])>
+pub fn dump_width(bytes: &[u8], level: u8) -> cbor_grammar::Result<(usize, &[u8])>
     requires some { 1 ≤ level }
     requires level { level ≤ deepest + 1 }
     ensures width { IfOk result (λ found. Measured (λ i. width_of (lines_at_level level top 0 i))
@@ -94,14 +94,14 @@ pub(super) fn dump_width(bytes: &[u8], level: u8) -> cbor_grammar::Result<(usize
 
 /// How far the digits of the lines so far reach.
 #[derive(Drop)]
-pub(crate) struct Reach {
+pub struct Reach {
     /// The column after the last of them.
-    pub(crate) widest: usize,
+    pub widest: usize,
 }
 
 impl Reach {
     /// Counts a line of this many digits and blanks. One without digits does not count.
-    fn line(&mut self, depth: usize, digits: usize)
+    pub fn line(&mut self, depth: usize, digits: usize)
         requires depth { depth ≤ deepest + 2 }
         requires digits { digits ≤ 64 }
         ensures { self.new.widest ≡ max self.old.widest (spec.reached depth digits) }
@@ -112,7 +112,7 @@ impl Reach {
     }
 
     /// Counts the line of a head of this many bytes. A blank follows the first if there are others.
-    fn head(&mut self, depth: usize, len: usize)
+    pub fn head(&mut self, depth: usize, len: usize)
         requires depth { depth ≤ deepest + 2 }
         requires len { len ≤ 9 }
         ensures { self.new.widest ≡ max self.old.widest (spec.head_reach depth len) }
@@ -122,7 +122,7 @@ impl Reach {
     }
 
     /// Counts the lines of a string's content, whose longest piece has this many bytes.
-    fn pieces(&mut self, depth: usize, longest: usize)
+    pub fn pieces(&mut self, depth: usize, longest: usize)
         requires depth { depth ≤ deepest + 2 }
         requires longest { longest ≤ SHORT_TEXT }
         ensures { self.new.widest ≡ max self.old.widest (spec.piece_reach depth longest) }
@@ -303,7 +303,7 @@ fn shown_length(head: ItemHead, taken: usize) -> usize
 }
 
 /// The length of the longest piece of a string's content, below that tag.
-fn longest_piece(content: StringContent<'_>, tag: Option<Tag>) -> usize
+pub fn longest_piece(content: StringContent<'_>, tag: Option<Tag>) -> usize
     ensures longest { result ≡ spec.longest_piece (kind_of content.entry) (tag_number tag)
         (bytes_of content.entry) }
     ensures short { result ≤ SHORT_TEXT }
@@ -349,7 +349,7 @@ fn text_piece(text: &str) -> usize
 }
 
 /// After how many bytes a text is cut: at most `PIECE`, before a character.
-pub(crate) fn text_cut(rest: &str) -> usize
+pub fn text_cut(rest: &str) -> usize
     requires { 0 < length rest.now }
     ensures cut { result ≡ cut_of rest.now }
     ensures boundary { IsCharBoundary rest.now result }

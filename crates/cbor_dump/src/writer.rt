@@ -9,18 +9,18 @@ use std::mem;
 
 /// The text of the lines so far.
 #[derive(Drop)]
-pub(crate) struct Writer {
+pub struct Writer {
     /// The text.
-    pub(crate) out: String,
+    pub out: String,
     /// The width of its left column.
-    pub(crate) width: usize,
+    pub width: usize,
     /// What stands before each line: where the dump is embedded, the columns around it.
-    pub(crate) prefix: String,
+    pub prefix: String,
 }
 
 impl Writer {
     /// No text yet, and a left column of that width.
-    pub(super) fn new(alloc: Global, width: usize) -> Writer
+    pub fn new(alloc: Global, width: usize) -> Writer
         ensures out { string_bytes result.out ≡ [] }
         ensures prefix { string_bytes result.prefix ≡ [] }
         ensures width { result.width ≡ width }

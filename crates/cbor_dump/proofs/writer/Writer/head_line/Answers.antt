@@ -17,5 +17,5 @@ returns-in_default c =
     let line = head_line c.args.depth in
     let bytes = head_is c.args.head c.args.bytes.now c.in_default.not-Simple c.requires.bytes in
     let same = ap (λ (b : List ℕ). line b (comment_text c.of.result)) bytes
-    ∙ ap (line (head_bytes c.args.head)) c.of.ensures in
+    ∙ ap (line (head_bytes c.args.head)) (c.of.ensures c.requires.bytes) in
     subst (λ l. OnOk c.line.result (Wrote c.args.self.now c.line.new.self (l ∷ []))) same c.line.ensures
