@@ -18,6 +18,5 @@ CALLS = {name: call for subject in SUBJECTS for name, call in subject.CALLS.item
 WITHOUT = {
     "encoded", "excerpt_of_bytes", "excerpt_of_text", "first_breach", "looks_like", "lost_words", "meanings",
     "meanings_by", "name_before", "names", "names_at", "names_by", "not_encoded", "not_json", "partial_dump",
-    "partial_edn", "position_of", "push_colored", "push_elided", "push_elided_dumps", "push_embedded", "push_named",
-    "push_spelled", "push_without_widths", "with_file",
+    "partial_edn", "position_of", "push_colored", "push_dump", "push_elided", "push_without_widths", "with_file",
 }

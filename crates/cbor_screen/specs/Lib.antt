@@ -1,5 +1,4 @@
 pub mod Colored
-pub mod Commented
 pub mod Elided
 pub mod Sgr
 pub mod Tokens

@@ -1,6 +1,5 @@
-//! What a screen is shown of a text: colours round the tokens of EDN and of dumps, long strings
-//! that are cut, EDN without widths, and dumps with the digits of the bytes that they are of, with
-//! the items that are in byte strings and with names.
+//! What a screen is shown: colours round the tokens of EDN and of dumps, long strings that are cut,
+//! EDN without widths, and dumps with names and with the items that are in byte strings.
 //!
 //! ```rust
 //! use cbor_screen::{Language, push_colored};
@@ -17,23 +16,16 @@
 #![tactic(auto)]
 
 mod color;
+mod dump;
 mod elide;
-mod elided_dump;
-mod embedded;
 mod kind;
-mod lines;
-mod named;
 mod quoted;
-mod spelled;
 mod token;
 mod widths;
 
 pub use color::{push_colored, push_in_color};
+pub use dump::{DumpStyle, push_dump};
 pub use elide::push_elided;
-pub use elided_dump::push_elided_dumps;
-pub use embedded::push_embedded;
 pub use kind::Kind;
-pub use named::push_named;
-pub use spelled::push_spelled;
 pub use token::Language;
 pub use widths::push_without_widths;

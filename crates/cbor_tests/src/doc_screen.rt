@@ -1,9 +1,8 @@
 //! The examples of the doc comments of `cbor_screen`, line for line: `checks/examples` compares.
 
-use cbor_names::{Definition, Names, Shape};
 use cbor_screen::{
-    Kind, Language, push_colored, push_elided, push_elided_dumps, push_in_color, push_named,
-    push_spelled, push_without_widths,
+    DumpStyle, Kind, Language, push_colored, push_dump, push_elided, push_in_color,
+    push_without_widths,
 };
 use std::test::Fail;
 
@@ -47,16 +46,6 @@ fn push_elided_example(rt: HostRuntime) -> Result<(), Fail> {
 }
 
 #[test]
-fn push_elided_dumps_example(rt: HostRuntime) -> Result<(), Fail> {
-    let alloc = rt.alloc();
-    let mut out = String::new(alloc);
-    push_elided_dumps(&mut out, "43        # bytes(3)\n   616263 #   \"abc\"\n", 2)?;
-    let wanted = "43         # bytes(3)\n   6162... #   \"ab...\" /3 bytes/\n";
-    assert_eq!(rt; out.as_str(), wanted);
-    Ok(())
-}
-
-#[test]
 fn push_without_widths_example(rt: HostRuntime) -> Result<(), Fail> {
     let alloc = rt.alloc();
     let mut out = Vec::new(alloc);
@@ -66,21 +55,18 @@ fn push_without_widths_example(rt: HostRuntime) -> Result<(), Fail> {
 }
 
 #[test]
-fn push_spelled_example(rt: HostRuntime) -> Result<(), Fail> {
+fn push_dump_example(rt: HostRuntime) -> Result<(), Fail> {
     let alloc = rt.alloc();
     let mut out = String::new(alloc);
-    push_spelled(&mut out, "e0 # unassigned, simple(0)\n", b"\xf8\x00")?;
-    assert_eq!(rt; out.as_str(), "f8 00 # unassigned, simple(0)\n");
-    Ok(())
-}
-
-#[test]
-fn push_named_example(rt: HostRuntime) -> Result<(), Fail> {
-    let alloc = rt.alloc();
-    let mut names = Names::new(alloc);
-    names.define(Definition::new("Frame", Shape::Map))?;
-    let mut out = Vec::new(alloc);
-    push_named(&mut out, "a0 # map(0)\n", &names, names.of("Frame"))?;
-    assert_eq!(rt; out.as_slice(), b"a0 # /Frame/ map(0)\n".as_slice());
+    let used = push_dump(&mut out, b"\x41\x80\x01", &DumpStyle::PLAIN)?;
+    assert_eq!(rt; used, 2);
+    assert_eq!(rt; out.as_str(), "41    # bytes(1)\n   80 #   \"\\x80\"\n");
+    let style = DumpStyle {
+        embedded: true,
+        ..DumpStyle::PLAIN
+    };
+    out.clear();
+    push_dump(&mut out, b"\x41\x80\x01", &style)?;
+    assert_eq!(rt; out.as_str(), "41    # bytes(1)\n   80 #   array(0)\n");
     Ok(())
 }

@@ -1,6 +1,7 @@
 //! In the program, the conversion of one input, as its bytes come.
 mod writing;
 
+use crate::dumps::Dumps;
 use crate::each::show_each;
 use crate::encode::Encoding;
 use crate::input::{MORE, block_len, read_into};
@@ -17,7 +18,7 @@ use crate::shown::show_of;
 use crate::status::{Next, Status};
 use cbor_bytes::{Extent, extent};
 use cbor_grammar::Error;
-use cbor_inspect::{End, Stream};
+use cbor_inspect::{End, Form, Stream};
 use cbor_messages::{TWO_BYTES, first_breach};
 use cbor_places::Piece;
 use cbor_rules::two_byte_simple;
@@ -266,6 +267,7 @@ impl<'a> Conversion<'a> {
         let end = match self.job.view {
             View::Items if self.job.check => self.stream.check(one),
             View::Items if self.job.encode.is_some() => self.show_encoded(),
+            View::Items if self.job.show.style.form == Form::Hex => self.show_dumps(),
             View::Items => self.show_some(),
             View::Json | View::Raw => self.show_plain(),
             View::Paths | View::At(_) => self.stream.skip(one),
@@ -282,6 +284,15 @@ impl<'a> Conversion<'a> {
             Ok(show) => self.stream.show(&show, &mut self.out),
             Err(_) => End::Memory,
         }
+    }
+
+    /// Shows some items as dumps, and tells what follows them.
+    fn show_dumps(&mut self) -> End {
+        let dumps = Dumps::new(self.rt, self.job, self.place, self.tables);
+        let asked = (self.came, self.job.show.one);
+        let (end, status) = show_each(&dumps, &mut self.stream, asked, &mut self.out);
+        self.ended(status);
+        end
     }
 
     /// Shows some items encoded again by the rules that are asked for, and tells what follows them.

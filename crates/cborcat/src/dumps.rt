@@ -1,60 +1,122 @@
-//! In the program, dumps, as they are shown.
+//! In the program, dumps.
 
+use crate::each::ShowsItem;
+use crate::messages::{Place, report_lost};
 use crate::naming::Tables;
+use crate::shown::show_of;
+use crate::status::Status;
+use cbor_bytes::{Extent, extent};
 use cbor_grammar::Error;
-use cbor_screen::{push_elided_dumps, push_embedded, push_named, push_spelled};
-use std::alloc::Global;
+use cbor_inspect::{End, Form, show_items};
+use cbor_places::Piece;
+use cbor_screen::{DumpStyle, push_dump};
+use cborcat_arguments::Job;
 
-/// How dumps are shown.
+/// How the dumps of items, or of their parts, are written.
 #[derive(Clone, Copy)]
 pub struct Dumps<'a> {
-    /// The bytes that they are of; none if the dumps have their digits.
-    pub bytes: &'a [u8],
-    /// Whether the items in byte strings are shown.
-    pub embedded: bool,
-    /// The names that are shown.
-    pub tables: Option<Tables<'a>>,
-    /// How many bytes the longest strings have that are not cut, if others are.
-    pub most: Option<usize>,
+    rt: &'a HostRuntime,
+    job: &'a Job<'a>,
+    place: &'a Place<'a>,
+    /// How they are shown, with the names that items may have.
+    style: DumpStyle<'a>,
+    /// The names that items, and the steps of the path, may have.
+    tables: Option<Tables<'a>>,
 }
 
-impl Dumps<'_> {
-    /// Whether anything of a dump is shown in another way than it is.
-    pub fn changes(self) -> bool {
-        !self.bytes.is_empty() || self.embedded || self.tables.is_some() || self.most.is_some()
+/// A dump has about this many bytes for each byte of the item.
+const DUMP_OF_BYTE: usize = 16;
+
+/// At most this much memory is asked for before a dump is made.
+const BLOCK: usize = 64 * 1024;
+
+impl<'a> Dumps<'a> {
+    /// The dumps that the arguments ask for, with these names.
+    pub fn new(
+        rt: &'a HostRuntime,
+        job: &'a Job<'a>,
+        place: &'a Place<'a>,
+        tables: Option<Tables<'a>>,
+    ) -> Dumps<'a> {
+        let mut style = DumpStyle {
+            embedded: job.show.style.embedded,
+            elide: job.elide,
+            ..DumpStyle::PLAIN
+        };
+        if let Some(tables) = tables
+            && job.shows_names()
+        {
+            style.names = Some(tables.names);
+            style.outer = tables.outer;
+        }
+        Dumps {
+            rt,
+            job,
+            place,
+            style,
+            tables,
+        }
     }
 
-    /// The dumps as they are shown.
-    pub fn shown(self, alloc: Global, dumps: &str) -> Result<Vec<u8>, Error> {
-        let mut spelled = String::new(alloc);
-        let mut with_items = String::new(alloc);
-        let mut text = dumps;
-        if !self.bytes.is_empty() {
-            push_spelled(&mut spelled, text, self.bytes)?;
-            text = spelled.as_str();
-        }
-        if self.embedded {
-            push_embedded(&mut with_items, text)?;
-            text = with_items.as_str();
-        }
-        let mut shown = Vec::new(alloc);
+    /// How an item is shown: without names if it has none.
+    fn style_of(&self, item: &[u8]) -> DumpStyle<'a> {
         match self.tables {
-            Some(tables) => push_named(&mut shown, text, tables.names, tables.outer)?,
-            None => shown.extend_from_slice(text.as_bytes())?,
+            Some(tables) if tables.may_name(item) => self.style,
+            _ => DumpStyle {
+                names: None,
+                ..self.style
+            },
         }
-        match self.most {
-            Some(most) => elided(alloc, &shown, most),
-            None => Ok(shown),
+    }
+
+    /// Writes the dump of an item.
+    fn write(&self, item: &[u8], out: &mut Vec<u8>) -> Result<(), Error> {
+        let guess = item.len().saturating_mul(DUMP_OF_BYTE).min(BLOCK);
+        let mut text = String::with_capacity(self.rt.alloc(), guess)?;
+        push_dump(&mut text, item, &self.style_of(item))?;
+        if out.is_empty() {
+            *out = text.into_bytes();
+        } else {
+            out.extend_from_slice(text.as_bytes())?;
         }
+        Ok(())
+    }
+
+    /// Writes the dumps of items, one after the other.
+    fn write_all(&self, items: &[u8], out: &mut Vec<u8>) -> Result<(), Error> {
+        let mut rest = items;
+        for _ in 0..u64::MAX {
+            let Extent::Item(len) = extent(rest) else {
+                break;
+            };
+            let (item, after) = rest.split_at(len.min(rest.len()));
+            self.write(item, out)?;
+            rest = after;
+        }
+        Ok(())
     }
 }
 
-/// Dumps with their long strings cut.
-fn elided(alloc: Global, dumps: &[u8], most: usize) -> Result<Vec<u8>, Error> {
-    let Ok(text) = str::from_utf8(dumps) else {
-        return Ok(Vec::from_slice(alloc, dumps)?);
-    };
-    let mut elided = String::new(alloc);
-    push_elided_dumps(&mut elided, text, most)?;
-    Ok(Vec::from_slice(alloc, elided.as_bytes())?)
+impl ShowsItem for Dumps<'_> {
+    /// Writes the dump of an item, or of the parts of it that the path leads to.
+    fn show_one(&self, item: Piece, out: &mut Vec<u8>) -> Result<Status, Error> {
+        let alloc = self.rt.alloc();
+        if self.job.show.steps.is_empty() {
+            self.write(item.bytes, out)?;
+            return Ok(Status::Fine);
+        }
+        let mut parts = Vec::new(alloc);
+        let mut show = show_of(alloc, self.job, self.tables)?;
+        show.style.form = Form::Bytes;
+        match show_items(&show, item.bytes, &mut parts).end {
+            End::Memory => return Err(Error::Memory),
+            End::Lost { .. } => {
+                let asked = (self.job, self.tables);
+                return Ok(report_lost(self.rt, asked, self.place, item.bytes));
+            }
+            _ => {}
+        }
+        self.write_all(&parts, out)?;
+        Ok(Status::Fine)
+    }
 }

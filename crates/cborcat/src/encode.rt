@@ -1,12 +1,13 @@
 //! In the program, items that are encoded again before they are shown.
 
+use crate::dumps::Dumps;
 use crate::each::ShowsItem;
 use crate::messages::{Place, report_byte, report_lost};
 use crate::naming::Tables;
 use crate::shown::show_of;
 use crate::status::Status;
 use cbor_grammar::Error;
-use cbor_inspect::{End, show_items};
+use cbor_inspect::{End, Form, show_items};
 use cbor_messages::not_encoded;
 use cbor_places::Piece;
 use cbor_reencode::{ReencodeError, reencoded};
@@ -32,6 +33,11 @@ impl ShowsItem for Encoding<'_> {
             Ok(again) => again,
             Err(error) => return self.refuse(item, error),
         };
+        if self.job.show.style.form == Form::Hex {
+            let dumps = Dumps::new(self.rt, self.job, self.place, self.tables);
+            let bytes = again.as_slice();
+            return dumps.show_one(Piece { begins: 0, bytes }, out);
+        }
         let show = show_of(self.rt.alloc(), self.job, self.tables)?;
         match show_items(&show, &again, out).end {
             End::Memory => Err(Error::Memory),

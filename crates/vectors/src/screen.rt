@@ -1,16 +1,12 @@
 //! What a screen shows of EDN and of dumps: `push_colored edn` and `push_colored dump`, where an
 //! escape character is `\e` in the result; `push_elided MOST` and `push_without_widths` of EDN;
-//! `push_elided_dumps MOST`; `push_spelled BYTES`, which are hex; `push_embedded`; `push_named TYPE`,
-//! by the tables of [`tables`].
+//! `push_dump` of the items that bytes are, with the words `embedded`, `elide=MOST`, and `names` or
+//! `names=TYPE` by the tables of [`tables`].
 
 use crate::row::Row;
-use crate::texts::{number_of, refused_text, text_of};
-use cbor_diag::hex_bytes;
+use crate::texts::{lines_text, number_of, refused_text, text_of};
 use cbor_names::{Definition, Key, Names, Part, Shape, What};
-use cbor_screen::{
-    Language, push_colored, push_elided, push_elided_dumps, push_embedded, push_named,
-    push_spelled, push_without_widths,
-};
+use cbor_screen::{DumpStyle, Language, push_colored, push_dump, push_elided, push_without_widths};
 use std::alloc::{AllocError, Global};
 
 /// What the call of a row gives; none if it is no call of this subject.
@@ -19,10 +15,7 @@ pub fn answer(alloc: Global, row: &Row) -> Result<Option<String>, AllocError> {
         "push_colored" => colored(alloc, row),
         "push_elided" => elided(alloc, row),
         "push_without_widths" => widthless(alloc, row),
-        "push_elided_dumps" => elided_dumps(alloc, row),
-        "push_spelled" => spelled(alloc, row),
-        "push_embedded" => embedded(alloc, row),
-        "push_named" => named(alloc, row),
+        "push_dump" => dumps(alloc, row),
         _ => return Ok(None),
     };
     Ok(Some(found?))
@@ -53,45 +46,33 @@ fn widthless(alloc: Global, row: &Row) -> Result<String, AllocError> {
     String::from_str(alloc, text_of(&out))
 }
 
-/// Dumps with their long strings cut.
-fn elided_dumps(alloc: Global, row: &Row) -> Result<String, AllocError> {
-    let mut out = String::new(alloc);
-    match push_elided_dumps(&mut out, row.text(), number_of(row.argument)) {
-        Ok(()) => Ok(out),
-        Err(error) => refused_text(alloc, error),
-    }
-}
-
-/// Dumps with the digits of these bytes.
-fn spelled(alloc: Global, row: &Row) -> Result<String, AllocError> {
-    let mut out = String::new(alloc);
-    let shown = match hex_bytes(alloc, row.argument) {
-        Ok(bytes) => push_spelled(&mut out, row.text(), &bytes),
-        Err(error) => Err(error),
-    };
-    match shown {
-        Ok(()) => Ok(out),
-        Err(error) => refused_text(alloc, error),
-    }
-}
-
-/// Dumps with the items in their byte strings.
-fn embedded(alloc: Global, row: &Row) -> Result<String, AllocError> {
-    let mut out = String::new(alloc);
-    match push_embedded(&mut out, row.text()) {
-        Ok(()) => Ok(out),
-        Err(error) => refused_text(alloc, error),
-    }
-}
-
-/// Dumps with names. The type of the outermost items is that of the row's argument, if any.
-fn named(alloc: Global, row: &Row) -> Result<String, AllocError> {
+/// The dumps of the items that the bytes are, in the style that the words of the row say.
+fn dumps(alloc: Global, row: &Row) -> Result<String, AllocError> {
     let names = tables(alloc)?;
-    let mut out = Vec::new(alloc);
-    match push_named(&mut out, row.text(), &names, names.of(row.argument)) {
-        Ok(()) => String::from_str(alloc, text_of(&out)),
-        Err(error) => refused_text(alloc, error),
+    let mut style = DumpStyle::PLAIN;
+    for word in row.argument.split(" ") {
+        match word.split_once("=").unwrap_or((word, "")) {
+            ("embedded", _) => style.embedded = true,
+            ("elide", most) => style.elide = Some(number_of(most)),
+            ("names", outer) => {
+                style.names = Some(&names);
+                style.outer = names.of(outer);
+            }
+            _ => {}
+        }
     }
+    let mut out = String::new(alloc);
+    let mut rest = row.bytes.as_slice();
+    for _ in 0..=row.bytes.len() {
+        match push_dump(&mut out, rest, &style) {
+            Ok(used) => rest = rest.get(used..).unwrap_or(b""),
+            Err(error) => return refused_text(alloc, error),
+        }
+        if rest.is_empty() {
+            break;
+        }
+    }
+    lines_text(alloc, &out)
 }
 
 /// A part of a type with this key.

@@ -1,11 +1,9 @@
 //! In the program, what a conversion writes: of items, of a byte, and of an item that is not whole.
 
 use super::Conversion;
-use crate::dumps::Dumps;
-use crate::naming::{Tables, encoded_in};
+use crate::naming::encoded_in;
 use crate::output::{Written, write};
 use crate::screen::language_of;
-use crate::shown::spelled_bytes;
 use cbor_bytes::{Extent, extent};
 use cbor_grammar::Error;
 use cbor_inspect::{End, Form};
@@ -13,7 +11,7 @@ use cbor_places::{Around, Entered, Leaves, Piece, item_with, lines_at, partial_d
 use cbor_screen::Language;
 use cborcat_arguments::View;
 
-impl<'a> Conversion<'a> {
+impl Conversion<'_> {
     /// Writes what was made of the items that were passed last.
     pub(super) fn write(&mut self) -> Result<Written, Error> {
         match self.job.view {
@@ -31,44 +29,7 @@ impl<'a> Conversion<'a> {
         let Some(language) = language_of(style.form) else {
             return Ok(write(self.rt, self.target, &self.out));
         };
-        if language == Language::Dump
-            && let Some(shown) = self.shown_dumps()?
-        {
-            return Ok(self.screen.write(self.target, &shown, language)?);
-        }
         Ok(self.screen.write(self.target, &self.out, language)?)
-    }
-
-    /// The dumps of the items that were passed last, if anything of them is shown in another way.
-    fn shown_dumps(&self) -> Result<Option<Vec<u8>>, Error> {
-        let tables = self.tables_of_passed();
-        let Ok(dumps) = str::from_utf8(&self.out) else {
-            return Ok(None);
-        };
-        let items = self.stream.passed(self.passed);
-        let spelled = spelled_bytes(self.rt.alloc(), self.job, self.tables, items)?;
-        let how = Dumps {
-            bytes: &spelled,
-            embedded: self.job.show.style.embedded,
-            tables,
-            most: self.job.elide,
-        };
-        if how.changes() {
-            Ok(Some(how.shown(self.rt.alloc(), dumps)?))
-        } else {
-            Ok(None)
-        }
-    }
-
-    /// The names that the items may have that were passed last.
-    fn tables_of_passed(&self) -> Option<Tables<'a>> {
-        match self.tables {
-            Some(tables)
-                if self.job.shows_names() && tables.may_name(self.stream.passed(self.passed)) => {
-                Some(tables)
-            }
-            _ => None,
-        }
     }
 
     /// Writes a line for each item of these that holds no other.

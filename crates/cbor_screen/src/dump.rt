@@ -1,0 +1,108 @@
+//! Dumps for people: with names in their comments, with the items that are in byte strings, with
+//! long strings cut, and with the bytes that are there, also where a simple value takes one too
+//! many.
+//!
+//! Lines, comments and notes are those of `cbor_dump`. One walk over the bytes finds the column of
+//! the digits, and a second one writes each line.
+
+mod beside;
+mod cut;
+mod lines;
+mod measure;
+mod walk;
+mod write;
+
+use beside::Beside;
+use cbor_grammar::Error;
+use cbor_names::{Names, Note, Type, notes};
+use measure::Measure;
+use walk::Walk;
+use write::Writing;
+
+/// How a dump is shown.
+#[derive(Clone, Copy)]
+pub struct DumpStyle<'a> {
+    /// The tables of the names that stand in comments, if any do.
+    pub names: Option<&'a Names>,
+    /// The type of the item, if it is known.
+    pub outer: Option<Type>,
+    /// Whether a byte string that is an array, a map or a tagged item is shown as that item.
+    pub embedded: bool,
+    /// The length in bytes of the longest string that is shown whole, if longer ones are cut.
+    pub elide: Option<usize>,
+}
+
+impl DumpStyle<'_> {
+    /// Neither names nor items in byte strings, and all strings whole.
+    pub const PLAIN: DumpStyle<'static> = DumpStyle {
+        names: None,
+        outer: None,
+        embedded: false,
+        elide: None,
+    };
+}
+
+/// Appends the dump of the item at the front of the bytes, and returns the number of bytes that it
+/// takes. It has the lines of [`push_bytes_to_hex`] and the digits of the bytes that are there; a
+/// dump of `f8 00`, which RFC 8949 forbids, has both.
+///
+/// - With `names` the name of an item stands before the comment of its head, and its meaning after
+///   it, as in `# /alg/ unsigned(1)` and `# negative(-7) /ES256/`. A name that has a line feed is
+///   left out.
+/// - With `embedded` the lines of an item stand in place of those of the byte string that it is in,
+///   one step deeper than the head of the string, in at most 16 byte strings in each other. Strings
+///   in chunks and those whose tag says what they are stay as they are.
+/// - With `elide` a string of more bytes has its first bytes alone: at most so many, as far as
+///   characters and elements are whole. After them come `...` in place of further digits and in the
+///   comment, and a note of how many bytes the string has. Such a dump is not to be read back.
+///
+/// The errors are those of [`push_bytes_to_hex`]: the first one from the left if no whole item is
+/// at the front, and else `Memory`. After an error `out` may end with some lines of the dump.
+///
+/// ```rust
+/// use cbor_screen::{DumpStyle, push_dump};
+///
+/// let mut out = String::new(alloc);
+/// let used = push_dump(&mut out, b"\x41\x80\x01", &DumpStyle::PLAIN)?;
+/// assert_eq!(rt; used, 2);
+/// assert_eq!(rt; out.as_str(), "41    # bytes(1)\n   80 #   \"\\x80\"\n");
+/// let style = DumpStyle { embedded: true, ..DumpStyle::PLAIN };
+/// out.clear();
+/// push_dump(&mut out, b"\x41\x80\x01", &style)?;
+/// assert_eq!(rt; out.as_str(), "41    # bytes(1)\n   80 #   array(0)\n");
+/// ```
+///
+/// [`push_bytes_to_hex`]: cbor_dump::push_bytes_to_hex
+pub fn push_dump(out: &mut String, bytes: &[u8], style: &DumpStyle<'_>) -> Result<usize, Error> {
+    let alloc = *out.allocator();
+    let mut measure = Measure::new();
+    let mut walk = Walk::new(alloc, bytes, style);
+    walk.item(&mut measure)?;
+    let used = bytes.len().saturating_sub(walk.rest().len());
+    let item = bytes.get(..used).unwrap_or(bytes);
+    let width = measure.width();
+    match style.names {
+        Some(names) => {
+            let found = notes(alloc, item, names, style.outer)?;
+            let list = found.list(alloc)?;
+            push_lines(out, item, (style, width), &list)?;
+        }
+        None => push_lines(out, item, (style, width), &[])?,
+    }
+    Ok(used)
+}
+
+/// Appends the lines of an item, whose digits are in a column of this width, with these notes.
+fn push_lines(
+    out: &mut String,
+    item: &[u8],
+    how: (&DumpStyle<'_>, usize),
+    notes: &[Note<'_>],
+) -> Result<(), Error> {
+    let (style, width) = how;
+    let mut writing = Writing::new(out, width, Beside::new(notes));
+    let mut walk = Walk::new(*out.allocator(), item, style);
+    let answer = walk.item(&mut writing);
+    writing.give_back(out);
+    answer
+}

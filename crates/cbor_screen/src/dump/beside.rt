@@ -1,0 +1,49 @@
+//! What stands beside the heads of a dump.
+
+use cbor_names::Note;
+use std::alloc::AllocError;
+
+/// The notes of the items whose heads come next.
+#[derive(Clone, Copy)]
+pub(super) struct Beside<'n> {
+    /// They are in the order of these items.
+    notes: &'n [Note<'n>],
+}
+
+impl<'n> Beside<'n> {
+    /// The notes of an item, in the order of the bytes.
+    pub(super) fn new(notes: &'n [Note<'n>]) -> Beside<'n> {
+        Beside { notes }
+    }
+
+    /// The name and the meaning of the item from which on this many bytes remain; each may be
+    /// empty. Notes of items before it are passed.
+    pub(super) fn next(&mut self, remaining: usize) -> (&'n str, &'n str) {
+        for _ in 0..self.notes.len() {
+            match self.notes.first() {
+                Some(note) if note.at > remaining => {
+                    self.notes = self.notes.get(1..).unwrap_or(&[]);
+                }
+                Some(note) if note.at == remaining => return (note.before, note.after),
+                _ => break,
+            }
+        }
+        ("", "")
+    }
+}
+
+/// Appends a text with what stands around it, or nothing if it cannot stand in a comment: if it is
+/// empty or has a line feed.
+pub(super) fn push_word(
+    out: &mut String,
+    opening: &str,
+    text: &str,
+    closing: &str,
+) -> Result<(), AllocError> {
+    if text.is_empty() || text.contains('\n') {
+        return Ok(());
+    }
+    out.push_str(opening)?;
+    out.push_str(text)?;
+    out.push_str(closing)
+}

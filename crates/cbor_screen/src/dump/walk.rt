@@ -1,0 +1,293 @@
+//! The walk over the bytes of an item: its heads, the content of its strings, the ends of its
+//! containers, and the values of its tags, in the order of the lines of a dump.
+ghost use Rattle.std.specs.Prelude.{◌≤◌, IsTrue};
+ghost use Rattle.cbor_dump.specs.mirror.Dumped.{IsContext};
+ghost use Rattle.cbor_grammar.specs.WellFormed.{deepest};
+
+use crate::dump::DumpStyle;
+use crate::dump::cut::push_cut;
+use crate::dump::lines::Lines;
+use cbor_bytes::borrowed::{next_chunk, read_borrowed};
+use cbor_bytes::head::{no_level_left, read_head};
+use cbor_dump::context::DumpContext;
+use cbor_dump::walk::shared_below;
+use cbor_dump::width::dump_width;
+use cbor_grammar::argument::Argument;
+use cbor_grammar::head::ItemHead;
+use cbor_grammar::level::DEEPEST;
+use cbor_grammar::strings::{StringContent, StringKind};
+use cbor_grammar::{Error, Tag};
+use std::alloc::{AllocError, Global};
+
+/// How deep byte strings may be in each other whose items are shown.
+const MOST_INSIDE: usize = 16;
+
+/// Whether an item here may hold others.
+pub(super) fn has_level_left(context: &DumpContext) -> bool
+    ensures context { IsTrue result → IsContext context.now }
+    ensures level { IsTrue result → context.now.level ≤ deepest }
+{
+    context.level <= DEEPEST && context.depth < usize::from(context.level)
+}
+
+/// What holds items.
+#[derive(Clone, Copy)]
+enum Holder<'a> {
+    /// An array with this count of items.
+    Array(Argument),
+    /// A map with this count of pairs.
+    Map(Argument),
+    /// A tag, and the bytes from its value on.
+    Tag(Tag, &'a [u8]),
+    /// A byte string whose item is shown, and the number of values that were shared before it.
+    Bytes(u64),
+}
+
+/// What is open.
+#[derive(Clone, Copy)]
+struct Open<'a> {
+    /// Where its items are.
+    inner: DumpContext,
+    /// What holds them.
+    holder: Holder<'a>,
+    /// How many of them began.
+    held: usize,
+}
+
+impl<'a> Open<'a> {
+    /// The bytes after it, if it ends here.
+    fn after(&self, rest: &'a [u8]) -> Option<&'a [u8]> {
+        match self.holder {
+            Holder::Array(count) => count.after_end(self.held, rest),
+            Holder::Map(count) if self.held % 2 == 0 => count.after_end(self.held / 2, rest),
+            Holder::Tag(..) | Holder::Bytes(_) if self.held > 0 => Some(rest),
+            Holder::Map(_) | Holder::Tag(..) | Holder::Bytes(_) => None,
+        }
+    }
+}
+
+/// A walk over the bytes of an item.
+#[derive(Drop)]
+pub(super) struct Walk<'a> {
+    /// The bytes that remain.
+    rest: &'a [u8],
+    /// What is open, the outermost first.
+    open: Vec<Open<'a>>,
+    /// The number of values that were shared so far.
+    shared: u64,
+    /// How many byte strings are open.
+    inside: usize,
+    /// Whether byte strings are opened whose bytes are an item.
+    embedded: bool,
+    /// The length of the longest string that is not cut, if others are.
+    elide: Option<usize>,
+}
+
+/// Whether the notes on the value of a tag, or its elements, say what its bytes are.
+fn says_what_bytes_are(tag: Option<Tag>) -> bool {
+    match tag {
+        Some(Tag(number)) => matches!(number, 2 | 3 | 24 | 37 | 52 | 54 | 63..=87 | 260),
+        None => false,
+    }
+}
+
+/// Whether bytes at a level are one item, and that an array, a map or a tagged item.
+fn is_item(bytes: &[u8], level: u8) -> bool {
+    if level == 0 || level > DEEPEST {
+        return false;
+    }
+    match bytes.first() {
+        Some(first) if matches!(*first / 32, 4..=6) => match dump_width(bytes, level) {
+            Ok((_, rest)) => rest.is_empty(),
+            Err(_) => false,
+        },
+        _ => false,
+    }
+}
+
+impl<'a> Walk<'a> {
+    /// A walk over the item at the front, in this style.
+    pub(super) fn new(alloc: Global, bytes: &'a [u8], style: &DumpStyle<'_>) -> Walk<'a> {
+        Walk {
+            rest: bytes,
+            open: Vec::new(alloc),
+            shared: 0,
+            inside: 0,
+            embedded: style.embedded,
+            elide: style.elide,
+        }
+    }
+
+    /// The bytes that remain.
+    pub(super) fn rest(&self) -> &'a [u8] {
+        self.rest
+    }
+
+    /// Passes the item, and gives its lines.
+    pub(super) fn item<L: Lines>(&mut self, lines: &mut L) -> Result<(), Error> {
+        self.front(lines, &DumpContext::top(1))?;
+        for _ in 0..u64::MAX {
+            if self.open.is_empty() {
+                break;
+            }
+            self.next(lines)?;
+        }
+        Ok(())
+    }
+
+    /// Passes the next head in what is open, or its end.
+    fn next<L: Lines>(&mut self, lines: &mut L) -> Result<(), Error> {
+        let Some(open) = self.open.last_mut() else {
+            return Ok(());
+        };
+        match open.after(self.rest) {
+            Some(after) => {
+                self.rest = after;
+                Ok(self.close(lines)?)
+            }
+            None => {
+                open.held = open.held.saturating_add(1);
+                let inner = open.inner;
+                self.front(lines, &inner)
+            }
+        }
+    }
+
+    /// Closes what was opened last.
+    fn close<L: Lines>(&mut self, lines: &mut L) -> Result<(), AllocError> {
+        let Some(open) = self.open.pop() else {
+            return Ok(());
+        };
+        match open.holder {
+            Holder::Array(Argument::Indefinite) | Holder::Map(Argument::Indefinite) => {
+                lines.end(open.inner.depth)
+            }
+            Holder::Array(_) | Holder::Map(_) => Ok(()),
+            Holder::Tag(tag, value) => lines.notes(&open.inner, tag, value),
+            Holder::Bytes(shared) => {
+                self.shared = shared;
+                self.inside = self.inside.saturating_sub(1);
+                Ok(())
+            }
+        }
+    }
+
+    /// Passes the head at the front, and the content of a string.
+    fn front<L: Lines>(&mut self, lines: &mut L, context: &DumpContext) -> Result<(), Error> {
+        let bytes = self.rest;
+        if !has_level_left(context) {
+            return Err(no_level_left(bytes));
+        }
+        let (head, rest) = read_head(bytes)?;
+        let taken = bytes.len().saturating_sub(rest.len());
+        let digits = bytes.get(..taken).unwrap_or(b"");
+        lines.head(context.depth, (head, digits), bytes.len())?;
+        self.rest = rest;
+        match head {
+            ItemHead::String(kind, Argument::Number(count, _)) => {
+                self.string(lines, context, (kind, count))
+            }
+            ItemHead::String(kind, Argument::Indefinite) => {
+                self.chunks(lines, &context.inside(), kind)
+            }
+            ItemHead::Array(count) => Ok(self.begin(context.inside(), Holder::Array(count))?),
+            ItemHead::Map(count) => Ok(self.begin(context.inside(), Holder::Map(count))?),
+            ItemHead::Tag(number, _) => {
+                let tag = Tag(number);
+                let inner = context.below(tag, self.shared);
+                self.shared = shared_below(self.shared, tag)?;
+                Ok(self.begin(inner, Holder::Tag(tag, rest))?)
+            }
+            _ => Ok(()),
+        }
+    }
+
+    /// Opens what holds the items that come next.
+    fn begin(&mut self, inner: DumpContext, holder: Holder<'a>) -> Result<(), AllocError> {
+        self.open.push(Open {
+            inner,
+            holder,
+            held: 0,
+        })?;
+        Ok(())
+    }
+
+    /// Passes the content of a string of a kind and a length, or opens it.
+    fn string<L: Lines>(
+        &mut self,
+        lines: &mut L,
+        context: &DumpContext,
+        head: (StringKind, u64),
+    ) -> Result<(), Error>
+        requires context { IsContext context.now }
+        requires level { context.now.level ≤ deepest }
+    {
+        let (kind, count) = head;
+        let (content, after) = read_borrowed(kind, count, self.rest)?;
+        let inner = DumpContext {
+            encoding: None,
+            ..context.inside()
+        };
+        if self.opens(context.tag, content, inner.level) {
+            // The item is all of the content, so `after` follows it.
+            self.begin(inner, Holder::Bytes(self.shared))?;
+            self.shared = 0;
+            self.inside = self.inside.saturating_add(1);
+            return Ok(());
+        }
+        self.content(lines, context, content)?;
+        self.rest = after;
+        Ok(())
+    }
+
+    /// Gives the lines of the content of a string, which may be cut.
+    fn content<L: Lines>(
+        &self,
+        lines: &mut L,
+        context: &DumpContext,
+        content: StringContent<'_>,
+    ) -> Result<(), AllocError> {
+        match self.elide {
+            Some(most) if content.as_bytes().len() > most => {
+                push_cut(lines, context, content, most)
+            }
+            _ => lines.content(context, content),
+        }
+    }
+
+    /// Whether a string right below this tag is opened, as an item at a level.
+    fn opens(&self, tag: Option<Tag>, content: StringContent<'_>, level: u8) -> bool {
+        let StringContent::Bytes(bytes) = content else {
+            return false;
+        };
+        self.embedded
+            && self.inside < MOST_INSIDE
+            && !says_what_bytes_are(tag)
+            && is_item(bytes, level)
+    }
+
+    /// Passes the chunks of a string of a kind, and its break.
+    fn chunks<L: Lines>(
+        &mut self,
+        lines: &mut L,
+        inner: &DumpContext,
+        kind: StringKind,
+    ) -> Result<(), Error> {
+        for _ in 0..u64::MAX {
+            let bytes = self.rest;
+            let (chunk, after) = next_chunk(kind, bytes)?;
+            self.rest = after;
+            let Some((content, width)) = chunk else {
+                break;
+            };
+            let len = content.as_bytes().len();
+            let head = ItemHead::String(kind, Argument::Number(len as u64, width));
+            let behind = len.saturating_add(after.len());
+            let taken = bytes.len().saturating_sub(behind);
+            let digits = bytes.get(..taken).unwrap_or(b"");
+            lines.head(inner.depth, (head, digits), bytes.len())?;
+            self.content(lines, inner, content)?;
+        }
+        Ok(lines.end(inner.depth)?)
+    }
+}

@@ -1,0 +1,151 @@
+//! The lines of a dump, as they are written.
+ghost use Rattle.std.specs.Prelude.{◌≤◌, length};
+
+use crate::dump::beside::{Beside, push_word};
+use crate::dump::lines::{Lines, MOST_DEPTH, Piece, at_most};
+use crate::dump::walk::has_level_left;
+use cbor_dump::comment::Comment;
+use cbor_dump::context::DumpContext;
+use cbor_dump::hex_style::HexStyle;
+use cbor_dump::walk::{Walk, dump_notes};
+use cbor_dump::writer::Writer;
+use cbor_grammar::Tag;
+use cbor_grammar::head::ItemHead;
+use cbor_grammar::strings::StringContent;
+use cbor_notes::{push_blanks, push_gap};
+use cbor_tokens::push_hex;
+use std::alloc::{AllocError, Global};
+use std::fmt::Write;
+use std::mem;
+
+/// No line has more bytes.
+const MOST_BYTES: usize = 24;
+
+/// The lines so far, and what stands in the next ones.
+#[derive(Drop)]
+pub(super) struct Writing<'n> {
+    /// The writer of lines and notes.
+    walk: Walk,
+    /// The names and meanings.
+    beside: Beside<'n>,
+    /// The comment of a line with words.
+    said: String,
+}
+
+/// The bytes of a line; none if they are too many for one.
+fn few(bytes: &[u8]) -> &[u8]
+    ensures { length result.now ≤ 24 }
+{
+    if bytes.len() > MOST_BYTES { b"" } else { bytes }
+}
+
+impl<'n> Writing<'n> {
+    /// Takes a text, to which lines are appended, with their digits in a column of this width.
+    pub(super) fn new(out: &mut String, width: usize, beside: Beside<'n>) -> Writing<'n> {
+        let alloc = *out.allocator();
+        let mut writer = Writer::new(alloc, width);
+        writer.out = mem::replace(out, String::new(alloc));
+        let walk = Walk {
+            writer,
+            shared: 0,
+            alloc,
+        };
+        Writing {
+            walk,
+            beside,
+            said: String::new(alloc),
+        }
+    }
+
+    /// Gives the text back with the lines.
+    pub(super) fn give_back(self, out: &mut String) {
+        *out = self.walk.writer.out;
+    }
+
+    /// Writes a line with the comment that is said.
+    fn line_said(&mut self, depth: usize, style: HexStyle, bytes: &[u8]) -> Result<(), AllocError> {
+        let comment = Comment::Note(&self.said);
+        self.walk
+            .writer
+            .line(at_most(depth, MOST_DEPTH), style, few(bytes), &comment)
+    }
+
+    /// Writes the last line of a string that is cut, with the comment that is said.
+    fn line_cut(&mut self, depth: usize, bytes: &[u8]) -> Result<(), AllocError> {
+        let blanks = depth.saturating_mul(3);
+        let digits = bytes.len().saturating_mul(2).saturating_add(3);
+        let width = self.walk.writer.width;
+        let out = &mut self.walk.writer.out;
+        push_blanks(out, blanks)?;
+        push_hex(out, bytes)?;
+        out.push_str("...")?;
+        let gap = width.saturating_sub(blanks.saturating_add(digits));
+        push_gap(out, gap, depth.saturating_mul(2))?;
+        out.push_str(&self.said)?;
+        out.push('\n')
+    }
+}
+
+impl Lines for Writing<'_> {
+    fn head(
+        &mut self,
+        depth: usize,
+        head: (ItemHead, &[u8]),
+        remaining: usize,
+    ) -> Result<(), AllocError> {
+        let (head, digits) = head;
+        let comment = Comment::of(head, digits);
+        let (name, meaning) = self.beside.next(remaining);
+        if name.is_empty() && meaning.is_empty() {
+            let depth = at_most(depth, MOST_DEPTH);
+            return self
+                .walk
+                .writer
+                .line(depth, HexStyle::Head, few(digits), &comment);
+        }
+        self.said.clear();
+        push_word(&mut self.said, "/", name, "/ ")?;
+        comment.push(&mut self.said)?;
+        push_word(&mut self.said, " /", meaning, "/")?;
+        self.line_said(depth, HexStyle::Head, digits)
+    }
+
+    fn content(
+        &mut self,
+        context: &DumpContext,
+        content: StringContent<'_>,
+    ) -> Result<(), AllocError> {
+        if !has_level_left(context) {
+            return Ok(());
+        }
+        self.walk.writer.string_content(context, content)
+    }
+
+    fn piece(&mut self, depth: usize, piece: &Piece<'_>) -> Result<(), AllocError> {
+        self.said.clear();
+        piece.comment.push(&mut self.said)?;
+        if piece.goes_on {
+            let quote = self.said.pop().unwrap_or('"');
+            self.said.push_str("...")?;
+            self.said.push(quote)?;
+        }
+        match piece.cut {
+            Some(len) => {
+                write!(self.said, " /{len} bytes/")?;
+                self.line_cut(depth, piece.bytes)
+            }
+            None => self.line_said(depth, HexStyle::Content, piece.bytes),
+        }
+    }
+
+    fn end(&mut self, depth: usize) -> Result<(), AllocError> {
+        self.walk.writer.break_line(at_most(depth, MOST_DEPTH))
+    }
+
+    fn notes(&mut self, context: &DumpContext, tag: Tag, value: &[u8]) -> Result<(), AllocError> {
+        if !has_level_left(context) {
+            return Ok(());
+        }
+        dump_notes(&mut self.walk, context, tag, value)
+    }
+}
