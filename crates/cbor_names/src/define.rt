@@ -10,6 +10,7 @@ impl Names {
         Names {
             texts: String::new(alloc),
             types: Vec::new(alloc),
+            tags: 0,
             parts: Vec::new(alloc),
             last: 0,
         }
@@ -25,6 +26,7 @@ impl Names {
         let shape = self.shape_row(definition.shape)?;
         if let Some(tag) = definition.tag {
             self.release(tag);
+            self.tags |= 1 << (tag % 64);
         }
         let start = self.parts.len();
         if let Some(found) = self.types.get_mut(index) {

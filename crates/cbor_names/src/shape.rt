@@ -5,6 +5,7 @@ use crate::scalar::float_at;
 use crate::table::{Inside, Names, PartRow, Type, WhatRow};
 use cbor_bytes::head::read_head;
 use cbor_bytes::skip::after_front;
+use cbor_bytes::strings::split_at;
 use cbor_grammar::argument::Argument;
 use cbor_grammar::head::ItemHead;
 use cbor_grammar::strings::StringKind;
@@ -77,10 +78,17 @@ impl Names {
             if count.after_end(index, rest).is_some() {
                 return self.fit_without(parts.get(index..).unwrap_or(&[]));
             }
-            if !self.may_be(part.what, rest) {
+            let Ok((head, inner)) = read_head(rest) else {
+                return fit_count(parts, count);
+            };
+            if !self.may_be(part.what, head) {
                 return Fit::Other;
             }
-            match after_front(rest, 1) {
+            // A stated count says how the array fits, whatever is in its last member.
+            if index.saturating_add(1) == parts.len() && matches!(count, Argument::Number(..)) {
+                return fit_count(parts, count);
+            }
+            match after_head(head, inner, rest) {
                 Some(after) => rest = after,
                 None => return fit_count(parts, count),
             }
@@ -104,12 +112,9 @@ impl Names {
         Fit::Members
     }
 
-    /// Whether a member of which this is known may be the item at the front. Null and undefined
-    /// stand for any.
-    fn may_be(&self, what: WhatRow, bytes: &[u8]) -> bool {
-        let Ok((head, _)) = read_head(bytes) else {
-            return true;
-        };
+    /// Whether a member of which this is known may have this head. Null and undefined stand for
+    /// any.
+    fn may_be(&self, what: WhatRow, head: ItemHead) -> bool {
         if matches!(head, ItemHead::Simple(22 | 23)) {
             return true;
         }
@@ -151,6 +156,24 @@ impl Names {
             None if tag == EPOCH => float_at(rest).is_some(),
             None => Scaled::below(tag, rest).is_some(),
         }
+    }
+}
+
+/// The bytes after the item at the front, whose head and the bytes after that are known.
+fn after_head<'b>(head: ItemHead, inner: &'b [u8], bytes: &'b [u8]) -> Option<&'b [u8]> {
+    match head {
+        ItemHead::Integer(..) | ItemHead::Negative(..) | ItemHead::Float(..) => Some(inner),
+        ItemHead::Simple(_) => Some(inner),
+        ItemHead::Array(Argument::Number(0, _)) | ItemHead::Map(Argument::Number(0, _)) => {
+            Some(inner)
+        }
+        ItemHead::String(StringKind::Bytes, Argument::Number(len, _)) => {
+            match split_at(inner, len) {
+                Ok((_, after)) => Some(after),
+                Err(_) => None,
+            }
+        }
+        _ => after_front(bytes, 1),
     }
 }
 

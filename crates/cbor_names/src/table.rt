@@ -14,6 +14,8 @@ pub struct Names {
     /// All texts, one after the other.
     pub(crate) texts: String,
     pub(crate) types: Vec<Type>,
+    /// Bit n is set if a type has a tag whose lowest six bits are n.
+    pub(crate) tags: u64,
     /// The parts of all types; those of a type stand together.
     pub(crate) parts: Vec<PartRow>,
     /// The type that was defined last.
@@ -181,6 +183,9 @@ impl Names {
     pub(crate) fn type_of(&self, tag: u64) -> Option<&Type>
         ensures { IfSome result (λ found. found.now.tag ≡ Some tag) }
     {
+        if (self.tags >> (tag % 64)) & 1 == 0 {
+            return None;
+        }
         for found in &self.types {
             if found.tag == Some(tag) {
                 return Some(found);

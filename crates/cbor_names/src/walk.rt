@@ -142,12 +142,12 @@ impl<'a> Pass<'a> {
     /// Notes the number that a decimal fraction or a bigfloat right below this tag is, at its
     /// mantissa, unless the tag is one of a type.
     fn note_number(&mut self, tag: u64, behind: usize, bytes: &[u8]) -> Result<(), AllocError> {
-        if self.names.type_of(tag).is_some() {
-            return Ok(());
-        }
         let Some(number) = Scaled::below(tag, bytes) else {
             return Ok(());
         };
+        if self.names.type_of(tag).is_some() {
+            return Ok(());
+        }
         let text = number.text(self.alloc)?;
         let at = number.mantissa.len().saturating_add(behind);
         let note = self.notes.meaning(Found::new(at, ""), &text)?;
