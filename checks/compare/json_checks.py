@@ -3,6 +3,7 @@ here by hand, or is what Python's `json` makes of the same text."""
 
 import json
 import random
+import re
 
 # Past 64 bits, and so tagged in CBOR.
 BIG = ["18446744073709551616", "-18446744073709551617", "1" + 40 * "0"]
@@ -167,11 +168,84 @@ def examples(run, same, folder):
         {"at": 1700000060, "event": "temp", "c": 21.0}])
 
 
+# Keys in different widths and forms, and the name of each.
+KEYS = [
+    ("01", "1"), ("1801", "1"), ("6131", "1"), ("7f6131ff", "1"), ("20", "-1"), ("3800", "-1"), ("622d31", "-1"),
+    ("f93e00", "1.5"), ("fa3fc00000", "1.5"), ("63312e35", "1.5"), ("f5", "true"), ("6474727565", "true"),
+    ("4161", "h'61'"), ("5f4161ff", "h'61'"), ("656827363127", "h'61'"), ("8101", "[1]"), ("9f1801ff", "[1]"),
+    ("635b315d", "[1]"), ("a10102", "{1: 2}"), ("667b313a20327d", "{1: 2}"), ("c100", "1(0)"), ("d80100", "1(0)"),
+    ("6161", "a"), ("00", "0"), ("6130", "0"), ("623031", "01"), ("62c3a9", "\u00e9"), ("6365cc81", "e\u0301"),
+]
+CLASH = re.compile(r"cborcat: standard input: byte (\d+) .*: the key .* is the same in JSON as the key .*byte (\d+)")
+
+
+def map_of(keys):
+    """A map of these keys, each with the value 0, and the places of the keys."""
+    count = len(keys)
+    out = bytearray([0xa0 + count] if count < 24 else b"\xb9" + count.to_bytes(2, "big"))
+    places = []
+    for key in keys:
+        places.append(len(out))
+        out += key + b"\0"
+    return bytes(out), places
+
+
+def first_clash(names):
+    """The first name that stands twice: where it is, and where it was before."""
+    seen = {}
+    for index, name in enumerate(names):
+        if name in seen:
+            return seen[name], index
+        seen[name] = index
+    return None
+
+
+def judged(run, same, what, maps):
+    """Maps one after the other, each as its keys with their names: those in which a name stands twice are errors."""
+    data, wanted, clashes = b"", [], []
+    for keys in maps:
+        names = [name for _, name in keys]
+        item, places = map_of([key for key, _ in keys])
+        clash = first_clash(names)
+        if clash is None:
+            wanted.append([(name, 0) for name in names])
+        else:
+            first, second = clash
+            clashes.append((len(data) + places[second], len(data) + places[first]))
+        data += item
+    out, error, status = run("-f", "bytes", "-t", "json", data=data)
+    read = [json.loads(line, object_pairs_hook=list) for line in out.splitlines()]
+    same(f"{what}: maps", read, [[tuple(pair) for pair in pairs] for pairs in wanted])
+    found = [(int(match[1]), int(match[2])) for match in map(CLASH.match, error.splitlines()) if match]
+    same(f"{what}: clashes", (found, status), (clashes, 1 if clashes else 0))
+
+
+def same_keys(run, same):
+    """Keys that become the same: each pair, drawn maps, and many keys of which the last is the same as another."""
+    pool = [(bytes.fromhex(digits), name) for digits, name in KEYS]
+    judged(run, same, "pairs of keys", [[a, b] for a in pool for b in pool])
+    draw = random.Random(67)
+    judged(run, same, "drawn keys", [draw.sample(pool, draw.randrange(1, 7)) for _ in range(400)])
+    integers = [(b"\x19" + n.to_bytes(2, "big"), str(n)) for n in range(500)]
+    texts = [(b"\x65" + f"k{n:04}".encode(), f"k{n:04}") for n in range(500)]
+    digits = [(bytes([0x60 + len(str(n))]) + str(n).encode(), str(n)) for n in range(500, 1000)]
+    for what, keys in [("integers", integers), ("texts", texts), ("digits", digits), ("both", integers + texts),
+                       ("all", integers + digits), ("in order", sorted(integers + texts))]:
+        if what != "in order":
+            draw.shuffle(keys)
+        for count in (12, 13, len(keys)):
+            some = keys[:count]
+            last = draw.choice(some)
+            twin = last if last[0][0] >= 0x60 else (bytes([0x60 + len(last[1])]) + last[1].encode(), last[1])
+            judged(run, same, f"{count} keys, {what}", [some, [*some, last], [*some, twin]])
+
+
 def check(run, same, in_terminal, folder):
     documents(run, same)
     drawn_documents(run, same)
     items(run, same)
     named(run, same)
+    same_keys(run, same)
     refusals(run, same)
     raw(run, same, in_terminal)
     examples(run, same, folder)
