@@ -1,4 +1,3 @@
 -- Definitions for the checker alone, which follow the code that reads notation: the function and the `Cursor`.
 pub mod NotationReading
-pub mod OpenTokens
 pub mod Cursor
