@@ -1,3 +1,4 @@
+pub mod SimpleLemmas
 pub mod StreamLemmas
 pub mod OutputLemmas
 pub mod Lines

@@ -1,14 +1,18 @@
--- What is written of an item, or of parts of it.
+-- What is written of an item, or of parts of it, and what the end of a check says.
 use Rattle.std.specs.Prelude.{◌≡◌, ℕ, List, [], ◌∷◌, ◌++◌}
 use Rattle.hex.specs.Hex.{encode_lower}
 use Rattle.cbor_grammar.specs.Item.{Item}
 use Rattle.cbor_grammar.specs.Facts.{IsItem}
+use Rattle.cbor_paths.specs.declared.end.End.{End}
+use Rattle.cbor_paths.specs.declared.end.End.TheVariants as end
 use Rattle.cbor_paths.specs.declared.step.Step.{Step}
+use Rattle.cbor_paths.specs.Ends.{EndsSo}
 use Rattle.cbor_paths.specs.Sequence.{ShowsEach}
 use Rattle.cbor_inspect.specs.declared.form.Form.{Form}
 use Rattle.cbor_inspect.specs.declared.form.Form.TheVariants as form
 use Rattle.cbor_inspect.specs.declared.items.Show.{Show}
 use Rattle.cbor_inspect.specs.Forms.{IsForm}
+use Rattle.cbor_inspect.specs.Simple.{BeginsNo8949}
 
 -- what is written of a part: its bytes as they are, or their digits and a line feed, or what is written of its item
 abbrev pub IsPartForm : Form → Show → Item → List ℕ → Type 0
@@ -29,3 +33,8 @@ steps_of show = show.steps.items
 -- what is written of an item: all of it, or the parts that the path leads to
 abbrev pub Shows : Show → Item → List ℕ → Type 0
 Shows show i output = ShowsPart show (steps_of show) i output
+
+-- what an end says of a check by RFC 8949: the same as of a call that writes, or that the next item is none by it
+abbrev pub ChecksSo : List ℕ → End → Type 0
+ChecksSo rest (end.TwoByteSimple at) = BeginsNo8949 rest at
+ChecksSo rest other = EndsSo rest other

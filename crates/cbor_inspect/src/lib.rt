@@ -24,15 +24,17 @@ mod notation;
 mod part;
 mod picture;
 mod raw;
+mod simple;
 mod steps;
 mod stream;
 
 pub use cbor_paths::{End, Found, Lost, Mark, Picture, Shown, Step, follow, lost_at, skip_items};
 pub use form::{Form, Style};
 pub use items::{Show, show_items};
-pub use name::{NameError, below_tags, name_at};
+pub use name::{NameError, name_at};
 pub use naming::Naming;
 pub use picture::{marks_of, parts_of};
 pub use raw::{RawError, raw_content};
+pub use simple::two_byte_simple;
 pub use steps::steps_of;
 pub use stream::Stream;

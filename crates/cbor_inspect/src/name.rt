@@ -5,10 +5,8 @@ ghost use Rattle.cbor_grammar.specs.Facts.{IsItem};
 ghost use Rattle.cbor_inspect.specs.Named.{HasNoName};
 
 use crate::naming::Naming;
-use cbor_bytes::head::read_head;
 use cbor_diag::parse_bytes;
 use cbor_grammar::Error;
-use cbor_grammar::head::ItemHead;
 use cbor_paths::{Picture, Step, follow};
 use std::alloc::Global;
 
@@ -19,19 +17,6 @@ pub enum NameError {
     Cbor(Error),
     /// The path leads to no part of the item.
     NoPart,
-}
-
-/// Returns the bytes from the item below all tags on; nothing of bytes that end before it begins.
-pub fn below_tags(bytes: &[u8]) -> Option<&[u8]> {
-    let mut rest = bytes;
-    for _ in 0..=u8::MAX {
-        match read_head(rest) {
-            Ok((ItemHead::Tag(..), after)) => rest = after,
-            Ok(_) => return Some(rest),
-            Err(_) => return None,
-        }
-    }
-    None
 }
 
 /// Whether a path has a `*`, after which each member has a name of its own.

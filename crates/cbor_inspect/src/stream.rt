@@ -1,6 +1,8 @@
 //! For viewers, items one after the other that come in pieces.
-ghost use Rattle.std.specs.Prelude.{◌≡◌, ◌↔◌, ℕ, ◌<◌, ◌≤◌, ◌++◌, List, length, take, drop};
-ghost use Rattle.std.specs.Prelude.{false, IfErr, OnOk, OnErr, IsTrue};
+ghost use Rattle.std.specs.Prelude.{◌≡◌, ◌↔◌, ◌⊎◌, ℕ, ◌<◌, ◌≤◌, ◌++◌, List, length, take, drop};
+ghost use Rattle.std.specs.Prelude.{false, IfOk, IfErr, IfSome, IfNone, OnOk, OnErr, IsTrue};
+ghost use Rattle.cbor_grammar.specs.Facts.{BeginsWithItem};
+ghost use Rattle.cbor_inspect.specs.Simple.{ItemsThen8949, IsSequence8949, Is8949, BeginsNo8949};
 ghost use Rattle.cbor_bytes.specs.declared.skip.answer.Extent.{Extent};
 ghost use Rattle.cbor_grammar.specs.Item.{Item};
 ghost use Rattle.cbor_bytes.specs.Extent.{IsExtent};
@@ -8,13 +10,14 @@ ghost use Rattle.cbor_inspect.specs.declared.items.Show.{Show};
 ghost use Rattle.cbor_paths.specs.Sequence.{ItemsThen, IsSequence, IsShownOfFirst, OneThen};
 ghost use Rattle.cbor_paths.specs.Sequence.{OneAtMost};
 ghost use Rattle.cbor_paths.specs.Ends.{EndsSo, StopsSo};
-ghost use Rattle.cbor_inspect.specs.Shows.{Shows};
+ghost use Rattle.cbor_inspect.specs.Shows.{ChecksSo, Shows};
 
 use crate::items::{Show, show_first, show_items};
 use crate::notation::Work;
+use crate::simple::fault_8949;
 use cbor_bytes::{Extent, Scanner, extent};
+use cbor_grammar::Error;
 use cbor_paths::{End, bytes_from};
-use cbor_rules::two_byte_simple;
 use std::alloc::{AllocError, Global};
 use std::marker::Model;
 
@@ -88,6 +91,9 @@ impl Stream {
         // So it is with items that were passed.
         ensures passed { (came : List ℕ) (items : List Item) → OnOk result (
             ItemsThen came items self.old → ItemsThen (came ++ bytes.now) items self.new) }
+        ensures checked { (came : List ℕ) (items : List Item) → OnOk result (
+            ItemsThen8949 came items self.old
+            → ItemsThen8949 (came ++ bytes.now) items self.new) }
     {
         if self.start == 0 {
             return self.kept.extend_from_slice(bytes);
@@ -194,28 +200,61 @@ impl Stream {
         End::Done
     }
 
-    /// Goes past the next items as [`Stream::skip`] does, but only past items by RFC 8949: those in
-    /// which [`two_byte_simple`] finds nothing. It takes no memory.
+    /// Goes past the next items as [`Stream::skip`] does, but only past items by RFC 8949: those
+    /// without a simple value below 32 in two bytes. Memory is taken only if a byte below 32
+    /// follows `f8` somewhere in an item.
     ///
     /// ```rust
     /// use cbor_inspect::{End, Stream};
     ///
     /// let mut stream = Stream::new(Vec::from_slice(alloc, b"\x01\x81\xf8\x14")?);
-    /// assert_eq!(rt; stream.check(false), End::TwoByteSimple { at: 1 });
+    /// assert_eq!(rt; stream.check(alloc, false), End::TwoByteSimple { at: 1 });
     /// assert_eq!(rt; stream.rest(), b"\x81\xf8\x14".as_slice());
     /// ```
-    pub fn check(&mut self, one: bool) -> End
-        // Items are passed.
-        ensures items { (items : List Item) × ItemsThen self.old items self.new }
+    pub fn check(&mut self, alloc: Global, one: bool) -> End
+        // Items by RFC 8949 are passed.
+        ensures items { (items : List Item) × ItemsThen8949 self.old items self.new }
+
+        // So of all bytes that came, those are such items that all calls passed, and these bytes
+        // are such items alone exactly if none remain at the end, unless memory ran out.
+        ensures joined { (came : List ℕ) (before : List Item) → ItemsThen8949 came before self.old
+            → (more : List Item) × ItemsThen8949 came (before ++ more) self.new
+            × ((one ≡ false) → (result ≡ End.Done → IsSequence8949 came)
+            × (IsSequence8949 came → (result ≡ End.Done) ⊎ (result ≡ End.Memory))) }
+
+        // Why none of the bytes that are kept are.
+        ensures ends { ChecksSo self.new result }
+
+        // The bytes are such items alone exactly if none remain at the end, unless memory ran out.
+        ensures clean { (one ≡ false) → result ≡ End.Done → IsSequence8949 self.old }
+        ensures refused { (one ≡ false) → IsSequence8949 self.old
+            → (result ≡ End.Done) ⊎ (result ≡ End.Memory) }
+
+        // It stops without a look at what remains only after the one item that it was to pass.
+        ensures full { result ≡ End.Full → IsTrue one × (length self.new < length self.old) }
 
         // One item at most is passed, if so asked.
         ensures one { IsTrue one → OneAtMost self.old self.new }
     {
+        self.check_next(alloc, one)
+    }
+
+    /// The same as `check`.
+    fn check_next(&mut self, alloc: Global, one: bool) -> End
+        ensures items { (items : List Item) × ItemsThen8949 self.old items self.new }
+        ensures ends { ChecksSo self.new result }
+        ensures clean { (one ≡ false) → result ≡ End.Done → IsSequence8949 self.old }
+        ensures refused { (one ≡ false) → IsSequence8949 self.old
+            → (result ≡ End.Done) ⊎ (result ≡ End.Memory) }
+        ensures full { result ≡ End.Full → IsTrue one × (length self.new < length self.old) }
+        ensures one { IsTrue one → OneAtMost self.old self.new }
+    {
         'items: while !self.rest().is_empty() {
             match self.scan() {
-                Extent::Item(len) => match two_byte_simple(&self.rest()[..len]) {
-                    None => self.pass(len),
-                    Some(at) => return End::TwoByteSimple { at },
+                Extent::Item(len) => match self.fault_within(alloc, len) {
+                    Ok(None) => self.pass(len),
+                    Ok(Some(at)) => return End::TwoByteSimple { at },
+                    Err(_) => return End::Memory,
                 },
                 Extent::Cut => return End::Cut,
                 Extent::Fault { error, end } => return End::Fault { error, end },
@@ -225,6 +264,16 @@ impl Stream {
             }
         }
         End::Done
+    }
+
+    /// The place in the item of this length that the bytes begin with where RFC 8949 forbids it, if
+    /// it does.
+    fn fault_within(&self, alloc: Global, len: usize) -> Result<Option<usize>, Error>
+        requires { (i : Item) × BeginsWithItem self.now i len }
+        ensures none { IfOk result (λ found. IfNone found (Is8949 (take len self.now))) }
+        ensures some { IfOk result (λ found. IfSome found (λ at. BeginsNo8949 self.now at)) }
+    {
+        fault_8949(alloc, &self.rest()[..len])
     }
 
     /// Returns the last of the bytes that were passed, at most `count`, and none that were passed

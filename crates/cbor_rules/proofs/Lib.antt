@@ -1,7 +1,6 @@
 pub mod DoubleSizes
 pub mod Texts
 pub mod KeysTwice
-pub mod TwoBytes
 pub mod Stops
 pub mod Turns
 pub mod Heads

@@ -23,7 +23,6 @@ mod laws;
 mod reduced;
 mod rule_set;
 mod rules;
-mod simple;
 mod text;
 
 pub use check::{breach, breach_in};
@@ -31,4 +30,3 @@ pub use kind::{Breach, BreachKind};
 pub use reduced::reduced_breach;
 pub use rule_set::{ENCODINGS, RULES, RuleSet};
 pub use rules::{KeyOrder, Rules};
-pub use simple::two_byte_simple;

@@ -18,10 +18,9 @@ use crate::shown::show_of;
 use crate::status::{Next, Status};
 use cbor_bytes::{Extent, extent};
 use cbor_grammar::Error;
-use cbor_inspect::{End, Form, Stream};
+use cbor_inspect::{End, Form, Stream, two_byte_simple};
 use cbor_messages::{TWO_BYTES, first_breach};
 use cbor_places::Piece;
-use cbor_rules::two_byte_simple;
 use cborcat_arguments::{Job, View};
 use std::alloc::{AllocError, Global};
 use std::io;
@@ -265,7 +264,7 @@ impl<'a> Conversion<'a> {
     fn show_next(&mut self, one: bool) -> End {
         let before = self.stream.rest().len();
         let end = match self.job.view {
-            View::Items if self.job.check => self.stream.check(one),
+            View::Items if self.job.check => self.stream.check(self.rt.alloc(), one),
             View::Items if self.job.encode.is_some() => self.show_encoded(),
             View::Items if self.job.show.style.form == Form::Hex => self.show_dumps(),
             View::Items => self.show_some(),

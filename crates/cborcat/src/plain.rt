@@ -9,7 +9,7 @@ use cbor_bytes::{Extent, extent};
 use cbor_grammar::Error;
 use cbor_grammar::head::ItemHead;
 use cbor_grammar::strings::StringKind;
-use cbor_inspect::{End, RawError, below_tags, raw_content, show_items};
+use cbor_inspect::{End, RawError, raw_content, show_items};
 use cbor_json::{JsonError, JsonStyle, bytes_to_json, bytes_to_json_named};
 use cbor_messages::not_json;
 use cbor_names::notes;
@@ -157,8 +157,15 @@ const NO_TERMINAL: &str =
 
 /// The head of an item, below its tags.
 fn head_below_tags(bytes: &[u8]) -> Option<ItemHead> {
-    let (head, _) = head_at(below_tags(bytes)?, 0)?;
-    Some(head)
+    let mut at = 0;
+    for _ in 0..=u8::MAX {
+        let (head, end) = head_at(bytes, at)?;
+        let ItemHead::Tag(..) = head else {
+            return Some(head);
+        };
+        at = end;
+    }
+    None
 }
 
 /// What an item with this head is called.

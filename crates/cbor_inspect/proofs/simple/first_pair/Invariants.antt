@@ -1,10 +1,10 @@
-use Rattle.std.proofs.Common.{◌-◌, drop, length}
-use Rattle.cbor_rules.specs.mirror.TwoBytes.{NoPair}
-use Rattle.cbor_rules.proofs.simple.has_pair.Given as goal
+use Rattle.std.proofs.Common.{◌-◌, drop}
+use Rattle.cbor_inspect.specs.Simple.{NoPair}
+use Rattle.cbor_inspect.proofs.simple.first_pair.Given as goal
 
 -- if none is in the bytes that are left, none is in all of them
 abbrev pub invariant-bytes : goal.invariant-bytes
 invariant-bytes l = NoPair (drop l.at l.bytes) → NoPair l.bytes
 
 abbrev pub decreases-bytes : goal.decreases-bytes
-decreases-bytes l = length l.bytes - l.at
+decreases-bytes l = l.last - l.at
