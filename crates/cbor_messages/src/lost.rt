@@ -102,7 +102,10 @@ impl<'a> Dead<'a> {
             return 0;
         };
         let mut count = 0usize;
-        'members: while let Some(_) = members.next(self.bytes) {
+        for _ in 0..self.bytes.len() {
+            if members.next(self.bytes).is_none() {
+                break;
+            }
             count = count.saturating_add(1);
         }
         count
@@ -288,7 +291,10 @@ fn push_key(text: &mut String, key: &[u8]) -> Result<(), AllocError> {
 fn range_of(dead: Dead) -> Option<(u64, u64)> {
     let mut members = Members::of(dead.bytes, dead.start)?;
     let mut range: Option<(u64, u64)> = None;
-    'members: while let Some(at) = members.next(dead.bytes) {
+    for _ in 0..dead.bytes.len() {
+        let Some(at) = members.next(dead.bytes) else {
+            break;
+        };
         let Some((ItemHead::Integer(value, _), _)) = head_at(dead.bytes, at.named) else {
             return None;
         };

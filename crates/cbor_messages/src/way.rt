@@ -68,7 +68,7 @@ fn content(bytes: &[u8], start: usize) -> Option<(&[u8], usize)> {
 /// Where the item begins that a byte belongs to, of items one after the other.
 fn item_with(bytes: &[u8], at: usize) -> usize {
     let mut begins = 0usize;
-    'items: while begins < bytes.len() {
+    for _ in 0..bytes.len() {
         let Extent::Item(len) = extent(bytes.get(begins..).unwrap_or(b"")) else {
             break;
         };
@@ -84,7 +84,10 @@ fn item_with(bytes: &[u8], at: usize) -> usize {
 /// strings, and returns where that item begins.
 fn push_steps(path: &mut String, bytes: &[u8], at: usize) -> Result<usize, Error> {
     let mut spot = Spot::outermost();
-    'levels: while let Some(part) = part_at(bytes, spot, at) {
+    for _ in 0..=u8::MAX {
+        let Some(part) = part_at(bytes, spot, at) else {
+            break;
+        };
         match part.open {
             Open::Array { index, .. } => {
                 push_slash(path)?;

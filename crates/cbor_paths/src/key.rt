@@ -36,7 +36,10 @@ pub fn is_key(wanted: &[u8], key: &[u8]) -> bool {
 /// bytes.
 fn is_spelled_longer(wanted: &[u8], key: &[u8]) -> bool {
     let (mut at, mut place) = (0usize, 0usize);
-    'heads: while place < key.len() {
+    for _ in 0..key.len() {
+        if place >= key.len() {
+            break;
+        }
         let len = heads::step(key, place);
         let head = key.get(place..place.saturating_add(len)).unwrap_or(b"");
         let short = [0xe0 | head.last().copied().unwrap_or(0)];

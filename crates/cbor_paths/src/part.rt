@@ -123,7 +123,10 @@ fn push_members(
     let Some(mut members) = Members::new(below) else {
         return Ok(());
     };
-    'members: while let Some(at) = members.next(bytes) {
+    for _ in 0..bytes.len() {
+        let Some(at) = members.next(bytes) else {
+            break;
+        };
         places.push(at)?;
     }
     Ok(())

@@ -34,13 +34,17 @@ impl<'a> Picture<'a> {
 
     /// The mark at a place.
     fn mark_at(self, place: usize) -> Option<&'a Mark<'a>> {
-        let mut rest = self.marks;
-        for _ in 0..usize::BITS {
-            let (before, after) = rest.split_at(rest.len() / 2);
-            match after.first() {
-                Some(middle) if middle.place == place => return Some(middle),
-                Some(middle) if middle.place > place => rest = before,
-                _ => rest = after.get(1..).unwrap_or(&[]),
+        let (mut low, mut high) = (0usize, self.marks.len());
+        for _ in 0..=usize::BITS {
+            let middle = low.saturating_add(high.saturating_sub(low) / 2);
+            let mark = self.marks.get(middle)?;
+            if mark.place == place {
+                return Some(mark);
+            }
+            if mark.place < place {
+                low = middle.saturating_add(1);
+            } else {
+                high = middle;
             }
         }
         None
