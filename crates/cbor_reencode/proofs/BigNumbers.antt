@@ -12,11 +12,11 @@ use Rattle.cbor_grammar.specs.declared.strings.StringKind.TheVariants.{Bytes, Te
 use Rattle.cbor_grammar.specs.Item as spec
 use Rattle.cbor_grammar.specs.Item.{Chunk, Atom, integer, negative, string, chunked_string, float, simple, Item, atom}
 use Rattle.cbor_grammar.specs.Item.{array, tagged}
-use Rattle.cbor_grammar.specs.Head.{FitsStated, head, shortest}
+use Rattle.cbor_grammar.specs.Head.{FitsStated, shortest}
 use Rattle.cbor_grammar.specs.WellFormed.{deepest}
 use Rattle.cbor_grammar.specs.Bytes.{strict, Spells}
 use Rattle.cbor_grammar.specs.Written.{encoded_head}
-use Rattle.cbor_grammar.specs.Reading.{Read, read_head}
+use Rattle.cbor_grammar.specs.Reading.{read_head}
 use Rattle.cbor_rules.specs.declared.rules.Rules.{Rules}
 use Rattle.cbor_rules.specs.Same.{said, whole, IsSame}
 use Rattle.cbor_rules.proofs.Again.{string_read}

@@ -1,6 +1,6 @@
 -- Encoding again: items that keep rules keep rules that ask for less, and are the same as themselves.
 use Rattle.std.proofs.Common.{◌≡◌, ℕ, ◌+◌, Bool, true, false, List, [], ◌∷◌, Option, Some, None, refl}
-use Rattle.std.proofs.Common.{sym, subst, ◌∙◌, ◌≤◌, ◌⊎◌, inl, inr}
+use Rattle.std.proofs.Common.{sym, subst, ◌≤◌, ◌⊎◌, inl, inr}
 use Rattle.std.specs.Prelude.{IsTrue}
 use Rattle.std.specs.List.{AllByRecursion}
 use Rattle.cbor_grammar.specs.declared.width.IntegerWidth.{IntegerWidth}
@@ -19,7 +19,7 @@ use Rattle.cbor_rules.specs.declared.rules.KeyOrder.TheVariants.{Any}
 use Rattle.cbor_rules.specs.Keeps.{KeepsContent, KeepsChunk, KeepsCount, KeepsSimple, KeepsAtom, KeysInOrder, KeysAfter}
 use Rattle.cbor_rules.specs.Keeps.{Keeps, KeepsItems, without_memory}
 use Rattle.cbor_rules.specs.Keeps.{KeepsPairs, KeepsRules}
-use Rattle.cbor_rules.specs.Same.{IsSame, SameItems, SamePairs, AreKept}
+use Rattle.cbor_rules.specs.Same.{IsSame, SameItems, SamePairs}
 use Rattle.cbor_reencode.specs.Reduction.{reduced_items}
 use Rattle.cbor_reencode.specs.Reencoded.{IsReencoded, lasting}
 use Rattle.cbor_reencode.specs.mirror.Rewritten.{Sequence}

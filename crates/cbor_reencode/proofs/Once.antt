@@ -1,5 +1,5 @@
 -- Items that have a core deterministic encoding have no map in which two keys are one.
-use Rattle.std.proofs.Common.{◌≡◌, ◌≢◌, ℕ, ◌+◌, true, List, [], inl, inr, refl, sym, ap, subst}
+use Rattle.std.proofs.Common.{◌≢◌, ℕ, ◌+◌, true, List, [], inl, inr, refl, sym, ap, subst}
 use Rattle.cbor_grammar.specs.declared.width.IntegerWidth.{IntegerWidth}
 use Rattle.cbor_grammar.specs.Item as spec
 use Rattle.cbor_grammar.specs.Item.{Item, atom, array, tagged, Items, no_items, item, Pairs, no_pairs, pair}

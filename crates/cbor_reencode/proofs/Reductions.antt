@@ -1,6 +1,6 @@
 -- What the rules leave of a float is the same number.
 use Rattle.std.proofs.Common.{◌≡◌, ◌≢◌, ℕ, ◌-◌, Bool, true, false, cond, ltb, not, ◌&&◌, Option, Some, None}
-use Rattle.std.proofs.Common.{refl, sym, ap, subst, ◌∙◌, arith}
+use Rattle.std.proofs.Common.{refl, sym, ap, ◌∙◌, arith}
 use lib.Ieee.{is_nan, of_bits}
 use Rattle.std.specs.Prelude.{from_bits}
 use Rattle.std.specs.Float.Ieee.{binary64}

@@ -1,5 +1,5 @@
 -- Bytes are only one sequence of items.
-use Rattle.std.proofs.Common.{◌≡◌, ℕ, List, [], ◌++◌, refl, sym, ap, ◌∙◌, length-append, arith}
+use Rattle.std.proofs.Common.{◌≡◌, ℕ, List, [], ◌++◌, length, refl, sym, ap, ◌∙◌, length-append, arith}
 use Rattle.cbor_grammar.specs.Item.{Item, Items, no_items, item}
 use Rattle.cbor_grammar.specs.Bytes.{strict, Spells, SpellsItems}
 use Rattle.cbor_grammar.specs.Reading.{read_item}

@@ -222,6 +222,16 @@ pub fn lasting(rules: Rules) -> Rules
     }
 }
 
+/// Whether what was written keeps the rules.
+fn check_written(alloc: Global, written: &[u8], rules: Rules) -> Result<(), ReencodeError>
+    ensures { IfOk result (λ x. KeepsRules rules written.now) }
+{
+    match breach_in(alloc, written, rules)? {
+        None => Ok(()),
+        Some(breach) => Err(ReencodeError::Written(breach)),
+    }
+}
+
 /// Encodes items again, where keys are compared only as the rules want them.
 pub fn encoded(alloc: Global, bytes: &[u8], rules: Rules) -> Result<Vec<u8>, ReencodeError>
     ensures is { IfOk result (λ out. IsReencoded rules bytes.now out.items) }
@@ -244,8 +254,6 @@ pub fn encoded(alloc: Global, bytes: &[u8], rules: Rules) -> Result<Vec<u8>, Ree
         keys_differ: true,
     };
     let out = encoder.items(alloc, bytes)?;
-    match breach_in(alloc, &out, rules)? {
-        None => Ok(out),
-        Some(breach) => Err(ReencodeError::Written(breach)),
-    }
+    check_written(alloc, &out, rules)?;
+    Ok(out)
 }

@@ -1,5 +1,5 @@
 //! Keys that are one by what they say: with them, what breaks rules, and encoding again.
-ghost use Rattle.std.specs.Prelude.{◌≡◌, ◌⊎◌, ◌↔◌, true, IfOk, IfErr, IfSome, MatchResult};
+ghost use Rattle.std.specs.Prelude.{◌≡◌, ◌⊎◌, ◌↔◌, true, false, IfOk, IfErr, IfSome, MatchResult};
 ghost use Rattle.std.specs.Prelude.{Some, None};
 ghost use Rattle.cbor_rules.specs.declared.kind.Breach.{Breach};
 ghost use Rattle.cbor_rules.specs.FirstBreach.{first_breach};
@@ -25,6 +25,18 @@ fn unordered(distinct_keys: bool) -> Rules
     }
 }
 
+/// Whether items break the rules of core deterministic encoding, but for the order of keys, only
+/// because a key stands twice.
+fn are_keys_alone_wrong(alloc: Global, written: &[u8]) -> Result<bool, AllocError>
+    ensures { IfOk result (λ twice. twice ≡ true → KeepsRules (unordered false) written.now
+        × (¬ (KeepsRules (unordered true) written.now))) }
+{
+    match breach_in(alloc, written, unordered(false))? {
+        Some(_) => Ok(false),
+        None => Ok(breach_in(alloc, written, unordered(true))?.is_some()),
+    }
+}
+
 /// Whether two keys of a map are the same bytes by core deterministic encoding. All items are
 /// encoded so, but for an order of keys that are the same.
 fn have_key_twice(alloc: Global, bytes: &[u8]) -> Result<bool, ReencodeError>
@@ -36,15 +48,12 @@ fn have_key_twice(alloc: Global, bytes: &[u8]) -> Result<bool, ReencodeError>
         keys_differ: false,
     };
     let out = encoder.items(alloc, bytes)?;
-    if breach_in(alloc, &out, unordered(false))?.is_some() {
-        return Ok(false);
-    }
-    Ok(breach_in(alloc, &out, unordered(true))?.is_some())
+    let twice = are_keys_alone_wrong(alloc, &out)?;
+    Ok(twice)
 }
 
 /// The places of two keys of a map that are one. What was encoded is looked at before that is said,
 /// and if neither is so, the error is that of memory: tests show that this never comes.
-#[tactic(auto, using(crate::proofs::Once::core_laws))]
 fn keys_twice(alloc: Global, bytes: &[u8]) -> Result<Option<(usize, usize)>, AllocError>
     ensures none { IfOk result (λ found. found ≡ None → KeysOnce bytes.now) }
     ensures some { IfOk result (λ found. IfSome found (λ places. ¬ (KeysOnce bytes.now))) }

@@ -4,7 +4,7 @@ ghost use Rattle.std.specs.Prelude.{IfOk, MatchOption};
 ghost use Rattle.cbor_grammar.specs.Head.{FitsStated, break_byte};
 ghost use Rattle.cbor_grammar.specs.StringKind.{major_of};
 ghost use Rattle.cbor_grammar.specs.WellFormed.{FitsFloat};
-ghost use Rattle.cbor_grammar.specs.Written.{encoded_head, encoded_float};
+ghost use Rattle.cbor_grammar.specs.Written.{encoded_head, encoded_float, encoded_simple};
 ghost use Rattle.cbor_grammar.specs.mirror.MajorNumber.{major_number};
 ghost use Rattle.cbor_grammar.specs.Reading.{read_head};
 ghost use Rattle.cbor_grammar.specs.declared.head.ItemHead.TheVariants as item_head;
@@ -135,6 +135,18 @@ fn is_long_simple(bytes: &[u8]) -> bool
     }
 }
 
+/// Writes a simple value, whose head is at `bytes`. One below 32 in two bytes is none.
+fn push_strict(out: &mut Vec<u8>, bytes: &[u8], value: u8) -> Result<(), Error>
+    ensures strict { IfOk result (λ x. two_byte_breach bytes.now ≡ None) }
+    ensures writes { IfOk result (λ x. out.new.items ≡ out.old.items ++ encoded_simple value) }
+{
+    if is_long_simple(bytes) {
+        return Err(Error::Head);
+    }
+    push_simple(out, value)?;
+    Ok(())
+}
+
 impl Encoder {
     /// Writes the chunks of an indefinite string, and returns the bytes after its break.
     fn push_chunks<'a>(
@@ -248,8 +260,7 @@ impl Encoder {
                 self.push_number(out, Major::Negative, number, width)?
             }
             ItemHead::Float(bits, width) => push_reduced(out, self.reduced(float_of(bits, width)))?,
-            ItemHead::Simple(_) if is_long_simple(bytes) => return Err(Error::Head),
-            ItemHead::Simple(value) => push_simple(out, value)?,
+            ItemHead::Simple(value) => push_strict(out, bytes, value)?,
             ItemHead::String(kind, size) => {
                 return self.push_string(alloc, bytes, kind, size, rest, out);
             }

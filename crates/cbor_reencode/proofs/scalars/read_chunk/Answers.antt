@@ -17,7 +17,7 @@ len_at kind m b r o p is e f =
 pub returns-in_default-clause-is : goal.returns-in_default-clause-is
 returns-in_default-clause-is c =
     let b = c.args.bytes.now in
-    let read = c.in_ok-length-rest in
+    let read = c.in_ok-length in
     break_here c.args.kind b read.rest.now (λ i. omega (arith, c.type_inv.bytes i))
     (len_at c.args.kind (major_number c.major.result) b read.rest.now read.length None c.major.ensures
     read.ensures.gives c.in_default.is)
@@ -26,10 +26,10 @@ pub returns-clause-is : goal.returns-clause-is
 returns-clause-is c =
     let kind = c.args.kind in
     let b = c.args.bytes.now in
-    let read = c.in_ok-length-rest in
+    let read = c.in_ok-length in
     let r = read.rest.now in
     let n = c.in-Some.count in
-    let t = c.in_ok-content-after in
+    let t = c.in_ok-content in
     chunk_here kind b r t.content.now t.after.now n c.in-Some.width (λ i. omega (arith, c.type_inv.bytes i))
     (len_at kind (major_number c.major.result) b r read.length (Some (n, c.in-Some.width)) c.major.ensures
     read.ensures.gives c.in-Some.is) t.ensures.parts t.ensures.size t.ensures.holds

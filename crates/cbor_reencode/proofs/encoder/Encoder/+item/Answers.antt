@@ -1,12 +1,13 @@
 -- A container is written after its members.
-use Rattle.std.proofs.Common.{◌≡◌, ℕ, ◌+◌, ◌^◌, ◌<◌, List, [], ◌∷◌, length, refl, sym, ap, subst, ◌∙◌, arith, None, Some}
+use Rattle.std.proofs.Common.{ℕ, ◌+◌, ◌^◌, ◌<◌, List, [], ◌∷◌, length, refl, sym, ap, subst, arith, rules}
+use Rattle.std.proofs.Common.{None, Some}
 use Rattle.std.proofs.lemmas.List.{length-append}
 use Rattle.std.proofs.lemmas.List.Sorted.{length_permutation}
 use Rattle.cbor_grammar.specs.declared.head.ItemHead.TheVariants as item_head
 use Rattle.cbor_grammar.proofs.bytes.Heads.{head_takes}
 use Rattle.cbor_reencode.specs.declared.pairs.Pair.{Pair}
 use Rattle.cbor_reencode.specs.mirror.Rewritten.{Rewritten}
-use Rattle.cbor_reencode.proofs.Around.{head_read, array_at, array_fits, array_written, counted, map_at, map_fits}
+use Rattle.cbor_reencode.proofs.Around.{no_parts, head_read, array_at, array_fits, array_written, counted, map_at, map_fits}
 use Rattle.cbor_reencode.proofs.Around.{map_written, tag_written}
 use Rattle.cbor_reencode.proofs.Containers.{atom_done, items_start, items_step, pairs_start, pairs_step}
 use Rattle.cbor_reencode.proofs.encoder.Encoder.+item.Goals as goal
@@ -51,16 +52,46 @@ push_array-members-init t c = record {
 -- ---- one item
 
 pub push_item-push_array-requires : goal.push_item-push_array-requires
-push_item-push_array-requires t c = ?
+push_item-push_array-requires t c = (
+  search rules,
+  (
+    omega arith,
+    head_read c.args.bytes.now c.in-Ok.read.0 (item_head.Array c.in-Array.count) c.in-Ok.read.1.now c.in-Ok.ensures.gives c.in-Array.is,
+  ),
+)
 
 pub push_item-push_map-requires : goal.push_item-push_map-requires
-push_item-push_map-requires t c = ?
+push_item-push_map-requires t c = (
+  search rules,
+  (
+    omega arith,
+    head_read c.args.bytes.now c.in-Ok.read.0 (item_head.Map c.in-Map.count) c.in-Ok.read.1.now c.in-Ok.ensures.gives c.in-Map.is,
+  ),
+)
 
 pub push_item-push_tagged-requires : goal.push_item-push_tagged-requires
-push_item-push_tagged-requires t c = ?
+push_item-push_tagged-requires t c = (
+  search rules,
+  (
+    omega arith,
+    head_read c.args.bytes.now c.in-Ok.read.0 (item_head.Tag c.in-Tag.tag c.in-Tag.width) c.in-Ok.read.1.now c.in-Ok.ensures.gives c.in-Tag.is,
+  ),
+)
 
 pub push_item-push_atom-requires : goal.push_item-push_atom-requires
-push_item-push_atom-requires t c = ?
+push_item-push_atom-requires t c = record {
+  read = c.in-Ok.ensures.gives;
+  atom = no_parts c.in-Ok.read.0 c.in_default.not-Array c.in_default.not-Map c.in_default.not-Tag;
+}
+
+pub push_item-returns-in-Ok-push_atom : goal.push_item-returns-in-Ok-push_atom
+push_item-returns-in-Ok-push_atom t c =
+    let e = c.in-Ok-push_atom.ensures in
+    record {
+      writes = atom_done c.args.self.rules c.args.level c.args.bytes.now c.in-Ok-push_atom.after.now
+          c.args.out.now.items c.push_atom.new.out.items (omega arith) e.writes;
+      shorter = omega (arith, e.shorter, c.in-Ok.ensures.shorter);
+    }
 
 -- ---- maps
 

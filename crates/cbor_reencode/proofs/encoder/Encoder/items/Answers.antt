@@ -1,5 +1,5 @@
 -- Each item is written before those that are left.
-use Rattle.std.proofs.Common.{◌≡◌, ℕ, List, [], length, subst, arith}
+use Rattle.std.proofs.Common.{◌≡◌, ℕ, List, length, subst, arith}
 use Rattle.cbor_reencode.specs.mirror.Rewritten.{Sequence}
 use Rattle.cbor_reencode.proofs.Containers.{sequence_end, sequence_more}
 use Rattle.cbor_reencode.proofs.encoder.Encoder.items.Goals as goal

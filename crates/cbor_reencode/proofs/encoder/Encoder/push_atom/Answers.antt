@@ -9,14 +9,12 @@ use Rattle.cbor_grammar.specs.Reading.{read_head}
 use Rattle.cbor_grammar.proofs.bytes.Heads.{head_takes, IsBytes, HeadIs}
 use Rattle.cbor_floats.specs.declared.float.EncodedFloat.{EncodedFloat}
 use Rattle.cbor_reencode.specs.mirror.Numbers.{IsNumber}
-use Rattle.std.proofs.Common.{None}
-use Rattle.cbor_rules.specs.FirstBreach.{two_byte_breach}
 use Rattle.cbor_reencode.proofs.Atoms.{integer_again, negative_again, simple_again, number_again}
 use Rattle.cbor_reencode.proofs.encoder.Encoder.push_atom.Goals as goal
 use Rattle.cbor_reencode.proofs.encoder.Encoder.push_atom.Goals.{in-Integer+in_ok-push_number-in-Integer}
 use Rattle.cbor_reencode.proofs.encoder.Encoder.push_atom.Goals.{in-Negative+in_ok-push_number-in-Negative}
 use Rattle.cbor_reencode.proofs.encoder.Encoder.push_atom.Goals.{in-Float+in_ok-push_reduced-in-Float}
-use Rattle.cbor_reencode.proofs.encoder.Encoder.push_atom.Goals.{in-Simple+in_ok-push_simple-in-Simple}
+use Rattle.cbor_reencode.proofs.encoder.Encoder.push_atom.Goals.{in-Simple+in_ok-push_strict-in-Simple}
 
 head_at : (h k : ItemHead) (b rest : List ℕ) → IsBytes b → read_head b ≡ Ok (h, rest) → h ≡ k → HeadIs k b rest
 head_at h k b rest fits read is = subst (λ (x : ItemHead). HeadIs x b rest) is (head_takes b rest h fits read).0
@@ -67,9 +65,8 @@ returns-clause-writes c =
           rw w.out-is (number_again rules w.in-Float.bits w.in-Float.width w.reduced.result b rest old
           w.push_reduced.new.out.items (head_at c.args.head _ b rest fits c.requires.read w.in-Float.is) is
           w.in_ok-push_reduced-in-Float.ensures)
-      | in-Simple+in_ok-push_simple-in-Simple w ↦
-          rw w.out-is (simple_again rules w.in-Simple.value b rest old w.push_simple.new.out.items
-          (head_at c.args.head _ b rest fits c.requires.read w.in-Simple.is)
-          (short_simple c.is_long_simple.result b ? ?)
-          w.in_ok-push_simple-in-Simple.ensures)
+      | in-Simple+in_ok-push_strict-in-Simple w ↦
+          let e = w.in_ok-push_strict-in-Simple.ensures in
+          rw w.out-is (simple_again rules w.in-Simple.value b rest old w.push_strict.new.out.items
+          (head_at c.args.head _ b rest fits c.requires.read w.in-Simple.is) e.strict e.writes)
     ]

@@ -31,7 +31,7 @@ returns-in_ok-push_content-in-Number-clause-writes c =
     let r = c.args.rest.now in
     let h = head_at kind c.args.size _ c.args.bytes.now r (λ i. omega (arith, c.type_inv.bytes i)) c.requires
     c.in-Number.is in
-    let t = c.in_ok-content-after in
+    let t = c.in_ok-content-in-Number in
     let content = t.content.now in
     let is = c.in_ok-push_content-in-Number.ensures ∙ ap (λ (w : IntegerWidth). c.args.out.now.items
     ++ (encoded_head (major_of kind) (length content) w ++ content)) c.width.ensures.is in
