@@ -57,7 +57,7 @@ fn path_end(line: &[u8], most: u8) -> usize
     let mut at = 1;
     let mut gaps = 0u8;
     let mut before = line[0];
-    let mut quoted = false;
+    let mut quoted = before == b'"';
     'path: while at < line.len() && gaps < most {
         let byte = line[at];
         let ends = !quoted && byte == b' ' && before == b' ';
