@@ -128,7 +128,7 @@ def bytes_at(program):
     same_at("in a string", 6, item, ["path: 1/a", "head: 42 # bytes(2)", "item: bytes 5 to 7 (0x5 to 0x7)"])
     same_at("in a key", 3, item, ["path: 1, in a key", "head: 61 # text(1)", "item: bytes 3 to 4 (0x3 to 0x4)"])
     same_at("in a later item", 2, "01810200", ["path: 1:0", "head: 02 # 2", "item: byte 2 (0x2)"])
-    same_at("after an offset", 2, "ff018102", ["path: /", "head: 81 # array(1)", "item: bytes 2 to 3 (0x2 to 0x3)"],
+    same_at("after an offset", 2, "ff018102", ["path: 1:/", "head: 81 # array(1)", "item: bytes 2 to 3 (0x2 to 0x3)"],
             words=["--offset=1"])
     same_at("past the end", 2, "0105", [],
             "cborcat: standard input: byte 2: no item has this byte; 2 bytes came\n", ["-f", "bytes"])

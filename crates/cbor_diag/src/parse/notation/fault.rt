@@ -43,9 +43,11 @@ pub fn diag_fault(alloc: Global, text: &str) -> Result<Option<(Error, usize)>>
     ensures refused { IfErr result (λ e. e ≡ Error.Memory) }
 {
     let mut rest = Cursor::new(text.as_bytes());
-    match whole_text(alloc, &mut rest) {
-        Ok(_) => Ok(None),
-        Err(Error::Memory) => Err(Error::Memory),
-        Err(error) => Ok(Some((error, text.len().saturating_sub(rest.rest().len())))),
-    }
+    let error = match whole_text(alloc, &mut rest) {
+        Ok(_) => return Ok(None),
+        Err(Error::Memory) => return Err(Error::Memory),
+        Err(error) => error,
+    };
+    let place = text.len().saturating_sub(rest.rest().len());
+    Ok(Some((error, place)))
 }

@@ -11,7 +11,7 @@ ghost use Rattle.cbor_notation.specs.mirror.NotationReading.{after_byte, b_notat
 ghost use Rattle.cbor_notation.specs.mirror.NotationReading.{or_refused, read_negative_number};
 ghost use Rattle.cbor_notation.specs.mirror.NotationReading.{read_unsigned_number};
 
-use cbor_grammar::{IntegerWidth, Result};
+use cbor_grammar::{Error, IntegerWidth, Result};
 use cbor_notation::content::{b_notation, h_notation, read_quoted};
 use cbor_notation::cursor::Cursor;
 use cbor_notation::number::{read_negative_number, read_number, read_unsigned_number};

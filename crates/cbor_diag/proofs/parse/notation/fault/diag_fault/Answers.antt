@@ -12,3 +12,10 @@ returns-in-Ok-clause-none c =
       text_is 128 c.args.text.now (Ok c.in-Ok.field-0)
           (given c.args.text.now c.new-rest.result (Ok c.in-Ok.field-0) is c.in-Ok.ensures.gives),
     )
+
+pub returns : goal.returns
+returns c =
+    let is : c.new-rest.result ≡ c.args.text.now = first_of (cc, search rules) in
+    let real : c.in-Err.error ≢ refusal.Memory = first_of (search rules, cc) in
+    let no = no_notation c.args.text.now c.new-rest.result c.in-Err.error is real c.in-Err.ensures.gives in
+    record { none = tt; every_item = λ i read. absurd (no.none i read); fault = (no, omega arith); refused = tt }
