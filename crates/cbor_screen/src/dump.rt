@@ -66,7 +66,10 @@ impl DumpStyle<'_> {
 /// let used = push_dump(&mut out, b"\x41\x80\x01", &DumpStyle::PLAIN)?;
 /// assert_eq!(rt; used, 2);
 /// assert_eq!(rt; out.as_str(), "41    # bytes(1)\n   80 #   \"\\x80\"\n");
-/// let style = DumpStyle { embedded: true, ..DumpStyle::PLAIN };
+/// let style = DumpStyle {
+///     embedded: true,
+///     ..DumpStyle::PLAIN
+/// };
 /// out.clear();
 /// push_dump(&mut out, b"\x41\x80\x01", &style)?;
 /// assert_eq!(rt; out.as_str(), "41    # bytes(1)\n   80 #   array(0)\n");
