@@ -116,11 +116,20 @@ fn push_cut(out: &mut Vec<u8>, token: &[u8], cut: Cut) -> Result<(), AllocError>
     out.extend_from_slice(b" bytes/")
 }
 
-/// Appends a token, cut if it is a string of more than this many bytes.
-fn push_token(out: &mut Vec<u8>, token: &[u8], most: usize) -> Result<(), AllocError>
+/// Appends a token, cut if it is a string of more than this many bytes. A path is never cut.
+fn push_token(
+    out: &mut Vec<u8>,
+    token: &[u8],
+    is_path: bool,
+    most: usize,
+) -> Result<(), AllocError>
     ensures { OnOk result ((added : List ℕ)
         × (out.new.items ≡ out.old.items ++ added) × IsElidedToken most token.now added) }
 {
+    if is_path {
+        out.extend_from_slice(token)?;
+        return Ok(());
+    }
     match cut_of(token, most) {
         Some(cut) => push_cut(out, token, cut)?,
         None => out.extend_from_slice(token)?,
@@ -142,7 +151,7 @@ fn push_line(
     'tokens: while at < line.len() {
         let rest = &line[at..];
         let end = language.token(rest, at == 0).end;
-        push_token(out, &rest[..end], most)?;
+        push_token(out, &rest[..end], at == 0 && language.has_paths(), most)?;
         at += end;
     }
     Ok(())

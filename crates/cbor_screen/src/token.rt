@@ -26,6 +26,11 @@ pub(crate) struct Token {
 }
 
 impl Language {
+    /// Whether each line begins with a path.
+    pub(crate) fn has_paths(self) -> bool {
+        matches!(self, Language::Paths | Language::Places)
+    }
+
     /// The token at the front of what remains of a line, which is not empty, or is all of the line.
     pub(crate) fn token(self, line: &[u8], all: bool) -> Token
         requires { 0 < length line.now }
