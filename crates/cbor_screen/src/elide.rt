@@ -117,12 +117,7 @@ fn push_cut(out: &mut Vec<u8>, token: &[u8], cut: Cut) -> Result<(), AllocError>
 }
 
 /// Appends a token, cut if it is a string of more than this many bytes. A path is never cut.
-fn push_token(
-    out: &mut Vec<u8>,
-    token: &[u8],
-    is_path: bool,
-    most: usize,
-) -> Result<(), AllocError>
+fn push_token(out: &mut Vec<u8>, token: &[u8], is_path: bool, most: usize) -> Result<(), AllocError>
     ensures { OnOk result ((added : List ℕ)
         × (out.new.items ≡ out.old.items ++ added) × IsElidedToken most token.now added) }
 {
