@@ -67,12 +67,14 @@ abbrev pub Appends : List ℕ → List ℕ → (List ℕ → Type 0) → Type 0
 Appends old new Written = (written : List ℕ) × (new ≡ old ++ written) × Written written
 
 pub first_appended : (show : Show) (b old new : List ℕ) (r : Result ℕ End) → (length (steps_of show) ≡ 0 → ⊥)
-    → IfOk r (λ n. (i : Item) × BeginsWithItem b i n) → IfOk r (λ n. Appends old new (ShowsParts show))
+    → IfOk r (λ n. (i : Item) × BeginsWithItem b i n)
+    → IfOk r (λ n. (written : List ℕ) × (new ≡ old ++ written)
+    × (parts : List Item) × ShowsEach (IsPartForm show.style.form show) parts written)
     → IfOk r (λ n. Appends old new (λ w. IsShownOfFirst (Shows show) b w (drop n b)))
 first_appended show b old new (Ok n) some item h = (
   h.0,
   h.1,
-  one_shown (Shows show) b n item.0 h.0 item.1.2 (parts_shown show (steps_of show) item.0 h.0 some h.2),
+  one_shown (Shows show) b n item.0 h.0 item.1.2 (parts_shown show (steps_of show) item.0 h.0 some (h.2, h.3)),
 )
 first_appended show b old new (Err e) some item h = tt
 
