@@ -184,4 +184,12 @@ pub why : (rules : Rules) (b : List ℕ) (e : ReencodeError) (n place detail : �
 why rules b e n place detail lasts told =
     why_at rules b e n place detail (first_breach (lasting rules) b) refl lasts told
 
+-- the same of an answer, which is a number or an error
+pub why_answer : (rules : Rules) (b : List ℕ) (e : ReencodeError) (z : ℤ) (place detail : ℕ)
+    → ((breach : Breach) → first_breach (lasting rules) b ≡ Some breach
+    → (e ≡ reencode_error.Breach breach) ⊎ (e ≡ reencode_error.Memory))
+    → IfLength z (λ n. IsToldWhy e n place detail) → IfLength z (λ n. IsToldWhyNot rules b n place detail)
+why_answer rules b e (pos n) place detail lasts told = why rules b e n place detail lasts told
+why_answer rules b e (negsuc n) place detail lasts told = tt
+
 pub ruleset why_laws = (some_why, no_memory, why)

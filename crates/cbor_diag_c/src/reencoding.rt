@@ -102,10 +102,11 @@ fn why_not(alloc: Global, rules: Rules, input: &[u8], place: &mut usize, detail:
     ensures memory { IfError result (λ n. n ≡ 1) }
     ensures no_place { IfError result (λ n. (place.new ≡ no_place) × (detail.new ≡ no_place)) }
 {
-    match reencoded(alloc, input, rules) {
-        Ok(_) => told(None, place, detail),
-        Err(error) => told_why(error, place, detail),
-    }
+    let error = match reencoded(alloc, input, rules) {
+        Ok(_) => return told(None, place, detail),
+        Err(error) => error,
+    };
+    told_why(error, place, detail)
 }
 
 /// Reports why `cbor_diag_reencode` has no encoding of an input by a set of rules, and where.
