@@ -7,7 +7,7 @@ use crate::shown::show_of;
 use crate::status::Status;
 use cbor_bytes::{Extent, extent};
 use cbor_grammar::Error;
-use cbor_inspect::{End, Form, show_items};
+use cbor_inspect::{End, Form, Show, Style, show_items};
 use cbor_places::Piece;
 use cbor_screen::{DumpStyle, push_dump};
 use cborcat_arguments::Job;
@@ -106,8 +106,16 @@ impl ShowsItem for Dumps<'_> {
             return Ok(Status::Fine);
         }
         let mut parts = Vec::new(alloc);
-        let mut show = show_of(alloc, self.job, self.tables)?;
-        show.style.form = Form::Bytes;
+        let shown = show_of(alloc, self.job, self.tables)?;
+        let show = Show {
+            style: Style {
+                form: Form::Bytes,
+                ..shown.style
+            },
+            names: shown.names,
+            steps: shown.steps,
+            one: shown.one,
+        };
         match show_items(&show, item.bytes, &mut parts).end {
             End::Memory => return Err(Error::Memory),
             End::Lost { .. } => {

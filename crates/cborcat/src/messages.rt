@@ -239,16 +239,17 @@ fn words_of_lost(
     bytes: &[u8],
 ) -> Result<String, Error> {
     let show = show_of(alloc, job, tables)?;
+    let (names, plain) = (show.names, show.picture());
     let path = (job.path, show.steps.as_slice());
-    let naming = match show.names {
+    let naming = match names {
         Some(naming) if naming.may_name(bytes) => naming,
-        _ => return lost_words(alloc, path, bytes, show.picture()),
+        _ => return lost_words(alloc, path, bytes, plain),
     };
     let notes = naming.notes(alloc, bytes)?;
     let marks = marks_of(alloc, &notes, bytes.len())?;
     let picture = Picture {
         marks: &marks,
-        ..show.picture()
+        ..plain
     };
     lost_words(alloc, path, bytes, picture)
 }

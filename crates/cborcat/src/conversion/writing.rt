@@ -35,18 +35,18 @@ impl Conversion<'_> {
     /// Writes a line for each item of these that holds no other.
     fn write_paths(&mut self) -> Result<Written, Error> {
         let alloc = self.rt.alloc();
+        let style = self.job.show.style;
         let begins = self.begins().saturating_sub(self.passed);
         let bytes = self.stream.passed(self.passed);
         let items = Piece { begins, bytes };
         let encoded = encoded_in(alloc, self.tables, items)?;
-        let mut leaves = Leaves::new(
-            alloc,
-            items,
-            self.job.show.style.edn(),
-            self.entered(&encoded),
-        )
-        .numbered_from(self.number)
-        .with_places(self.job.places);
+        let entered = Entered {
+            embedded: style.embedded,
+            encoded: &encoded,
+        };
+        let mut leaves = Leaves::new(alloc, items, style.edn(), entered)
+            .numbered_from(self.number)
+            .with_places(self.job.places);
         let language = if self.job.places {
             Language::Places
         } else {
@@ -79,18 +79,28 @@ impl Conversion<'_> {
 
     /// Writes what is said of a byte of the data, if it is in the items that were passed last.
     fn write_at(&mut self, byte: usize) -> Result<Written, Error> {
+        let (number, lines) = self.lines_of_passed(byte)?;
+        let Some(lines) = lines else {
+            self.number = number;
+            return Ok(Written::Whole);
+        };
+        self.found = true;
+        Ok(write(self.rt, self.target, lines.as_bytes()))
+    }
+
+    /// The lines of a byte, if it is in the items that were passed last, and how many items are
+    /// before it.
+    fn lines_of_passed(&self, byte: usize) -> Result<(usize, Option<String>), Error> {
         let end = self.begins();
         let begins = end.saturating_sub(self.passed);
         let bytes = self.stream.passed(self.passed);
         let (before, item) = item_with(Piece { begins, bytes }, byte);
         let number = self.number.saturating_add(before);
         if byte < begins || byte >= end {
-            self.number = number;
-            return Ok(Written::Whole);
+            return Ok((number, None));
         }
         let lines = self.lines_at((number, item), byte)?;
-        self.found = true;
-        Ok(write(self.rt, self.target, lines.as_bytes()))
+        Ok((number, Some(lines)))
     }
 
     /// The lines of a byte in the item at the front, before which there are so many in the data.
