@@ -102,22 +102,22 @@ enum cbor_diag_rules {
 };
 
 /* What is wrong with a head, or with a key, that breaks a rule. */
-enum cbor_diag_breach_kind {
-    CBOR_DIAG_BREACH_NO_ITEM = 1,          /* no item begins there, or it is cut, or its content is not UTF-8 */
-    CBOR_DIAG_BREACH_LONG_SIMPLE = 2,      /* f8 before a byte below 32 */
-    CBOR_DIAG_BREACH_LONG_HEAD = 3,        /* a shorter width has the number: a value, a length, a count or a tag */
-    CBOR_DIAG_BREACH_NOT_NFC = 4,          /* a text, or a chunk of one, that is not in NFC */
-    CBOR_DIAG_BREACH_LONG_FLOAT = 5,       /* a shorter width has the float */
-    CBOR_DIAG_BREACH_INTEGER_FLOAT = 6,    /* a float that is an integer */
-    CBOR_DIAG_BREACH_OTHER_NAN = 7,        /* a NaN other than f97e00 */
-    CBOR_DIAG_BREACH_OTHER_SIMPLE = 8,     /* a simple value other than false, true and null */
-    CBOR_DIAG_BREACH_INDEFINITE = 9,       /* an indefinite length */
-    CBOR_DIAG_BREACH_TAG = 10,             /* a tag */
-    CBOR_DIAG_BREACH_LEADING_ZERO = 11,    /* a big number with a zero byte in front */
-    CBOR_DIAG_BREACH_SMALL_BIG_NUMBER = 12, /* a big number that fits an integer */
-    CBOR_DIAG_BREACH_TOO_DEEP = 13,        /* an array or a map at a level that is too deep */
-    CBOR_DIAG_BREACH_KEY_ORDER = 14,       /* a key that comes before the one before it, in the order of keys */
-    CBOR_DIAG_BREACH_KEY_TWICE = 15        /* a key that stands twice */
+enum cbor_diag_violation_kind {
+    CBOR_DIAG_VIOLATION_NO_ITEM = 1,          /* no item begins there, or it is cut, or its content is not UTF-8 */
+    CBOR_DIAG_VIOLATION_LONG_SIMPLE = 2,      /* f8 before a byte below 32 */
+    CBOR_DIAG_VIOLATION_LONG_HEAD = 3,        /* a shorter width has the number: a value, a length, a count or a tag */
+    CBOR_DIAG_VIOLATION_NOT_NFC = 4,          /* a text, or a chunk of one, that is not in NFC */
+    CBOR_DIAG_VIOLATION_LONG_FLOAT = 5,       /* a shorter width has the float */
+    CBOR_DIAG_VIOLATION_INTEGER_FLOAT = 6,    /* a float that is an integer */
+    CBOR_DIAG_VIOLATION_OTHER_NAN = 7,        /* a NaN other than f97e00 */
+    CBOR_DIAG_VIOLATION_OTHER_SIMPLE = 8,     /* a simple value other than false, true and null */
+    CBOR_DIAG_VIOLATION_INDEFINITE = 9,       /* an indefinite length */
+    CBOR_DIAG_VIOLATION_TAG = 10,             /* a tag */
+    CBOR_DIAG_VIOLATION_LEADING_ZERO = 11,    /* a big number with a zero byte in front */
+    CBOR_DIAG_VIOLATION_SMALL_BIG_NUMBER = 12, /* a big number that fits an integer */
+    CBOR_DIAG_VIOLATION_TOO_DEEP = 13,        /* an array or a map at a level that is too deep */
+    CBOR_DIAG_VIOLATION_KEY_ORDER = 14,       /* a key that comes before the one before it, in the order of keys */
+    CBOR_DIAG_VIOLATION_KEY_TWICE = 15        /* a key that stands twice */
 };
 
 /* Enough for the text of each error, and the zero byte that ends it. */
@@ -158,8 +158,8 @@ int64_t cbor_diag_output_fault(uint32_t from, uint32_t to, const uint8_t *input,
                                size_t *detail);
 void cbor_diag_scanner_init(struct cbor_diag_scanner *scanner);
 int64_t cbor_diag_scanner_feed(struct cbor_diag_scanner *scanner, const uint8_t *input, size_t input_len, size_t *end);
-int64_t cbor_diag_breach(uint32_t rules, const uint8_t *input, size_t input_len, size_t *place, size_t *detail);
-int64_t cbor_diag_breach_text(uint32_t kind, uint8_t *output, size_t output_len);
+int64_t cbor_diag_violation(uint32_t rules, const uint8_t *input, size_t input_len, size_t *place, size_t *detail);
+int64_t cbor_diag_violation_text(uint32_t kind, uint8_t *output, size_t output_len);
 int64_t cbor_diag_reencode(uint32_t rules, const uint8_t *input, size_t input_len, uint8_t *output, size_t output_len);
 int64_t cbor_diag_reencode_fault(uint32_t rules, const uint8_t *input, size_t input_len, size_t *place,
                                  size_t *detail);
@@ -209,7 +209,7 @@ static inline int64_t cbor_diag_convert_checked(uint32_t from, uint32_t to, cons
  * - minus CBOR_DIAG_ERROR_CUT_SHORT, if the bytes end before the item does: with more bytes, call again;
  * - minus CBOR_DIAG_ERROR_HEAD, _UTF8 or _TOO_DEEP, if no item begins with these bytes, whatever follows them.
  *
- * As in RFC 7049, `f8` before a byte below 32 is a simple value, which RFC 8949 forbids: cbor_diag_breach by
+ * As in RFC 7049, `f8` before a byte below 32 is a simple value, which RFC 8949 forbids: cbor_diag_violation by
  * CBOR_DIAG_RULES_RFC8949 reports it.
  *
  * `*end` is set to the number of bytes that decide this: the length of the item, that of the input if it is cut, or the
@@ -415,12 +415,12 @@ static inline int64_t cbor_diag_scanner_feed_checked(struct cbor_diag_scanner *s
  * Reports where bytes first break a set of rules, as who signs CBOR or compares it byte by byte wants to know.
  *
  * Returns 0 if the bytes are items, none or more, one after the other, that keep the rules; and otherwise the number of
- * what is wrong first, an enum cbor_diag_breach_kind. `*place` is set to how many bytes come before the head, or before
+ * what is wrong first, an enum cbor_diag_violation_kind. `*place` is set to how many bytes come before the head, or before
  * the key, that breaks the rule. `*detail` is set to
  *
- * - the place of the key before, for CBOR_DIAG_BREACH_KEY_ORDER, and of the first of the two, for _KEY_TWICE: by
+ * - the place of the key before, for CBOR_DIAG_VIOLATION_KEY_ORDER, and of the first of the two, for _KEY_TWICE: by
  *   CBOR_DIAG_RULES_VALID the two may differ in the input, as 01 and 18 01, whose core encoding is the same;
- * - the number of the error, an enum cbor_diag_error, for CBOR_DIAG_BREACH_NO_ITEM;
+ * - the number of the error, an enum cbor_diag_error, for CBOR_DIAG_VIOLATION_NO_ITEM;
  * - CBOR_DIAG_NO_PLACE for each other kind.
  *
  * On an error, returns minus a number of enum cbor_diag_error: CBOR_DIAG_ERROR_NO_RULES, or CBOR_DIAG_ERROR_MEMORY,
@@ -428,11 +428,11 @@ static inline int64_t cbor_diag_scanner_feed_checked(struct cbor_diag_scanner *s
  * `*detail` are set to CBOR_DIAG_NO_PLACE.
  *
  *     size_t place;
- *     cbor_diag_breach(CBOR_DIAG_RULES_CORE, "\x82\x01\x18\x02", 4, &place, NULL);  // _LONG_HEAD at 2
+ *     cbor_diag_violation(CBOR_DIAG_RULES_CORE, "\x82\x01\x18\x02", 4, &place, NULL);  // _LONG_HEAD at 2
  *
  * `input` may be null if its length is 0, and `place` and `detail` may be null.
  */
-static inline int64_t cbor_diag_breach_checked(uint32_t rules, const void *input, size_t input_len, size_t *place,
+static inline int64_t cbor_diag_violation_checked(uint32_t rules, const void *input, size_t input_len, size_t *place,
                                                size_t *detail)
 {
     const uint8_t *in = input ? (const uint8_t *)input : cbor_diag_no_bytes();
@@ -444,9 +444,9 @@ static inline int64_t cbor_diag_breach_checked(uint32_t rules, const void *input
         *other = CBOR_DIAG_NO_PLACE;
         return -CBOR_DIAG_ERROR_MEMORY; /* no object is that large */
     }
-    return cbor_diag_breach(rules, in, input_len, at, other);
+    return cbor_diag_violation(rules, in, input_len, at, other);
 }
-#define cbor_diag_breach cbor_diag_breach_checked
+#define cbor_diag_violation cbor_diag_violation_checked
 
 /*
  * Encodes items, none or more, one after the other, again, so that they keep a set of rules. The output is of the same
@@ -486,12 +486,12 @@ static inline int64_t cbor_diag_reencode_checked(uint32_t rules, const void *inp
  * Reports why no encoding of the items keeps the rules, and where. Call it after cbor_diag_reencode has returned minus
  * CBOR_DIAG_ERROR_NOT_ENCODABLE.
  *
- * Returns 0 if there is an encoding, and otherwise the number of what is wrong, an enum cbor_diag_breach_kind. `*place`
+ * Returns 0 if there is an encoding, and otherwise the number of what is wrong, an enum cbor_diag_violation_kind. `*place`
  * is set to how many bytes of the input come before the head, or before the key, that is wrong. `*detail` is set to
  *
- * - the place of the first of the two keys, for CBOR_DIAG_BREACH_KEY_TWICE: `*place` is that of the second. The two may
+ * - the place of the first of the two keys, for CBOR_DIAG_VIOLATION_KEY_TWICE: `*place` is that of the second. The two may
  *   differ in the input, as 01 and 18 01, and are one by their core encodings, or once they are encoded again;
- * - the number of the error, an enum cbor_diag_error, for CBOR_DIAG_BREACH_NO_ITEM;
+ * - the number of the error, an enum cbor_diag_error, for CBOR_DIAG_VIOLATION_NO_ITEM;
  * - CBOR_DIAG_NO_PLACE for each other kind.
  *
  * If what is wrong is not in the input but in what it is encoded to, such as a text whose joined chunks are not in NFC,
@@ -502,7 +502,7 @@ static inline int64_t cbor_diag_reencode_checked(uint32_t rules, const void *inp
  *
  *     size_t second, first;
  *     cbor_diag_reencode_fault(CBOR_DIAG_RULES_CORE, "\xa2\x01\x80\x18\x01\x80", 6, &second, &first);
- *     // CBOR_DIAG_BREACH_KEY_TWICE: the key 1 at 1, and again at 3
+ *     // CBOR_DIAG_VIOLATION_KEY_TWICE: the key 1 at 1, and again at 3
  *
  * `input` may be null if its length is 0, and `place` and `detail` may be null.
  */
@@ -572,19 +572,19 @@ static inline const char *cbor_diag_strerror(int64_t answer, char *text, size_t 
     return text;
 }
 
-/* Enough for each text of cbor_diag_strbreach, and the zero byte that ends it. */
-#define CBOR_DIAG_BREACH_TEXT_SIZE 64
+/* Enough for each text of cbor_diag_strviolation, and the zero byte that ends it. */
+#define CBOR_DIAG_VIOLATION_TEXT_SIZE 64
 
 /*
  * Writes in words what is wrong into `text`, with a zero byte at its end, and returns `text`. `kind` is the positive
- * result of cbor_diag_breach. A text that is longer than `size` is cut; CBOR_DIAG_BREACH_TEXT_SIZE is enough for each.
+ * result of cbor_diag_violation. A text that is longer than `size` is cut; CBOR_DIAG_VIOLATION_TEXT_SIZE is enough for each.
  * `size` is at least 1.
  */
-static inline const char *cbor_diag_strbreach(int64_t kind, char *text, size_t size)
+static inline const char *cbor_diag_strviolation(int64_t kind, char *text, size_t size)
 {
     uint32_t number = kind > 0 && kind <= INT32_MAX ? (uint32_t)kind : 0;
-    size_t room = size - 1 < CBOR_DIAG_BREACH_TEXT_SIZE ? size - 1 : CBOR_DIAG_BREACH_TEXT_SIZE - 1;
-    int64_t length = cbor_diag_breach_text(number, (uint8_t *)text, room);
+    size_t room = size - 1 < CBOR_DIAG_VIOLATION_TEXT_SIZE ? size - 1 : CBOR_DIAG_VIOLATION_TEXT_SIZE - 1;
+    int64_t length = cbor_diag_violation_text(number, (uint8_t *)text, room);
     text[length < (int64_t)room ? (size_t)length : room] = '\0';
     return text;
 }

@@ -818,9 +818,9 @@ static void test_faults_without_memory(int from, const char *input, int error)
     check_answer(input, -error, came);
 }
 
-/* ---- breaches */
+/* ---- violations */
 
-static void test_breaches(void)
+static void test_violations(void)
 {
     const size_t none = CBOR_DIAG_NO_PLACE;
     const struct {
@@ -835,28 +835,28 @@ static void test_breaches(void)
         {CBOR_DIAG_RULES_CORE, TEXT("\xa2\x0a\x01\x18\x64\x02"), 0, none, none},
         {CBOR_DIAG_RULES_DCBOR, TEXT("\xf9\x3e\x00\xf6"), 0, none, none},
 
-        {CBOR_DIAG_RULES_RFC8949, TEXT("\x01\x82\x01"), CBOR_DIAG_BREACH_NO_ITEM, 3, CBOR_DIAG_ERROR_CUT_SHORT},
-        {CBOR_DIAG_RULES_CORE, TEXT("\x82\x01\x1c"), CBOR_DIAG_BREACH_NO_ITEM, 2, CBOR_DIAG_ERROR_HEAD},
-        {CBOR_DIAG_RULES_VALID, TEXT("\x81\x61\xff"), CBOR_DIAG_BREACH_NO_ITEM, 1, CBOR_DIAG_ERROR_UTF8},
-        {CBOR_DIAG_RULES_RFC8949, TEXT("\x81\xf8\x18"), CBOR_DIAG_BREACH_LONG_SIMPLE, 1, none},
-        {CBOR_DIAG_RULES_PREFERRED, TEXT("\x01\x18\x17"), CBOR_DIAG_BREACH_LONG_HEAD, 1, none},
-        {CBOR_DIAG_RULES_DCBOR, TEXT("\x01\x63\xe2\x84\xab"), CBOR_DIAG_BREACH_NOT_NFC, 1, none},
-        {CBOR_DIAG_RULES_CORE, TEXT("\xfa\x3f\xc0\x00\x00"), CBOR_DIAG_BREACH_LONG_FLOAT, 0, none},
-        {CBOR_DIAG_RULES_DCBOR, TEXT("\x81\xf9\x40\x00"), CBOR_DIAG_BREACH_INTEGER_FLOAT, 1, none},
-        {CBOR_DIAG_RULES_DCBOR, TEXT("\xf9\x7e\x01"), CBOR_DIAG_BREACH_OTHER_NAN, 0, none},
-        {CBOR_DIAG_RULES_DCBOR, TEXT("\xf4\xf7"), CBOR_DIAG_BREACH_OTHER_SIMPLE, 1, none},
-        {CBOR_DIAG_RULES_LENGTH_FIRST, TEXT("\x01\x9f\xff"), CBOR_DIAG_BREACH_INDEFINITE, 1, none},
-        {CBOR_DIAG_RULES_CTAP2, TEXT("\x81\xc1\x00"), CBOR_DIAG_BREACH_TAG, 1, none},
+        {CBOR_DIAG_RULES_RFC8949, TEXT("\x01\x82\x01"), CBOR_DIAG_VIOLATION_NO_ITEM, 3, CBOR_DIAG_ERROR_CUT_SHORT},
+        {CBOR_DIAG_RULES_CORE, TEXT("\x82\x01\x1c"), CBOR_DIAG_VIOLATION_NO_ITEM, 2, CBOR_DIAG_ERROR_HEAD},
+        {CBOR_DIAG_RULES_VALID, TEXT("\x81\x61\xff"), CBOR_DIAG_VIOLATION_NO_ITEM, 1, CBOR_DIAG_ERROR_UTF8},
+        {CBOR_DIAG_RULES_RFC8949, TEXT("\x81\xf8\x18"), CBOR_DIAG_VIOLATION_LONG_SIMPLE, 1, none},
+        {CBOR_DIAG_RULES_PREFERRED, TEXT("\x01\x18\x17"), CBOR_DIAG_VIOLATION_LONG_HEAD, 1, none},
+        {CBOR_DIAG_RULES_DCBOR, TEXT("\x01\x63\xe2\x84\xab"), CBOR_DIAG_VIOLATION_NOT_NFC, 1, none},
+        {CBOR_DIAG_RULES_CORE, TEXT("\xfa\x3f\xc0\x00\x00"), CBOR_DIAG_VIOLATION_LONG_FLOAT, 0, none},
+        {CBOR_DIAG_RULES_DCBOR, TEXT("\x81\xf9\x40\x00"), CBOR_DIAG_VIOLATION_INTEGER_FLOAT, 1, none},
+        {CBOR_DIAG_RULES_DCBOR, TEXT("\xf9\x7e\x01"), CBOR_DIAG_VIOLATION_OTHER_NAN, 0, none},
+        {CBOR_DIAG_RULES_DCBOR, TEXT("\xf4\xf7"), CBOR_DIAG_VIOLATION_OTHER_SIMPLE, 1, none},
+        {CBOR_DIAG_RULES_LENGTH_FIRST, TEXT("\x01\x9f\xff"), CBOR_DIAG_VIOLATION_INDEFINITE, 1, none},
+        {CBOR_DIAG_RULES_CTAP2, TEXT("\x81\xc1\x00"), CBOR_DIAG_VIOLATION_TAG, 1, none},
         {CBOR_DIAG_RULES_PREFERRED, TEXT("\x00\xc2\x49\x00\x01\x00\x00\x00\x00\x00\x00\x00"),
-         CBOR_DIAG_BREACH_LEADING_ZERO, 1, none},
-        {CBOR_DIAG_RULES_PREFERRED, TEXT("\xc3\x41\x01"), CBOR_DIAG_BREACH_SMALL_BIG_NUMBER, 0, none},
-        {CBOR_DIAG_RULES_CTAP2, TEXT("\x81\x81\x81\x81\x80"), CBOR_DIAG_BREACH_TOO_DEEP, 4, none},
-        {CBOR_DIAG_RULES_CORE, TEXT("\xa2\x18\x64\x01\x0a\x02"), CBOR_DIAG_BREACH_KEY_ORDER, 4, 1},
-        {CBOR_DIAG_RULES_CORE, TEXT("\xa2\x61\x61\x01\x18\x64\x02"), CBOR_DIAG_BREACH_KEY_ORDER, 4, 1},
-        {CBOR_DIAG_RULES_LENGTH_FIRST, TEXT("\xa2\x18\x64\x01\x20\x02"), CBOR_DIAG_BREACH_KEY_ORDER, 4, 1},
-        {CBOR_DIAG_RULES_CORE, TEXT("\xa2\x01\x80\x01\x80"), CBOR_DIAG_BREACH_KEY_TWICE, 3, 1},
-        {CBOR_DIAG_RULES_VALID, TEXT("\xa3\x01\x80\x00\x80\x01\x80"), CBOR_DIAG_BREACH_KEY_TWICE, 5, 1},
-        {CBOR_DIAG_RULES_VALID, TEXT("\xa2\x01\x26\x18\x01\x27"), CBOR_DIAG_BREACH_KEY_TWICE, 3, 1},
+         CBOR_DIAG_VIOLATION_LEADING_ZERO, 1, none},
+        {CBOR_DIAG_RULES_PREFERRED, TEXT("\xc3\x41\x01"), CBOR_DIAG_VIOLATION_SMALL_BIG_NUMBER, 0, none},
+        {CBOR_DIAG_RULES_CTAP2, TEXT("\x81\x81\x81\x81\x80"), CBOR_DIAG_VIOLATION_TOO_DEEP, 4, none},
+        {CBOR_DIAG_RULES_CORE, TEXT("\xa2\x18\x64\x01\x0a\x02"), CBOR_DIAG_VIOLATION_KEY_ORDER, 4, 1},
+        {CBOR_DIAG_RULES_CORE, TEXT("\xa2\x61\x61\x01\x18\x64\x02"), CBOR_DIAG_VIOLATION_KEY_ORDER, 4, 1},
+        {CBOR_DIAG_RULES_LENGTH_FIRST, TEXT("\xa2\x18\x64\x01\x20\x02"), CBOR_DIAG_VIOLATION_KEY_ORDER, 4, 1},
+        {CBOR_DIAG_RULES_CORE, TEXT("\xa2\x01\x80\x01\x80"), CBOR_DIAG_VIOLATION_KEY_TWICE, 3, 1},
+        {CBOR_DIAG_RULES_VALID, TEXT("\xa3\x01\x80\x00\x80\x01\x80"), CBOR_DIAG_VIOLATION_KEY_TWICE, 5, 1},
+        {CBOR_DIAG_RULES_VALID, TEXT("\xa2\x01\x26\x18\x01\x27"), CBOR_DIAG_VIOLATION_KEY_TWICE, 3, 1},
 
         {7, TEXT("\x00"), -CBOR_DIAG_ERROR_NO_RULES, none, none},
         {UINT32_MAX, TEXT(""), -CBOR_DIAG_ERROR_NO_RULES, none, none},
@@ -864,21 +864,21 @@ static void test_breaches(void)
     for (size_t i = 0; i < sizeof rows / sizeof *rows; i++) {
         char name[40];
         size_t place = 99, detail = 99;
-        snprintf(name, sizeof name, "breach %zu", i);
+        snprintf(name, sizeof name, "violation %zu", i);
         check_answer(name, rows[i].kind,
-                     cbor_diag_breach(rows[i].rules, rows[i].input.bytes, rows[i].input.length, &place, &detail));
+                     cbor_diag_violation(rows[i].rules, rows[i].input.bytes, rows[i].input.length, &place, &detail));
         check(place == rows[i].place, "%s: expected the place %zu, came %zu", name, rows[i].place, place);
         check(detail == rows[i].detail, "%s: expected the detail %zu, came %zu", name, rows[i].detail, detail);
         check_answer(name, rows[i].kind,
-                     cbor_diag_breach(rows[i].rules, rows[i].input.bytes, rows[i].input.length, NULL, NULL));
+                     cbor_diag_violation(rows[i].rules, rows[i].input.bytes, rows[i].input.length, NULL, NULL));
     }
-    check_answer("no bytes at a null pointer", 0, cbor_diag_breach(CBOR_DIAG_RULES_CORE, NULL, 0, NULL, NULL));
+    check_answer("no bytes at a null pointer", 0, cbor_diag_violation(CBOR_DIAG_RULES_CORE, NULL, 0, NULL, NULL));
 }
 
-static void test_breach_texts(void)
+static void test_violation_texts(void)
 {
     const char *texts[] = {
-        "no such breach",
+        "no such violation",
         "no item",
         "a simple value below 32 in two bytes",
         "a head that is not the shortest",
@@ -894,34 +894,34 @@ static void test_breach_texts(void)
         "nested deeper than the rules allow",
         "a key that is out of order",
         "a key that stands twice",
-        "no such breach",
+        "no such violation",
     };
     for (int64_t kind = 0; kind <= 16; kind++) {
-        char text[CBOR_DIAG_BREACH_TEXT_SIZE];
-        check(strcmp(texts[kind], cbor_diag_strbreach(kind, text, sizeof text)) == 0,
-              "the breach %lld: expected \"%s\", came \"%s\"", (long long)kind, texts[kind], text);
+        char text[CBOR_DIAG_VIOLATION_TEXT_SIZE];
+        check(strcmp(texts[kind], cbor_diag_strviolation(kind, text, sizeof text)) == 0,
+              "the violation %lld: expected \"%s\", came \"%s\"", (long long)kind, texts[kind], text);
     }
     char cut[6];
-    check(strcmp("a tag", cbor_diag_strbreach(CBOR_DIAG_BREACH_TAG, cut, sizeof cut)) == 0, "a text that fits is cut");
-    check(strcmp("no it", cbor_diag_strbreach(CBOR_DIAG_BREACH_NO_ITEM, cut, sizeof cut)) == 0, "a text is not cut");
-    check(strcmp("no su", cbor_diag_strbreach(-1, cut, sizeof cut)) == 0, "an error has a breach's text");
+    check(strcmp("a tag", cbor_diag_strviolation(CBOR_DIAG_VIOLATION_TAG, cut, sizeof cut)) == 0, "a text that fits is cut");
+    check(strcmp("no it", cbor_diag_strviolation(CBOR_DIAG_VIOLATION_NO_ITEM, cut, sizeof cut)) == 0, "a text is not cut");
+    check(strcmp("no su", cbor_diag_strviolation(-1, cut, sizeof cut)) == 0, "an error has a violation's text");
 }
 
-static void test_breaches_without_memory(uint32_t rules, struct text input, int kind)
+static void test_violations_without_memory(uint32_t rules, struct text input, int kind)
 {
     int64_t came = -CBOR_DIAG_ERROR_MEMORY;
     for (failing = 0; came == -CBOR_DIAG_ERROR_MEMORY && failing < 1000; failing++) {
         size_t place = 99;
         allocations = held = 0;
         counting = 1;
-        came = cbor_diag_breach(rules, input.bytes, input.length, &place, NULL);
+        came = cbor_diag_violation(rules, input.bytes, input.length, &place, NULL);
         counting = 0;
         check(held == 0, "allocation %ld fails: expected no block held, came %ld", failing, held);
         if (came == -CBOR_DIAG_ERROR_MEMORY) {
             check(place == CBOR_DIAG_NO_PLACE, "out of memory: expected no place, came %zu", place);
         }
     }
-    check_answer("a breach, with memory enough", kind, came);
+    check_answer("a violation, with memory enough", kind, came);
 }
 
 /* ---- encoding again */
@@ -1032,13 +1032,13 @@ static void test_reencoding_faults(void)
     } rows[] = {
         {CBOR_DIAG_RULES_CORE, TEXT(""), 0, none, none},
         {CBOR_DIAG_RULES_CORE, TEXT("\xa2\x02\x80\x01\x80"), 0, none, none},
-        {CBOR_DIAG_RULES_CORE, TEXT("\xa2\x01\x80\x18\x01\x80"), CBOR_DIAG_BREACH_KEY_TWICE, 3, 1},
-        {CBOR_DIAG_RULES_CORE, TEXT("\x81\xa3\x01\x80\x02\x80\x18\x01\x80"), CBOR_DIAG_BREACH_KEY_TWICE, 6, 2},
-        {CBOR_DIAG_RULES_VALID, TEXT("\xa2\x01\x80\x01\x80"), CBOR_DIAG_BREACH_KEY_TWICE, 3, 1},
-        {CBOR_DIAG_RULES_PREFERRED, TEXT("\xa2\x01\x26\x18\x01\x27"), CBOR_DIAG_BREACH_KEY_TWICE, 3, 1},
-        {CBOR_DIAG_RULES_CTAP2, TEXT("\x18\x01\xc1\x00"), CBOR_DIAG_BREACH_TAG, 2, none},
-        {CBOR_DIAG_RULES_CORE, TEXT("\x01\x82\x01"), CBOR_DIAG_BREACH_NO_ITEM, 3, CBOR_DIAG_ERROR_CUT_SHORT},
-        {CBOR_DIAG_RULES_DCBOR, TEXT("\x7f\x61" "e\x62\xcc\x81\xff"), CBOR_DIAG_BREACH_NOT_NFC, none, none},
+        {CBOR_DIAG_RULES_CORE, TEXT("\xa2\x01\x80\x18\x01\x80"), CBOR_DIAG_VIOLATION_KEY_TWICE, 3, 1},
+        {CBOR_DIAG_RULES_CORE, TEXT("\x81\xa3\x01\x80\x02\x80\x18\x01\x80"), CBOR_DIAG_VIOLATION_KEY_TWICE, 6, 2},
+        {CBOR_DIAG_RULES_VALID, TEXT("\xa2\x01\x80\x01\x80"), CBOR_DIAG_VIOLATION_KEY_TWICE, 3, 1},
+        {CBOR_DIAG_RULES_PREFERRED, TEXT("\xa2\x01\x26\x18\x01\x27"), CBOR_DIAG_VIOLATION_KEY_TWICE, 3, 1},
+        {CBOR_DIAG_RULES_CTAP2, TEXT("\x18\x01\xc1\x00"), CBOR_DIAG_VIOLATION_TAG, 2, none},
+        {CBOR_DIAG_RULES_CORE, TEXT("\x01\x82\x01"), CBOR_DIAG_VIOLATION_NO_ITEM, 3, CBOR_DIAG_ERROR_CUT_SHORT},
+        {CBOR_DIAG_RULES_DCBOR, TEXT("\x7f\x61" "e\x62\xcc\x81\xff"), CBOR_DIAG_VIOLATION_NOT_NFC, none, none},
         {7, TEXT("\x00"), -CBOR_DIAG_ERROR_NO_RULES, none, none},
     };
     for (size_t i = 0; i < sizeof rows / sizeof *rows; i++) {
@@ -1083,7 +1083,7 @@ static void test_reencoding_faults_without_memory(void)
         }
     }
     check(failing > 1, "no allocation was made to fail in why an encoding fails");
-    check_answer("why an encoding fails, with memory enough", CBOR_DIAG_BREACH_KEY_TWICE, came);
+    check_answer("why an encoding fails, with memory enough", CBOR_DIAG_VIOLATION_KEY_TWICE, came);
 }
 
 static void test_reencoding_without_memory(void)
@@ -1112,8 +1112,8 @@ static void test_limits(void)
     check_answer("null output", 2, cbor_diag_convert(BYTES, DIAG, "\x01", 1, NULL, 0));
     check_answer("an input of 2^64 - 1 bytes", -CBOR_DIAG_ERROR_MEMORY,
                  cbor_diag_convert(BYTES, DIAG, "\x01", SIZE_MAX, buffer, sizeof buffer));
-    check_answer("a breach in 2^64 - 1 bytes", -CBOR_DIAG_ERROR_MEMORY,
-                 cbor_diag_breach(CBOR_DIAG_RULES_CORE, "\x01", SIZE_MAX, NULL, NULL));
+    check_answer("a violation in 2^64 - 1 bytes", -CBOR_DIAG_ERROR_MEMORY,
+                 cbor_diag_violation(CBOR_DIAG_RULES_CORE, "\x01", SIZE_MAX, NULL, NULL));
     check_answer("room for 2^64 - 1 bytes", 2, cbor_diag_convert(BYTES, DIAG, "\x01", 1, buffer, SIZE_MAX));
     check_bytes("room for 2^64 - 1 bytes", "1\n\xa5\xa5\xa5\xa5\xa5\xa5", buffer, sizeof buffer);
     check(cbor_diag_version() == CBOR_DIAG_VERSION, "the version: expected %d, came %u", CBOR_DIAG_VERSION,
@@ -1157,11 +1157,11 @@ static void test_memory(void)
     test_paths_without_memory();
     struct text twice = TEXT("\xa3\x01\x80\x00\x80\x01\x80"), one = TEXT("\xa2\x01\x26\x18\x01\x27");
     struct text marks = TEXT("\x6b" "a\xcc\x81\xcc\xa7" "o\xcc\x81" "e\xcc\xa3");
-    test_breaches_without_memory(CBOR_DIAG_RULES_VALID, twice, CBOR_DIAG_BREACH_KEY_TWICE);
+    test_violations_without_memory(CBOR_DIAG_RULES_VALID, twice, CBOR_DIAG_VIOLATION_KEY_TWICE);
     check(failing > 1, "no allocation was made to fail where keys differ");
-    test_breaches_without_memory(CBOR_DIAG_RULES_VALID, one, CBOR_DIAG_BREACH_KEY_TWICE);
-    test_breaches_without_memory(CBOR_DIAG_RULES_DCBOR, marks, CBOR_DIAG_BREACH_NOT_NFC);
-    test_breaches_without_memory(CBOR_DIAG_RULES_CORE, twice, CBOR_DIAG_BREACH_KEY_ORDER);
+    test_violations_without_memory(CBOR_DIAG_RULES_VALID, one, CBOR_DIAG_VIOLATION_KEY_TWICE);
+    test_violations_without_memory(CBOR_DIAG_RULES_DCBOR, marks, CBOR_DIAG_VIOLATION_NOT_NFC);
+    test_violations_without_memory(CBOR_DIAG_RULES_CORE, twice, CBOR_DIAG_VIOLATION_KEY_ORDER);
     check(failing == 1, "a rule that needs no memory took some");
     test_reencoding_without_memory();
     test_reencoding_faults_without_memory();
@@ -1317,8 +1317,8 @@ int main(int argc, char **argv)
     test_faults();
     test_fault_texts();
     test_fault_paths();
-    test_breaches();
-    test_breach_texts();
+    test_violations();
+    test_violation_texts();
     test_reencoding();
     test_reencoding_faults();
     test_names();

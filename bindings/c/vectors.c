@@ -147,11 +147,11 @@ static void reencode(uint32_t rules, const uint8_t *bytes, size_t length)
 }
 
 /* The place of a violation and the rest of what the row says; or that there is none. */
-static void breach(uint32_t rules, const uint8_t *bytes, size_t length)
+static void violation(uint32_t rules, const uint8_t *bytes, size_t length)
 {
     char text[64];
     size_t place, detail;
-    int64_t answer = cbor_diag_breach(rules, bytes, length, &place, &detail);
+    int64_t answer = cbor_diag_violation(rules, bytes, length, &place, &detail);
     snprintf(text, sizeof text, answer > 0 ? "%zu" : "kept", place);
     append_line(&found, text);
     const char *rest = strchr(wanted.bytes, ' ');
@@ -164,7 +164,7 @@ static int called(const char *call, const char *argument)
 {
     static struct text bytes;
     clear(&bytes);
-    int takes_bytes = !strncmp(call, "bytes_", 6) || !strcmp(call, "extent") || !strcmp(call, "breach_of") ||
+    int takes_bytes = !strncmp(call, "bytes_", 6) || !strcmp(call, "extent") || !strcmp(call, "violation_of") ||
                       !strcmp(call, "reencode");
     if (takes_bytes)
         append_bytes(&bytes, input.bytes);
@@ -184,8 +184,8 @@ static int called(const char *call, const char *argument)
     for (uint32_t set = 0; set < sizeof sets / sizeof *sets; set++) {
         if (strcmp(argument, sets[set]))
             continue;
-        if (!strcmp(call, "breach_of"))
-            breach(set, given, bytes.length);
+        if (!strcmp(call, "violation_of"))
+            violation(set, given, bytes.length);
         else if (!strcmp(call, "reencode"))
             reencode(set, given, bytes.length);
         else

@@ -13,7 +13,7 @@ import threading
 import unittest
 
 import cbor_diag
-from cbor_diag import Breach, BreachKind, CborDiagError, Error, Form, Loss, LossKind, Rules
+from cbor_diag import Violation, ViolationKind, CborDiagError, Error, Form, Loss, LossKind, Rules
 
 URI = {
     Form.BYTES: b"\xd8\x20\x73https://example.com",
@@ -130,7 +130,7 @@ class Conversions(unittest.TestCase):
         calls = [cbor_diag.bytes_to_hex, cbor_diag.bytes_to_diag, cbor_diag.bytes_to_diag_pretty,
                  cbor_diag.bytes_to_edn, cbor_diag.bytes_to_edn_pretty, cbor_diag.bytes_to_json, cbor_diag.extent,
                  cbor_diag.Scanner().feed,
-                 lambda data: cbor_diag.breach(data, Rules.CORE), lambda data: cbor_diag.reencode(data, Rules.CORE),
+                 lambda data: cbor_diag.violation(data, Rules.CORE), lambda data: cbor_diag.reencode(data, Rules.CORE),
                  lambda data: cbor_diag.name_at(data, ""),
                  lambda data: cbor_diag.convert(Form.BYTES, Form.DIAG, data)]
         for call in calls:
@@ -478,63 +478,63 @@ class Dripping64:
         return self.data[self.at - 64 : self.at]
 
 
-# rules, bytes, and the first breach: its kind, its place, the place of the other key
-BREACHES = (
+# rules, bytes, and the first violation: its kind, its place, the place of the other key
+VIOLATIONS = (
     (Rules.RFC8949, "", None),
     (Rules.RFC8949, "1801bfff", None),
     (Rules.RFC8949, "a201800180", None),
     (Rules.CORE, "a20a01186402", None),
     (Rules.DCBOR, "f93e00f6", None),
-    (Rules.RFC8949, "018201", Breach(BreachKind.NO_ITEM, 3, error=Error.CUT_SHORT)),
-    (Rules.CORE, "82011c", Breach(BreachKind.NO_ITEM, 2, error=Error.HEAD)),
-    (Rules.VALID, "8161ff", Breach(BreachKind.NO_ITEM, 1, error=Error.UTF8)),
-    (Rules.RFC8949, "81f818", Breach(BreachKind.LONG_SIMPLE, 1)),
-    (Rules.PREFERRED, "011817", Breach(BreachKind.LONG_HEAD, 1)),
-    (Rules.DCBOR, "0163e284ab", Breach(BreachKind.NOT_NFC, 1)),
-    (Rules.CORE, "fa3fc00000", Breach(BreachKind.LONG_FLOAT, 0)),
-    (Rules.DCBOR, "81f94000", Breach(BreachKind.INTEGER_FLOAT, 1)),
-    (Rules.DCBOR, "f97e01", Breach(BreachKind.OTHER_NAN, 0)),
-    (Rules.DCBOR, "f4f7", Breach(BreachKind.OTHER_SIMPLE, 1)),
-    (Rules.LENGTH_FIRST, "019fff", Breach(BreachKind.INDEFINITE, 1)),
-    (Rules.CTAP2, "81c100", Breach(BreachKind.TAG, 1)),
-    (Rules.PREFERRED, "00c249000100000000000000", Breach(BreachKind.LEADING_ZERO, 1)),
-    (Rules.PREFERRED, "c34101", Breach(BreachKind.SMALL_BIG_NUMBER, 0)),
-    (Rules.CTAP2, "8181818180", Breach(BreachKind.TOO_DEEP, 4)),
-    (Rules.CORE, "a21864010a02", Breach(BreachKind.KEY_ORDER, 4, 1)),
-    (Rules.LENGTH_FIRST, "a21864012002", Breach(BreachKind.KEY_ORDER, 4, 1)),
-    (Rules.CORE, "a201800180", Breach(BreachKind.KEY_TWICE, 3, 1)),
-    (Rules.VALID, "a3018000800180", Breach(BreachKind.KEY_TWICE, 5, 1)),
-    (Rules.VALID, "a20126180127", Breach(BreachKind.KEY_TWICE, 3, 1)),
-    (Rules.VALID, "a2f93c0000fb3ff000000000000000", Breach(BreachKind.KEY_TWICE, 5, 1)),
+    (Rules.RFC8949, "018201", Violation(ViolationKind.NO_ITEM, 3, error=Error.CUT_SHORT)),
+    (Rules.CORE, "82011c", Violation(ViolationKind.NO_ITEM, 2, error=Error.HEAD)),
+    (Rules.VALID, "8161ff", Violation(ViolationKind.NO_ITEM, 1, error=Error.UTF8)),
+    (Rules.RFC8949, "81f818", Violation(ViolationKind.LONG_SIMPLE, 1)),
+    (Rules.PREFERRED, "011817", Violation(ViolationKind.LONG_HEAD, 1)),
+    (Rules.DCBOR, "0163e284ab", Violation(ViolationKind.NOT_NFC, 1)),
+    (Rules.CORE, "fa3fc00000", Violation(ViolationKind.LONG_FLOAT, 0)),
+    (Rules.DCBOR, "81f94000", Violation(ViolationKind.INTEGER_FLOAT, 1)),
+    (Rules.DCBOR, "f97e01", Violation(ViolationKind.OTHER_NAN, 0)),
+    (Rules.DCBOR, "f4f7", Violation(ViolationKind.OTHER_SIMPLE, 1)),
+    (Rules.LENGTH_FIRST, "019fff", Violation(ViolationKind.INDEFINITE, 1)),
+    (Rules.CTAP2, "81c100", Violation(ViolationKind.TAG, 1)),
+    (Rules.PREFERRED, "00c249000100000000000000", Violation(ViolationKind.LEADING_ZERO, 1)),
+    (Rules.PREFERRED, "c34101", Violation(ViolationKind.SMALL_BIG_NUMBER, 0)),
+    (Rules.CTAP2, "8181818180", Violation(ViolationKind.TOO_DEEP, 4)),
+    (Rules.CORE, "a21864010a02", Violation(ViolationKind.KEY_ORDER, 4, 1)),
+    (Rules.LENGTH_FIRST, "a21864012002", Violation(ViolationKind.KEY_ORDER, 4, 1)),
+    (Rules.CORE, "a201800180", Violation(ViolationKind.KEY_TWICE, 3, 1)),
+    (Rules.VALID, "a3018000800180", Violation(ViolationKind.KEY_TWICE, 5, 1)),
+    (Rules.VALID, "a20126180127", Violation(ViolationKind.KEY_TWICE, 3, 1)),
+    (Rules.VALID, "a2f93c0000fb3ff000000000000000", Violation(ViolationKind.KEY_TWICE, 5, 1)),
     (Rules.VALID, "a20100f93c0000", None),
 )
 
 
-class Breaches(unittest.TestCase):
+class Violations(unittest.TestCase):
     def test_each_kind(self):
-        for rules, given, found in BREACHES:
+        for rules, given, found in VIOLATIONS:
             with self.subTest(rules=rules, given=given):
-                self.assertEqual(cbor_diag.breach(bytes.fromhex(given), rules), found)
-                self.assertEqual(cbor_diag.breach(bytearray.fromhex(given), int(rules)), found)
-        self.assertEqual({found.kind for _, _, found in BREACHES if found}, set(BreachKind))
+                self.assertEqual(cbor_diag.violation(bytes.fromhex(given), rules), found)
+                self.assertEqual(cbor_diag.violation(bytearray.fromhex(given), int(rules)), found)
+        self.assertEqual({found.kind for _, _, found in VIOLATIONS if found}, set(ViolationKind))
 
     def test_no_rules(self):
         for rules in (7, -1, 2**32 + 3):
             with self.subTest(rules=rules):
                 with self.assertRaises(CborDiagError) as raised:
-                    cbor_diag.breach(b"\x01", rules)
+                    cbor_diag.violation(b"\x01", rules)
                 self.assertIs(raised.exception.error, Error.NO_RULES)
-        self.assertRaises(TypeError, cbor_diag.breach, b"\x01", "core")
-        self.assertRaises(TypeError, cbor_diag.breach, 1, Rules.CORE)
+        self.assertRaises(TypeError, cbor_diag.violation, b"\x01", "core")
+        self.assertRaises(TypeError, cbor_diag.violation, 1, Rules.CORE)
 
     def test_texts(self):
-        for breach, text in (
-            (Breach(BreachKind.KEY_TWICE, 3, 1), "a key that stands twice at byte 3, first at byte 1"),
-            (Breach(BreachKind.KEY_ORDER, 3, 1), "a key that is out of order at byte 3, after the key at byte 1"),
-            (Breach(BreachKind.NO_ITEM, 3, error=Error.CUT_SHORT), "the item is cut short at byte 3"),
+        for violation, text in (
+            (Violation(ViolationKind.KEY_TWICE, 3, 1), "a key that stands twice at byte 3, first at byte 1"),
+            (Violation(ViolationKind.KEY_ORDER, 3, 1), "a key that is out of order at byte 3, after the key at byte 1"),
+            (Violation(ViolationKind.NO_ITEM, 3, error=Error.CUT_SHORT), "the item is cut short at byte 3"),
         ):
-            self.assertEqual(str(breach), text)
-        self.assertEqual(len({str(Breach(kind, 0)) for kind in BreachKind}), len(BreachKind))
+            self.assertEqual(str(violation), text)
+        self.assertEqual(len({str(Violation(kind, 0)) for kind in ViolationKind}), len(ViolationKind))
 
     def test_words_have_numbers(self):
         long_key = "78 29" + 41 * " 61" + " 00"
@@ -551,7 +551,7 @@ class Breaches(unittest.TestCase):
         ):
             for data in (bytes.fromhex(given), bytearray.fromhex(given)):
                 with self.subTest(rules=rules, data=data):
-                    found = cbor_diag.breach(data, rules)
+                    found = cbor_diag.violation(data, rules)
                     self.assertEqual(str(found), text)
                     self.assertEqual(str(pickle.loads(pickle.dumps(found))), text)
 
@@ -579,18 +579,18 @@ REENCODED = (
 
 # rules, bytes, why they have no encoding (None where that is in what they would be encoded to), and the last words
 NOT_ENCODABLE = (
-    (Rules.CORE, "a20180180180", Breach(BreachKind.KEY_TWICE, 3, 1),
+    (Rules.CORE, "a20180180180", Violation(ViolationKind.KEY_TWICE, 3, 1),
      "a key that stands twice: 1_0 at byte 3, first at byte 1"),
-    (Rules.CORE, "81a3018002801b000000000000000180", Breach(BreachKind.KEY_TWICE, 6, 2),
+    (Rules.CORE, "81a3018002801b000000000000000180", Violation(ViolationKind.KEY_TWICE, 6, 2),
      "a key that stands twice: 1_3 at byte 6, first at byte 2"),
-    (Rules.VALID, "a201800180", Breach(BreachKind.KEY_TWICE, 3, 1),
+    (Rules.VALID, "a201800180", Violation(ViolationKind.KEY_TWICE, 3, 1),
      "a key that stands twice: 1 at byte 3, first at byte 1"),
-    (Rules.PREFERRED, "a20126180127", Breach(BreachKind.KEY_TWICE, 3, 1),
+    (Rules.PREFERRED, "a20126180127", Violation(ViolationKind.KEY_TWICE, 3, 1),
      "a key that stands twice: 1_0 at byte 3, first at byte 1"),
-    (Rules.CTAP2, "a2f93c0000fb3ff000000000000000", Breach(BreachKind.KEY_TWICE, 5, 1),
+    (Rules.CTAP2, "a2f93c0000fb3ff000000000000000", Violation(ViolationKind.KEY_TWICE, 5, 1),
      "a key that stands twice: 1.0_3 at byte 5, first at byte 1"),
-    (Rules.CTAP2, "1801c100", Breach(BreachKind.TAG, 2), "a tag: 1(0) at byte 2"),
-    (Rules.CORE, "018201", Breach(BreachKind.NO_ITEM, 3, error=Error.CUT_SHORT), "the item is cut short at byte 3"),
+    (Rules.CTAP2, "1801c100", Violation(ViolationKind.TAG, 2), "a tag: 1(0) at byte 2"),
+    (Rules.CORE, "018201", Violation(ViolationKind.NO_ITEM, 3, error=Error.CUT_SHORT), "the item is cut short at byte 3"),
     (Rules.DCBOR, "7f616562cc81ff", None, "a text that is not in NFC"),
 )
 
@@ -604,7 +604,7 @@ class Reencoding(unittest.TestCase):
                         cbor_diag.reencode(data, rules)
                     for failure in (raised.exception, pickle.loads(pickle.dumps(raised.exception))):
                         self.assertIs(failure.error, Error.NOT_ENCODABLE)
-                        self.assertEqual(failure.breach, found)
+                        self.assertEqual(failure.violation, found)
                         self.assertEqual(failure.offset, found.place if found else None)
                         self.assertEqual(str(failure), f"no encoding of the items keeps the rules: {words}")
 

@@ -63,7 +63,7 @@ def fed(row):
 
 def broken(row):
     """The place of a violation, and its kind."""
-    found = cbor_diag.breach(row.bytes(), SETS[row.argument])
+    found = cbor_diag.violation(row.bytes(), SETS[row.argument])
     return "kept" if found is None else f"{found.place} {words(found.kind.name)}"
 
 
@@ -72,7 +72,7 @@ def encoded(row):
     try:
         return cbor_diag.reencode(row.bytes(), SETS[row.argument]).hex()
     except CborDiagError as error:
-        return "none" if error.breach is None else f"{error.breach.place}"
+        return "none" if error.violation is None else f"{error.violation.place}"
 
 
 class Vectors(unittest.TestCase):
@@ -131,14 +131,14 @@ class Vectors(unittest.TestCase):
         self.check("feed", fed, taken=lambda row: True)
 
     def test_rules(self):
-        for call in ("breach", "breach_of"):
+        for call in ("violation", "violation_of"):
             self.check(call, broken, lambda row: " ".join(row.output().split()[:2]),
-                       lambda row: row.argument in SETS and (call == "breach_of" or row.argument not in ("valid", "dcbor")))
+                       lambda row: row.argument in SETS and (call == "violation_of" or row.argument not in ("valid", "dcbor")))
 
     def test_reencoding(self):
         def wanted(row):
             kind, *numbers = row.output().split() or [""]
-            return {"KeyTwice": numbers[1:], "Breach": numbers, "Written": ["none"]}.get(kind, [kind])[0]
+            return {"KeyTwice": numbers[1:], "Violation": numbers, "Written": ["none"]}.get(kind, [kind])[0]
 
         self.check("reencode", encoded, wanted, lambda row: row.argument in SETS)
 

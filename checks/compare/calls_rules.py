@@ -10,10 +10,10 @@ def traced(row):
 
 
 CALLS = {
-    "breach": lambda row: rules_form.breach(row.bytes(), rules_form.rules_of(row.argument)),
-    "breach_in": lambda row: rules_form.breach_in(row.bytes(), rules_form.rules_of(row.argument)),
-    "breach_of": lambda row: reencode_form.breach_of(row.bytes(), rules_form.rules_of(row.argument)),
-    "breaches": lambda row: reencode_form.breaches(row.bytes()),
+    "violation": lambda row: rules_form.violation(row.bytes(), rules_form.rules_of(row.argument)),
+    "violation_in": lambda row: rules_form.violation_in(row.bytes(), rules_form.rules_of(row.argument)),
+    "violation_of": lambda row: reencode_form.violation_of(row.bytes(), rules_form.rules_of(row.argument)),
+    "violations": lambda row: reencode_form.violations(row.bytes()),
     "reencode": lambda row: reencode_form.reencode(row.bytes(), rules_form.rules_of(row.argument)),
     "paths": lambda row: trace_form.paths(row.bytes()),
     "cuts": lambda row: trace_form.cuts(row.bytes()),

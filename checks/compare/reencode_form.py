@@ -2,12 +2,12 @@
 
 Items are read with the place of each, changed from the inside out, and written. What no choice of an encoding mends is
 looked for before; the two rules that take memory to check are looked at again in what is written. Two keys are one if
-their core deterministic encodings are the same bytes, which `breach_of` and `reencode` find.
+their core deterministic encodings are the same bytes, which `violation_of` and `reencode` find.
 """
 
 from bytes_form import BREAK, head, head_at, width_of
 from item import OPEN
-from rules_form import CORE, KEPT, ORDERS, SETS, USUAL_NAN, Rules, breach_in, integer_of, is_nan, shortest_float
+from rules_form import CORE, KEPT, ORDERS, SETS, USUAL_NAN, Rules, violation_in, integer_of, is_nan, shortest_float
 
 
 class Unmended(Exception):
@@ -42,22 +42,22 @@ def written(data, rules):
 
 def reencode(data, rules):
     """The hex of bytes that keep the rules, or why there are none."""
-    found = breach_in(data, lasting(rules))
+    found = violation_in(data, lasting(rules))
     if found != KEPT:
-        return f"Breach {found}"
+        return f"Violation {found}"
     try:
         if not fixes_keys(rules):
             written(data, CORE)
         again = written(data, rules)
     except Unmended as unmended:
         return str(unmended)
-    found = breach_in(again, Rules(distinct_keys=rules.distinct_keys, nfc=rules.nfc))
+    found = violation_in(again, Rules(distinct_keys=rules.distinct_keys, nfc=rules.nfc))
     return again.hex() if found == KEPT else f"Written {found}"
 
 
-def breach_of(data, rules):
-    """As `breach_in`; and where no key may stand twice, the second of two keys that are one, as `KeyTwice` has them."""
-    found = breach_in(data, rules)
+def violation_of(data, rules):
+    """As `violation_in`; and where no key may stand twice, the second of two keys that are one, as `KeyTwice` has them."""
+    found = violation_in(data, rules)
     if found != KEPT or not rules.distinct_keys:
         return found
     try:
@@ -67,9 +67,9 @@ def breach_of(data, rules):
     return KEPT
 
 
-def breaches(data):
+def violations(data):
     """A line for each set of rules that is broken."""
-    found = [(name, breach_of(data, rules)) for name, rules in SETS.items()]
+    found = [(name, violation_of(data, rules)) for name, rules in SETS.items()]
     return "\n".join(f"{name} {words}" for name, words in found if words != KEPT) or KEPT
 
 

@@ -1,5 +1,5 @@
 """Rules that an encoding keeps: RFC 8949, sections 4 and 5.3.1, CTAP 2.1, section 8, the draft of dCBOR, and
-docs/RULES.md. `breach` and `breach_in` return the first place that breaks one, and what is wrong there, as a text."""
+docs/RULES.md. `violation` and `violation_in` return the first place that breaks one, and what is wrong there, as a text."""
 
 import struct
 import unicodedata
@@ -66,7 +66,7 @@ def rules_of(words):
     return rules
 
 
-class Breach(Exception):
+class Violation(Exception):
     """The first place that breaks a rule, and what is wrong there."""
 
     def __init__(self, place, words):
@@ -137,7 +137,7 @@ class Checker:
     def item(self, at, level, depth):
         """Goes over the item at a place, at a level, in a number of arrays and maps; returns the place after it."""
         if level > DEEPEST:
-            raise Breach(at, "NoItem CutShort" if at >= len(self.data) else "NoItem TooDeep")
+            raise Violation(at, "NoItem CutShort" if at >= len(self.data) else "NoItem TooDeep")
         major, info, number, after = self.head(at)
         if major == 7:
             self.simple(at, info, number)
@@ -149,7 +149,7 @@ class Checker:
         if major == 6:
             return self.tagged(at, after, number, level, depth)
         if depth == self.rules.most_levels:
-            raise Breach(at, "TooDeep")
+            raise Violation(at, "TooDeep")
         if major == 4:
             return self.members(after, number, lambda place: self.item(place, level + 1, depth + 1))
         return self.pairs(after, number, lambda place: self.item(place, level + 1, depth + 1))
@@ -159,43 +159,43 @@ class Checker:
         try:
             major, info, number, after = head_at(self.data, at)
         except Refused as refused:
-            raise Breach(at, f"NoItem {refused.name}") from None
+            raise Violation(at, f"NoItem {refused.name}") from None
         if major == 6 and self.rules.no_tags:
-            raise Breach(at, "Tag")
+            raise Violation(at, "Tag")
         if major < 7 and number is None and self.rules.definite_lengths:
-            raise Breach(at, "Indefinite")
+            raise Violation(at, "Indefinite")
         if major < 7 and number is not None and self.rules.shortest_heads and width_of(info) > shortest(number):
-            raise Breach(at, f"LongHead {number} {WIDTH_NAMES[width_of(info)]}")
+            raise Violation(at, f"LongHead {number} {WIDTH_NAMES[width_of(info)]}")
         return major, info, number, after
 
     def simple(self, at, info, number):
         """A simple value or a float."""
         if info == 24 and number < 32:
-            raise Breach(at, "LongSimple")
+            raise Violation(at, "LongSimple")
         if info <= 24:
             if self.rules.few_simples and number not in (20, 21, 22):
-                raise Breach(at, f"OtherSimple {number}")
+                raise Violation(at, f"OtherSimple {number}")
             return
         width = width_of(info)
         digits = f"{number:0{2 * width}x}"
         if self.rules.reduced_floats:
             if is_nan(number, width) and (number, width) != USUAL_NAN:
-                raise Breach(at, f"OtherNan {digits}")
+                raise Violation(at, f"OtherNan {digits}")
             integer = integer_of(number, width)
             if integer is not None:
                 # the sign is that of the float, so -0.0 has one
                 sign = "-" if number >> 8 * width - 1 else ""
-                raise Breach(at, f"IntegerFloat {sign}{abs(integer)}")
+                raise Violation(at, f"IntegerFloat {sign}{abs(integer)}")
         bits, least = shortest_float(number, width)
         if self.rules.shortest_floats and least < width:
-            raise Breach(at, f"LongFloat {digits} {bits:0{2 * least}x}")
+            raise Violation(at, f"LongFloat {digits} {bits:0{2 * least}x}")
 
     def string(self, at, after, major, number):
         if number is not None:
             return self.content(at, after, major, number)
         while self.data[after:after + 1] != bytes([BREAK]):
             if after < len(self.data) and (self.data[after] >> 5 != major or self.data[after] & 31 > 27):
-                raise Breach(after, "NoItem Head")
+                raise Violation(after, "NoItem Head")
             _, _, number, begin = self.head(after)
             after = self.content(after, begin, major, number)
         return after + 1
@@ -204,14 +204,14 @@ class Checker:
         """The content of a string whose head is at a place."""
         content = self.data[begin:begin + number]
         if len(content) < number:
-            raise Breach(at, "NoItem CutShort")
+            raise Violation(at, "NoItem CutShort")
         if major == 3:
             try:
                 text = content.decode("utf-8")
             except UnicodeDecodeError:
-                raise Breach(at, "NoItem Utf8") from None
+                raise Violation(at, "NoItem Utf8") from None
             if self.rules.nfc and unicodedata.normalize("NFC", text) != text:
-                raise Breach(at, "NotNfc")
+                raise Violation(at, "NotNfc")
         return begin + number
 
     def tagged(self, at, after, number, level, depth):
@@ -227,9 +227,9 @@ class Checker:
         end = self.content(after, begin, 2, number)
         content = self.data[begin:end]
         if content[:1] == b"\0":
-            raise Breach(at, "LeadingZero")
+            raise Violation(at, "LeadingZero")
         if len(content) <= 8:
-            raise Breach(at, "SmallBigNumber")
+            raise Violation(at, "SmallBigNumber")
 
     def members(self, at, count, member):
         """Goes over a number of members, or over those before a break."""
@@ -259,22 +259,22 @@ class Checker:
         if self.rules.order and previous:
             order = ORDERS[self.rules.order]
             if order(key) < order(previous[0]):
-                raise Breach(place, f"KeyOrder {previous[1]}")
+                raise Violation(place, f"KeyOrder {previous[1]}")
             if key == previous[0]:
-                raise Breach(place, f"KeyTwice {previous[1]}")
+                raise Violation(place, f"KeyTwice {previous[1]}")
         if self.rules.distinct_keys and key in first:
-            raise Breach(place, f"KeyTwice {first[key]}")
+            raise Violation(place, f"KeyTwice {first[key]}")
 
 
-def breach_in(data, rules):
+def violation_in(data, rules):
     """The first place that breaks a rule, and what is wrong there; or `kept`."""
     try:
         Checker(data, rules).items()
-    except Breach as breach:
-        return str(breach)
+    except Violation as violation:
+        return str(violation)
     return KEPT
 
 
-def breach(data, rules):
+def violation(data, rules):
     """The same without the two rules that take memory to check."""
-    return breach_in(data, replace(rules, distinct_keys=False, nfc=False))
+    return violation_in(data, replace(rules, distinct_keys=False, nfc=False))

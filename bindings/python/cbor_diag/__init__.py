@@ -25,8 +25,8 @@ import os
 from typing import Any, BinaryIO, Callable, Iterator, NamedTuple, Optional, Tuple, TypeVar, Union
 
 __all__ = [
-    "Breach",
-    "BreachKind",
+    "Violation",
+    "ViolationKind",
     "CborDiagError",
     "Error",
     "Form",
@@ -34,7 +34,7 @@ __all__ = [
     "LossKind",
     "Rules",
     "Scanner",
-    "breach",
+    "violation",
     "bytes_to_diag",
     "bytes_to_diag_pretty",
     "bytes_to_edn",
@@ -149,7 +149,7 @@ class Rules(enum.IntEnum):
     """dCBOR."""
 
 
-class BreachKind(enum.IntEnum):
+class ViolationKind(enum.IntEnum):
     """What is wrong with a head, or with a key, that breaks a rule."""
 
     NO_ITEM = 1
@@ -208,8 +208,8 @@ class Loss(NamedTuple):
     """How many bytes of the item come before it."""
 
 
-class _Breach(NamedTuple):
-    kind: BreachKind
+class _Violation(NamedTuple):
+    kind: ViolationKind
     """What is wrong."""
     place: int
     """How many bytes come before the head, or before the key, that breaks the rule."""
@@ -219,14 +219,14 @@ class _Breach(NamedTuple):
     """The error, for `NO_ITEM`."""
 
 
-class Breach(_Breach):
-    """The first place where bytes break a rule. Its `str` says in words what is wrong and where, and of a breach that a
+class Violation(_Violation):
+    """The first place where bytes break a rule. Its `str` says in words what is wrong and where, and of a violation that a
     call found also of which value: `a key that stands twice: 1 at byte 3, first at byte 1`."""
 
     _words: Optional[str] = None
 
     def __str__(self) -> str:
-        return self._words or _breach_words(self)
+        return self._words or _violation_words(self)
 
 
 class CborDiagError(ValueError):
@@ -253,7 +253,7 @@ class CborDiagError(ValueError):
     bytes, those that the digits of hex are, and of notation and EDN those that it is converted to. Of data in bytes
     `offset` is the place of the second key, or of the loss; in other forms it is `None`.
 
-    If `reencode` raised `NOT_ENCODABLE`, `breach` says what is wrong and where: if a key stands twice, its `place` is
+    If `reencode` raised `NOT_ENCODABLE`, `violation` says what is wrong and where: if a key stands twice, its `place` is
     that of the second, and its `other` that of the first. It is `None` if what is wrong is not in the data but in what
     it is encoded to.
     """
@@ -267,7 +267,7 @@ class CborDiagError(ValueError):
         path: Optional[str] = None,
         keys: Optional[Tuple[int, int]] = None,
         loss: Optional[Loss] = None,
-        breach: Optional[Breach] = None,
+        violation: Optional[Violation] = None,
     ) -> None:
         super().__init__(_error_text(error) if text is None else text)
         self.error = error
@@ -276,10 +276,10 @@ class CborDiagError(ValueError):
         self.path = path
         self.keys = keys
         self.loss = loss
-        self.breach = breach
+        self.violation = violation
 
     def __reduce__(self) -> tuple[type[CborDiagError], tuple[Any, ...]]:
-        told = self.end, self.offset, str(self), self.path, self.keys, self.loss, self.breach
+        told = self.end, self.offset, str(self), self.path, self.keys, self.loss, self.violation
         return type(self), (self.error, *told)
 
 
@@ -337,12 +337,12 @@ class _Library:
         self.scanner_feed = library.cbor_diag_scanner_feed
         self.scanner_feed.restype = ctypes.c_int64
         self.scanner_feed.argtypes = [pointer, pointer, size, ctypes.POINTER(size)]
-        self.breach = library.cbor_diag_breach
-        self.breach.restype = ctypes.c_int64
-        self.breach.argtypes = [ctypes.c_uint32, pointer, size, ctypes.POINTER(size), ctypes.POINTER(size)]
-        self.breach_text = library.cbor_diag_breach_text
-        self.breach_text.restype = ctypes.c_int64
-        self.breach_text.argtypes = [ctypes.c_uint32, ctypes.c_char_p, size]
+        self.violation = library.cbor_diag_violation
+        self.violation.restype = ctypes.c_int64
+        self.violation.argtypes = [ctypes.c_uint32, pointer, size, ctypes.POINTER(size), ctypes.POINTER(size)]
+        self.violation_text = library.cbor_diag_violation_text
+        self.violation_text.restype = ctypes.c_int64
+        self.violation_text.argtypes = [ctypes.c_uint32, ctypes.c_char_p, size]
         self.reencode = library.cbor_diag_reencode
         self.reencode.restype = ctypes.c_int64
         self.reencode.argtypes = [ctypes.c_uint32, pointer, size, pointer, size]
@@ -371,17 +371,17 @@ def _error_text(error: Error) -> str:
     return text.raw[:length].decode("ascii")
 
 
-def _breach_text(kind: BreachKind) -> str:
+def _violation_text(kind: ViolationKind) -> str:
     text = ctypes.create_string_buffer(64)
-    length = _releasing.breach_text(kind, text, len(text))
+    length = _releasing.violation_text(kind, text, len(text))
     return text.raw[:length].decode("ascii")
 
 
-def _breach_words(found: Breach, value: str = "", before: str = "") -> str:
-    """What is said of a breach: of the value at its place, and of the key before it, in EDN."""
-    text = _breach_text(found.kind) if found.error is None else _error_text(found.error)
+def _violation_words(found: Violation, value: str = "", before: str = "") -> str:
+    """What is said of a violation: of the value at its place, and of the key before it, in EDN."""
+    text = _violation_text(found.kind) if found.error is None else _error_text(found.error)
     words = f"{text}: {value} at byte {found.place}" if value else f"{text} at byte {found.place}"
-    if found.kind is BreachKind.KEY_ORDER:
+    if found.kind is ViolationKind.KEY_ORDER:
         return f"{words}, after {before or 'the key'} at byte {found.other}"
     return words if found.other is None else f"{words}, first at byte {found.other}"
 
@@ -635,45 +635,45 @@ def _value_at(library: _Library, given: Any, length: int, place: int) -> str:
     return text if len(text) <= 40 else ""
 
 
-def _told_breach(library: _Library, given: Any, length: int, found: int, place: int, detail: int) -> Optional[Breach]:
-    """The breach of this kind in the bytes, if it has a place."""
+def _told_violation(library: _Library, given: Any, length: int, found: int, place: int, detail: int) -> Optional[Violation]:
+    """The violation of this kind in the bytes, if it has a place."""
     if place == _NO_PLACE:
         return None
-    kind = BreachKind(found)
-    if kind is BreachKind.NO_ITEM:
-        return Breach(kind, place, error=Error(detail))
-    told = Breach(kind, place, None if detail == _NO_PLACE else detail)
+    kind = ViolationKind(found)
+    if kind is ViolationKind.NO_ITEM:
+        return Violation(kind, place, error=Error(detail))
+    told = Violation(kind, place, None if detail == _NO_PLACE else detail)
     before = "" if told.other is None else _value_at(library, given, length, told.other)
-    told._words = _breach_words(told, _value_at(library, given, length, place), before)
+    told._words = _violation_words(told, _value_at(library, given, length, place), before)
     return told
 
 
-def _breach(library: _Library, given: Any, length: int, rules: int) -> Optional[Breach]:
+def _violation(library: _Library, given: Any, length: int, rules: int) -> Optional[Violation]:
     place, detail = ctypes.c_size_t(), ctypes.c_size_t()
-    found = library.breach(rules, given, length, ctypes.byref(place), ctypes.byref(detail))
+    found = library.violation(rules, given, length, ctypes.byref(place), ctypes.byref(detail))
     if found == 0:
         return None
     if found < 0:
         raise CborDiagError(Error(-found))
-    return _told_breach(library, given, length, found, place.value, detail.value)
+    return _told_violation(library, given, length, found, place.value, detail.value)
 
 
-def breach(data: Bytes, rules: Rules) -> Optional[Breach]:
+def violation(data: Bytes, rules: Rules) -> Optional[Violation]:
     """Returns where `data` first breaks the rules; `None` if it is items, none or more, one after the other, that keep
     them all.
 
-    >>> breach(bytes.fromhex("82011802"), Rules.CORE).place
+    >>> violation(bytes.fromhex("82011802"), Rules.CORE).place
     2
 
     Of a key that stands twice, `place` is that of the second, and `other` that of the first. Under `VALID` keys are one
     if their core encodings are the same, whatever their bytes.
 
-    >>> breach(edn_to_bytes("{1: -7, 1_0: -8}"), Rules.VALID).place
+    >>> violation(edn_to_bytes("{1: -7, 1_0: -8}"), Rules.VALID).place
     3
 
     Raises `CborDiagError` for no such rules, and if memory runs out, which only `VALID` and `DCBOR` take.
     """
-    return _on_bytes(data, _breach, _rules_number(rules))
+    return _on_bytes(data, _violation, _rules_number(rules))
 
 
 def _no_encoding(library: _Library, given: Any, length: int, rules: int, error: Error) -> CborDiagError:
@@ -684,9 +684,9 @@ def _no_encoding(library: _Library, given: Any, length: int, rules: int, error: 
     found = library.reencode_fault(rules, given, length, ctypes.byref(place), ctypes.byref(detail))
     if found <= 0:
         return CborDiagError(error)  # memory ran out
-    told = _told_breach(library, given, length, found, place.value, detail.value)
-    words = str(told) if told else _breach_text(BreachKind(found))
-    return CborDiagError(error, None, told.place if told else None, f"{_error_text(error)}: {words}", breach=told)
+    told = _told_violation(library, given, length, found, place.value, detail.value)
+    words = str(told) if told else _violation_text(ViolationKind(found))
+    return CborDiagError(error, None, told.place if told else None, f"{_error_text(error)}: {words}", violation=told)
 
 
 def _reencoded(library: _Library, given: Any, length: int, rules: int) -> bytes:
@@ -710,7 +710,7 @@ def reencode(data: Bytes, rules: Rules) -> bytes:
 
     Raises `CborDiagError` with the error `NOT_ENCODABLE` if the data is no items; if it breaks a rule that no choice of
     widths, lengths and order keeps; if two keys of a map are one, by their core encodings or once they are encoded
-    again; or if the joined chunks of a text break a rule. The `breach` of the error says which of these, and where.
+    again; or if the joined chunks of a text break a rule. The `violation` of the error says which of these, and where.
     Raises it also for no such rules, and if memory runs out.
     """
     return _on_bytes(data, _reencoded, _rules_number(rules))

@@ -11,7 +11,7 @@ pub use error::{Error, Result};
 pub use json::{bytes_to_json, bytes_to_json_strict, hex_to_json, hex_to_json_strict, json_fault};
 pub use json::{JsonFault, LossKind};
 pub use names::name_at;
-pub use rules::{breach, reencode, reencode_fault, Breach, BreachKind, ReencodeFault, Rules};
+pub use rules::{violation, reencode, reencode_fault, Violation, ViolationKind, ReencodeFault, Rules};
 pub use scanner::Scanner;
 
 /// The form of an input or of an output.
@@ -114,9 +114,9 @@ mod library {
             input_len: usize,
             end: *mut usize,
         ) -> i64;
-        /// Returns the number of the kind of the first breach, or 0, or minus the number of an error, and writes to
+        /// Returns the number of the kind of the first violation, or 0, or minus the number of an error, and writes to
         /// `place` and `detail` where it is, and what else is told of it.
-        pub fn cbor_diag_breach(
+        pub fn cbor_diag_violation(
             rules: u32,
             input: *const u8,
             input_len: usize,
@@ -153,7 +153,7 @@ mod library {
             output: *mut u8,
             output_len: usize,
         ) -> i64;
-        pub fn cbor_diag_breach_text(kind: u32, output: *mut u8, output_len: usize) -> i64;
+        pub fn cbor_diag_violation_text(kind: u32, output: *mut u8, output_len: usize) -> i64;
         pub fn cbor_diag_error_text(error: u32, output: *mut u8, output_len: usize) -> i64;
         pub fn cbor_diag_version() -> u32;
     }

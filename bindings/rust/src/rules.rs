@@ -26,17 +26,17 @@ pub enum Rules {
 
 /// The first place where bytes break a rule. Its `Display` says in words what is wrong.
 #[derive(Clone, Copy, PartialEq, Eq, Hash, Debug)]
-pub struct Breach {
+pub struct Violation {
     /// How many bytes come before the head, or before the key, that breaks the rule.
     pub place: usize,
     /// What is wrong there.
-    pub kind: BreachKind,
+    pub kind: ViolationKind,
 }
 
 /// What is wrong with a head or with a key.
 #[derive(Clone, Copy, PartialEq, Eq, Hash, Debug)]
 #[non_exhaustive]
-pub enum BreachKind {
+pub enum ViolationKind {
     /// No item begins there, or it is cut, or its content is not UTF-8.
     NoItem(Error),
     /// `f8` before a byte below 32.
@@ -75,65 +75,65 @@ pub enum BreachKind {
     },
 }
 
-impl BreachKind {
+impl ViolationKind {
     /// The kind with this number, and what else the library told of it.
-    fn of(number: u32, detail: usize) -> BreachKind {
+    fn of(number: u32, detail: usize) -> ViolationKind {
         match number {
-            1 => BreachKind::NoItem(Error::of(-(detail as i64))),
-            2 => BreachKind::LongSimple,
-            3 => BreachKind::LongHead,
-            4 => BreachKind::NotNfc,
-            5 => BreachKind::LongFloat,
-            6 => BreachKind::IntegerFloat,
-            7 => BreachKind::OtherNan,
-            8 => BreachKind::OtherSimple,
-            9 => BreachKind::Indefinite,
-            10 => BreachKind::Tag,
-            11 => BreachKind::LeadingZero,
-            12 => BreachKind::SmallBigNumber,
-            13 => BreachKind::TooDeep,
-            14 => BreachKind::KeyOrder { previous: detail },
-            15 => BreachKind::KeyTwice { first: detail },
+            1 => ViolationKind::NoItem(Error::of(-(detail as i64))),
+            2 => ViolationKind::LongSimple,
+            3 => ViolationKind::LongHead,
+            4 => ViolationKind::NotNfc,
+            5 => ViolationKind::LongFloat,
+            6 => ViolationKind::IntegerFloat,
+            7 => ViolationKind::OtherNan,
+            8 => ViolationKind::OtherSimple,
+            9 => ViolationKind::Indefinite,
+            10 => ViolationKind::Tag,
+            11 => ViolationKind::LeadingZero,
+            12 => ViolationKind::SmallBigNumber,
+            13 => ViolationKind::TooDeep,
+            14 => ViolationKind::KeyOrder { previous: detail },
+            15 => ViolationKind::KeyTwice { first: detail },
             _ => unreachable!("the library answered {number}"),
         }
     }
 
     fn number(self) -> u32 {
         match self {
-            BreachKind::NoItem(_) => 1,
-            BreachKind::LongSimple => 2,
-            BreachKind::LongHead => 3,
-            BreachKind::NotNfc => 4,
-            BreachKind::LongFloat => 5,
-            BreachKind::IntegerFloat => 6,
-            BreachKind::OtherNan => 7,
-            BreachKind::OtherSimple => 8,
-            BreachKind::Indefinite => 9,
-            BreachKind::Tag => 10,
-            BreachKind::LeadingZero => 11,
-            BreachKind::SmallBigNumber => 12,
-            BreachKind::TooDeep => 13,
-            BreachKind::KeyOrder { .. } => 14,
-            BreachKind::KeyTwice { .. } => 15,
+            ViolationKind::NoItem(_) => 1,
+            ViolationKind::LongSimple => 2,
+            ViolationKind::LongHead => 3,
+            ViolationKind::NotNfc => 4,
+            ViolationKind::LongFloat => 5,
+            ViolationKind::IntegerFloat => 6,
+            ViolationKind::OtherNan => 7,
+            ViolationKind::OtherSimple => 8,
+            ViolationKind::Indefinite => 9,
+            ViolationKind::Tag => 10,
+            ViolationKind::LeadingZero => 11,
+            ViolationKind::SmallBigNumber => 12,
+            ViolationKind::TooDeep => 13,
+            ViolationKind::KeyOrder { .. } => 14,
+            ViolationKind::KeyTwice { .. } => 15,
         }
     }
 }
 
-impl fmt::Display for BreachKind {
+impl fmt::Display for ViolationKind {
     fn fmt(&self, f: &mut fmt::Formatter<'_>) -> fmt::Result {
-        if let BreachKind::NoItem(error) = self {
+        if let ViolationKind::NoItem(error) = self {
             return error.fmt(f);
         }
         let mut text = [0; 64];
         // SAFETY: the pointer and the length are those of the array.
         let length =
-            unsafe { library::cbor_diag_breach_text(self.number(), text.as_mut_ptr(), text.len()) };
+            unsafe { library::cbor_diag_violation_text(self.number(), text.as_mut_ptr(), text.len()) };
         let written = &text[..length as usize];
         f.pad(std::str::from_utf8(written).expect("the text is ASCII"))
     }
 }
 
-impl fmt::Display for Breach {
+impl fmt::Display for Violation {
     fn fmt(&self, f: &mut fmt::Formatter<'_>) -> fmt::Result {
         self.kind.fmt(f)
     }
@@ -144,17 +144,17 @@ impl fmt::Display for Breach {
 /// [`Rules::Valid`] keys are one if their core encodings are the same, whatever their bytes.
 ///
 /// ```rust
-/// use semphluk::{breach, Breach, BreachKind, Rules};
+/// use semphluk::{violation, Violation, ViolationKind, Rules};
 ///
-/// let found = breach(b"\x82\x01\x18\x02", Rules::Core).unwrap();
-/// let kind = BreachKind::LongHead;
-/// assert_eq!(found, Some(Breach { place: 2, kind }));
+/// let found = violation(b"\x82\x01\x18\x02", Rules::Core).unwrap();
+/// let kind = ViolationKind::LongHead;
+/// assert_eq!(found, Some(Violation { place: 2, kind }));
 /// ```
-pub fn breach(bytes: &[u8], rules: Rules) -> Result<Option<Breach>> {
+pub fn violation(bytes: &[u8], rules: Rules) -> Result<Option<Violation>> {
     let (mut place, mut detail) = (0, 0);
     // SAFETY: the pointers are those of the slice, with its length, and of the variables.
     let answer = unsafe {
-        library::cbor_diag_breach(
+        library::cbor_diag_violation(
             rules as u32,
             bytes.as_ptr(),
             bytes.len(),
@@ -165,8 +165,8 @@ pub fn breach(bytes: &[u8], rules: Rules) -> Result<Option<Breach>> {
     match u32::try_from(answer) {
         Ok(0) => Ok(None),
         Ok(number) => {
-            let kind = BreachKind::of(number, detail);
-            Ok(Some(Breach { place, kind }))
+            let kind = ViolationKind::of(number, detail);
+            Ok(Some(Violation { place, kind }))
         }
         Err(_) => Err(Error::of(answer)),
     }
@@ -219,7 +219,7 @@ pub fn reencode(bytes: &[u8], rules: Rules) -> Result<Vec<u8>> {
 pub enum ReencodeFault {
     /// This is wrong in the bytes, and no encoding avoids it. A key that stands twice may differ in the bytes from the
     /// first of the two, as `01` and `18 01`: they are one by their core encodings, or once they are encoded again.
-    Breach(Breach),
+    Violation(Violation),
     /// What the items are encoded to breaks a rule, such as a text whose joined chunks are not in NFC.
     Written,
 }
@@ -228,11 +228,11 @@ pub enum ReencodeFault {
 /// Returns `None` if there is an encoding. The only error is [`Error::Memory`].
 ///
 /// ```rust
-/// use semphluk::{reencode_fault, Breach, BreachKind, ReencodeFault, Rules};
+/// use semphluk::{reencode_fault, Violation, ViolationKind, ReencodeFault, Rules};
 ///
 /// let found = reencode_fault(b"\xa2\x01\x80\x18\x01\x80", Rules::Core).unwrap();
-/// let kind = BreachKind::KeyTwice { first: 1 };
-/// assert_eq!(found, Some(ReencodeFault::Breach(Breach { place: 3, kind })));
+/// let kind = ViolationKind::KeyTwice { first: 1 };
+/// assert_eq!(found, Some(ReencodeFault::Violation(Violation { place: 3, kind })));
 /// ```
 pub fn reencode_fault(bytes: &[u8], rules: Rules) -> Result<Option<ReencodeFault>> {
     let (mut place, mut detail) = (0, 0);
@@ -250,8 +250,8 @@ pub fn reencode_fault(bytes: &[u8], rules: Rules) -> Result<Option<ReencodeFault
         Ok(0) => Ok(None),
         Ok(_) if place == usize::MAX => Ok(Some(ReencodeFault::Written)),
         Ok(number) => {
-            let kind = BreachKind::of(number, detail);
-            Ok(Some(ReencodeFault::Breach(Breach { place, kind })))
+            let kind = ViolationKind::of(number, detail);
+            Ok(Some(ReencodeFault::Violation(Violation { place, kind })))
         }
         Err(_) => Err(Error::of(answer)),
     }

@@ -1,16 +1,16 @@
-//! Each kind of breach with its place, and items encoded again. Expected values are worked out by hand from docs/RULES.md.
+//! Each kind of violation with its place, and items encoded again. Expected values are worked out by hand from docs/RULES.md.
 
-use semphluk::{breach, reencode, reencode_fault};
-use semphluk::{Breach, BreachKind, Error, ReencodeFault, Rules};
+use semphluk::{violation, reencode, reencode_fault};
+use semphluk::{Violation, ViolationKind, Error, ReencodeFault, Rules};
 
 fn assert_kept(bytes: &[u8], rules: Rules) {
-    assert_eq!(breach(bytes, rules), Ok(None), "{bytes:x?} by {rules:?}");
+    assert_eq!(violation(bytes, rules), Ok(None), "{bytes:x?} by {rules:?}");
 }
 
-fn assert_breach(bytes: &[u8], rules: Rules, place: usize, kind: BreachKind) {
-    let found = Breach { place, kind };
+fn assert_violation(bytes: &[u8], rules: Rules, place: usize, kind: ViolationKind) {
+    let found = Violation { place, kind };
     let expected = Ok(Some(found));
-    assert_eq!(breach(bytes, rules), expected, "{bytes:x?} by {rules:?}");
+    assert_eq!(violation(bytes, rules), expected, "{bytes:x?} by {rules:?}");
 }
 
 #[test]
@@ -24,74 +24,74 @@ fn kept() {
 
 #[test]
 fn no_item() {
-    let kind = BreachKind::NoItem;
-    assert_breach(b"\x01\x82\x01", Rules::Rfc8949, 3, kind(Error::CutShort));
-    assert_breach(b"\x82\x01\x1c", Rules::Core, 2, kind(Error::Head));
-    assert_breach(b"\x81\x61\xff", Rules::Valid, 1, kind(Error::Utf8));
+    let kind = ViolationKind::NoItem;
+    assert_violation(b"\x01\x82\x01", Rules::Rfc8949, 3, kind(Error::CutShort));
+    assert_violation(b"\x82\x01\x1c", Rules::Core, 2, kind(Error::Head));
+    assert_violation(b"\x81\x61\xff", Rules::Valid, 1, kind(Error::Utf8));
 }
 
 #[test]
 fn heads() {
-    assert_breach(b"\x81\xf8\x18", Rules::Rfc8949, 1, BreachKind::LongSimple);
-    assert_breach(b"\x01\x18\x17", Rules::Preferred, 1, BreachKind::LongHead);
-    assert_breach(b"\x01\x63\xe2\x84\xab", Rules::Dcbor, 1, BreachKind::NotNfc);
-    assert_breach(b"\xf4\xf7", Rules::Dcbor, 1, BreachKind::OtherSimple);
-    assert_breach(
+    assert_violation(b"\x81\xf8\x18", Rules::Rfc8949, 1, ViolationKind::LongSimple);
+    assert_violation(b"\x01\x18\x17", Rules::Preferred, 1, ViolationKind::LongHead);
+    assert_violation(b"\x01\x63\xe2\x84\xab", Rules::Dcbor, 1, ViolationKind::NotNfc);
+    assert_violation(b"\xf4\xf7", Rules::Dcbor, 1, ViolationKind::OtherSimple);
+    assert_violation(
         b"\x01\x9f\xff",
         Rules::LengthFirst,
         1,
-        BreachKind::Indefinite,
+        ViolationKind::Indefinite,
     );
-    assert_breach(b"\x81\xc1\x00", Rules::Ctap2, 1, BreachKind::Tag);
-    assert_breach(
+    assert_violation(b"\x81\xc1\x00", Rules::Ctap2, 1, ViolationKind::Tag);
+    assert_violation(
         b"\x81\x81\x81\x81\x80",
         Rules::Ctap2,
         4,
-        BreachKind::TooDeep,
+        ViolationKind::TooDeep,
     );
 }
 
 #[test]
 fn numbers() {
-    assert_breach(
+    assert_violation(
         b"\xfa\x3f\xc0\x00\x00",
         Rules::Core,
         0,
-        BreachKind::LongFloat,
+        ViolationKind::LongFloat,
     );
-    assert_breach(
+    assert_violation(
         b"\x81\xf9\x40\x00",
         Rules::Dcbor,
         1,
-        BreachKind::IntegerFloat,
+        ViolationKind::IntegerFloat,
     );
-    assert_breach(b"\xf9\x7e\x01", Rules::Dcbor, 0, BreachKind::OtherNan);
+    assert_violation(b"\xf9\x7e\x01", Rules::Dcbor, 0, ViolationKind::OtherNan);
     let big = b"\x00\xc2\x49\x00\x01\x00\x00\x00\x00\x00\x00\x00";
-    assert_breach(big, Rules::Preferred, 1, BreachKind::LeadingZero);
-    assert_breach(
+    assert_violation(big, Rules::Preferred, 1, ViolationKind::LeadingZero);
+    assert_violation(
         b"\xc3\x41\x01",
         Rules::Preferred,
         0,
-        BreachKind::SmallBigNumber,
+        ViolationKind::SmallBigNumber,
     );
 }
 
 #[test]
 fn keys() {
-    let order = BreachKind::KeyOrder { previous: 1 };
-    assert_breach(b"\xa2\x18\x64\x01\x0a\x02", Rules::Core, 4, order);
-    assert_breach(b"\xa2\x18\x64\x01\x20\x02", Rules::LengthFirst, 4, order);
-    let twice = BreachKind::KeyTwice { first: 1 };
-    assert_breach(b"\xa2\x01\x80\x01\x80", Rules::Core, 3, twice);
-    assert_breach(b"\xa3\x01\x80\x00\x80\x01\x80", Rules::Valid, 5, twice);
-    assert_breach(b"\xa2\x01\x26\x18\x01\x27", Rules::Valid, 3, twice);
+    let order = ViolationKind::KeyOrder { previous: 1 };
+    assert_violation(b"\xa2\x18\x64\x01\x0a\x02", Rules::Core, 4, order);
+    assert_violation(b"\xa2\x18\x64\x01\x20\x02", Rules::LengthFirst, 4, order);
+    let twice = ViolationKind::KeyTwice { first: 1 };
+    assert_violation(b"\xa2\x01\x80\x01\x80", Rules::Core, 3, twice);
+    assert_violation(b"\xa3\x01\x80\x00\x80\x01\x80", Rules::Valid, 5, twice);
+    assert_violation(b"\xa2\x01\x26\x18\x01\x27", Rules::Valid, 3, twice);
 }
 
 #[test]
 fn texts() {
-    let found = breach(b"\xa2\x01\x80\x01\x80", Rules::Core).unwrap();
+    let found = violation(b"\xa2\x01\x80\x01\x80", Rules::Core).unwrap();
     assert_eq!(found.unwrap().to_string(), "a key that stands twice");
-    let found = breach(b"\x82\x01", Rules::Core).unwrap();
+    let found = violation(b"\x82\x01", Rules::Core).unwrap();
     assert_eq!(found.unwrap().to_string(), "the item is cut short");
 }
 
@@ -129,9 +129,9 @@ fn not_encodable() {
 
 #[test]
 fn why_not_encodable() {
-    let twice = |first| BreachKind::KeyTwice { first };
-    let breach = |place, kind| Some(ReencodeFault::Breach(Breach { place, kind }));
-    let cut = BreachKind::NoItem(Error::CutShort);
+    let twice = |first| ViolationKind::KeyTwice { first };
+    let violation = |place, kind| Some(ReencodeFault::Violation(Violation { place, kind }));
+    let cut = ViolationKind::NoItem(Error::CutShort);
     let nested = b"\x81\xa3\x01\x80\x02\x80\x18\x01\x80";
     let written = Some(ReencodeFault::Written);
     let rows: [(Rules, &[u8], Option<ReencodeFault>); 7] = [
@@ -139,16 +139,16 @@ fn why_not_encodable() {
         (
             Rules::Core,
             b"\xa2\x01\x80\x18\x01\x80",
-            breach(3, twice(1)),
+            violation(3, twice(1)),
         ),
-        (Rules::Core, nested, breach(6, twice(2))),
-        (Rules::Valid, b"\xa2\x01\x80\x01\x80", breach(3, twice(1))),
+        (Rules::Core, nested, violation(6, twice(2))),
+        (Rules::Valid, b"\xa2\x01\x80\x01\x80", violation(3, twice(1))),
         (
             Rules::Ctap2,
             b"\x18\x01\xc1\x00",
-            breach(2, BreachKind::Tag),
+            violation(2, ViolationKind::Tag),
         ),
-        (Rules::Core, b"\x01\x82\x01", breach(3, cut)),
+        (Rules::Core, b"\x01\x82\x01", violation(3, cut)),
         (Rules::Dcbor, b"\x7f\x61e\x62\xcc\x81\xff", written),
     ];
     for (rules, bytes, fault) in rows {

@@ -1,7 +1,7 @@
 //! The rows of the vectors whose call is one of the crate's: `crates/vectors/data`, as `docs/VECTORS.md` has their
 //! form.
 
-use semphluk::{breach, convert, extent, reencode, Error, Extent, Form, Rules};
+use semphluk::{violation, convert, extent, reencode, Error, Extent, Form, Rules};
 use std::fs;
 use std::path::PathBuf;
 
@@ -167,11 +167,11 @@ fn rules_of(name: &str) -> Option<Rules> {
 
 #[test]
 fn rules() {
-    for row in rows(&["breach_of"]) {
+    for row in rows(&["violation_of"]) {
         let Some(rules) = rules_of(&row.argument) else { continue };
-        let found = match breach(&row.bytes(), rules).unwrap() {
+        let found = match violation(&row.bytes(), rules).unwrap() {
             None => "kept".to_string(),
-            Some(breach) => format!("{} ", breach.place),
+            Some(violation) => format!("{} ", violation.place),
         };
         assert!(row.wanted().starts_with(&found), "{}: {found}", row.place);
     }

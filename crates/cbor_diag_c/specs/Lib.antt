@@ -8,5 +8,5 @@ pub mod Places
 pub mod Words
 pub mod Messages
 pub mod Names
-pub mod Breaches
+pub mod Violations
 pub mod Reencodings

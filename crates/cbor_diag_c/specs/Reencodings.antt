@@ -1,15 +1,15 @@
 -- What C is told of items that are encoded again so that they keep a set of rules.
 use Rattle.std.specs.Prelude.{◌≡◌, ◌⊎◌, ℕ, List, Some, None, length}
 use Rattle.cbor_rules.specs.declared.rules.Rules.{Rules}
-use Rattle.cbor_rules.specs.declared.kind.Breach.{Breach}
-use Rattle.cbor_rules.specs.FirstBreach.{first_breach}
+use Rattle.cbor_rules.specs.declared.kind.Violation.{Violation}
+use Rattle.cbor_rules.specs.FirstViolation.{first_violation}
 use Rattle.cbor_rules.specs.Keeps.{KeepsRules}
 use Rattle.cbor_reencode.specs.declared.error.ReencodeError.{ReencodeError}
 use Rattle.cbor_reencode.specs.declared.error.ReencodeError.TheVariants as reencode_error
 use Rattle.cbor_reencode.specs.Reencoded.{IsReencoded, lasting, FixesKeys, KeysOnce}
 use Rattle.cbor_diag_c.specs.Answers.{written}
 use Rattle.cbor_messages.specs.Kinds.{kind_number}
-use Rattle.cbor_diag_c.specs.Breaches.{rules_of, IsTold}
+use Rattle.cbor_diag_c.specs.Violations.{rules_of, IsTold}
 use Rattle.cbor_diag_c.specs.Places.{no_place}
 
 -- A text of this length, and the buffer after it was written.
@@ -32,26 +32,26 @@ StaysBy number input =
 
 -- the input breaks a rule that no choice of widths, lengths and order keeps, or is no items
 abbrev pub Breaks : Rules → List ℕ → Type 0
-Breaks rules input = (breach : Breach) × (first_breach (lasting rules) input ≡ Some breach)
+Breaks rules input = (violation : Violation) × (first_violation (lasting rules) input ≡ Some violation)
 
 abbrev pub BreaksBy : ℕ → List ℕ → Type 0
 BreaksBy number input = (rules : Rules) × (rules_of number ≡ Some rules) × Breaks rules input
 
 -- ---- why there is no encoding
 
--- The error that the input has. Where it breaks a rule that no choice keeps, that is the first such breach.
+-- The error that the input has. Where it breaks a rule that no choice keeps, that is the first such violation.
 abbrev pub IsWhyNot : Rules → List ℕ → ReencodeError → Type 0
 IsWhyNot rules input e =
-    ((breach : Breach) × (e ≡ reencode_error.Breach breach) × (first_breach (lasting rules) input ≡ Some breach))
-    ⊎ (first_breach (lasting rules) input ≡ None)
+    ((violation : Violation) × (e ≡ reencode_error.Violation violation) × (first_violation (lasting rules) input ≡ Some violation))
+    ⊎ (first_violation (lasting rules) input ≡ None)
 
 -- What is told of an error: the number of what is wrong, its place and its detail. What was written is not there.
 abbrev pub IsToldWhy : ReencodeError → ℕ → ℕ → ℕ → Type 0
 IsToldWhy reencode_error.Memory n place detail = ⊥
-IsToldWhy (reencode_error.Breach breach) n place detail = IsTold (Some breach) n place detail
+IsToldWhy (reencode_error.Violation violation) n place detail = IsTold (Some violation) n place detail
 IsToldWhy (reencode_error.KeyTwice first second) n place detail = (n ≡ 15) × (place ≡ second) × (detail ≡ first)
-IsToldWhy (reencode_error.Written breach) n place detail =
-    (n ≡ kind_number breach.kind) × (place ≡ no_place) × (detail ≡ no_place)
+IsToldWhy (reencode_error.Written violation) n place detail =
+    (n ≡ kind_number violation.kind) × (place ≡ no_place) × (detail ≡ no_place)
 
 -- 0 is told where there is an encoding, and otherwise of the error that the input has.
 abbrev pub IsToldWhyNot : Rules → List ℕ → ℕ → ℕ → ℕ → Type 0

@@ -15,7 +15,6 @@
 #![tactic(auto)]
 
 mod answer;
-mod breaches;
 mod conversion;
 mod edn;
 mod error;
@@ -28,4 +27,5 @@ mod reencoding;
 mod scanner;
 mod text;
 mod version;
+mod violations;
 mod words;

@@ -4,19 +4,19 @@ ghost use Rattle.cbor_rules.specs.Keeps.{KeepsRules};
 ghost use Rattle.cbor_reencode.specs.Reencoded.{FixesKeys, KeysOnce};
 ghost use Rattle.cbor_diag_c.specs.Answers.{IfLength, IfError, IfReturned};
 ghost use Rattle.cbor_diag_c.specs.Answers.{no_rules, not_encodable};
-ghost use Rattle.cbor_diag_c.specs.Breaches.{rules_of};
+ghost use Rattle.cbor_diag_c.specs.Violations.{rules_of};
 ghost use Rattle.cbor_diag_c.specs.Places.{no_place};
 ghost use Rattle.cbor_diag_c.specs.Reencodings.{IsWrittenText, IsAgain, IsAgainBy};
 ghost use Rattle.cbor_diag_c.specs.Reencodings.{Breaks, BreaksBy, StaysBy};
 ghost use Rattle.cbor_diag_c.specs.Reencodings.{IsToldWhy, IsToldWhyNot, IsToldWhyNotBy};
 
 use crate::answer::{refused, write};
-use crate::breaches::{NO_RULES, rules_of, told};
 use crate::faults::NO_PLACE;
+use crate::violations::{NO_RULES, rules_of, told};
 use cbor_grammar::Error;
 use cbor_messages::kind_number;
 use cbor_reencode::{ReencodeError, reencoded};
-use cbor_rules::{BreachKind, Rules};
+use cbor_rules::{Rules, ViolationKind};
 use std::alloc::Global;
 
 /// What is returned for an input that has no encoding by the rules.
@@ -81,13 +81,13 @@ fn told_why(error: ReencodeError, place: &mut usize, detail: &mut usize) -> i64
     *detail = NO_PLACE;
     match error {
         ReencodeError::Memory => refused(Error::Memory),
-        ReencodeError::Breach(breach) => told(Some(breach), place, detail),
+        ReencodeError::Violation(violation) => told(Some(violation), place, detail),
         ReencodeError::KeyTwice { first, second } => {
             *place = second;
             *detail = first;
-            i64::from(kind_number(BreachKind::KeyTwice { first }))
+            i64::from(kind_number(ViolationKind::KeyTwice { first }))
         }
-        ReencodeError::Written(breach) => i64::from(kind_number(breach.kind)),
+        ReencodeError::Written(violation) => i64::from(kind_number(violation.kind)),
     }
 }
 
@@ -111,7 +111,7 @@ fn why_not(alloc: Global, rules: Rules, input: &[u8], place: &mut usize, detail:
 
 /// Reports why `cbor_diag_reencode` has no encoding of an input by a set of rules, and where.
 ///
-/// Returns 0 if there is one, and otherwise the number of the kind of breach that no encoding
+/// Returns 0 if there is one, and otherwise the number of the kind of violation that no encoding
 /// avoids, or minus the number of an error: `Memory`, or 12 for no set of rules. Sets `place` to
 /// how many bytes of the input come before what is wrong; and `detail` to the place of the other
 /// key, if a key stands twice once the items are encoded again, or to the number of the error, if

@@ -1,9 +1,9 @@
--- What is said of the kinds of breaches, and their numbers.
+-- What is said of the kinds of violations, and their numbers.
 use Rattle.std.specs.Prelude.{ℕ, List, codes, ◌==◌, if◌then◌else◌}
-use Rattle.cbor_rules.specs.declared.kind.BreachKind.{BreachKind}
-use Rattle.cbor_rules.specs.declared.kind.BreachKind.TheVariants as kind
+use Rattle.cbor_rules.specs.declared.kind.ViolationKind.{ViolationKind}
+use Rattle.cbor_rules.specs.declared.kind.ViolationKind.TheVariants as kind
 
-abbrev pub kind_number : BreachKind → ℕ
+abbrev pub kind_number : ViolationKind → ℕ
 kind_number (kind.NoItem e) = 1
 kind_number kind.LongSimple = 2
 kind_number (kind.LongHead n w) = 3
@@ -38,4 +38,4 @@ kind_text number =
     else if number == 13 then codes "nested deeper than the rules allow"
     else if number == 14 then codes "a key that is out of order"
     else if number == 15 then codes "a key that stands twice"
-    else codes "no such breach"
+    else codes "no such violation"

@@ -1,33 +1,33 @@
-//! The number of each kind of breach, and what is said of it in few words.
+//! The number of each kind of violation, and what is said of it in few words.
 ghost use Rattle.std.specs.Prelude.{◌≡◌};
 ghost use Rattle.cbor_messages.specs.Kinds.{kind_number, kind_text};
 
-use cbor_rules::BreachKind;
+use cbor_rules::ViolationKind;
 
 /// The number of a kind, from 1 to 15.
-pub fn kind_number(kind: BreachKind) -> u32
+pub fn kind_number(kind: ViolationKind) -> u32
     ensures { result ≡ kind_number kind }
 {
     match kind {
-        BreachKind::NoItem(_) => 1,
-        BreachKind::LongSimple => 2,
-        BreachKind::LongHead { .. } => 3,
-        BreachKind::NotNfc => 4,
-        BreachKind::LongFloat { .. } => 5,
-        BreachKind::IntegerFloat { .. } => 6,
-        BreachKind::OtherNan { .. } => 7,
-        BreachKind::OtherSimple(_) => 8,
-        BreachKind::Indefinite => 9,
-        BreachKind::Tag => 10,
-        BreachKind::LeadingZero => 11,
-        BreachKind::SmallBigNumber => 12,
-        BreachKind::TooDeep => 13,
-        BreachKind::KeyOrder { .. } => 14,
-        BreachKind::KeyTwice { .. } => 15,
+        ViolationKind::NoItem(_) => 1,
+        ViolationKind::LongSimple => 2,
+        ViolationKind::LongHead { .. } => 3,
+        ViolationKind::NotNfc => 4,
+        ViolationKind::LongFloat { .. } => 5,
+        ViolationKind::IntegerFloat { .. } => 6,
+        ViolationKind::OtherNan { .. } => 7,
+        ViolationKind::OtherSimple(_) => 8,
+        ViolationKind::Indefinite => 9,
+        ViolationKind::Tag => 10,
+        ViolationKind::LeadingZero => 11,
+        ViolationKind::SmallBigNumber => 12,
+        ViolationKind::TooDeep => 13,
+        ViolationKind::KeyOrder { .. } => 14,
+        ViolationKind::KeyTwice { .. } => 15,
     }
 }
 
-/// What is said of the kind with this number, in ASCII and without a full stop; `no such breach`
+/// What is said of the kind with this number, in ASCII and without a full stop; `no such violation`
 /// for another number.
 pub fn kind_text(number: u32) -> &'static str
     ensures { result.now ≡ kind_text number }
@@ -48,6 +48,6 @@ pub fn kind_text(number: u32) -> &'static str
         13 => "nested deeper than the rules allow",
         14 => "a key that is out of order",
         15 => "a key that stands twice",
-        _ => "no such breach",
+        _ => "no such violation",
     }
 }

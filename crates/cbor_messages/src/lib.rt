@@ -2,7 +2,7 @@
 //! not keep, of a path that leads nowhere; and the lines that a message shows.
 //!
 //! ```rust
-//! use cbor_messages::first_breach;
+//! use cbor_messages::first_violation;
 //! use cbor_places::Piece;
 //! use cbor_rules::RuleSet;
 //!
@@ -12,7 +12,7 @@
 //!     bytes: b"\xa2\x61b\x02\x61a\x01",
 //! };
 //! let core = RuleSet::named("core").expect(&rt, "core");
-//! let message = first_breach(alloc, core, items)?.expect(&rt, "a breach");
+//! let message = first_violation(alloc, core, items)?.expect(&rt, "a violation");
 //! assert_eq!(rt; message.place, 4);
 //! let text = "not core deterministic: the key \"a\" comes after \"b\"";
 //! assert_eq!(rt; message.text.as_str(), text);
@@ -22,18 +22,18 @@
 //! `HostRuntime` of a test, and `alloc` is `rt.alloc()`.
 #![tactic(auto)]
 
-mod breach;
 mod excerpt;
 mod json;
 mod kind;
 mod lost;
+mod violation;
 mod way;
 mod widths;
 mod words;
 
-pub use breach::{first_breach, not_encoded};
 pub use excerpt::{Excerpt, Position, position_of};
 pub use json::not_json;
 pub use kind::{kind_number, kind_text};
 pub use lost::lost_words;
+pub use violation::{first_violation, not_encoded};
 pub use words::{Message, TWO_BYTES};

@@ -12,7 +12,7 @@ use Rattle.cbor_grammar.specs.Written.{encoded_open, encoded_close}
 use Rattle.cbor_grammar.specs.mirror.Lengths.{left_of}
 use Rattle.cbor_grammar.proofs.bytes.Heads.{head_takes, IsBytes, ArgumentThen}
 use Rattle.cbor_rules.specs.declared.rules.Rules.{Rules}
-use Rattle.cbor_rules.specs.FirstBreach.{opened}
+use Rattle.cbor_rules.specs.FirstViolation.{opened}
 use Rattle.cbor_reencode.specs.declared.pairs.Pair.{Pair}
 use Rattle.cbor_reencode.specs.mirror.Chosen.{chosen_count, FitsHeld}
 use Rattle.cbor_reencode.specs.mirror.Numbers.{tagged_bytes}

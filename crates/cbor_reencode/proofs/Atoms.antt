@@ -24,7 +24,7 @@ use Rattle.cbor_floats.specs.declared.float.EncodedFloat.{EncodedFloat}
 use Rattle.cbor_floats.specs.declared.float.EncodedFloat.TheVariants.{Half, Single, Double}
 use Rattle.cbor_rules.specs.declared.rules.Rules.{Rules}
 use Rattle.cbor_rules.specs.declared.rules.TheConstants.Rules.{CORE}
-use Rattle.cbor_rules.specs.FirstBreach.{simple_breach, two_byte_breach, breach_or_else}
+use Rattle.cbor_rules.specs.FirstViolation.{simple_violation, two_byte_violation, violation_or_else}
 use Rattle.cbor_rules.specs.Keeps.{float_of}
 use Rattle.cbor_rules.specs.Same.{said, said_float}
 use Rattle.cbor_reencode.specs.declared.numbers.Reduced.{Reduced}
@@ -145,10 +145,10 @@ negative_again rules n w b rest old new h e =
     }
 
 pub simple_again : (rules : Rules) (n : ℕ) (b rest old new : List ℕ) → HeadIs (item_head.Simple n) b rest
-    → two_byte_breach b ≡ None → new ≡ old ++ encoded_simple n → RewrittenAtom rules b rest old new
+    → two_byte_violation b ≡ None → new ≡ old ++ encoded_simple n → RewrittenAtom rules b rest old new
 simple_again rules n b rest old new h none e =
-    let found = simple_found CORE n h.0 rest h.2 (subst (λ x. simple_breach CORE n x ≡ None) h.1
-    (ap (λ k. breach_or_else k None) none)) in
+    let found = simple_found CORE n h.0 rest h.2 (subst (λ x. simple_violation CORE n x ≡ None) h.1
+    (ap (λ k. violation_or_else k None) none)) in
     let is : h.0 ≡ encoded_simple n = strict_only 1 h.0 (atom (simple n)) (omega arith, found.0) in
     record {
       atom = simple n;

@@ -11,7 +11,7 @@ use Rattle.cbor_grammar.specs.Bytes.{strict, SpellsItems}
 use Rattle.cbor_grammar.specs.Written.{encoded}
 use Rattle.cbor_rules.specs.declared.rules.Rules.{Rules}
 use Rattle.cbor_rules.specs.declared.rules.KeyOrder.{KeyOrder}
-use Rattle.cbor_rules.specs.FirstBreach.{first_breach}
+use Rattle.cbor_rules.specs.FirstViolation.{first_violation}
 use Rattle.cbor_rules.proofs.AgainItems.{rules_again}
 use Rattle.cbor_grammar.specs.declared.strings.StringKind.{StringKind}
 use Rattle.cbor_grammar.specs.declared.strings.StringKind.TheVariants.{Bytes, Text}
@@ -137,7 +137,7 @@ last_less rules = record {
 }
 
 -- bytes that keep the rules keep those that last
-pub none_lasts : (rules : Rules) (b : List ℕ) → KeepsRules rules b → first_breach (lasting rules) b ≡ None
+pub none_lasts : (rules : Rules) (b : List ℕ) → KeepsRules rules b → first_violation (lasting rules) b ≡ None
 none_lasts rules b keeps = rules_again (lasting rules) b (rules_kept rules (lasting rules) (last_less rules) b keeps)
 
 pub free_less : (rules : Rules) → AsksLess rules (without_memory rules)

@@ -12,9 +12,9 @@ use Rattle.cbor_floats.specs.Preferred.{widened}
 use Rattle.cbor_floats.specs.declared.float.EncodedFloat.{EncodedFloat}
 use Rattle.cbor_floats.specs.declared.float.EncodedFloat.TheVariants.{Half, Single, Double}
 use Rattle.cbor_rules.specs.declared.rules.Rules.{Rules}
-use Rattle.cbor_rules.specs.declared.kind.BreachKind.{BreachKind}
-use Rattle.cbor_rules.specs.declared.kind.BreachKind.TheVariants as kind
-use Rattle.cbor_rules.specs.FirstBreach.{integer_float, nan_breach, reduced_breach, breach_or_else, is_usual_nan}
+use Rattle.cbor_rules.specs.declared.kind.ViolationKind.{ViolationKind}
+use Rattle.cbor_rules.specs.declared.kind.ViolationKind.TheVariants as kind
+use Rattle.cbor_rules.specs.FirstViolation.{integer_float, nan_violation, reduced_violation, violation_or_else, is_usual_nan}
 use Rattle.cbor_rules.specs.Reduced.{integer_of, number_of, reduced}
 use Rattle.cbor_rules.specs.Same.{said}
 use Rattle.cbor_reencode.specs.declared.numbers.Reduced.{Reduced}
@@ -142,7 +142,7 @@ pub record FoundInteger (f : EncodedFloat) (below : Bool) (size : ℕ) : Type 0 
   pub size_is : number.1 ≡ size
 
 pub found_integer : (f g : EncodedFloat) (below : Bool) (size : ℕ)
-    → reduced_breach f ≡ Some (kind.IntegerFloat g below size) → FoundInteger f below size
+    → reduced_violation f ≡ Some (kind.IntegerFloat g below size) → FoundInteger f below size
 found_integer f g below size e = go (reduced f) refl e
   where
     none : (n u : Bool) → cond (n && not u) (Some (kind.OtherNan f)) None ≡ Some (kind.IntegerFloat g below size) → ⊥
@@ -151,12 +151,12 @@ found_integer f g below size e = go (reduced f) refl e
     none false u e = absurd cc
 
     go : (o : Option (Bool × ℕ)) → reduced f ≡ o
-        → breach_or_else (integer_float f o) (nan_breach f) ≡ Some (kind.IntegerFloat g below size)
+        → violation_or_else (integer_float f o) (nan_violation f) ≡ Some (kind.IntegerFloat g below size)
         → FoundInteger f below size
     go (Some n) is e = record { number = n; is = is; sign = cc; size_is = cc }
     go None is e = absurd (none (is_nan (number_of f)) (is_usual_nan f) e)
 
-pub found_nan : (f : EncodedFloat) (k : BreachKind) → reduced_breach f ≡ Some k
+pub found_nan : (f : EncodedFloat) (k : ViolationKind) → reduced_violation f ≡ Some k
     → ((g : EncodedFloat) (below : Bool) (size : ℕ) → k ≢ kind.IntegerFloat g below size)
     → (reduced f ≡ None) × (is_nan (number_of f) ≡ true)
 found_nan f k e other = go (reduced f) refl e
@@ -165,7 +165,7 @@ found_nan f k e other = go (reduced f) refl e
     nan true u e = refl
     nan false u e = absurd cc
 
-    go : (o : Option (Bool × ℕ)) → reduced f ≡ o → breach_or_else (integer_float f o) (nan_breach f) ≡ Some k
+    go : (o : Option (Bool × ℕ)) → reduced f ≡ o → violation_or_else (integer_float f o) (nan_violation f) ≡ Some k
         → (reduced f ≡ None) × (is_nan (number_of f) ≡ true)
     go (Some n) is e = absurd (other f n.0 n.1 cc)
     go None is e = (is, nan (is_nan (number_of f)) (is_usual_nan f) e)

@@ -2,9 +2,9 @@
 -- what breaks them.
 use Rattle.std.specs.Prelude.{◌≡◌, ◌⊎◌, ℕ, IsTrue, List, Option, Some, None}
 use Rattle.cbor_rules.specs.declared.rules.Rules.{Rules}
-use Rattle.cbor_rules.specs.declared.kind.Breach.{Breach}
-use Rattle.cbor_rules.specs.declared.kind.BreachKind.TheVariants.{KeyTwice}
-use Rattle.cbor_rules.specs.FirstBreach.{first_breach}
+use Rattle.cbor_rules.specs.declared.kind.Violation.{Violation}
+use Rattle.cbor_rules.specs.declared.kind.ViolationKind.TheVariants.{KeyTwice}
+use Rattle.cbor_rules.specs.FirstViolation.{first_violation}
 use Rattle.cbor_rules.specs.Keeps.{KeepsRules}
 use Rattle.cbor_reencode.specs.Reencoded.{KeysOnce}
 
@@ -13,13 +13,13 @@ abbrev pub KeepsWithKeys : Rules → List ℕ → Type 0
 KeepsWithKeys rules b = KeepsRules rules b × (IsTrue rules.distinct_keys → KeysOnce b)
 
 -- It is said that a key is one with another, and two keys of a map are one.
-abbrev pub IsKeyAgain : List ℕ → Breach → Type 0
-IsKeyAgain b breach = (first : ℕ) × (breach.kind ≡ KeyTwice first) × ¬ (KeysOnce b)
+abbrev pub IsKeyAgain : List ℕ → Violation → Type 0
+IsKeyAgain b violation = (first : ℕ) × (violation.kind ≡ KeyTwice first) × ¬ (KeysOnce b)
 
--- What breaks the rules, or nothing: their first breach, where keys are their bytes; or where there is none, and the
+-- What breaks the rules, or nothing: their first violation, where keys are their bytes; or where there is none, and the
 -- rules ask for distinct keys, that two keys are one. Which two it names is not said here.
-abbrev pub IsBreach : Rules → List ℕ → Option Breach → Type 0
-IsBreach rules b None = (first_breach rules b ≡ None) × (IsTrue rules.distinct_keys → KeysOnce b)
-IsBreach rules b (Some breach) =
-    (first_breach rules b ≡ Some breach)
-    ⊎ ((first_breach rules b ≡ None) × IsTrue rules.distinct_keys × IsKeyAgain b breach)
+abbrev pub IsViolation : Rules → List ℕ → Option Violation → Type 0
+IsViolation rules b None = (first_violation rules b ≡ None) × (IsTrue rules.distinct_keys → KeysOnce b)
+IsViolation rules b (Some violation) =
+    (first_violation rules b ≡ Some violation)
+    ⊎ ((first_violation rules b ≡ None) × IsTrue rules.distinct_keys × IsKeyAgain b violation)

@@ -10,7 +10,7 @@ use crate::error::ReencodeError;
 use cbor_floats::EncodedFloat;
 use cbor_grammar::argument::Argument;
 use cbor_grammar::{Error, IntegerWidth};
-use cbor_rules::{Breach, BreachKind, Rules};
+use cbor_rules::{Rules, Violation, ViolationKind};
 
 /// Bytes that are encoded again: the rules, how many bytes there are, and whether keys of a map
 /// that are the same once they are encoded are an error, where keys have an order.
@@ -31,9 +31,9 @@ impl Encoder {
     pub fn no_item(self, bytes: &[u8], error: Error) -> ReencodeError {
         match error {
             Error::Memory => ReencodeError::Memory,
-            _ => ReencodeError::Breach(Breach {
+            _ => ReencodeError::Violation(Violation {
                 place: self.place(bytes),
-                kind: BreachKind::NoItem(error),
+                kind: ViolationKind::NoItem(error),
             }),
         }
     }

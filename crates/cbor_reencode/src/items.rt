@@ -7,8 +7,8 @@ ghost use Rattle.cbor_grammar.specs.WellFormed.{deepest};
 ghost use Rattle.cbor_grammar.specs.Reading.{read_head};
 ghost use Rattle.cbor_grammar.specs.declared.head.ItemHead.TheVariants as item_head;
 ghost use Rattle.cbor_grammar.specs.Written.{encoded_open, encoded_close};
-ghost use Rattle.cbor_rules.specs.declared.kind.Breach.{Breach};
-ghost use Rattle.cbor_rules.specs.FirstBreach.{first_breach};
+ghost use Rattle.cbor_rules.specs.declared.kind.Violation.{Violation};
+ghost use Rattle.cbor_rules.specs.FirstViolation.{first_violation};
 ghost use Rattle.cbor_rules.specs.Keeps.{KeepsRules};
 ghost use Rattle.cbor_reencode.specs.Reencoded.{IsReencoded, lasting};
 ghost use Rattle.cbor_reencode.specs.mirror.Chosen.{chosen_count, FitsHeld};
@@ -24,7 +24,7 @@ use cbor_grammar::argument::Argument;
 use cbor_grammar::head::ItemHead;
 use cbor_grammar::level::DEEPEST;
 use cbor_grammar::major::Major;
-use cbor_rules::{KeyOrder, Rules, breach_in};
+use cbor_rules::{KeyOrder, Rules, violation_in};
 use std::alloc::{AllocError, Global};
 
 impl Encoder {
@@ -226,9 +226,9 @@ pub fn lasting(rules: Rules) -> Rules
 fn check_written(alloc: Global, written: &[u8], rules: Rules) -> Result<(), ReencodeError>
     ensures { IfOk result (λ x. KeepsRules rules written.now) }
 {
-    match breach_in(alloc, written, rules)? {
+    match violation_in(alloc, written, rules)? {
         None => Ok(()),
-        Some(breach) => Err(ReencodeError::Written(breach)),
+        Some(violation) => Err(ReencodeError::Written(violation)),
     }
 }
 
@@ -238,15 +238,15 @@ pub fn encoded(alloc: Global, bytes: &[u8], rules: Rules) -> Result<Vec<u8>, Ree
     ensures keeps { IfOk result (λ out. KeepsRules rules out.items) }
     ensures kept { KeepsRules rules bytes.now → MatchResult result
         (λ out. out.items ≡ bytes.now) (λ e. e ≡ ReencodeError.Memory) }
-    ensures lasts { (b : Breach) → first_breach (lasting rules) bytes.now ≡ Some b
+    ensures lasts { (b : Violation) → first_violation (lasting rules) bytes.now ≡ Some b
         → MatchResult result (λ out. ⊥)
-        (λ e. (e ≡ ReencodeError.Breach b) ⊎ (e ≡ ReencodeError.Memory)) }
+        (λ e. (e ≡ ReencodeError.Violation b) ⊎ (e ≡ ReencodeError.Memory)) }
 {
-    let Some(_) = breach_in(alloc, bytes, rules)? else {
+    let Some(_) = violation_in(alloc, bytes, rules)? else {
         return Ok(Vec::from_slice(alloc, bytes)?);
     };
-    if let Some(found) = breach_in(alloc, bytes, lasting(rules))? {
-        return Err(ReencodeError::Breach(found));
+    if let Some(found) = violation_in(alloc, bytes, lasting(rules))? {
+        return Err(ReencodeError::Violation(found));
     }
     let encoder = Encoder {
         rules,

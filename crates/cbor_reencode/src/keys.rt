@@ -1,17 +1,17 @@
 //! Keys that are one by what they say: with them, what breaks rules, and encoding again.
 ghost use Rattle.std.specs.Prelude.{◌≡◌, ◌⊎◌, ◌↔◌, true, false, IfOk, IfErr, IfSome, MatchResult};
 ghost use Rattle.std.specs.Prelude.{Some, None};
-ghost use Rattle.cbor_rules.specs.declared.kind.Breach.{Breach};
-ghost use Rattle.cbor_rules.specs.FirstBreach.{first_breach};
+ghost use Rattle.cbor_rules.specs.declared.kind.Violation.{Violation};
+ghost use Rattle.cbor_rules.specs.FirstViolation.{first_violation};
 ghost use Rattle.cbor_rules.specs.Keeps.{KeepsRules};
-ghost use Rattle.cbor_reencode.specs.OneKey.{KeepsWithKeys, IsBreach};
+ghost use Rattle.cbor_reencode.specs.OneKey.{KeepsWithKeys, IsViolation};
 ghost use Rattle.cbor_reencode.specs.Reencoded.{IsReencoded, lasting, KeysOnce, FixesKeys};
 ghost use Rattle.cbor_reencode.specs.mirror.Twice.{unordered};
 
 use crate::encoder::Encoder;
 use crate::error::ReencodeError;
 use crate::items::{encoded, lasting};
-use cbor_rules::{Breach, BreachKind, KeyOrder, Rules, breach_in};
+use cbor_rules::{KeyOrder, Rules, Violation, ViolationKind, violation_in};
 use std::alloc::{AllocError, Global};
 
 /// The rules of core deterministic encoding without an order of keys, which may be asked to differ.
@@ -31,9 +31,9 @@ fn are_keys_alone_wrong(alloc: Global, written: &[u8]) -> Result<bool, AllocErro
     ensures { IfOk result (λ twice. twice ≡ true → KeepsRules (unordered false) written.now
         × (¬ (KeepsRules (unordered true) written.now))) }
 {
-    match breach_in(alloc, written, unordered(false))? {
+    match violation_in(alloc, written, unordered(false))? {
         Some(_) => Ok(false),
-        None => Ok(breach_in(alloc, written, unordered(true))?.is_some()),
+        None => Ok(violation_in(alloc, written, unordered(true))?.is_some()),
     }
 }
 
@@ -73,15 +73,19 @@ fn keys_twice(alloc: Global, bytes: &[u8]) -> Result<Option<(usize, usize)>, All
 /// them, and where the rules ask for distinct keys, no two keys of a map are one.
 ///
 /// Two keys are one if [`Rules::CORE`] encodes both to the same bytes: 1 in one byte and in two,
-/// or maps that have their pairs in another order. [`breach_in`], which is asked first, compares
+/// or maps that have their pairs in another order. [`violation_in`], which is asked first, compares
 /// keys by their bytes. Of several such pairs of keys, it is the one whose core encoding comes first
 /// in its map; the inner maps come before the outer ones.
 #[tactic(auto, using(crate::proofs::Broken::broken_laws))]
-pub fn breach_of(alloc: Global, bytes: &[u8], rules: Rules) -> Result<Option<Breach>, AllocError>
-    ensures is { IfOk result (IsBreach rules bytes.now) }
+pub fn violation_of(
+    alloc: Global,
+    bytes: &[u8],
+    rules: Rules,
+) -> Result<Option<Violation>, AllocError>
+    ensures is { IfOk result (IsViolation rules bytes.now) }
     ensures none { IfOk result (λ found. (found ≡ None) ↔ KeepsWithKeys rules bytes.now) }
 {
-    if let Some(found) = breach_in(alloc, bytes, rules)? {
+    if let Some(found) = violation_in(alloc, bytes, rules)? {
         return Ok(Some(found));
     }
     if !rules.distinct_keys {
@@ -90,9 +94,9 @@ pub fn breach_of(alloc: Global, bytes: &[u8], rules: Rules) -> Result<Option<Bre
     let Some((first, second)) = keys_twice(alloc, bytes)? else {
         return Ok(None);
     };
-    Ok(Some(Breach {
+    Ok(Some(Violation {
         place: second,
-        kind: BreachKind::KeyTwice { first },
+        kind: ViolationKind::KeyTwice { first },
     }))
 }
 
@@ -110,16 +114,16 @@ fn fixes_keys(rules: Rules) -> bool
 /// Whether no two keys of a map are one, where the rules leave that open.
 fn check_keys(alloc: Global, bytes: &[u8], rules: Rules) -> Result<(), ReencodeError>
     ensures distinct { IfOk result (λ x. FixesKeys rules ⊎ KeysOnce bytes.now) }
-    ensures lasts { (b : Breach) → first_breach (lasting rules) bytes.now ≡ Some b → IfErr result
-        (λ e. (e ≡ ReencodeError.Breach b) ⊎ (e ≡ ReencodeError.Memory)) }
-    ensures found { first_breach (lasting rules) bytes.now ≡ None
+    ensures lasts { (b : Violation) → first_violation (lasting rules) bytes.now ≡ Some b → IfErr result
+        (λ e. (e ≡ ReencodeError.Violation b) ⊎ (e ≡ ReencodeError.Memory)) }
+    ensures found { first_violation (lasting rules) bytes.now ≡ None
         → FixesKeys rules ⊎ KeysOnce bytes.now → IfErr result (λ e. e ≡ ReencodeError.Memory) }
 {
     if fixes_keys(rules) {
         return Ok(());
     }
-    if let Some(found) = breach_in(alloc, bytes, lasting(rules))? {
-        return Err(ReencodeError::Breach(found));
+    if let Some(found) = violation_in(alloc, bytes, lasting(rules))? {
+        return Err(ReencodeError::Violation(found));
     }
     match keys_twice(alloc, bytes)? {
         None => Ok(()),
@@ -136,16 +140,16 @@ fn check_keys(alloc: Global, bytes: &[u8], rules: Rules) -> Result<(), ReencodeE
 /// number becomes an integer where one can have it, and else has no zero byte in front.
 ///
 /// Items in which two keys of a map are one are not encoded, whatever the rules: see
-/// [`breach_of`](crate::breach_of).
+/// [`violation_of`](crate::violation_of).
 pub fn reencoded(alloc: Global, bytes: &[u8], rules: Rules) -> Result<Vec<u8>, ReencodeError>
     ensures is { IfOk result (λ out. IsReencoded rules bytes.now out.items) }
     ensures keeps { IfOk result (λ out. KeepsRules rules out.items) }
     ensures distinct { IfOk result (λ out. FixesKeys rules ⊎ KeysOnce bytes.now) }
     ensures kept { KeepsRules rules bytes.now → (FixesKeys rules ⊎ KeysOnce bytes.now)
         → MatchResult result (λ out. out.items ≡ bytes.now) (λ e. e ≡ ReencodeError.Memory) }
-    ensures lasts { (b : Breach) → first_breach (lasting rules) bytes.now ≡ Some b
+    ensures lasts { (b : Violation) → first_violation (lasting rules) bytes.now ≡ Some b
         → MatchResult result (λ out. ⊥)
-        (λ e. (e ≡ ReencodeError.Breach b) ⊎ (e ≡ ReencodeError.Memory)) }
+        (λ e. (e ≡ ReencodeError.Violation b) ⊎ (e ≡ ReencodeError.Memory)) }
 {
     check_keys(alloc, bytes, rules)?;
     encoded(alloc, bytes, rules)

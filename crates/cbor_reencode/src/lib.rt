@@ -1,7 +1,7 @@
 //! Encodes CBOR again so that it keeps rules, such as those of deterministic encoding (RFC 8949
 //! section 4.2).
 //!
-//! [`reencoded`] returns bytes of the same items that keep the rules of a [`Rules`]. [`breach_of`]
+//! [`reencoded`] returns bytes of the same items that keep the rules of a [`Rules`]. [`violation_of`]
 //! finds the first place that breaks rules, where keys are one by what they say.
 //!
 //! ```rust
@@ -24,4 +24,4 @@ mod pairs;
 mod scalars;
 
 pub use error::ReencodeError;
-pub use keys::{breach_of, reencoded};
+pub use keys::{reencoded, violation_of};

@@ -20,7 +20,7 @@ use cbor_grammar::argument::Argument;
 use cbor_grammar::head::ItemHead;
 use cbor_grammar::major::Major;
 use cbor_grammar::strings::StringKind;
-use cbor_rules::{BreachKind, reduced_breach};
+use cbor_rules::{ViolationKind, reduced_violation};
 use std::alloc::AllocError;
 
 /// What is written for a float.
@@ -101,11 +101,11 @@ impl Encoder {
         if !self.rules.reduced_floats {
             return Reduced::Float(self.float(float));
         }
-        let Some(kind) = reduced_breach(float) else {
+        let Some(kind) = reduced_violation(float) else {
             return Reduced::Float(self.float(float));
         };
         match kind {
-            BreachKind::IntegerFloat { negative, size, .. } => sized(negative, size),
+            ViolationKind::IntegerFloat { negative, size, .. } => sized(negative, size),
             // Another NaN.
             _ => Reduced::Float(EncodedFloat::Half(0x7e00)),
         }

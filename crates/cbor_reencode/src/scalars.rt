@@ -11,7 +11,7 @@ ghost use Rattle.cbor_grammar.specs.declared.head.ItemHead.TheVariants as item_h
 ghost use Rattle.cbor_floats.specs.Preferred.{FitsWidth};
 ghost use Rattle.cbor_floats.specs.Value.{bits_of};
 ghost use Rattle.cbor_rules.specs.Keeps.{float_of};
-ghost use Rattle.cbor_rules.specs.FirstBreach.{opened, two_byte_breach};
+ghost use Rattle.cbor_rules.specs.FirstViolation.{opened, two_byte_violation};
 ghost use Rattle.cbor_reencode.specs.mirror.Chosen.{chosen_width, float_width_of};
 ghost use Rattle.cbor_reencode.specs.mirror.Rewritten.{ContentAt, ChunkAt, Joined};
 ghost use Rattle.cbor_reencode.specs.mirror.Rewritten.{RewrittenChunks, RewrittenAtom};
@@ -127,7 +127,7 @@ fn push_joined<'a>(
 
 /// Whether the simple value at the front takes two bytes, and is below 32.
 fn is_long_simple(bytes: &[u8]) -> bool
-    ensures { (result ≡ true) ⊎ (two_byte_breach bytes.now ≡ None) }
+    ensures { (result ≡ true) ⊎ (two_byte_violation bytes.now ≡ None) }
 {
     match bytes {
         [first, value, ..] => *first == 0xf8 && *value < 32,
@@ -137,7 +137,7 @@ fn is_long_simple(bytes: &[u8]) -> bool
 
 /// Writes a simple value, whose head is at `bytes`. One below 32 in two bytes is none.
 fn push_strict(out: &mut Vec<u8>, bytes: &[u8], value: u8) -> Result<(), Error>
-    ensures strict { IfOk result (λ x. two_byte_breach bytes.now ≡ None) }
+    ensures strict { IfOk result (λ x. two_byte_violation bytes.now ≡ None) }
     ensures writes { IfOk result (λ x. out.new.items ≡ out.old.items ++ encoded_simple value) }
 {
     if is_long_simple(bytes) {

@@ -1,4 +1,4 @@
--- Bytes that are items that keep the rules are read without a breach.
+-- Bytes that are items that keep the rules are read without a violation.
 use Rattle.std.proofs.Common.{◌≡◌, ℕ, zero, suc, ◌+◌, ◌-◌, ◌<◌, ◌≤◌, Bool, true, cond}
 use Rattle.std.proofs.Common.{List, [], ◌∷◌, ◌++◌, length, take, Option, Some, None, Ok, inl, inr, refl, sym, ap, subst}
 use Rattle.std.proofs.Common.{◌∙◌, append_assoc, arith}
@@ -23,13 +23,13 @@ use Rattle.cbor_grammar.proofs.bytes.Chunks.{content_again, chunk_again, chunk_p
 use Rattle.cbor_grammar.proofs.bytes.FoundAgain.{kind_major, string_head, head_behind}
 use Rattle.cbor_bytes.specs.mirror.Skipping.{rest_of}
 use Rattle.cbor_rules.specs.declared.rules.Rules.{Rules}
-use Rattle.cbor_rules.specs.declared.kind.BreachKind.TheVariants as kind_of_breach
+use Rattle.cbor_rules.specs.declared.kind.ViolationKind.TheVariants as kind_of_violation
 use Rattle.cbor_rules.specs.declared.check.Chunk.TheVariants as code
-use Rattle.cbor_rules.specs.FirstBreach.{Kept, kept_then, opened}
-use Rattle.cbor_rules.specs.FirstBreach.{head_breach, number_breach, two_byte_breach}
-use Rattle.cbor_rules.specs.FirstBreach.{at, unless, chunk_content}
-use Rattle.cbor_rules.specs.FirstBreach.{kept_chunk, chunks_after, kept_chunks, kept_body, kept_item}
-use Rattle.cbor_rules.specs.FirstBreach.{kept_content, text_breach}
+use Rattle.cbor_rules.specs.FirstViolation.{Kept, kept_then, opened}
+use Rattle.cbor_rules.specs.FirstViolation.{head_violation, number_violation, two_byte_violation}
+use Rattle.cbor_rules.specs.FirstViolation.{at, unless, chunk_content}
+use Rattle.cbor_rules.specs.FirstViolation.{kept_chunk, chunks_after, kept_chunks, kept_body, kept_item}
+use Rattle.cbor_rules.specs.FirstViolation.{kept_content, text_violation}
 use Rattle.cbor_rules.specs.Keeps.{KeepsContent, KeepsChunk, KeepsAtom}
 use Rattle.cbor_rules.proofs.Texts.{text_again}
 use Rattle.cbor_floats.specs.declared.float.EncodedFloat.TheVariants.{Half, Single, Double}
@@ -43,8 +43,8 @@ content_goes : (rules : Rules) (total : ℕ) (b : List ℕ) (kind : StringKind) 
     → kept_content rules total b kind n w r ≡ Ok after
 content_goes rules total b kind n w r after c e keeps =
     let is = content_width kind n w r after c e in
-    ap (λ q. kept_then (at total b (rest_of q)) (unless total b (text_breach rules kind (take n r)))) e
-    ∙ ap (λ k. unless total b k after) (ap (text_breach rules kind) is.2 ∙ text_again rules kind c.bytes keeps)
+    ap (λ q. kept_then (at total b (rest_of q)) (unless total b (text_violation rules kind (take n r)))) e
+    ∙ ap (λ k. unless total b k after) (ap (text_violation rules kind) is.2 ∙ text_again rules kind c.bytes keeps)
 
 -- ---- chunks
 
@@ -88,9 +88,9 @@ chunk_kept : (rules : Rules) (total : ℕ) (kind : StringKind) (b after : List �
 chunk_kept rules total kind b after c h keeps =
     let l = chunk_length kind b after c h in
     let is = content_width kind l.number l.width l.rest after c l.content in
-    let short : number_breach rules l.number l.width ≡ None =
-    subst (λ (k : ℕ). number_breach rules k l.width ≡ None) is.1
-    (subst (λ (k : IntegerWidth). number_breach rules (length c.bytes) k ≡ None) is.0
+    let short : number_violation rules l.number l.width ≡ None =
+    subst (λ (k : ℕ). number_violation rules k l.width ≡ None) is.1
+    (subst (λ (k : IntegerWidth). number_violation rules (length c.bytes) k ≡ None) is.0
     (number_again rules (length c.bytes) c.width keeps.0)) in
     ap (λ q. kept_then (at total b q) (λ c. chunk_content rules total kind b c.0 c.1)) l.len
     ∙ ap (λ k. kept_then (unless total b k l.rest)
@@ -131,30 +131,30 @@ string_read kind k x c h =
     (string_head kind a)
 
 module _ (rules : Rules) (total level left : ℕ) (sum : level + suc left ≡ 129) where
-  pub by_head : (b r : List ℕ) (h : ItemHead) → read_head b ≡ Ok (h, r) → head_breach rules level b h r ≡ None
+  pub by_head : (b r : List ℕ) (h : ItemHead) → read_head b ≡ Ok (h, r) → head_violation rules level b h r ≡ None
       → kept_item (suc left) rules total b ≡ kept_body rules total b (kept_item left rules total) (opened h) h r
   unfolding kept_item
   by_head b r h e none =
       let here : level ≡ deepest - left = omega arith in
-      let its_none = subst (λ k. head_breach rules k b h r ≡ None) here none in
+      let its_none = subst (λ k. head_violation rules k b h r ≡ None) here none in
       let then = λ (x : Kept (ItemHead × List ℕ)). kept_then x
       (λ h. kept_body rules total b (kept_item left rules total) (opened h.0) h.0 h.1) in
-      ap (λ q. then (kept_then (at total b q) (λ h. unless total b (head_breach rules (deepest - left) b h.0 h.1) h))) e
+      ap (λ q. then (kept_then (at total b q) (λ h. unless total b (head_violation rules (deepest - left) b h.0 h.1) h))) e
       ∙ ap (λ k. then (unless total b k (h, r))) its_none
 
   -- ---- items without parts
 
-  pub definite_again : (t : Bool) → ¬ (t ≡ true) → cond t (Some kind_of_breach.Indefinite) None ≡ None
-  definite_again t never = test_kept t kind_of_breach.Indefinite never
+  pub definite_again : (t : Bool) → ¬ (t ≡ true) → cond t (Some kind_of_violation.Indefinite) None ≡ None
+  definite_again t never = test_kept t kind_of_violation.Indefinite never
 
-  simple_first : (n : ℕ) (c : List ℕ) → n < 24 → two_byte_breach ((224 + n) ∷ c) ≡ None
+  simple_first : (n : ℕ) (c : List ℕ) → n < 24 → two_byte_violation ((224 + n) ∷ c) ≡ None
   simple_first n [] lt = refl
   simple_first n (m ∷ c) lt =
       let other : ¬ (224 + n ≡ 0xf8) = λ e. omega arith in rw (ne_eqb (224 + n) 0xf8 other) refl
 
   -- a number alone
   number_alone : (major n : ℕ) (w : IntegerWidth) (b c : List ℕ) (h : ItemHead) → major ≤ 7
-      → HeadThen major n w b (λ r. r ≡ c) → head_of major (Number n w) ≡ Ok h → head_breach rules level b h c ≡ None
+      → HeadThen major n w b (λ r. r ≡ c) → head_of major (Number n w) ≡ Ok h → head_violation rules level b h c ≡ None
       → kept_body rules total b (kept_item left rules total) (opened h) h c ≡ Ok c
       → kept_item (suc left) rules total b ≡ Ok c
   number_alone major n w b c h le is e none body =
@@ -197,10 +197,10 @@ module _ (rules : Rules) (total level left : ℕ) (sum : level + suc left ≡ 12
       number_alone 7 n Zero (x ++ c) c (item_head.Simple n) (omega arith)
       (h.0, c, ap (λ (y : List ℕ). y ++ c) h.1, refl) refl
       (simple_again rules n (x ++ c)
-      (subst (λ (y : List ℕ). two_byte_breach (y ++ c) ≡ None) (sym h.1) (simple_first n c h.0)) keeps) refl
+      (subst (λ (y : List ℕ). two_byte_violation (y ++ c) ≡ None) (sym h.1) (simple_first n c h.0)) keeps) refl
   atom_again (simple n) x c (inr h) keeps =
       let least : 32 ≤ n = elim keeps.0 [ inl lt ↦ absurd (omega arith) | inr le ↦ le ] in
       number_alone 7 n Eight (x ++ c) c (item_head.Simple n) (omega arith)
       (h.1, c, ap (λ (y : List ℕ). y ++ c) h.2 ∙ ap (λ (y : List ℕ). 0xf8 ∷ (y ++ c)) (sym (byte_of n h.1)), refl) refl
       (simple_again rules n (x ++ c)
-      (subst (λ (y : List ℕ). two_byte_breach (y ++ c) ≡ None) (sym h.2) (rw (le-ltb n 32 least) refl)) keeps) refl
+      (subst (λ (y : List ℕ). two_byte_violation (y ++ c) ≡ None) (sym h.2) (rw (le-ltb n 32 least) refl)) keeps) refl

@@ -1,4 +1,4 @@
--- Containers that keep the rules are read without a breach, and so are items one after the other.
+-- Containers that keep the rules are read without a violation, and so are items one after the other.
 use Rattle.std.proofs.Common.{◌≡◌, ℕ, zero, suc, ◌+◌, ◌<◌, ◌≤◌, Bool, true, false, cond, ltb, List, []}
 use Rattle.std.proofs.Common.{◌∷◌, ◌++◌, length, Option, Some, None, Ok, refl, sym, ap, subst, ◌∙◌}
 use Rattle.std.proofs.Common.{append_assoc, arith}
@@ -21,13 +21,13 @@ use Rattle.cbor_grammar.proofs.bytes.FoundAgain.{spelled_begins, spelled_level, 
 use Rattle.cbor_grammar.proofs.bytes.Sizes.{one_byte}
 use Rattle.cbor_grammar.proofs.bytes.Strict.{strict_any, strict_only}
 use Rattle.cbor_rules.specs.declared.rules.Rules.{Rules}
-use Rattle.cbor_rules.specs.declared.kind.BreachKind.TheVariants as kind
-use Rattle.cbor_rules.specs.FirstBreach.{Kept, kept_then, KeyAt, Open, members, pairs, value, after_end, front}
-use Rattle.cbor_rules.specs.FirstBreach.{number_breach, tag_breach, breach_or_else, argument_breach, container_breach}
-use Rattle.cbor_rules.specs.FirstBreach.{compared, order_breach, twice_breach, key_breach, after_part, unless}
-use Rattle.cbor_rules.specs.FirstBreach.{Places, no_places, with_key, key_at}
-use Rattle.cbor_rules.specs.FirstBreach.{ended_or, kept_parts, kept_item, breach_or, breach_from}
-use Rattle.cbor_rules.specs.FirstBreach.{first_breach}
+use Rattle.cbor_rules.specs.declared.kind.ViolationKind.TheVariants as kind
+use Rattle.cbor_rules.specs.FirstViolation.{Kept, kept_then, KeyAt, Open, members, pairs, value, after_end, front}
+use Rattle.cbor_rules.specs.FirstViolation.{number_violation, tag_violation, violation_or_else, argument_violation, container_violation}
+use Rattle.cbor_rules.specs.FirstViolation.{compared, order_violation, twice_violation, key_violation, after_part, unless}
+use Rattle.cbor_rules.specs.FirstViolation.{Places, no_places, with_key, key_at}
+use Rattle.cbor_rules.specs.FirstViolation.{ended_or, kept_parts, kept_item, violation_or, violation_from}
+use Rattle.cbor_rules.specs.FirstViolation.{first_violation}
 use Rattle.cbor_rules.specs.KeyOrder.{key_cmp}
 use Rattle.cbor_rules.specs.Keeps.{KeepsCount, KeysAfter, Keeps, KeepsItems, KeepsPairs}
 use Rattle.cbor_rules.specs.Keeps.{KeepsRules}
@@ -49,14 +49,14 @@ last_kept true x y on none = none
 last_kept false x y on none = absurd cc
 
 count_kept : (rules : Rules) (n : ℕ) (w : Option IntegerWidth) → KeepsCount rules n w
-    → argument_breach rules (counted w n) ≡ None
+    → argument_violation rules (counted w n) ≡ None
 count_kept rules n (Some w) keeps = number_again rules n w keeps
 count_kept rules n None keeps = test_kept rules.definite_lengths kind.Indefinite keeps
 
 container_kept : (rules : Rules) (level n : ℕ) (w : Option IntegerWidth) → level ≤ rules.deepest → KeepsCount rules n w
-    → container_breach rules level (counted w n) ≡ None
+    → container_violation rules level (counted w n) ≡ None
 container_kept rules level n w le keeps =
-    some_kept (ltb rules.deepest level) kind.TooDeep (argument_breach rules (counted w n))
+    some_kept (ltb rules.deepest level) kind.TooDeep (argument_violation rules (counted w n))
     (le-ltb rules.deepest level le) (count_kept rules n w keeps)
 
 is_counted : (w : Option IntegerWidth) (n : ℕ) → CountIs (counted w n) n
@@ -109,7 +109,7 @@ next_is b x r rest e = ap (λ (y : List ℕ). y ++ rest) e ∙ append_assoc x r 
 
 order_kept : (rules : Rules) (last : Option KeyAt) (x s : List ℕ) (level : ℕ) (k v : Item) (ps : Pairs)
     → Spells strict level x k → KeysOk rules last (pair k v ps)
-    → (order_breach rules last (front (x ++ s) s) ≡ None) × KeysAfter rules.key_order (front (x ++ s) s) ps
+    → (order_violation rules last (front (x ++ s) s) ≡ None) × KeysAfter rules.key_order (front (x ++ s) s) ps
 order_kept rules None x s level k v ps spells keys =
     let is = sym (front_is x s (x ++ s) refl ∙ strict_only level x k spells) in
     (refl, subst (λ (key : List ℕ). KeysAfter rules.key_order key ps) is keys)
@@ -121,7 +121,7 @@ order_kept rules (Some last) x s level k v ps spells keys =
 -- what a key that keeps the rules leaves to the keys after it
 record KeyKept (rules : Rules) (total : ℕ) (last : Option KeyAt) (seen : Places) (b r : List ℕ) (ps : Pairs)
     : Type 0 where
-  pub none : key_breach rules last seen (front b r) ≡ None
+  pub none : key_violation rules last seen (front b r) ≡ None
   pub after : KeysAfter rules.key_order (front b r) ps
   pub fresh : KeysFresh rules (with_key rules (key_at total b r) seen) ps
 
@@ -133,7 +133,7 @@ key_kept rules total last seen x s level k v ps spells keys fresh =
     let key = key_at total (x ++ s) s in
     let is = front_is x s (x ++ s) refl ∙ strict_only level x k spells in
     record {
-      none = ap (λ q. breach_or_else q (twice_breach rules seen key.bytes)) o.0
+      none = ap (λ q. violation_or_else q (twice_violation rules seen key.bytes)) o.0
           ∙ fresh_first rules seen key k v ps is fresh;
       after = o.1;
       fresh = fresh_rest rules seen key k v ps is fresh;
@@ -180,8 +180,8 @@ mutual
       let long : 0 < length r = omega (arith, length-append inner c) in
       by_head rules total level left sum (x ++ c) r (item_head.Tag t w)
       (head_again 6 (Number t w) (item_head.Tag t w) (x ++ c) r (omega arith) is (tag_head t w))
-      (last_kept rules.tags kind.Tag (breach_or_else (number_breach rules t w) (tag_breach rules t r)) keeps.0
-      (ap (λ k. breach_or_else k (tag_breach rules t r)) (number_again rules t w keeps.1)
+      (last_kept rules.tags kind.Tag (violation_or_else (number_violation rules t w) (tag_violation rules t r)) keeps.0
+      (ap (λ k. violation_or_else k (tag_violation rules t r)) (number_again rules t w keeps.1)
       ∙ big_again rules t i (level + 1) inner c h.1.3 keeps.2))
       ∙ parts_more (suc (length r)) (length r) rules total (kept_item left rules total) (members (Number 1 Zero))
       (members (Number 0 Zero)) r c refl refl
@@ -250,16 +250,16 @@ mutual
 -- ---- items one after the other
 
 items_again : (is : Items) (n : ℕ) (rules : Rules) (total : ℕ) (b : List ℕ) → SpellsItems strict 1 b is []
-    → KeepsItems rules 1 is → breach_from n rules total b ≡ None
-unfolding breach_from
+    → KeepsItems rules 1 is → violation_from n rules total b ≡ None
+unfolding violation_from
 items_again is zero rules total b h keeps = refl
 items_again is (suc n) rules total [] h keeps = refl
 items_again no_items (suc n) rules total (first ∷ b) h keeps = absurd cc
 items_again (item i is) (suc n) rules total (first ∷ b) h keeps =
-    ap (λ x. breach_or (kept_item deepest rules total x) (breach_from n rules total)) h.2
-    ∙ ap (λ q. breach_or q (breach_from n rules total))
+    ap (λ x. violation_or (kept_item deepest rules total x) (violation_from n rules total)) h.2
+    ∙ ap (λ q. violation_or q (violation_from n rules total))
     (item_again i rules total 1 deepest h.0 h.1 refl h.3 keeps.0)
     ∙ items_again is n rules total h.1 h.4 keeps.1
 
-pub rules_again : (rules : Rules) (b : List ℕ) → KeepsRules rules b → first_breach rules b ≡ None
+pub rules_again : (rules : Rules) (b : List ℕ) → KeepsRules rules b → first_violation rules b ≡ None
 rules_again rules b h = items_again h.0 (length b) rules (length b) b h.1 h.2

@@ -18,9 +18,9 @@ use Rattle.cbor_grammar.specs.Reading.{Read, read_head, head_of}
 use Rattle.cbor_grammar.proofs.bytes.Heads.{byte_of, head_append, head_again}
 use Rattle.cbor_grammar.proofs.bytes.FoundAgain.{head_behind}
 use Rattle.cbor_rules.specs.declared.rules.Rules.{Rules}
-use Rattle.cbor_rules.specs.declared.kind.BreachKind.{BreachKind}
-use Rattle.cbor_rules.specs.declared.kind.BreachKind.TheVariants as kind
-use Rattle.cbor_rules.specs.FirstBreach.{content_breach, big_breach, tag_breach}
+use Rattle.cbor_rules.specs.declared.kind.ViolationKind.{ViolationKind}
+use Rattle.cbor_rules.specs.declared.kind.ViolationKind.TheVariants as kind
+use Rattle.cbor_rules.specs.FirstViolation.{content_violation, big_violation, tag_violation}
 use Rattle.cbor_rules.specs.Keeps.{IsBigContent, KeepsTag}
 use Rattle.cbor_rules.proofs.Heads.{some_first}
 use Rattle.cbor_rules.proofs.Opens.{counted, opens, array_head, map_head, tag_head}
@@ -28,7 +28,7 @@ use Rattle.cbor_rules.proofs.Again.{string_read}
 
 -- ---- the content
 
-content_found : (bytes rest : List ℕ) → content_breach (length bytes) (bytes ++ rest) ≡ None
+content_found : (bytes rest : List ℕ) → content_violation (length bytes) (bytes ++ rest) ≡ None
     → (8 < length bytes) × (get_or bytes 0 0 ≢ 0)
 content_found [] [] e = absurd cc
 content_found [] (first ∷ rest) e = absurd cc
@@ -39,14 +39,14 @@ content_found (first ∷ bytes) rest e =
     (ltb-false n 9 long.0, λ zero_first. true≢false (sym (eq-eqb first 0 zero_first) ∙ other.0))
 
 content_again : (bytes rest : List ℕ) → 8 < length bytes → get_or bytes 0 0 ≢ 0
-    → content_breach (length bytes) (bytes ++ rest) ≡ None
+    → content_violation (length bytes) (bytes ++ rest) ≡ None
 content_again [] rest long other = absurd (omega arith)
 content_again (first ∷ bytes) rest long other =
     rw (le-ltb (length (first ∷ bytes)) 9 long, ne_eqb first 0 other) refl
 
 -- ---- the tag
 
-tag_on : (s : Bool) (t : ℕ) (x : Option BreachKind) → cond (s && (eqb t 2 || eqb t 3)) x None ≡ None → s ≡ true
+tag_on : (s : Bool) (t : ℕ) (x : Option ViolationKind) → cond (s && (eqb t 2 || eqb t 3)) x None ≡ None → s ≡ true
     → (t ≡ 2) ⊎ (t ≡ 3) → x ≡ None
 tag_on s t x e on (inl is) = rw (on, is) at e
 tag_on s t x e on (inr is) = rw (on, is) at e
@@ -61,7 +61,7 @@ tag_ways t =
       ]
     ]
 
-tag_kept : (s : Bool) (t : ℕ) (x : Option BreachKind) → (s ≡ true → (t ≡ 2) ⊎ (t ≡ 3) → x ≡ None)
+tag_kept : (s : Bool) (t : ℕ) (x : Option ViolationKind) → (s ≡ true → (t ≡ 2) ⊎ (t ≡ 3) → x ≡ None)
     → cond (s && (eqb t 2 || eqb t 3)) x None ≡ None
 tag_kept false t x keeps = refl
 tag_kept true t x keeps =
@@ -75,13 +75,13 @@ tag_kept true t x keeps =
     same false none = refl
 
 pub big_found : (rules : Rules) (t : ℕ) (i : Item) (level : ℕ) (x c : List ℕ) → Spells strict level x i
-    → tag_breach rules t (x ++ c) ≡ None → KeepsTag rules t i
+    → tag_violation rules t (x ++ c) ≡ None → KeepsTag rules t i
 big_found rules t i level x c h e = λ on is.
-    content i h (tag_on rules.big_numbers t (big_breach (read_head (x ++ c))) e on is)
+    content i h (tag_on rules.big_numbers t (big_violation (read_head (x ++ c))) e on is)
   where
-    content : (i : Item) → Spells strict level x i → big_breach (read_head (x ++ c)) ≡ None → IsBigContent i
+    content : (i : Item) → Spells strict level x i → big_violation (read_head (x ++ c)) ≡ None → IsBigContent i
     content (atom (string Bytes k)) h none =
-        content_found k.bytes c (sym (ap big_breach (string_read Bytes k x c h.1)) ∙ none)
+        content_found k.bytes c (sym (ap big_violation (string_read Bytes k x c h.1)) ∙ none)
     content i h none = tt
 
 -- The head of an item that is no byte string of definite length. The function sees no more of it.
@@ -153,22 +153,22 @@ other_read f none (tagged t w i) level x c h other =
     (head_append 6 t w x c (λ y. y ≡ inner) (λ y. y ≡ inner ++ c) (h.1.0, inner, h.1.2, refl)
     (λ y e. ap (λ (z : List ℕ). z ++ c) e)) (tag_head t w)) ∙ none _ _ tt
 
-none_other : (h : ItemHead) (r : List ℕ) → IsOther h → big_breach (Ok (h, r)) ≡ None
+none_other : (h : ItemHead) (r : List ℕ) → IsOther h → big_violation (Ok (h, r)) ≡ None
 none_other (item_head.String Bytes (Number n w)) r other = absurd other
 none_other h r other = refl
 
 big_kept : (i : Item) (level : ℕ) (x c : List ℕ) → Spells strict level x i → IsBigContent i
-    → big_breach (read_head (x ++ c)) ≡ None
+    → big_violation (read_head (x ++ c)) ≡ None
 big_kept i level x c h big =
     elim (bytes_or_not i) [
       | inl is ↦
           let s = subst (λ (j : Item). Spells strict level x j) is.1 h in
           let g = subst IsBigContent is.1 big in
-          ap big_breach (string_read Bytes is.0 x c s.1) ∙ content_again is.0.bytes c g.0 g.1
-      | inr other ↦ other_read big_breach none_other i level x c h other
+          ap big_violation (string_read Bytes is.0 x c s.1) ∙ content_again is.0.bytes c g.0 g.1
+      | inr other ↦ other_read big_violation none_other i level x c h other
     ]
 
 pub big_again : (rules : Rules) (t : ℕ) (i : Item) (level : ℕ) (x c : List ℕ) → Spells strict level x i
-    → KeepsTag rules t i → tag_breach rules t (x ++ c) ≡ None
+    → KeepsTag rules t i → tag_violation rules t (x ++ c) ≡ None
 big_again rules t i level x c h keeps =
-    tag_kept rules.big_numbers t (big_breach (read_head (x ++ c))) (λ on is. big_kept i level x c h (keeps on is))
+    tag_kept rules.big_numbers t (big_violation (read_head (x ++ c))) (λ on is. big_kept i level x c h (keeps on is))

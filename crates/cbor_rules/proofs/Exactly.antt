@@ -1,21 +1,21 @@
--- There is no first breach exactly if the rules are kept.
+-- There is no first violation exactly if the rules are kept.
 use Rattle.std.proofs.Common.{◌≡◌, List, ℕ, Option, None, Result, Ok, Err, sym, ◌∙◌}
 use Rattle.std.specs.Prelude.{IfOk, ◌↔◌}
 use Rattle.cbor_grammar.proofs.bytes.Heads.{IsBytes}
-use Rattle.cbor_rules.specs.declared.kind.Breach.{Breach}
+use Rattle.cbor_rules.specs.declared.kind.Violation.{Violation}
 use Rattle.cbor_rules.specs.declared.rules.Rules.{Rules}
-use Rattle.cbor_rules.specs.FirstBreach.{first_breach}
+use Rattle.cbor_rules.specs.FirstViolation.{first_violation}
 use Rattle.cbor_rules.specs.Keeps.{KeepsRules}
 use Rattle.cbor_rules.proofs.FoundItems.{rules_found}
 use Rattle.cbor_rules.proofs.AgainItems.{rules_again}
 
-pub exactly : (rules : Rules) (b : List ℕ) (result : Option Breach) → IsBytes b → result ≡ first_breach rules b
+pub exactly : (rules : Rules) (b : List ℕ) (result : Option Violation) → IsBytes b → result ≡ first_violation rules b
     → (result ≡ None → KeepsRules rules b) × (KeepsRules rules b → result ≡ None)
 exactly rules b result fits e =
     (λ none. rules_found rules b fits (sym e ∙ none), λ keeps. e ∙ rules_again rules b keeps)
 
 -- of a result, if there was memory for it
-pub exactly_ok : {E : Type 0} (rules : Rules) (b : List ℕ) (result : Result (Option Breach) E) → IsBytes b
-    → IfOk result (λ found. found ≡ first_breach rules b) → IfOk result (λ found. (found ≡ None) ↔ KeepsRules rules b)
+pub exactly_ok : {E : Type 0} (rules : Rules) (b : List ℕ) (result : Result (Option Violation) E) → IsBytes b
+    → IfOk result (λ found. found ≡ first_violation rules b) → IfOk result (λ found. (found ≡ None) ↔ KeepsRules rules b)
 exactly_ok rules b (Ok found) fits e = exactly rules b found fits e
 exactly_ok rules b (Err stop) fits e = tt

@@ -11,11 +11,11 @@ use Rattle.cbor_floats.specs.Preferred.{shorter}
 use Rattle.cbor_floats.specs.declared.float.EncodedFloat.{EncodedFloat}
 use Rattle.cbor_floats.proofs.Shorter.{none_preferred, preferred_none}
 use Rattle.cbor_rules.specs.declared.rules.Rules.{Rules}
-use Rattle.cbor_rules.specs.FirstBreach.{long_float, float_breach, integer_float, is_usual_nan, nan_breach}
-use Rattle.cbor_rules.specs.FirstBreach.{reduced_breach, breach_or_else}
+use Rattle.cbor_rules.specs.FirstViolation.{long_float, float_violation, integer_float, is_usual_nan, nan_violation}
+use Rattle.cbor_rules.specs.FirstViolation.{reduced_violation, violation_or_else}
 use Rattle.cbor_rules.specs.Keeps.{IsReduced, KeepsFloat}
 use Rattle.cbor_rules.specs.Reduced.{number_of, reduced}
-use Rattle.cbor_rules.specs.declared.kind.BreachKind.TheVariants as kind
+use Rattle.cbor_rules.specs.declared.kind.ViolationKind.TheVariants as kind
 use Rattle.cbor_floats.specs.declared.float.EncodedFloat.TheVariants.{Half, Single, Double}
 use Rattle.cbor_rules.proofs.Heads.{both_none, tested, untested}
 use Rattle.cbor_rules.specs.mirror.Opened.{FloatFits}
@@ -44,31 +44,31 @@ nan_again : (f : EncodedFloat) (n u : Bool) → (n ≡ true → u ≡ true)
 nan_again f false u is = refl
 nan_again f true u is = rw (is refl) refl
 
-pub reduced_found : (f : EncodedFloat) → reduced_breach f ≡ None → IsReduced f
+pub reduced_found : (f : EncodedFloat) → reduced_violation f ≡ None → IsReduced f
 reduced_found f e =
-    let p = both_none (integer_float f (reduced f)) (nan_breach f) e in
+    let p = both_none (integer_float f (reduced f)) (nan_violation f) e in
     (integer_none f (reduced f) p.0, λ on. usual f (nan_found f (is_nan (number_of f)) (is_usual_nan f) p.1 on))
 
-reduced_again : (f : EncodedFloat) → IsReduced f → reduced_breach f ≡ None
+reduced_again : (f : EncodedFloat) → IsReduced f → reduced_violation f ≡ None
 reduced_again f keeps =
-    ap (λ o. breach_or_else (integer_float f o) (nan_breach f)) keeps.0
+    ap (λ o. violation_or_else (integer_float f o) (nan_violation f)) keeps.0
     ∙ nan_again f (is_nan (number_of f)) (is_usual_nan f) (λ on. ap is_usual_nan (keeps.1 on))
 
-pub float_found : (rules : Rules) (f : EncodedFloat) → float_breach rules f ≡ None → KeepsFloat rules f
+pub float_found : (rules : Rules) (f : EncodedFloat) → float_violation rules f ≡ None → KeepsFloat rules f
 float_found rules f e =
-    let reduced = cond rules.reduced_floats (reduced_breach f) None in
+    let reduced = cond rules.reduced_floats (reduced_violation f) None in
     let long = cond rules.shortest_floats (long_float f (shorter f)) None in
     let p = both_none reduced long e in (
-      λ on. reduced_found f (tested rules.reduced_floats (reduced_breach f) on p.0),
+      λ on. reduced_found f (tested rules.reduced_floats (reduced_violation f) on p.0),
       λ on. none_preferred f
           (long_none f (shorter f) (tested rules.shortest_floats (long_float f (shorter f)) on p.1)),
     )
 
-pub float_again : (rules : Rules) (f : EncodedFloat) → KeepsFloat rules f → float_breach rules f ≡ None
+pub float_again : (rules : Rules) (f : EncodedFloat) → KeepsFloat rules f → float_violation rules f ≡ None
 float_again rules f keeps =
     let long = cond rules.shortest_floats (long_float f (shorter f)) None in
-    ap (λ k. breach_or_else k long)
-    (untested rules.reduced_floats (reduced_breach f) (λ on. reduced_again f (keeps.0 on)))
+    ap (λ k. violation_or_else k long)
+    (untested rules.reduced_floats (reduced_violation f) (λ on. reduced_again f (keeps.0 on)))
     ∙ untested rules.shortest_floats (long_float f (shorter f))
     (λ on. ap (long_float f) (preferred_none f (keeps.1 on)))
 

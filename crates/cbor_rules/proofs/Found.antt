@@ -1,4 +1,4 @@
--- Bytes that were read without a breach are an item that keeps the rules.
+-- Bytes that were read without a violation are an item that keeps the rules.
 use Rattle.std.proofs.Common.{◌≡◌, ℕ, zero, suc, ◌+◌, ◌/◌, ◌%◌, ◌≤◌, Bool, true, cond, ltb, List}
 use Rattle.std.proofs.Common.{[], ◌∷◌, ◌++◌, length, take, drop, Option, Some, None, Ok, Err, inl, inr, refl, sym, ap}
 use Rattle.std.proofs.Common.{subst, ◌∙◌, arith}
@@ -30,11 +30,11 @@ use Rattle.cbor_bytes.specs.mirror.Skipping.{rest_of}
 use Rattle.cbor_rules.specs.declared.rules.Rules.{Rules}
 use Rattle.cbor_rules.specs.declared.check.Chunk as code_chunk
 use Rattle.cbor_rules.specs.declared.check.Chunk.TheVariants as code
-use Rattle.cbor_rules.specs.declared.kind.BreachKind.TheVariants as kind_of_breach
-use Rattle.cbor_rules.specs.FirstBreach.{kept_then, opened}
-use Rattle.cbor_rules.specs.FirstBreach.{head_breach, number_breach, at, unless, chunk_content}
-use Rattle.cbor_rules.specs.FirstBreach.{kept_chunk, kept_chunks, chunks_after, kept_atom, simple_breach}
-use Rattle.cbor_rules.specs.FirstBreach.{kept_content, text_breach}
+use Rattle.cbor_rules.specs.declared.kind.ViolationKind.TheVariants as kind_of_violation
+use Rattle.cbor_rules.specs.FirstViolation.{kept_then, opened}
+use Rattle.cbor_rules.specs.FirstViolation.{head_violation, number_violation, at, unless, chunk_content}
+use Rattle.cbor_rules.specs.FirstViolation.{kept_chunk, kept_chunks, chunks_after, kept_atom, simple_violation}
+use Rattle.cbor_rules.specs.FirstViolation.{kept_content, text_violation}
 use Rattle.cbor_rules.proofs.Texts.{text_found, content_kept}
 use Rattle.cbor_rules.specs.Keeps.{float_of, KeepsChunk, KeepsAtom, Keeps}
 use Rattle.cbor_rules.proofs.Floats.{float_found}
@@ -136,9 +136,9 @@ chunk_found rules total kind b r None x fits len e =
     subst (λ (p : code_chunk.Chunk × List ℕ). OneFound rules kind b p.0 p.1) (kept_is (code.Break, r) x e)
     (is, IsBytes-rest break_byte r (subst IsBytes is fits))
 chunk_found rules total kind b r (Some n) x fits len e =
-    let u = then_kept (unless total b (number_breach rules n.0 n.1) r)
+    let u = then_kept (unless total b (number_violation rules n.0 n.1) r)
     (λ r. kept_then (kept_content rules total b kind n.0 n.1 r) (λ after. Ok (code.Content, after))) x e in
-    let none = unless_kept total b (number_breach rules n.0 n.1) r u.0 u.1 in
+    let none = unless_kept total b (number_violation rules n.0 n.1) r u.0 u.1 in
     let t = then_kept (kept_content rules total b kind n.0 n.1 u.0) (λ after. Ok (code.Content, after)) x u.2 in
     let k = content_kept rules total b kind n.0 n.1 u.0 t.0 t.1 in
     let c = content_read (read_content kind n.0 n.1 u.0) t.0 k.0 in
@@ -149,9 +149,9 @@ chunk_found rules total kind b r (Some n) x fits len e =
     ∙ ap (λ q. ◌>>=◌ q (λ c. Ok (Some c.0, c.1))) its_content in
     let takes = chunk_takes kind b t.0 c.0 fits read in
     let is = content_width kind n.0 n.1 r t.0 c.0 its_content in
-    let short : number_breach rules (length c.0.bytes) c.0.width ≡ None = rw (is.0, is.1) none.0 in
+    let short : number_violation rules (length c.0.bytes) c.0.width ≡ None = rw (is.0, is.1) none.0 in
     let bytes : take n.0 u.0 ≡ c.0.bytes = ap (λ (y : List ℕ). take n.0 y) (sym none.1) ∙ is.2 in
-    let text = text_found rules kind c.0.bytes (subst (λ (y : List ℕ). text_breach rules kind y ≡ None) bytes k.1) in
+    let text = text_found rules kind c.0.bytes (subst (λ (y : List ℕ). text_violation rules kind y ≡ None) bytes k.1) in
     subst (λ (p : code_chunk.Chunk × List ℕ). OneFound rules kind b p.0 p.1) (kept_is (code.Content, t.0) x t.2)
     (c.0, takes.0, (number_found rules (length c.0.bytes) c.0.width takes.0.1.0 short, text), takes.1)
 
@@ -196,8 +196,8 @@ chunks_found (suc n) rules total kind b rest fits e =
 
 -- ---- items without parts
 
-pub definite_found : (t : Bool) → cond t (Some kind_of_breach.Indefinite) None ≡ None → ¬ (t ≡ true)
-definite_found t e = let off = test_none t kind_of_breach.Indefinite e in λ on. absurd cc
+pub definite_found : (t : Bool) → cond t (Some kind_of_violation.Indefinite) None ≡ None → ¬ (t ≡ true)
+definite_found t e = let off = test_none t kind_of_violation.Indefinite e in λ on. absurd cc
 
 module _ (rules : Rules) (total level left : ℕ) (b r rest : List ℕ) (sum : level + suc left ≡ 129)
     (fits : IsBytes b) where
@@ -216,27 +216,27 @@ module _ (rules : Rules) (total level left : ℕ) (b r rest : List ℕ) (sum : l
         rest_bytes = s.rest_bytes;
       }
 
-  pub atom_found : (h : ItemHead) → read_head b ≡ Ok (h, r) → head_breach rules level b h r ≡ None → opened h ≡ None
+  pub atom_found : (h : ItemHead) → read_head b ≡ Ok (h, r) → head_violation rules level b h r ≡ None → opened h ≡ None
       → kept_atom rules total b h r ≡ Ok rest → Found rules level b rest
-  atom_found (item_head.Integer n w) head breach none e =
+  atom_found (item_head.Integer n w) head violation none e =
       made (integer n w)
       (by_head left b r (item_head.Integer n w) head ∙ ap (λ x. Ok (atom (integer n w), x)) (kept_is r rest e))
-      (λ s. (s.spells.1, number_found rules n w s.spells.1.0 breach))
-  atom_found (item_head.Negative n w) head breach none e =
+      (λ s. (s.spells.1, number_found rules n w s.spells.1.0 violation))
+  atom_found (item_head.Negative n w) head violation none e =
       made (negative n w)
       (by_head left b r (item_head.Negative n w) head ∙ ap (λ x. Ok (atom (negative n w), x)) (kept_is r rest e))
-      (λ s. (s.spells.1, number_found rules n w s.spells.1.0 breach))
-  atom_found (item_head.String kind (Number n w)) head breach none e =
+      (λ s. (s.spells.1, number_found rules n w s.spells.1.0 violation))
+  atom_found (item_head.String kind (Number n w)) head violation none e =
       let k = content_kept rules total b kind n w r rest e in
       let c = content_read (read_content kind n w r) rest k.0 in
       let is = content_width kind n w r rest c.0 c.1 in
-      let short : number_breach rules (length c.0.bytes) c.0.width ≡ None = rw (is.0, is.1) breach in
-      let text = text_found rules kind c.0.bytes (subst (λ (y : List ℕ). text_breach rules kind y ≡ None) is.2 k.1) in
+      let short : number_violation rules (length c.0.bytes) c.0.width ≡ None = rw (is.0, is.1) violation in
+      let text = text_found rules kind c.0.bytes (subst (λ (y : List ℕ). text_violation rules kind y ≡ None) is.2 k.1) in
       made (string kind c.0)
       (by_head left b r (item_head.String kind (Number n w)) head
       ∙ ap (λ q. ◌>>=◌ q (λ c. Ok (atom (string kind c.0), c.1))) c.1)
       (λ s. (s.spells.1, (number_found rules (length c.0.bytes) c.0.width s.spells.1.1.0 short, text)))
-  atom_found (item_head.String kind Indefinite) head breach none e =
+  atom_found (item_head.String kind Indefinite) head violation none e =
       let is = head_takes b r (item_head.String kind Indefinite) fits head in
       let cs = chunks_found (suc (length r)) rules total kind r rest is.1 e in
       let f = chunks_front kind cs.chunks r (break_byte ∷ []) rest cs.spells in
@@ -245,18 +245,18 @@ module _ (rules : Rules) (total level left : ℕ) (b r rest : List ℕ) (sum : l
         front = opening (major_of kind) ∷ f.0;
         parts = is.0 ∙ ap (λ (x : List ℕ). opening (major_of kind) ∷ x) f.1;
         spells = (omega arith, (f.0, refl, f.2));
-        keeps = (definite_found rules.definite_lengths breach, cs.keeps);
+        keeps = (definite_found rules.definite_lengths violation, cs.keeps);
         rest_bytes = cs.rest_bytes;
       }
-  atom_found (item_head.Float bits w) head breach none e =
+  atom_found (item_head.Float bits w) head violation none e =
       made (float bits w)
       (by_head left b r (item_head.Float bits w) head ∙ ap (λ x. Ok (atom (float bits w), x)) (kept_is r rest e))
-      (λ s. (s.spells.1, float_found rules (float_of bits w) breach))
-  atom_found (item_head.Simple n) head breach none e =
+      (λ s. (s.spells.1, float_found rules (float_of bits w) violation))
+  atom_found (item_head.Simple n) head violation none e =
       made (simple n)
       (by_head left b r (item_head.Simple n) head ∙ ap (λ x. Ok (atom (simple n), x)) (kept_is r rest e))
       (λ s. simple_found rules n s.front rest s.spells.1
-      (subst (λ x. simple_breach rules n x ≡ None) s.parts breach))
-  atom_found (item_head.Array a) head breach none e = absurd cc
-  atom_found (item_head.Map a) head breach none e = absurd cc
-  atom_found (item_head.Tag n w) head breach none e = absurd cc
+      (subst (λ x. simple_violation rules n x ≡ None) s.parts violation))
+  atom_found (item_head.Array a) head violation none e = absurd cc
+  atom_found (item_head.Map a) head violation none e = absurd cc
+  atom_found (item_head.Tag n w) head violation none e = absurd cc

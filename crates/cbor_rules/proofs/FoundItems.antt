@@ -1,4 +1,4 @@
--- Items that were read without a breach keep the rules.
+-- Items that were read without a violation keep the rules.
 use Rattle.std.proofs.Common.{◌≡◌, ℕ, zero, suc, ◌+◌, ◌-◌, ◌≤◌, Bool, true, false, cond, ltb, List, [], ◌∷◌, ◌++◌}
 use Rattle.std.proofs.Common.{length, Option, Some, None, Ok, Err, refl, sym, ap, subst, ◌∙◌, append_assoc, arith}
 use Rattle.std.proofs.lemmas.Bool.{ltb-false}
@@ -18,12 +18,12 @@ use Rattle.cbor_grammar.proofs.bytes.Heads.{IsBytes, ArgumentThen, head_takes}
 use Rattle.cbor_grammar.proofs.bytes.Strict.{strict_any}
 use Rattle.cbor_grammar.proofs.bytes.Sizes.{one_byte}
 use Rattle.cbor_rules.specs.declared.rules.Rules.{Rules}
-use Rattle.cbor_rules.specs.declared.kind.BreachKind.TheVariants as kind
-use Rattle.cbor_rules.specs.declared.kind.Breach.{Breach}
-use Rattle.cbor_rules.specs.FirstBreach.{Kept, opened, kept_head, head_breach, number_breach}
-use Rattle.cbor_rules.specs.FirstBreach.{tag_breach, breach_or_else, no_places}
-use Rattle.cbor_rules.specs.FirstBreach.{argument_breach, at, unless, kept_body, kept_item}
-use Rattle.cbor_rules.specs.FirstBreach.{breach_or, breach_from, first_breach}
+use Rattle.cbor_rules.specs.declared.kind.ViolationKind.TheVariants as kind
+use Rattle.cbor_rules.specs.declared.kind.Violation.{Violation}
+use Rattle.cbor_rules.specs.FirstViolation.{Kept, opened, kept_head, head_violation, number_violation}
+use Rattle.cbor_rules.specs.FirstViolation.{tag_violation, violation_or_else, no_places}
+use Rattle.cbor_rules.specs.FirstViolation.{argument_violation, at, unless, kept_body, kept_item}
+use Rattle.cbor_rules.specs.FirstViolation.{violation_or, violation_from, first_violation}
 use Rattle.cbor_rules.specs.Keeps.{KeepsNumber, KeepsCount, KeepsItems, KeepsRules}
 use Rattle.cbor_rules.proofs.Heads.{then_kept, unless_kept, at_kept, some_first, both_none, number_found}
 use Rattle.cbor_rules.proofs.BigNumbers.{big_found}
@@ -61,7 +61,7 @@ some_last true x y e = (refl, e)
 some_last false x y e = absurd cc
 
 count_found : (rules : Rules) (major k : ℕ) (a : Argument) (b r : List ℕ) → ArgumentThen major a b r → CountIs a k
-    → argument_breach rules a ≡ None → KeepsCount rules k (count_width a)
+    → argument_violation rules a ≡ None → KeepsCount rules k (count_width a)
 count_found rules major k (Number n w) b r is count e =
     subst (λ j. KeepsNumber rules j w) count (number_found rules n w is.0 e)
 count_found rules major k Indefinite b r is count e = definite_found rules.definite_lengths e
@@ -91,13 +91,13 @@ module _ (rules : Rules) (total level left : ℕ) (b r rest : List ℕ) (sum : l
     (fits : IsBytes b) where
   body_found : (read : List ℕ → Kept (List ℕ))
       → ((c d : List ℕ) → IsBytes c → read c ≡ Ok d → Found rules (level + 1) c d)
-      → (h : ItemHead) → read_head b ≡ Ok (h, r) → head_breach rules level b h r ≡ None
+      → (h : ItemHead) → read_head b ≡ Ok (h, r) → head_violation rules level b h r ≡ None
       → kept_body rules total b read (opened h) h r ≡ Ok rest → Found rules level b rest
   body_found read finds (item_head.Array a) reads none e =
       let is = head_takes b r (item_head.Array a) fits reads in
       let m = members_found rules total (level + 1) read finds (suc (length r)) a r rest is.1 e in
       let k = item_count m.items in
-      let its_head = some_first (ltb rules.deepest level) kind.TooDeep (argument_breach rules a) none in
+      let its_head = some_first (ltb rules.deepest level) kind.TooDeep (argument_violation rules a) none in
       let w = whole 4 k a b r m.front rest (λ x end. SpellsItems strict (level + 1) x m.items end) is.0 m.parts m.count
       m.spells in
       record {
@@ -116,7 +116,7 @@ module _ (rules : Rules) (total level left : ℕ) (b r rest : List ℕ) (sum : l
       let is = head_takes b r (item_head.Map a) fits reads in
       let m = pairs_found rules total (level + 1) read finds (suc (length r)) None no_places a r rest is.1 e in
       let k = pair_count m.pairs in
-      let its_head = some_first (ltb rules.deepest level) kind.TooDeep (argument_breach rules a) none in
+      let its_head = some_first (ltb rules.deepest level) kind.TooDeep (argument_violation rules a) none in
       let w = whole 5 k a b r m.front rest (λ x end. SpellsPairs strict (level + 1) x m.pairs end) is.0 m.parts m.count
       m.spells in
       record {
@@ -138,10 +138,10 @@ module _ (rules : Rules) (total level left : ℕ) (b r rest : List ℕ) (sum : l
       let f = one_item rules (level + 1) r rest
       (members_found rules total (level + 1) read finds (suc (length r)) (Number 1 Zero) r rest is.1 e) in
       let tag_none = some_last rules.tags kind.Tag
-      (breach_or_else (number_breach rules n w) (tag_breach rules n r)) none in
-      let its_head = both_none (number_breach rules n w) (tag_breach rules n r) tag_none.1 in
+      (violation_or_else (number_violation rules n w) (tag_violation rules n r)) none in
+      let its_head = both_none (number_violation rules n w) (tag_violation rules n r) tag_none.1 in
       let big = big_found rules n f.item (level + 1) f.front rest f.spells
-      (subst (λ (y : List ℕ). tag_breach rules n y ≡ None) f.parts its_head.1) in
+      (subst (λ (y : List ℕ). tag_violation rules n y ≡ None) f.parts its_head.1) in
       let tag = head 6 n w in
       record {
         item = tagged n w f.item;
@@ -170,11 +170,11 @@ item_found (suc left) rules total level b rest sum fits e =
     let t = then_kept (kept_head rules total (deepest - left) b)
     (λ h. kept_body rules total b (kept_item left rules total) (opened h.0) h.0 h.1) rest e in
     let a = then_kept (at total b (read_head b))
-    (λ h. unless total b (head_breach rules (deepest - left) b h.0 h.1) h) t.0
+    (λ h. unless total b (head_violation rules (deepest - left) b h.0 h.1) h) t.0
     t.1 in
-    let u = unless_kept total b (head_breach rules (deepest - left) b a.0.0 a.0.1) a.0 t.0 a.2 in
+    let u = unless_kept total b (head_violation rules (deepest - left) b a.0.0 a.0.1) a.0 t.0 a.2 in
     let here : deepest - left ≡ level = omega arith in
-    let none = subst (λ k. head_breach rules k b a.0.0 a.0.1 ≡ None) here u.0 in
+    let none = subst (λ k. head_violation rules k b a.0.0 a.0.1 ≡ None) here u.0 in
     let body = subst (λ (h : ItemHead × List ℕ).
     kept_body rules total b (kept_item left rules total) (opened h.0) h.0 h.1 ≡ Ok rest) (sym u.1) t.2 in
     body_found rules total level left b a.0.1 rest sum fits (kept_item left rules total)
@@ -184,23 +184,23 @@ item_found (suc left) rules total level b rest sum fits e =
 -- ---- items one after the other
 
 items_found : (n : ℕ) (rules : Rules) (total : ℕ) (b : List ℕ) → length b ≤ n → IsBytes b
-    → breach_from n rules total b ≡ None → KeepsRules rules b
-unfolding breach_from
+    → violation_from n rules total b ≡ None → KeepsRules rules b
+unfolding violation_from
 items_found zero rules total [] le fits e = (no_items, refl, tt)
 items_found (suc n) rules total [] le fits e = (no_items, refl, tt)
 items_found zero rules total (first ∷ b) le fits e = absurd (omega arith)
 items_found (suc n) rules total (first ∷ b) le fits e =
-    let r = none_or (kept_item deepest rules total (first ∷ b)) (breach_from n rules total) e in
+    let r = none_or (kept_item deepest rules total (first ∷ b)) (violation_from n rules total) e in
     let f = item_found deepest rules total 1 (first ∷ b) r.0 (omega arith) fits r.1 in
     let some = one_byte 1 f.front f.item (strict_any 1 f.front f.item f.spells) in
     let shorter : length r.0 ≤ n = omega (arith, ap length f.parts, length-append f.front r.0) in
     let more = items_found n rules total r.0 shorter f.rest_bytes r.2 in
     (item f.item more.0, (f.front, r.0, f.parts, f.spells, more.1), (f.keeps, more.2))
   where
-    none_or : (r : Kept (List ℕ)) (f : List ℕ → Option Breach) → breach_or r f ≡ None
+    none_or : (r : Kept (List ℕ)) (f : List ℕ → Option Violation) → violation_or r f ≡ None
         → (x : List ℕ) × (r ≡ Ok x) × (f x ≡ None)
     none_or (Ok x) f e = (x, refl, e)
     none_or (Err d) f e = absurd cc
 
-pub rules_found : (rules : Rules) (b : List ℕ) → IsBytes b → first_breach rules b ≡ None → KeepsRules rules b
+pub rules_found : (rules : Rules) (b : List ℕ) → IsBytes b → first_violation rules b ≡ None → KeepsRules rules b
 rules_found rules b fits e = items_found (length b) rules (length b) b (omega arith) fits e

@@ -1,4 +1,4 @@
--- Members and pairs that were read without a breach keep the rules.
+-- Members and pairs that were read without a violation keep the rules.
 use Rattle.std.proofs.Common.{◌≡◌, ℕ, zero, suc, ◌-◌, List, [], ◌∷◌, ◌++◌, length, take, Option, Some}
 use Rattle.std.proofs.Common.{None, Ok, inl, inr, refl, sym, ap, subst, ◌∙◌, append_assoc, arith}
 use Rattle.std.proofs.lemmas.List.{length-append}
@@ -14,9 +14,9 @@ use Rattle.cbor_grammar.proofs.bytes.Heads.{IsBytes, IsBytes-rest}
 use Rattle.cbor_grammar.proofs.bytes.Found.{break_ways}
 use Rattle.cbor_grammar.proofs.bytes.Strict.{strict_only}
 use Rattle.cbor_rules.specs.declared.rules.Rules.{Rules}
-use Rattle.cbor_rules.specs.FirstBreach.{Kept, kept_then, KeyAt, Open, members, pairs, value, front, key_breach}
-use Rattle.cbor_rules.specs.FirstBreach.{unless, kept_parts, compared, key_at, Places, with_key}
-use Rattle.cbor_rules.specs.FirstBreach.{order_breach, twice_breach}
+use Rattle.cbor_rules.specs.FirstViolation.{Kept, kept_then, KeyAt, Open, members, pairs, value, front, key_violation}
+use Rattle.cbor_rules.specs.FirstViolation.{unless, kept_parts, compared, key_at, Places, with_key}
+use Rattle.cbor_rules.specs.FirstViolation.{order_violation, twice_violation}
 use Rattle.cbor_rules.specs.KeyOrder.{key_cmp}
 use Rattle.cbor_rules.specs.Keeps.{KeysAfter, KeysInOrder, KeepsItems, KeepsPairs}
 use Rattle.cbor_rules.proofs.Heads.{then_kept, unless_kept, kept_is, both_none}
@@ -154,7 +154,7 @@ module _ (rules : Rules) (total level : ℕ) (read : List ℕ → Kept (List ℕ
   -- ---- pairs
 
   keys_more : (last : Option KeyAt) (b r : List ℕ) (f : Found rules level b r) (v : Item) (ps : Pairs)
-      → order_breach rules last (front b r) ≡ None → KeysAfter rules.key_order (front b r) ps
+      → order_violation rules last (front b r) ≡ None → KeysAfter rules.key_order (front b r) ps
       → KeysOk rules last (pair f.item v ps)
   keys_more None b r f v ps none after =
       let is = front_is f.front r b f.parts ∙ strict_only level f.front f.item f.spells in
@@ -168,7 +168,7 @@ module _ (rules : Rules) (total level : ℕ) (read : List ℕ → Kept (List ℕ
 
   pair_more : (last : Option KeyAt) (seen : Places) (a a' : Argument) (b r rest : List ℕ) → close a' ≡ close a
       → ((k : ℕ) → CountIs a' k → CountIs a (suc k)) → Found rules level b r
-      → key_breach rules last seen (front b r) ≡ None
+      → key_violation rules last seen (front b r) ≡ None
       → FoundValue rules level (key_at total b r) (with_key rules (key_at total b r) seen) a' r rest
       → FoundPairs rules level last seen a b rest
   pair_more last seen a a' b r rest same_end more f none v = record {
@@ -188,10 +188,10 @@ module _ (rules : Rules) (total level : ℕ) (read : List ℕ → Kept (List ℕ
     );
     keeps = (f.keeps, v.found.keeps, v.more.keeps);
     keys = keys_more last b r f v.found.item v.more.pairs
-        (both_none (order_breach rules last (front b r)) (twice_breach rules seen (front b r)) none).0 v.more.keys;
+        (both_none (order_violation rules last (front b r)) (twice_violation rules seen (front b r)) none).0 v.more.keys;
     fresh = fresh_more rules seen (key_at total b r) f.item v.found.item v.more.pairs
         (front_is f.front r b f.parts ∙ strict_only level f.front f.item f.spells)
-        (both_none (order_breach rules last (front b r)) (twice_breach rules seen (front b r)) none).1 v.more.fresh;
+        (both_none (order_violation rules last (front b r)) (twice_violation rules seen (front b r)) none).1 v.more.fresh;
     rest_bytes = v.more.rest_bytes;
   }
 
@@ -201,19 +201,19 @@ module _ (rules : Rules) (total level : ℕ) (read : List ℕ → Kept (List ℕ
       → ((k : ℕ) → CountIs a' k → CountIs a (suc k))
       → ((key : KeyAt) (seen' : Places) (r : List ℕ) → IsBytes r → after (value key seen' a') r ≡ Ok rest
       → FoundValue rules level key seen' a' r rest)
-      → kept_then (read b) (λ r. kept_then (unless total b (key_breach rules last seen (front b r))
+      → kept_then (read b) (λ r. kept_then (unless total b (key_violation rules last seen (front b r))
       (value (key_at total b r) (with_key rules (key_at total b r) seen) a')) (λ p. after p r)) ≡ Ok rest
       → FoundPairs rules level last seen a b rest
   key_found last seen a a' b rest after fits same_end more values e =
-      let t = then_kept (read b) (λ r. kept_then (unless total b (key_breach rules last seen (front b r))
+      let t = then_kept (read b) (λ r. kept_then (unless total b (key_violation rules last seen (front b r))
       (value (key_at total b r) (with_key rules (key_at total b r) seen) a')) (λ p. after p r)) rest e in
       let r = t.0 in
       let key = key_at total b r in
       let seen' = with_key rules key seen in
       let f = finds b r fits t.1 in
-      let breach = key_breach rules last seen (front b r) in
-      let u = then_kept (unless total b breach (value key seen' a')) (λ p. after p r) rest t.2 in
-      let none = unless_kept total b breach (value key seen' a') u.0 u.1 in
+      let violation = key_violation rules last seen (front b r) in
+      let u = then_kept (unless total b violation (value key seen' a')) (λ p. after p r) rest t.2 in
+      let none = unless_kept total b violation (value key seen' a') u.0 u.1 in
       let its_value = subst (λ (p : Open). after p r ≡ Ok rest) (sym none.1) u.2 in
       pair_more last seen a a' b r rest same_end more f none.0 (values key seen' r f.rest_bytes its_value)
 

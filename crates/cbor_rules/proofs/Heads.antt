@@ -10,13 +10,13 @@ use Rattle.cbor_grammar.specs.Head.{FitsStated, shortest}
 use Rattle.cbor_grammar.specs.Bytes.{any, strict, SpellsSimple}
 use Rattle.cbor_grammar.proofs.bytes.Strict.{shortest_has}
 use Rattle.cbor_rules.specs.declared.rules.Rules.{Rules}
-use Rattle.cbor_rules.specs.declared.kind.BreachKind.{BreachKind}
-use Rattle.cbor_rules.specs.declared.kind.BreachKind.TheVariants as kind
-use Rattle.cbor_rules.specs.FirstBreach.{Kept, kept_then, unless, at, is_long, number_breach, simple_breach}
-use Rattle.cbor_rules.specs.FirstBreach.{two_byte_breach, other_breach, breach_or_else}
+use Rattle.cbor_rules.specs.declared.kind.ViolationKind.{ViolationKind}
+use Rattle.cbor_rules.specs.declared.kind.ViolationKind.TheVariants as kind
+use Rattle.cbor_rules.specs.FirstViolation.{Kept, kept_then, unless, at, is_long, number_violation, simple_violation}
+use Rattle.cbor_rules.specs.FirstViolation.{two_byte_violation, other_violation, violation_or_else}
 use Rattle.cbor_rules.specs.Keeps.{KeepsNumber, KeepsSimple}
 
--- ---- what was read without a breach
+-- ---- what was read without a violation
 
 pub then_kept : {X Y : Type 0} (r : Kept X) (f : X → Kept Y) (y : Y) → kept_then r f ≡ Ok y
     → (x : X) × (r ≡ Ok x) × (f x ≡ Ok y)
@@ -26,7 +26,7 @@ then_kept (Err b) f y e = absurd cc
 pub kept_is : {X : Type 0} (x y : X) → ◌≡◌ {A = Kept X} (Ok x) (Ok y) → x ≡ y
 kept_is x y e = cc
 
-pub unless_kept : {X : Type 0} (total : ℕ) (b : List ℕ) (k : Option BreachKind) (x y : X)
+pub unless_kept : {X : Type 0} (total : ℕ) (b : List ℕ) (k : Option ViolationKind) (x y : X)
     → unless total b k x ≡ Ok y → (k ≡ None) × (x ≡ y)
 unless_kept total b None x y e = (refl, cc)
 unless_kept total b (Some k) x y e = absurd cc
@@ -58,7 +58,7 @@ pub untested : {A : Type 0} (t : Bool) (x : Option A) → (t ≡ true → x ≡ 
 untested true x none = none refl
 untested false x none = refl
 
-pub both_none : (x y : Option BreachKind) → breach_or_else x y ≡ None → (x ≡ None) × (y ≡ None)
+pub both_none : (x y : Option ViolationKind) → violation_or_else x y ≡ None → (x ≡ None) × (y ≡ None)
 both_none (Some k) y e = absurd cc
 both_none None y e = (refl, e)
 
@@ -102,12 +102,12 @@ short_test true w n keeps = λ e.
     let short : is_long w n ≡ false = rw (keeps refl) (shortest_false n) in absurd cc
 short_test false w n keeps = λ e. absurd cc
 
-pub number_found : (rules : Rules) (n : ℕ) (w : IntegerWidth) → FitsStated w n → number_breach rules n w ≡ None
+pub number_found : (rules : Rules) (n : ℕ) (w : IntegerWidth) → FitsStated w n → number_violation rules n w ≡ None
     → KeepsNumber rules n w
 number_found rules n w fits e =
     long_test rules.shortest_heads w n fits (test_none (rules.shortest_heads && is_long w n) (kind.LongHead n w) e)
 
-pub number_again : (rules : Rules) (n : ℕ) (w : IntegerWidth) → KeepsNumber rules n w → number_breach rules n w ≡ None
+pub number_again : (rules : Rules) (n : ℕ) (w : IntegerWidth) → KeepsNumber rules n w → number_violation rules n w ≡ None
 number_again rules n w keeps =
     test_kept (rules.shortest_heads && is_long w n) (kind.LongHead n w)
     (short_test rules.shortest_heads w n keeps)
@@ -115,11 +115,11 @@ number_again rules n w keeps =
 -- ---- simple values
 
 -- it takes the bytes that it has to
-strict_found : (n : ℕ) (front rest : List ℕ) → SpellsSimple any front n → two_byte_breach (front ++ rest) ≡ None
+strict_found : (n : ℕ) (front rest : List ℕ) → SpellsSimple any front n → two_byte_violation (front ++ rest) ≡ None
     → SpellsSimple strict front n × ((n < 24) ⊎ (32 ≤ n))
 strict_found n front rest (inl s) e = (inl s, inl s.0)
 strict_found n front rest (inr s) e =
-    let two : two_byte_breach (0xf8 ∷ n ∷ rest) ≡ None = rw s.1 at e in
+    let two : two_byte_violation (0xf8 ∷ n ∷ rest) ≡ None = rw s.1 at e in
     let least : 32 ≤ n = ltb-false n 32 (test_none (ltb n 32) kind.LongSimple two) in
     (inr (omega arith, s.0, s.1), inr least)
 
@@ -142,13 +142,13 @@ other_again false n (inl is) = absurd cc
 other_again false n (inr h) = rw (le-leb 20 n h.0, le-leb n 22 h.1) refl
 
 pub simple_found : (rules : Rules) (n : ℕ) (front rest : List ℕ) → SpellsSimple any front n
-    → simple_breach rules n (front ++ rest) ≡ None → SpellsSimple strict front n × KeepsSimple rules n
+    → simple_violation rules n (front ++ rest) ≡ None → SpellsSimple strict front n × KeepsSimple rules n
 simple_found rules n front rest s e =
-    let p = both_none (two_byte_breach (front ++ rest)) (other_breach rules n) e in
+    let p = both_none (two_byte_violation (front ++ rest)) (other_violation rules n) e in
     let q = strict_found n front rest s p.0 in
     (q.0, (q.1, other_found rules.other_simple n p.1))
 
-pub simple_again : (rules : Rules) (n : ℕ) (b : List ℕ) → two_byte_breach b ≡ None → KeepsSimple rules n
-    → simple_breach rules n b ≡ None
+pub simple_again : (rules : Rules) (n : ℕ) (b : List ℕ) → two_byte_violation b ≡ None → KeepsSimple rules n
+    → simple_violation rules n b ≡ None
 simple_again rules n b none keeps =
-    ap (λ k. breach_or_else k (other_breach rules n)) none ∙ other_again rules.other_simple n keeps.1
+    ap (λ k. violation_or_else k (other_violation rules n)) none ∙ other_again rules.other_simple n keeps.1

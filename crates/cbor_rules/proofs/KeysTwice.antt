@@ -1,4 +1,4 @@
--- Finding a breach: no key that was seen stands again exactly if the keys differ.
+-- Finding a violation: no key that was seen stands again exactly if the keys differ.
 use Rattle.std.proofs.Common.{◌≡◌, ◌≢◌, ℕ, Bool, true, false, cond, List, Option, Some, None, refl, sym, ap, subst, ◌∙◌}
 use Rattle.std.proofs.Common.{true≢false}
 use Rattle.std.proofs.lemmas.Bool.{false_from_ne_true}
@@ -7,7 +7,7 @@ use Rattle.std.specs.Prelude.{bytes_eq}
 use Rattle.cbor_grammar.specs.Item.{Item, Pairs, no_pairs, pair}
 use Rattle.cbor_grammar.specs.Written.{encoded}
 use Rattle.cbor_rules.specs.declared.rules.Rules.{Rules}
-use Rattle.cbor_rules.specs.FirstBreach.{KeyAt, Places, no_places, placed, twice, twice_breach, with_key}
+use Rattle.cbor_rules.specs.FirstViolation.{KeyAt, Places, no_places, placed, twice, twice_violation, with_key}
 use Rattle.cbor_rules.specs.Keeps.{IsNoKey, KeysDiffer}
 use Rattle.cbor_rules.proofs.Heads.{tested, untested}
 
@@ -55,9 +55,9 @@ with_is : (rules : Rules) (x : KeyAt) (seen : Places) → rules.distinct_keys �
     → with_key rules x seen ≡ placed x seen
 with_is rules x seen on = ap (λ (t : Bool). cond t (placed x seen) seen) on
 
--- a key without a breach, and those after it
+-- a key without a violation, and those after it
 pub fresh_more : (rules : Rules) (seen : Places) (x : KeyAt) (k v : Item) (ps : Pairs) → x.bytes ≡ encoded k
-    → twice_breach rules seen x.bytes ≡ None → KeysFresh rules (with_key rules x seen) ps
+    → twice_violation rules seen x.bytes ≡ None → KeysFresh rules (with_key rules x seen) ps
     → KeysFresh rules seen (pair k v ps)
 fresh_more rules seen x k v ps is none fresh = λ on.
     let more = subst (λ (s : Places). Fresh s ps) (with_is rules x seen on) (fresh on) in
@@ -68,7 +68,7 @@ fresh_more rules seen x k v ps is none fresh = λ on.
     )
 
 pub fresh_first : (rules : Rules) (seen : Places) (x : KeyAt) (k v : Item) (ps : Pairs) → x.bytes ≡ encoded k
-    → KeysFresh rules seen (pair k v ps) → twice_breach rules seen x.bytes ≡ None
+    → KeysFresh rules seen (pair k v ps) → twice_violation rules seen x.bytes ≡ None
 fresh_first rules seen x k v ps is fresh =
     untested rules.distinct_keys (twice (seen x.bytes))
     (λ on. ap twice (subst (λ (y : List ℕ). seen y ≡ None) (sym is) (fresh on).0.0))

@@ -1,4 +1,4 @@
--- Finding a breach: one turn of reading chunks, the parts of a container, or items ends with what all turns give, or
+-- Finding a violation: one turn of reading chunks, the parts of a container, or items ends with what all turns give, or
 -- goes on.
 use Rattle.std.proofs.Common.{◌≡◌, ◌-◌, ◌<◌, ◌≤◌, ℕ, zero, suc, List, [], ◌∷◌, length, Option, Some, None, Ok, Err}
 use Rattle.std.proofs.Common.{refl, sym, ap, subst, ◌∙◌, arith}
@@ -7,13 +7,13 @@ use Rattle.cbor_grammar.specs.Reading.{no_level_left}
 use Rattle.cbor_grammar.specs.declared.head.ItemHead.{ItemHead}
 use Rattle.cbor_grammar.specs.declared.strings.StringKind.{StringKind}
 use Rattle.cbor_rules.specs.declared.rules.Rules.{Rules}
-use Rattle.cbor_rules.specs.declared.kind.Breach.{Breach}
-use Rattle.cbor_rules.specs.declared.kind.BreachKind.TheVariants as kind
+use Rattle.cbor_rules.specs.declared.kind.Violation.{Violation}
+use Rattle.cbor_rules.specs.declared.kind.ViolationKind.TheVariants as kind
 use Rattle.cbor_rules.specs.declared.check.Chunk.{Chunk}
 use Rattle.cbor_rules.specs.declared.check.Chunk.TheVariants as chunk
-use Rattle.cbor_rules.specs.FirstBreach.{Kept, kept_then, kept_chunk, chunks_after, kept_chunks, Open, after_end}
-use Rattle.cbor_rules.specs.FirstBreach.{after_part, ended_or, kept_parts, kept_item, breach_or, breach_from}
-use Rattle.cbor_rules.specs.FirstBreach.{breach_at, kept_head, kept_body, opened}
+use Rattle.cbor_rules.specs.FirstViolation.{Kept, kept_then, kept_chunk, chunks_after, kept_chunks, Open, after_end}
+use Rattle.cbor_rules.specs.FirstViolation.{after_part, ended_or, kept_parts, kept_item, violation_or, violation_from}
+use Rattle.cbor_rules.specs.FirstViolation.{violation_at, kept_head, kept_body, opened}
 
 -- ---- chunks
 
@@ -29,9 +29,9 @@ module _ (rules : Rules) (total : ℕ) (kind : StringKind) (b : List ℕ) (whole
     ap (λ r. kept_then r (λ c. chunks_after (kept_chunks m rules total kind) c.0 c.1)) (sym e) ∙ all,
   )
 
-  pub chunks_stop : (n : ℕ) (breach : Breach) → length b < n → kept_chunks n rules total kind b ≡ whole
-      → kept_chunk rules total kind b ≡ Err breach → whole ≡ Err breach
-  chunks_stop n breach lt all e = sym (chunks_turn n (Err breach) lt all e).2
+  pub chunks_stop : (n : ℕ) (violation : Violation) → length b < n → kept_chunks n rules total kind b ≡ whole
+      → kept_chunk rules total kind b ≡ Err violation → whole ≡ Err violation
+  chunks_stop n violation lt all e = sym (chunks_turn n (Err violation) lt all e).2
 
   pub chunks_end : (n : ℕ) (after : List ℕ) → length b < n → kept_chunks n rules total kind b ≡ whole
       → kept_chunk rules total kind b ≡ Ok (chunk.Break, after) → whole ≡ Ok after
@@ -62,15 +62,15 @@ module _ (rules : Rules) (total : ℕ) (read : List ℕ → Kept (List ℕ)) (o 
       → after_end o b ≡ Some after → whole ≡ Ok after
   parts_end n after lt all e = sym (parts_turn n (Some after) lt all e).2
 
-  pub parts_stop : (n : ℕ) (breach : Breach) → length b < n → kept_parts n rules total read o b ≡ whole
-      → after_end o b ≡ None → read b ≡ Err breach → whole ≡ Err breach
-  parts_stop n breach lt all e part =
+  pub parts_stop : (n : ℕ) (violation : Violation) → length b < n → kept_parts n rules total read o b ≡ whole
+      → after_end o b ≡ None → read b ≡ Err violation → whole ≡ Err violation
+  parts_stop n violation lt all e part =
       let t = parts_turn n None lt all e in sym (ap (part_then t.0) (sym part) ∙ t.2)
 
-  pub parts_refuse : (n : ℕ) (rest : List ℕ) (breach : Breach) → length b < n
+  pub parts_refuse : (n : ℕ) (rest : List ℕ) (violation : Violation) → length b < n
       → kept_parts n rules total read o b ≡ whole → after_end o b ≡ None → read b ≡ Ok rest
-      → after_part rules total o b rest ≡ Err breach → whole ≡ Err breach
-  parts_refuse n rest breach lt all e part next =
+      → after_part rules total o b rest ≡ Err violation → whole ≡ Err violation
+  parts_refuse n rest violation lt all e part next =
       let t = parts_turn n None lt all e in
       sym (ap (λ p. kept_then p (λ p. kept_parts t.0 rules total read p rest)) (sym next)
       ∙ ap (part_then t.0) (sym part) ∙ t.2)
@@ -89,31 +89,31 @@ module _ (rules : Rules) (total : ℕ) (read : List ℕ → Kept (List ℕ)) (o 
 
 -- ---- items
 
-items_turn : (n : ℕ) (rules : Rules) (total : ℕ) (b : List ℕ) (whole : Option Breach) (read : Kept (List ℕ))
-    → 0 < length b → length b ≤ n → breach_from n rules total b ≡ whole → kept_item deepest rules total b ≡ read
-    → (m : ℕ) × (length b ≤ suc m) × (breach_or read (breach_from m rules total) ≡ whole)
-unfolding breach_from
+items_turn : (n : ℕ) (rules : Rules) (total : ℕ) (b : List ℕ) (whole : Option Violation) (read : Kept (List ℕ))
+    → 0 < length b → length b ≤ n → violation_from n rules total b ≡ whole → kept_item deepest rules total b ≡ read
+    → (m : ℕ) × (length b ≤ suc m) × (violation_or read (violation_from m rules total) ≡ whole)
+unfolding violation_from
 items_turn n rules total [] whole read lt le all e = absurd (omega arith)
 items_turn zero rules total (first ∷ b) whole read lt le all e = absurd (omega arith)
 items_turn (suc m) rules total (first ∷ b) whole read lt le all e =
-    (m, le, ap (λ r. breach_or r (breach_from m rules total)) (sym e) ∙ all)
+    (m, le, ap (λ r. violation_or r (violation_from m rules total)) (sym e) ∙ all)
 
-pub items_stop : (n : ℕ) (rules : Rules) (total : ℕ) (b : List ℕ) (whole : Option Breach) (breach : Breach)
-    → 0 < length b → length b ≤ n → breach_from n rules total b ≡ whole
-    → kept_item deepest rules total b ≡ Err breach → whole ≡ Some breach
-items_stop n rules total b whole breach lt le all e = sym (items_turn n rules total b whole (Err breach) lt le all e).2
+pub items_stop : (n : ℕ) (rules : Rules) (total : ℕ) (b : List ℕ) (whole : Option Violation) (violation : Violation)
+    → 0 < length b → length b ≤ n → violation_from n rules total b ≡ whole
+    → kept_item deepest rules total b ≡ Err violation → whole ≡ Some violation
+items_stop n rules total b whole violation lt le all e = sym (items_turn n rules total b whole (Err violation) lt le all e).2
 
-pub items_go : (n : ℕ) (rules : Rules) (total : ℕ) (b : List ℕ) (whole : Option Breach) (rest : List ℕ)
-    → 0 < length b → length b ≤ n → breach_from n rules total b ≡ whole
+pub items_go : (n : ℕ) (rules : Rules) (total : ℕ) (b : List ℕ) (whole : Option Violation) (rest : List ℕ)
+    → 0 < length b → length b ≤ n → violation_from n rules total b ≡ whole
     → kept_item deepest rules total b ≡ Ok rest → length rest < length b
-    → (m : ℕ) × (length rest ≤ m) × (breach_from m rules total rest ≡ whole)
+    → (m : ℕ) × (length rest ≤ m) × (violation_from m rules total rest ≡ whole)
 items_go n rules total b whole rest lt le all e shorter =
     let t = items_turn n rules total b whole (Ok rest) lt le all e in (t.0, omega (arith, t.1), t.2)
 
 -- nothing is left
-pub items_end : (n : ℕ) (rules : Rules) (total : ℕ) (b : List ℕ) (whole : Option Breach) → length b ≡ 0
-    → breach_from n rules total b ≡ whole → whole ≡ None
-unfolding breach_from
+pub items_end : (n : ℕ) (rules : Rules) (total : ℕ) (b : List ℕ) (whole : Option Violation) → length b ≡ 0
+    → violation_from n rules total b ≡ whole → whole ≡ None
+unfolding violation_from
 items_end zero rules total b whole none all = sym all
 items_end (suc m) rules total [] whole none all = sym all
 items_end (suc m) rules total (first ∷ b) whole none all = absurd (omega arith)
@@ -138,13 +138,13 @@ item_turn (suc m) rules total b head lt e =
 
 -- no level is left for it
 pub item_too_deep : (left : ℕ) (rules : Rules) (total : ℕ) (b : List ℕ) → left ≡ 0
-    → kept_item left rules total b ≡ Err (breach_at total b (kind.NoItem (no_level_left b)))
+    → kept_item left rules total b ≡ Err (violation_at total b (kind.NoItem (no_level_left b)))
 unfolding kept_item
 item_too_deep left rules total b none = rw none refl
 
-pub item_stop : (left : ℕ) (rules : Rules) (total : ℕ) (b : List ℕ) (breach : Breach) → 0 < left
-    → kept_head rules total (deepest - (left - 1)) b ≡ Err breach → kept_item left rules total b ≡ Err breach
-item_stop left rules total b breach lt e = item_turn left rules total b (Err breach) lt e
+pub item_stop : (left : ℕ) (rules : Rules) (total : ℕ) (b : List ℕ) (violation : Violation) → 0 < left
+    → kept_head rules total (deepest - (left - 1)) b ≡ Err violation → kept_item left rules total b ≡ Err violation
+item_stop left rules total b violation lt e = item_turn left rules total b (Err violation) lt e
 
 pub item_body : (left : ℕ) (rules : Rules) (total : ℕ) (b : List ℕ) (h : ItemHead) (rest : List ℕ) (o : Option Open)
     → 0 < left → kept_head rules total (deepest - (left - 1)) b ≡ Ok (h, rest) → o ≡ opened h

@@ -1,6 +1,6 @@
 pub mod KeyOrder
 pub mod Reduced
-pub mod FirstBreach
+pub mod FirstViolation
 pub mod Keeps
 pub mod Same
 pub mod Sets

@@ -1,3 +1,3 @@
--- Definitions for the checker alone, which follow the code that finds the first breach of rules.
+-- Definitions for the checker alone, which follow the code that finds the first violation of rules.
 pub mod DoubleSizes
 pub mod Opened

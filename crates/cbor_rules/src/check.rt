@@ -1,9 +1,9 @@
-//! Finds the first breach, going from head to head. An item without parts is read in the loop of
+//! Finds the first violation, going from head to head. An item without parts is read in the loop of
 //! the container that it is in. An array, a map and a tag are a call each, at most 128 deep. That
 //! of a map keeps where its last key is and, where no key may stand twice, where each key is.
 //!
 //! Each function takes the remaining bytes and returns those after what it reads. Where reading
-//! stops, it returns `None` and writes into `stop` why. So a breach, which takes many bytes, is
+//! stops, it returns `None` and writes into `stop` why. So a violation, which takes many bytes, is
 //! not copied at each level, and the calls on the way to it return no more than a slice.
 mod strings;
 
@@ -13,12 +13,12 @@ ghost use Rattle.std.specs.Prelude.{List, ◌↔◌};
 ghost use Rattle.cbor_grammar.specs.declared.head.ItemHead.{ItemHead};
 ghost use Rattle.cbor_grammar.specs.WellFormed.{deepest};
 ghost use Rattle.cbor_grammar.specs.Reading.{read_head};
-ghost use Rattle.cbor_rules.specs.declared.kind.Breach.{Breach};
-ghost use Rattle.cbor_rules.specs.declared.kind.BreachKind.{BreachKind};
-ghost use Rattle.cbor_rules.specs.FirstBreach.{compared, order_breach, key_breach, with_key};
-ghost use Rattle.cbor_rules.specs.FirstBreach.{no_places, place_of, breach_at, members, pairs};
-ghost use Rattle.cbor_rules.specs.FirstBreach.{front, kept_head, kept_parts, kept_item};
-ghost use Rattle.cbor_rules.specs.FirstBreach.{first_breach};
+ghost use Rattle.cbor_rules.specs.declared.kind.Violation.{Violation};
+ghost use Rattle.cbor_rules.specs.declared.kind.ViolationKind.{ViolationKind};
+ghost use Rattle.cbor_rules.specs.FirstViolation.{compared, order_violation, key_violation, with_key};
+ghost use Rattle.cbor_rules.specs.FirstViolation.{no_places, place_of, violation_at, members, pairs};
+ghost use Rattle.cbor_rules.specs.FirstViolation.{front, kept_head, kept_parts, kept_item};
+ghost use Rattle.cbor_rules.specs.FirstViolation.{first_violation};
 ghost use Rattle.cbor_rules.specs.Keeps.{KeepsRules, without_memory};
 ghost use Rattle.cbor_rules.specs.mirror.Opened.{key_of, places_of, is_on, Gives, Reads};
 ghost use Rattle.cbor_rules.specs.mirror.Opened.{StopFits, HasMemory, parts_of, kept_key};
@@ -26,7 +26,7 @@ ghost use Rattle.cbor_rules.specs.mirror.Opened.{then_some};
 
 use crate::container::{Parts, after_members, one_less};
 use crate::keys::{Key, Keys};
-use crate::kind::{Breach, BreachKind};
+use crate::kind::{Violation, ViolationKind};
 use crate::rules::Rules;
 use cbor_bytes::head::{no_level_left, read_head};
 use cbor_grammar::Error;
@@ -49,20 +49,20 @@ enum Chunk {
 #[derive(Clone, Copy)]
 enum Stop {
     /// A rule is broken.
-    Breach(Breach),
+    Violation(Violation),
     /// There is no memory to find out whether one is.
     OutOfMemory,
 }
 
 impl Stop {
-    /// The breach, if memory did not run out.
-    fn found(self) -> Result<Option<Breach>, AllocError>
-        ensures breach { IfOk result
-            (λ found. (b : Breach) × (found ≡ Some b) × (self ≡ Stop.Breach b)) }
+    /// The violation, if memory did not run out.
+    fn found(self) -> Result<Option<Violation>, AllocError>
+        ensures violation { IfOk result
+            (λ found. (b : Violation) × (found ≡ Some b) × (self ≡ Stop.Violation b)) }
         ensures memory { IsErr result → self ≡ Stop.OutOfMemory }
     {
         match self {
-            Stop::Breach(breach) => Ok(Some(breach)),
+            Stop::Violation(violation) => Ok(Some(violation)),
             Stop::OutOfMemory => Err(AllocError),
         }
     }
@@ -76,13 +76,13 @@ fn front<'a>(bytes: &'a [u8], rest: &[u8]) -> &'a [u8]
 }
 
 /// What is wrong with a key that compares so with the one before it, which is at this place.
-fn compared(order: Ordering, place: usize) -> Option<BreachKind>
+fn compared(order: Ordering, place: usize) -> Option<ViolationKind>
     ensures { result ≡ compared order place }
 {
     match order {
         Ordering::Less => None,
-        Ordering::Equal => Some(BreachKind::KeyTwice { first: place }),
-        Ordering::Greater => Some(BreachKind::KeyOrder { previous: place }),
+        Ordering::Equal => Some(ViolationKind::KeyTwice { first: place }),
+        Ordering::Greater => Some(ViolationKind::KeyOrder { previous: place }),
     }
 }
 
@@ -103,24 +103,24 @@ impl Check {
         self.len.saturating_sub(bytes.len())
     }
 
-    /// Stops with a breach of that kind at these bytes.
+    /// Stops with a violation of that kind at these bytes.
     #[inline(never)]
-    fn stop_at(&self, bytes: &[u8], kind: BreachKind, stop: &mut Stop)
-        ensures is { stop.new ≡ Stop.Breach (breach_at self.now.len bytes.now kind) }
+    fn stop_at(&self, bytes: &[u8], kind: ViolationKind, stop: &mut Stop)
+        ensures is { stop.new ≡ Stop.Violation (violation_at self.now.len bytes.now kind) }
         ensures within { StopFits self.now.alloc self.now.len stop.new }
     {
         let place = self.place(bytes);
-        *stop = Stop::Breach(Breach { place, kind });
+        *stop = Stop::Violation(Violation { place, kind });
     }
 
     /// Stops because no item begins at these bytes.
     #[inline(never)]
     fn stop_at_error(&self, bytes: &[u8], error: Error, stop: &mut Stop)
         ensures is { stop.new
-            ≡ Stop.Breach (breach_at self.now.len bytes.now (BreachKind.NoItem error)) }
+            ≡ Stop.Violation (violation_at self.now.len bytes.now (ViolationKind.NoItem error)) }
         ensures within { StopFits self.now.alloc self.now.len stop.new }
     {
-        self.stop_at(bytes, BreachKind::NoItem(error), stop);
+        self.stop_at(bytes, ViolationKind::NoItem(error), stop);
     }
 
     /// Whether a head is at these bytes that keeps the rules at this level; and if not, why.
@@ -137,7 +137,7 @@ impl Check {
                 self.stop_at_error(bytes, error, stop);
                 false
             }
-            Ok((head, rest)) => match self.rules.head_breach(level, bytes, head, rest) {
+            Ok((head, rest)) => match self.rules.head_violation(level, bytes, head, rest) {
                 None => true,
                 Some(kind) => {
                     self.stop_at(bytes, kind, stop);
@@ -193,8 +193,8 @@ impl Check {
 
     /// What is wrong with a key after the one before it.
     #[inline(always)]
-    fn order_breach(&self, last: Option<Key>, key: &[u8]) -> Option<BreachKind>
-        ensures { result ≡ order_breach self.now.rules (option_map key_of last.entry) key.now }
+    fn order_violation(&self, last: Option<Key>, key: &[u8]) -> Option<ViolationKind>
+        ensures { result ≡ order_violation self.now.rules (option_map key_of last.entry) key.now }
     {
         let last = last?;
         let order = self.rules.key_order.compare(last.bytes, key);
@@ -203,26 +203,26 @@ impl Check {
 
     /// What is wrong with a key after the one before it and those that were seen, among which it is
     /// then.
-    fn key_breach<'a>(
+    fn key_violation<'a>(
         &self,
         last: Option<Key<'a>>,
         keys: &mut Keys<'a>,
         key: Key<'a>,
-    ) -> Result<Option<BreachKind>, AllocError>
+    ) -> Result<Option<ViolationKind>, AllocError>
         requires on { is_on keys.old ≡ self.now.rules.distinct_keys }
-        ensures is { IfOk result (λ found. found ≡ key_breach self.now.rules
+        ensures is { IfOk result (λ found. found ≡ key_violation self.now.rules
             (option_map key_of last.entry) (places_of keys.old) key.entry.bytes.now) }
         ensures seen { IfOk result (λ found. found ≡ None → places_of keys.new
             ≡ with_key self.now.rules (key_of key.entry) (places_of keys.old)) }
         ensures on { is_on keys.new ≡ self.now.rules.distinct_keys }
         ensures memory { IsErr result → self.now.rules.distinct_keys ≡ true }
     {
-        if let Some(kind) = self.order_breach(last, key.bytes) {
+        if let Some(kind) = self.order_violation(last, key.bytes) {
             return Ok(Some(kind));
         }
         match keys.see(key)? {
             None => Ok(None),
-            Some(first) => Ok(Some(BreachKind::KeyTwice { first })),
+            Some(first) => Ok(Some(ViolationKind::KeyTwice { first })),
         }
     }
 
@@ -245,11 +245,11 @@ impl Check {
         ensures on { is_on keys.new ≡ self.now.rules.distinct_keys }
         ensures within { result ≡ false → StopFits self.now.alloc self.now.len stop.new }
     {
-        match self.key_breach(last, keys, key) {
+        match self.key_violation(last, keys, key) {
             Ok(None) => return true,
             Ok(Some(kind)) => {
                 let place = key.place;
-                *stop = Stop::Breach(Breach { place, kind });
+                *stop = Stop::Violation(Violation { place, kind });
             }
             Err(_) => *stop = Stop::OutOfMemory,
         }
@@ -274,7 +274,7 @@ impl Check {
         ensures on { is_on keys.new ≡ self.now.rules.distinct_keys }
         ensures within { result ≡ false → StopFits self.now.alloc self.now.len stop.new }
     {
-        if self.rules.distinct_keys || self.order_breach(last, key.bytes).is_some() {
+        if self.rules.distinct_keys || self.order_violation(last, key.bytes).is_some() {
             self.see_key(last, keys, key, stop)
         } else {
             true
@@ -401,11 +401,11 @@ impl Check {
         }
     }
 
-    /// The first breach in these bytes.
-    fn first(&self, bytes: &[u8]) -> Result<Option<Breach>, AllocError>
+    /// The first violation in these bytes.
+    fn first(&self, bytes: &[u8]) -> Result<Option<Violation>, AllocError>
         requires memory { HasMemory self.now.alloc self.now.rules }
         requires len { self.now.len ≡ length bytes.now }
-        ensures first { IfOk result (λ found. found ≡ first_breach self.now.rules bytes.now) }
+        ensures first { IfOk result (λ found. found ≡ first_violation self.now.rules bytes.now) }
         ensures within { IfOk result (λ found. IfSome found (λ b. b.place ≤ length bytes.now)) }
         ensures memory { IsErr result → self.now.alloc ≢ None }
     {
@@ -429,10 +429,10 @@ impl Check {
 /// is compared with the one before it where it ends.
 ///
 /// It takes no memory. So it does not look at the two rules whose check takes some, `nfc` and
-/// `distinct_keys`, at which [`breach_in`] looks, too.
-pub fn breach(bytes: &[u8], rules: Rules) -> Option<Breach>
+/// `distinct_keys`, at which [`violation_in`] looks, too.
+pub fn violation(bytes: &[u8], rules: Rules) -> Option<Violation>
     ensures none { (result ≡ None) ↔ KeepsRules (without_memory rules) bytes.now }
-    ensures first { result ≡ first_breach (without_memory rules) bytes.now }
+    ensures first { result ≡ first_violation (without_memory rules) bytes.now }
     ensures within { IfSome result (λ b. b.place ≤ length bytes.now) }
 {
     let check = Check {
@@ -447,13 +447,17 @@ pub fn breach(bytes: &[u8], rules: Rules) -> Option<Breach>
     }
 }
 
-/// As [`breach`], with all the rules.
+/// As [`violation`], with all the rules.
 ///
 /// A map whose keys are not to stand twice takes memory for the places of its keys, and a text that
 /// is to be in NFC takes some where it cannot be told from its characters one by one.
-pub fn breach_in(alloc: Global, bytes: &[u8], rules: Rules) -> Result<Option<Breach>, AllocError>
+pub fn violation_in(
+    alloc: Global,
+    bytes: &[u8],
+    rules: Rules,
+) -> Result<Option<Violation>, AllocError>
     ensures none { IfOk result (λ found. (found ≡ None) ↔ KeepsRules rules bytes.now) }
-    ensures first { IfOk result (λ found. found ≡ first_breach rules bytes.now) }
+    ensures first { IfOk result (λ found. found ≡ first_violation rules bytes.now) }
     ensures within { IfOk result (λ found. IfSome found (λ b. b.place ≤ length bytes.now)) }
 {
     let check = Check {

@@ -1,7 +1,7 @@
-//! Finding a breach: what a head opens, and how much of that is still to come.
+//! Finding a violation: what a head opens, and how much of that is still to come.
 ghost use Rattle.std.specs.Prelude.{◌≡◌, ◌≤◌, length, IfSome, option_map};
 ghost use Rattle.cbor_grammar.specs.Reading.{after_members, one_less};
-ghost use Rattle.cbor_rules.specs.FirstBreach.{opened};
+ghost use Rattle.cbor_rules.specs.FirstViolation.{opened};
 ghost use Rattle.cbor_rules.specs.mirror.Opened.{parts_of};
 
 use cbor_grammar::IntegerWidth;

@@ -1,6 +1,6 @@
-//! Finding a breach: the keys of a map that were read, where none may stand twice.
+//! Finding a violation: the keys of a map that were read, where none may stand twice.
 ghost use Rattle.std.specs.Prelude.{◌≡◌, true, is_some, if◌then◌else◌, IfOk, IsErr, OnOk};
-ghost use Rattle.cbor_rules.specs.FirstBreach.{no_places, placed};
+ghost use Rattle.cbor_rules.specs.FirstViolation.{no_places, placed};
 ghost use Rattle.cbor_rules.specs.mirror.Opened.{key_of, places_of, is_on};
 
 use std::alloc::{AllocError, Global};

@@ -4,16 +4,16 @@ use cbor_grammar::{Error, IntegerWidth};
 
 /// The first place at which bytes break a rule.
 #[derive(Clone, Copy, PartialEq, Eq, Debug)]
-pub struct Breach {
+pub struct Violation {
     /// How many bytes come before the head, or before the key, that breaks it.
     pub place: usize,
     /// What is wrong there.
-    pub kind: BreachKind,
+    pub kind: ViolationKind,
 }
 
 /// What is wrong with a head or with a key.
 #[derive(Clone, Copy, PartialEq, Eq, Debug)]
-pub enum BreachKind {
+pub enum ViolationKind {
     /// No item begins there, or a string's content is cut or is not UTF-8. `CutShort` if the bytes
     /// end before the item does.
     NoItem(Error),

@@ -1,4 +1,4 @@
-//! Laws of rules and breaches, as contracts of functions that nobody calls.
+//! Laws of rules and violations, as contracts of functions that nobody calls.
 ghost use Rattle.std.specs.Prelude.{◌≡◌, ℕ, List};
 ghost use Rattle.cbor_grammar.specs.Item.{Items};
 ghost use Rattle.cbor_rules.specs.declared.rules.Rules.{Rules};

@@ -2,11 +2,11 @@
 ghost use Rattle.std.specs.Prelude.{◌≡◌, ◌<◌, ◌^◌, from_bits};
 ghost use Rattle.std.specs.Float.Ieee.{binary64};
 ghost use Rattle.cbor_rules.specs.Reduced.{in_range, integer_of, reduced};
-ghost use Rattle.cbor_rules.specs.FirstBreach.{is_usual_nan, nan_breach, integer_float};
-ghost use Rattle.cbor_rules.specs.FirstBreach.{reduced_breach};
+ghost use Rattle.cbor_rules.specs.FirstViolation.{is_usual_nan, nan_violation, integer_float};
+ghost use Rattle.cbor_rules.specs.FirstViolation.{reduced_violation};
 ghost use Rattle.cbor_rules.specs.mirror.DoubleSizes.{size_of_bits, signed};
 
-use crate::kind::BreachKind;
+use crate::kind::ViolationKind;
 use cbor_floats::EncodedFloat;
 use std::num::f64_from_bits_with_nan;
 
@@ -71,12 +71,12 @@ fn is_usual_nan(float: EncodedFloat) -> bool
 }
 
 /// What is wrong with a float if it is a NaN.
-fn nan_breach(float: EncodedFloat) -> Option<BreachKind>
-    ensures { result ≡ nan_breach float }
+fn nan_violation(float: EncodedFloat) -> Option<ViolationKind>
+    ensures { result ≡ nan_violation float }
 {
     let x = f64_from_bits_with_nan(float.widened());
     if x.is_nan() && !is_usual_nan(float) {
-        Some(BreachKind::OtherNan { float })
+        Some(ViolationKind::OtherNan { float })
     } else {
         None
     }
@@ -84,15 +84,15 @@ fn nan_breach(float: EncodedFloat) -> Option<BreachKind>
 
 /// What is wrong with a float where integers are not written as floats, and one NaN is: it is an
 /// integer from -2^63 to 2^64 - 1 (`IntegerFloat`), or a NaN other than `f97e00` (`OtherNan`).
-pub fn reduced_breach(float: EncodedFloat) -> Option<BreachKind>
-    ensures { result ≡ reduced_breach float }
+pub fn reduced_violation(float: EncodedFloat) -> Option<ViolationKind>
+    ensures { result ≡ reduced_violation float }
 {
     match integer_of(float.widened()) {
-        Some((negative, size)) => Some(BreachKind::IntegerFloat {
+        Some((negative, size)) => Some(ViolationKind::IntegerFloat {
             float,
             negative,
             size,
         }),
-        None => nan_breach(float),
+        None => nan_violation(float),
     }
 }

@@ -46,7 +46,7 @@ pub struct Rules {
     pub nfc: bool,
     /// The order of the keys in each map.
     pub key_order: KeyOrder,
-    /// No key stands twice in a map, by its bytes; for `breach_of` of `cbor_reencode`, by its core
+    /// No key stands twice in a map, by its bytes; for `violation_of` of `cbor_reencode`, by its core
     /// encoding. Checking this takes memory; where keys have an order, none stands twice.
     pub distinct_keys: bool,
     /// There may be tags.

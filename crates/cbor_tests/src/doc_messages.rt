@@ -1,6 +1,6 @@
 //! The examples of the doc comments of `cbor_messages`, line for line: `checks/examples` compares.
 
-use cbor_messages::first_breach;
+use cbor_messages::first_violation;
 use cbor_places::Piece;
 use cbor_rules::RuleSet;
 use std::test::Fail;
@@ -14,7 +14,7 @@ fn of_the_crate(rt: HostRuntime) -> Result<(), Fail> {
         bytes: b"\xa2\x61b\x02\x61a\x01",
     };
     let core = RuleSet::named("core").expect(&rt, "core");
-    let message = first_breach(alloc, core, items)?.expect(&rt, "a breach");
+    let message = first_violation(alloc, core, items)?.expect(&rt, "a violation");
     assert_eq!(rt; message.place, 4);
     let text = "not core deterministic: the key \"a\" comes after \"b\"";
     assert_eq!(rt; message.text.as_str(), text);

@@ -19,7 +19,7 @@ use crate::status::{Next, Status};
 use cbor_bytes::{Extent, extent};
 use cbor_grammar::Error;
 use cbor_inspect::{End, Form, Stream, two_byte_simple};
-use cbor_messages::{TWO_BYTES, first_breach};
+use cbor_messages::{TWO_BYTES, first_violation};
 use cbor_places::Piece;
 use cborcat_arguments::{Job, View};
 use std::alloc::{AllocError, Global};
@@ -238,7 +238,7 @@ impl<'a> Conversion<'a> {
         }
         self.any |= passed > 0;
         self.note_simple(passed);
-        match self.note_breach(passed) {
+        match self.note_violation(passed) {
             Ok(()) => end,
             Err(_) => End::Memory,
         }
@@ -360,7 +360,7 @@ impl<'a> Conversion<'a> {
 
     /// Says where the bytes that were passed last first break a rule that the check names, unless
     /// that was said.
-    fn note_breach(&mut self, passed: usize) -> Result<(), Error> {
+    fn note_violation(&mut self, passed: usize) -> Result<(), Error> {
         let Some(set) = self.job.rules else {
             return Ok(());
         };
@@ -370,7 +370,7 @@ impl<'a> Conversion<'a> {
         let begins = self.begins().saturating_sub(passed);
         let bytes = self.stream.passed(passed);
         let items = Piece { begins, bytes };
-        if let Some(message) = first_breach(self.rt.alloc(), set, items)? {
+        if let Some(message) = first_violation(self.rt.alloc(), set, items)? {
             report_byte(self.rt, self.place, items, (message.place, &message.text))?;
             self.broken = true;
             self.ended(Status::Bad);

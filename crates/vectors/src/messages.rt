@@ -1,4 +1,4 @@
-//! What is said of items, where these begin at byte 10 of an input: `first_breach SET`,
+//! What is said of items, where these begin at byte 10 of an input: `first_violation SET`,
 //! `not_encoded SET`, `not_json`, `not_json strict`, `lost_words PATH`. Lines of an input with a
 //! mark below a place: `excerpt_of_bytes PLACE`, `excerpt_of_text PLACE MARK`, `position_of PLACE`.
 
@@ -8,7 +8,7 @@ use cbor_diag::Error;
 use cbor_inspect::{Picture, steps_of};
 use cbor_json::{JsonStyle, bytes_to_json};
 use cbor_messages::{
-    Excerpt, Message, first_breach, lost_words, not_encoded, not_json, position_of,
+    Excerpt, Message, first_violation, lost_words, not_encoded, not_json, position_of,
 };
 use cbor_places::Piece;
 use cbor_reencode::reencoded;
@@ -18,7 +18,7 @@ use std::alloc::{AllocError, Global};
 /// What the call of a row gives; none if it is no call of this subject.
 pub fn answer(alloc: Global, row: &Row) -> Result<Option<String>, AllocError> {
     let found = match row.call {
-        "first_breach" => breach_said(alloc, row),
+        "first_violation" => violation_said(alloc, row),
         "not_encoded" => encoding_said(alloc, row),
         "not_json" => json_said(alloc, row),
         "lost_words" => lost_said(alloc, row),
@@ -46,12 +46,12 @@ fn said(alloc: Global, message: Result<Message, Error>) -> Result<String, AllocE
     }
 }
 
-/// What is said of the first breach of a set of rules, or `kept`.
-fn breach_said(alloc: Global, row: &Row) -> Result<String, AllocError> {
+/// What is said of the first violation of a set of rules, or `kept`.
+fn violation_said(alloc: Global, row: &Row) -> Result<String, AllocError> {
     let Some(set) = RuleSet::named(row.argument) else {
         return String::from_str(alloc, "no set has this name");
     };
-    match first_breach(alloc, set, items(row)) {
+    match first_violation(alloc, set, items(row)) {
         Ok(Some(message)) => said(alloc, Ok(message)),
         Ok(None) => String::from_str(alloc, "kept"),
         Err(error) => refused_text(alloc, error),

@@ -2,7 +2,7 @@
 //! hex, or why there are none, with places: of the input, or after `Written` of what was written.
 
 use crate::row::Row;
-use crate::rules::{breach_text, rules_of};
+use crate::rules::{rules_of, violation_text};
 use crate::texts::hex_text;
 use cbor_reencode::{ReencodeError, reencoded};
 use std::alloc::{AllocError, Global};
@@ -26,14 +26,14 @@ pub fn answer(alloc: Global, row: &Row) -> Result<Option<String>, AllocError> {
 fn error_text(alloc: Global, error: ReencodeError) -> Result<String, AllocError> {
     match error {
         ReencodeError::Memory => Err(AllocError),
-        ReencodeError::Breach(found) => {
-            format!(in alloc; "Breach {}", breach_text(alloc, found)?)
+        ReencodeError::Violation(found) => {
+            format!(in alloc; "Violation {}", violation_text(alloc, found)?)
         }
         ReencodeError::KeyTwice { first, second } => {
             format!(in alloc; "KeyTwice {first} {second}")
         }
         ReencodeError::Written(found) => {
-            format!(in alloc; "Written {}", breach_text(alloc, found)?)
+            format!(in alloc; "Written {}", violation_text(alloc, found)?)
         }
     }
 }

@@ -1,4 +1,4 @@
-//! Rules of an encoding: `breach RULES`, `breach_in RULES`, `breach_of RULES`, and `breaches`, which
+//! Rules of an encoding: `violation RULES`, `violation_in RULES`, `violation_of RULES`, and `violations`, which
 //! gives a line for each set of rules that is broken. RULES is the name of a set, as `core`, or
 //! names of single rules, as `shortest_heads`, which are kept besides the grammar of RFC 8949 or
 //! that set.
@@ -6,8 +6,10 @@
 use crate::lines::{lines_or, push_line};
 use crate::row::Row;
 use cbor_floats::EncodedFloat;
-use cbor_reencode::breach_of;
-use cbor_rules::{Breach, BreachKind, KeyOrder, RULES, RuleSet, Rules, breach, breach_in};
+use cbor_reencode::violation_of;
+use cbor_rules::{
+    KeyOrder, RULES, RuleSet, Rules, Violation, ViolationKind, violation, violation_in,
+};
 use std::alloc::{AllocError, Global};
 
 /// What the call of a row gives; none if it is no call of this subject.
@@ -16,10 +18,10 @@ pub fn answer(alloc: Global, row: &Row) -> Result<Option<String>, AllocError> {
         return Ok(None);
     };
     let found = match row.call {
-        "breach" => found_text(alloc, breach(&row.bytes, rules)),
-        "breach_in" => found_text(alloc, breach_in(alloc, &row.bytes, rules)?),
-        "breach_of" => found_text(alloc, breach_of(alloc, &row.bytes, rules)?),
-        "breaches" => breaches(alloc, &row.bytes),
+        "violation" => found_text(alloc, violation(&row.bytes, rules)),
+        "violation_in" => found_text(alloc, violation_in(alloc, &row.bytes, rules)?),
+        "violation_of" => found_text(alloc, violation_of(alloc, &row.bytes, rules)?),
+        "violations" => violations(alloc, &row.bytes),
         _ => return Ok(None),
     };
     Ok(Some(found?))
@@ -47,48 +49,48 @@ pub fn rules_of(words: &str) -> Option<Rules> {
 }
 
 /// The sets of rules that bytes break, and where and how they break each.
-fn breaches(alloc: Global, bytes: &[u8]) -> Result<String, AllocError> {
+fn violations(alloc: Global, bytes: &[u8]) -> Result<String, AllocError> {
     let mut text = String::new(alloc);
     for name in RULES.iter() {
         let rules = rules_of(name).unwrap_or(Rules::RFC_8949);
-        if let Some(found) = breach_of(alloc, bytes, rules)? {
-            let words = breach_text(alloc, found)?;
+        if let Some(found) = violation_of(alloc, bytes, rules)? {
+            let words = violation_text(alloc, found)?;
             push_line(&mut text, &format!(in alloc; "{name} {words}")?)?;
         }
     }
     lines_or(text, "kept")
 }
 
-/// The place of a breach and what is wrong there, or `kept`.
-fn found_text(alloc: Global, found: Option<Breach>) -> Result<String, AllocError> {
+/// The place of a violation and what is wrong there, or `kept`.
+fn found_text(alloc: Global, found: Option<Violation>) -> Result<String, AllocError> {
     match found {
-        Some(found) => breach_text(alloc, found),
+        Some(found) => violation_text(alloc, found),
         None => String::from_str(alloc, "kept"),
     }
 }
 
-/// The place of a breach and what is wrong there.
-pub fn breach_text(alloc: Global, found: Breach) -> Result<String, AllocError> {
-    let Breach { place, kind } = found;
+/// The place of a violation and what is wrong there.
+pub fn violation_text(alloc: Global, found: Violation) -> Result<String, AllocError> {
+    let Violation { place, kind } = found;
     match kind {
-        BreachKind::LongFloat { float, shortest } => {
+        ViolationKind::LongFloat { float, shortest } => {
             let (long, short) = (bits(alloc, float)?, bits(alloc, shortest)?);
             format!(in alloc; "{place} LongFloat {long} {short}")
         }
-        BreachKind::OtherNan { float } => {
+        ViolationKind::OtherNan { float } => {
             format!(in alloc; "{place} OtherNan {}", bits(alloc, float)?)
         }
-        BreachKind::IntegerFloat { negative, size, .. } => {
+        ViolationKind::IntegerFloat { negative, size, .. } => {
             let sign = if negative { "-" } else { "" };
             format!(in alloc; "{place} IntegerFloat {sign}{size}")
         }
-        BreachKind::LongHead { number, width } => {
+        ViolationKind::LongHead { number, width } => {
             format!(in alloc; "{place} LongHead {number} {width:?}")
         }
-        BreachKind::KeyOrder { previous } => format!(in alloc; "{place} KeyOrder {previous}"),
-        BreachKind::KeyTwice { first } => format!(in alloc; "{place} KeyTwice {first}"),
-        BreachKind::NoItem(error) => format!(in alloc; "{place} NoItem {error:?}"),
-        BreachKind::OtherSimple(value) => format!(in alloc; "{place} OtherSimple {value}"),
+        ViolationKind::KeyOrder { previous } => format!(in alloc; "{place} KeyOrder {previous}"),
+        ViolationKind::KeyTwice { first } => format!(in alloc; "{place} KeyTwice {first}"),
+        ViolationKind::NoItem(error) => format!(in alloc; "{place} NoItem {error:?}"),
+        ViolationKind::OtherSimple(value) => format!(in alloc; "{place} OtherSimple {value}"),
         kind => format!(in alloc; "{place} {kind:?}"),
     }
 }

@@ -1,4 +1,4 @@
--- Finding a breach: what the code keeps of the keys of an open map, as the definitions have it; and what reading gives
+-- Finding a violation: what the code keeps of the keys of an open map, as the definitions have it; and what reading gives
 -- where memory may run out.
 use Rattle.std.specs.Prelude.{◌≡◌, ◌≢◌, ◌≤◌, ℕ, List, Bool, false, Option, Some, None, is_some, if◌then◌else◌}
 use Rattle.std.specs.Prelude.{Result, Ok, Err}
@@ -14,11 +14,11 @@ use Rattle.cbor_rules.specs.declared.keys.Key.{Key}
 use Rattle.cbor_rules.specs.declared.keys.Keys.{Keys}
 use Rattle.cbor_rules.specs.declared.container.Parts.{Parts}
 use Rattle.cbor_rules.specs.declared.container.Parts.TheVariants as code
-use Rattle.cbor_rules.specs.FirstBreach.{KeyAt, Kept, Places, no_places, key_breach, with_key, breach_at, Open, members}
-use Rattle.cbor_rules.specs.FirstBreach.{pairs}
+use Rattle.cbor_rules.specs.FirstViolation.{KeyAt, Kept, Places, no_places, key_violation, with_key, violation_at, Open, members}
+use Rattle.cbor_rules.specs.FirstViolation.{pairs}
 use Rattle.cbor_rules.specs.declared.rules.Rules.{Rules}
-use Rattle.cbor_rules.specs.declared.kind.BreachKind.{BreachKind}
-use Rattle.cbor_rules.specs.declared.kind.BreachKind.TheVariants as kind
+use Rattle.cbor_rules.specs.declared.kind.ViolationKind.{ViolationKind}
+use Rattle.cbor_rules.specs.declared.kind.ViolationKind.TheVariants as kind
 use Rattle.cbor_rules.specs.declared.check.Stop.{Stop}
 use Rattle.cbor_rules.specs.declared.check.Stop.TheVariants as stop
 use Rattle.cbor_rules.specs.declared.check.strings.BadContent.{BadContent}
@@ -50,7 +50,7 @@ parts_of (code.Pairs a) = pairs None no_places a
 -- what reading gives; nothing is said of it where memory runs out
 abbrev pub Gives : {X : Type 0} → Kept X → Result X Stop → Type 0
 Gives kept (Ok x) = kept ≡ Ok x
-Gives kept (Err (stop.Breach b)) = kept ≡ Err b
+Gives kept (Err (stop.Violation b)) = kept ≡ Err b
 Gives kept (Err stop.OutOfMemory) = Unit {0}
 
 abbrev pub or_stop : {X : Type 0} → Option X → Stop → Result X Stop
@@ -63,28 +63,28 @@ Reads kept read s = Gives kept (or_stop read s)
 
 -- why the content of a string stops reading; its head is at these bytes
 abbrev pub content_stop : ℕ → List ℕ → BadContent → Stop
-content_stop total b (bad.NoItem e) = stop.Breach (breach_at total b (kind.NoItem e))
-content_stop total b bad.NotNfc = stop.Breach (breach_at total b kind.NotNfc)
+content_stop total b (bad.NoItem e) = stop.Violation (violation_at total b (kind.NoItem e))
+content_stop total b bad.NotNfc = stop.Violation (violation_at total b kind.NotNfc)
 content_stop total b bad.OutOfMemory = stop.OutOfMemory
 
 -- of a text that is in NFC, or is not
-abbrev pub if_normal : Bool → Option BreachKind
+abbrev pub if_normal : Bool → Option ViolationKind
 if_normal normal = if normal then None else Some kind.NotNfc
 
-abbrev pub kept_found : ℕ → Option BreachKind → Places → Kept Places
+abbrev pub kept_found : ℕ → Option ViolationKind → Places → Kept Places
 kept_found place None seen = Ok seen
 kept_found place (Some kind) seen = Err (record { place = place; kind = kind })
 
 -- the keys that were seen after one key more, if that keeps the rules
 abbrev pub kept_key : Rules → Option KeyAt → Places → KeyAt → Kept Places
-kept_key rules last seen key = kept_found key.place (key_breach rules last seen key.bytes) (with_key rules key seen)
+kept_key rules last seen key = kept_found key.place (key_violation rules last seen key.bytes) (with_key rules key seen)
 
 abbrev pub then_some : {X : Type 0} → Bool → X → Option X
 then_some holds x = if holds then Some x else None
 
--- A breach is in the bytes, and memory runs out only where there is an allocator.
+-- A violation is in the bytes, and memory runs out only where there is an allocator.
 abbrev pub StopFits : Option Global → ℕ → Stop → Type 0
-StopFits alloc total (stop.Breach b) = b.place ≤ total
+StopFits alloc total (stop.Violation b) = b.place ≤ total
 StopFits alloc total stop.OutOfMemory = alloc ≢ None
 
 -- The rules whose check takes memory have an allocator.

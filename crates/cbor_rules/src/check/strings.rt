@@ -1,4 +1,4 @@
-//! Finds a breach of rules in strings, whose content may have to be in NFC, and in other items
+//! Finds a violation of rules in strings, whose content may have to be in NFC, and in other items
 //! without parts.
 ghost use Rattle.std.specs.Prelude.{◌≡◌, ◌≢◌, ℕ, suc, ◌<◌, ◌≤◌, List, length, take, None, IfOk};
 ghost use Rattle.std.specs.Prelude.{IfErr};
@@ -7,13 +7,13 @@ ghost use Rattle.std.specs.Result.{result_map_both};
 ghost use Rattle.cbor_grammar.specs.declared.width.IntegerWidth.{IntegerWidth};
 ghost use Rattle.cbor_grammar.specs.StringKind.{IsContent};
 ghost use Rattle.cbor_bytes.specs.mirror.Skipping.{skip_content};
-ghost use Rattle.cbor_rules.specs.FirstBreach.{kept_content, kept_chunk, kept_chunks, kept_atom};
-ghost use Rattle.cbor_rules.specs.FirstBreach.{text_breach};
+ghost use Rattle.cbor_rules.specs.FirstViolation.{kept_content, kept_chunk, kept_chunks, kept_atom};
+ghost use Rattle.cbor_rules.specs.FirstViolation.{text_violation};
 ghost use Rattle.cbor_rules.specs.mirror.Opened.{Gives, Reads, StopFits, HasMemory, content_stop};
 ghost use Rattle.cbor_rules.specs.mirror.Opened.{if_normal};
 
 use super::{Check, Chunk, Stop};
-use crate::kind::BreachKind;
+use crate::kind::ViolationKind;
 use crate::text::is_normal;
 use cbor_bytes::strings::read_chunk_length;
 use cbor_grammar::Error;
@@ -62,7 +62,7 @@ impl Check {
     {
         match bad {
             BadContent::NoItem(error) => self.stop_at_error(bytes, error, stop),
-            BadContent::NotNfc => self.stop_at(bytes, BreachKind::NotNfc, stop),
+            BadContent::NotNfc => self.stop_at(bytes, ViolationKind::NotNfc, stop),
             BadContent::OutOfMemory => *stop = Stop::OutOfMemory,
         }
     }
@@ -72,7 +72,7 @@ impl Check {
         requires memory { HasMemory self.now.alloc self.now.rules }
         requires content { IsContent kind content.now }
         ensures is { IfOk result
-            (λ kept. text_breach self.now.rules kind content.now ≡ if_normal kept) }
+            (λ kept. text_violation self.now.rules kind content.now ≡ if_normal kept) }
         ensures memory { IsErr result → self.now.alloc ≢ None }
     {
         match (kind, self.alloc) {
@@ -131,8 +131,8 @@ impl Check {
         let Some((count, width)) = length else {
             return Some((Chunk::Break, rest));
         };
-        if let Some(breach) = self.rules.number_breach(count, width) {
-            self.stop_at(bytes, breach, stop);
+        if let Some(violation) = self.rules.number_violation(count, width) {
+            self.stop_at(bytes, violation, stop);
             return None;
         }
         match self.after_content(kind, count, rest) {

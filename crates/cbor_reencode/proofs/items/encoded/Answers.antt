@@ -8,11 +8,11 @@ use Rattle.cbor_reencode.proofs.items.encoded.Goals as goal
 pub returns-in_default-clause-is : goal.returns-in_default-clause-is
 returns-in_default-clause-is c =
     subst (λ (x : List ℕ). IsReencoded c.args.rules c.args.bytes.now x) (sym c.in_ok-from_slice.ensures.items)
-    (reencoded_itself c.args.rules c.args.bytes.now (c.in_ok-breach_in.ensures.none.0 c.in_default.is))
+    (reencoded_itself c.args.rules c.args.bytes.now (c.in_ok-violation_in.ensures.none.0 c.in_default.is))
 
 pub returns-in_default-clause-lasts : goal.returns-in_default-clause-lasts
 returns-in_default-clause-lasts c = λ b some.
-    let keeps = c.in_ok-breach_in.ensures.none.0 c.in_default.is in
+    let keeps = c.in_ok-violation_in.ensures.none.0 c.in_default.is in
     let none = none_lasts c.args.rules c.args.bytes.now keeps in
     let wrong : None ≡ Some b = sym none ∙ some in
     absurd cc

@@ -12,7 +12,7 @@ pub returns-in-IntegerFloat : goal.returns-in-IntegerFloat
 returns-in-IntegerFloat c =
     let f = c.args.float in
     let h = c.in-IntegerFloat in
-    let n = found_integer f h.float h.negative h.size (sym c.reduced_breach.ensures ∙ c.in-Some.is ∙ ap Some h.is) in
+    let n = found_integer f h.float h.negative h.size (sym c.reduced_violation.ensures ∙ c.in-Some.is ∙ ap Some h.is) in
     integer_number c.args.self.rules f c.sized.result n.number
     (is_on c.args.self.rules.reduced_floats c.if-not-self.false) n.is
     (c.sized.ensures.is ∙ ap (λ (b : Bool). sized b h.size) (sym n.sign) ∙ ap (λ k. sized n.number.0 k) (sym n.size_is))
@@ -21,7 +21,7 @@ returns-in-IntegerFloat c =
 pub returns-in_default-kind : goal.returns-in_default-kind
 returns-in_default-kind c =
     let f = c.args.float in
-    let n = found_nan f c.in-Some.kind (sym c.reduced_breach.ensures ∙ c.in-Some.is)
+    let n = found_nan f c.in-Some.kind (sym c.reduced_violation.ensures ∙ c.in-Some.is)
     c.in_default-kind.not-IntegerFloat in
     nan_number c.args.self.rules f (is_on c.args.self.rules.reduced_floats c.if-not-self.false) n.0 n.1
 

@@ -1,10 +1,10 @@
 -- An item is its head and what follows it; the parts of a container are read one after the other.
 use Rattle.std.proofs.Common.{◌<◌, ◌-◌, suc, length, Some, None, Err, refl, sym, ap, ◌∙◌, arith, option_map}
 use Rattle.cbor_grammar.specs.WellFormed.{deepest}
-use Rattle.cbor_rules.specs.declared.kind.BreachKind.TheVariants as kind
+use Rattle.cbor_rules.specs.declared.kind.ViolationKind.TheVariants as kind
 use Rattle.cbor_grammar.specs.Reading.{one_less}
-use Rattle.cbor_rules.specs.FirstBreach as spec
-use Rattle.cbor_rules.specs.FirstBreach.{KeyAt, no_places, breach_at, kept_head, kept_parts, kept_item, members, pairs}
+use Rattle.cbor_rules.specs.FirstViolation as spec
+use Rattle.cbor_rules.specs.FirstViolation.{KeyAt, no_places, violation_at, kept_head, kept_parts, kept_item, members, pairs}
 use Rattle.cbor_rules.specs.mirror.Opened.{key_of, places_of, parts_of, kept_key}
 use Rattle.cbor_rules.proofs.Stops.{stops, gives_as, key_stops, key_goes}
 use Rattle.cbor_rules.proofs.Turns.{item_too_deep, item_stop, item_body, parts_end, parts_stop, parts_refuse, parts_go}
@@ -18,7 +18,7 @@ after_item-returns-then-left-eq0-clause-gives t c =
     let total = c.args.self.now.len in
     let b = c.args.bytes.now in
     rw c.stop_at_error.ensures.is (item_too_deep c.args.left rules total b c.if-left-eq0.true
-    ∙ ap (λ e. Err (breach_at total b (kind.NoItem e))) (sym c.no_level_left-error.ensures.gives))
+    ∙ ap (λ e. Err (violation_at total b (kind.NoItem e))) (sym c.no_level_left-error.ensures.gives))
 
 pub after_item-returns-in_err-head-clause-gives : goal.after_item-returns-in_err-head-clause-gives
 after_item-returns-in_err-head-clause-gives t c =

@@ -1,6 +1,6 @@
 -- Reading the members or pairs that are left gives what reading all of them does.
 use Rattle.std.proofs.Common.{◌≡◌, ◌<◌, ◌≤◌, ◌+◌, ◌*◌, ℕ, suc, length, None, option_map}
-use Rattle.cbor_rules.specs.FirstBreach.{no_places, members, pairs, kept_item, kept_parts}
+use Rattle.cbor_rules.specs.FirstViolation.{no_places, members, pairs, kept_item, kept_parts}
 use Rattle.cbor_rules.specs.mirror.Opened.{key_of, places_of, is_on}
 use Rattle.cbor_rules.proofs.check.Check.+item.Given as goal
 

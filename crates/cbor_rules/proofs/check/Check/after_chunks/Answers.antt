@@ -1,6 +1,6 @@
 -- Reading goes on after each chunk, and stops where one of them does.
 use Rattle.std.proofs.Common.{suc, length, arith}
-use Rattle.cbor_rules.specs.FirstBreach.{kept_chunk, kept_chunks}
+use Rattle.cbor_rules.specs.FirstViolation.{kept_chunk, kept_chunks}
 use Rattle.cbor_rules.proofs.Stops.{stops}
 use Rattle.cbor_rules.proofs.Turns.{chunks_stop, chunks_end, chunks_go}
 use Rattle.cbor_rules.proofs.check.Check.after_chunks.Goals as goal

@@ -1,6 +1,6 @@
 -- Reading the chunks that are left gives what reading all of them does.
 use Rattle.std.proofs.Common.{◌≡◌, ◌<◌, ◌≤◌, ℕ, suc, length}
-use Rattle.cbor_rules.specs.FirstBreach.{kept_chunks}
+use Rattle.cbor_rules.specs.FirstViolation.{kept_chunks}
 use Rattle.cbor_rules.proofs.check.Check.after_chunks.Given as goal
 
 abbrev pub decreases-chunks : goal.decreases-chunks

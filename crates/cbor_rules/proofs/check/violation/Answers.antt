@@ -2,7 +2,7 @@
 use Rattle.std.proofs.Common.{arith}
 use Rattle.cbor_rules.specs.Keeps.{without_memory}
 use Rattle.cbor_rules.proofs.Exactly.{exactly}
-use Rattle.cbor_rules.proofs.check.breach.Goals as goal
+use Rattle.cbor_rules.proofs.check.violation.Goals as goal
 
 pub returns-in-Ok-clause-none : goal.returns-in-Ok-clause-none
 returns-in-Ok-clause-none c =

@@ -1,19 +1,19 @@
 //! The calls for C that report where bytes break rules.
 ghost use Rattle.std.specs.Prelude.{◌≡◌, ◌⊎◌, ◌↔◌, ◌<◌, negsuc, None, length, IfOk, IsErr};
 ghost use Rattle.cbor_messages.specs.Kinds.{kind_text};
-ghost use Rattle.cbor_reencode.specs.OneKey.{IsBreach, KeepsWithKeys};
+ghost use Rattle.cbor_reencode.specs.OneKey.{IsViolation, KeepsWithKeys};
 ghost use Rattle.cbor_diag_c.specs.Answers.{IfLength, IfError, no_rules, written};
-ghost use Rattle.cbor_diag_c.specs.Breaches.{detail_of, rules_of};
-ghost use Rattle.cbor_diag_c.specs.Breaches.{IsTold, IsFoundBy, KeepsBy, TakesMemory};
-ghost use Rattle.cbor_diag_c.specs.Breaches.{TakesMemoryBy};
+ghost use Rattle.cbor_diag_c.specs.Violations.{detail_of, rules_of};
+ghost use Rattle.cbor_diag_c.specs.Violations.{IsTold, IsFoundBy, KeepsBy, TakesMemory};
+ghost use Rattle.cbor_diag_c.specs.Violations.{TakesMemoryBy};
 ghost use Rattle.cbor_diag_c.specs.Places.{no_place};
 
 use crate::answer::{refused, write};
 use crate::faults::NO_PLACE;
 use cbor_grammar::Error;
 use cbor_messages::{kind_number, kind_text};
-use cbor_reencode::breach_of;
-use cbor_rules::{Breach, BreachKind, Rules, breach};
+use cbor_reencode::violation_of;
+use cbor_rules::{Rules, Violation, ViolationKind, violation};
 use std::alloc::{AllocError, Global};
 
 /// What is returned for the number of no set of rules.
@@ -36,33 +36,33 @@ pub(crate) fn rules_of(number: u32) -> Option<Rules>
 }
 
 /// What else is told of a kind: the number of the error, or the place of the other key.
-fn detail_of(kind: BreachKind) -> usize
+fn detail_of(kind: ViolationKind) -> usize
     ensures { result ≡ detail_of kind }
 {
     match kind {
-        BreachKind::NoItem(error) => error.number() as usize,
-        BreachKind::KeyOrder { previous } => previous,
-        BreachKind::KeyTwice { first } => first,
+        ViolationKind::NoItem(error) => error.number() as usize,
+        ViolationKind::KeyOrder { previous } => previous,
+        ViolationKind::KeyTwice { first } => first,
         _ => NO_PLACE,
     }
 }
 
 /// What breaks the rules first. Memory is taken only where the rules need it.
 #[tactic(auto, using(crate::proofs::Told::without_laws))]
-fn first(alloc: Global, bytes: &[u8], rules: Rules) -> Result<Option<Breach>, AllocError>
-    ensures first { IfOk result (IsBreach rules bytes.now) }
+fn first(alloc: Global, bytes: &[u8], rules: Rules) -> Result<Option<Violation>, AllocError>
+    ensures first { IfOk result (IsViolation rules bytes.now) }
     ensures none { IfOk result (λ found. (found ≡ None) ↔ KeepsWithKeys rules bytes.now) }
     ensures memory { IsErr result → TakesMemory rules }
 {
     if rules.nfc || rules.distinct_keys {
-        breach_of(alloc, bytes, rules)
+        violation_of(alloc, bytes, rules)
     } else {
-        Ok(breach(bytes, rules))
+        Ok(violation(bytes, rules))
     }
 }
 
-/// Returns what C is told of the first breach, if there is one, and sets its place and detail.
-pub(crate) fn told(found: Option<Breach>, place: &mut usize, detail: &mut usize) -> i64
+/// Returns what C is told of the first violation, if there is one, and sets its place and detail.
+pub(crate) fn told(found: Option<Violation>, place: &mut usize, detail: &mut usize) -> i64
     ensures told { IfLength result (λ n. IsTold found n place.new detail.new) }
     ensures no_error { IfError result (λ n. ⊥) }
 {
@@ -72,10 +72,10 @@ pub(crate) fn told(found: Option<Breach>, place: &mut usize, detail: &mut usize)
             *detail = NO_PLACE;
             0
         }
-        Some(breach) => {
-            *place = breach.place;
-            *detail = detail_of(breach.kind);
-            i64::from(kind_number(breach.kind))
+        Some(violation) => {
+            *place = violation.place;
+            *detail = detail_of(violation.kind);
+            i64::from(kind_number(violation.kind))
         }
     }
 }
@@ -83,14 +83,14 @@ pub(crate) fn told(found: Option<Breach>, place: &mut usize, detail: &mut usize)
 /// Reports where bytes first break a set of rules.
 ///
 /// Returns 0 if they are items, none or more, that keep the rules; otherwise the number of the kind
-/// of the first breach, or minus the number of an error: `Memory`, which only `VALID` and `DCBOR`
+/// of the first violation, or minus the number of an error: `Memory`, which only `VALID` and `DCBOR`
 /// can have, or 12 for no set of rules. Sets `place` to how many bytes come before the head or the
 /// key that breaks the rule; and `detail` to the place of the other key, if a key is out of order
 /// or stands twice, or to the number of the error, if there is no item. Both are 2^64 - 1 where
 /// there is nothing to be told. By `VALID` keys are one if their core encodings are the same.
 #[unsafe(no_mangle)]
-#[tactic(auto, using(crate::proofs::Told::breach_laws))]
-pub extern "C" fn cbor_diag_breach(
+#[tactic(auto, using(crate::proofs::Told::violation_laws))]
+pub extern "C" fn cbor_diag_violation(
     alloc: Global,
     rules: u32,
     input: &[u8],
@@ -119,7 +119,7 @@ pub extern "C" fn cbor_diag_breach(
 ///
 /// Returns the length of the text, of which as much is written as fits `output`.
 #[unsafe(no_mangle)]
-pub extern "C" fn cbor_diag_breach_text(kind: u32, output: &mut [u8]) -> i64
+pub extern "C" fn cbor_diag_violation_text(kind: u32, output: &mut [u8]) -> i64
     ensures text { IfLength result (λ n. (n ≡ length (kind_text kind))
         × (output.new ≡ written (kind_text kind) output.old)) }
     ensures no_error { IfError result (λ n. ⊥) }

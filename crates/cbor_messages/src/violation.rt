@@ -6,18 +6,22 @@ use crate::words::{Message, TWO_BYTES, Words};
 use cbor_grammar::Error;
 use cbor_grammar::major::Major;
 use cbor_places::Piece;
-use cbor_reencode::{ReencodeError, breach_of};
-use cbor_rules::{Breach, BreachKind, RuleSet};
+use cbor_reencode::{ReencodeError, violation_of};
+use cbor_rules::{RuleSet, Violation, ViolationKind};
 use std::alloc::Global;
 use std::fmt::Write;
 
-/// What is said of the first breach of the set in whole items; `None` if they keep it. The only
+/// What is said of the first violation of the set in whole items; `None` if they keep it. The only
 /// error is `Memory`.
-pub fn first_breach(alloc: Global, set: RuleSet, items: Piece) -> Result<Option<Message>, Error> {
-    let Some(breach) = breach_of(alloc, items.bytes, set.rules)? else {
+pub fn first_violation(
+    alloc: Global,
+    set: RuleSet,
+    items: Piece,
+) -> Result<Option<Message>, Error> {
+    let Some(violation) = violation_of(alloc, items.bytes, set.rules)? else {
         return Ok(None);
     };
-    Ok(Some(message_on(alloc, set, items, breach)?))
+    Ok(Some(message_on(alloc, set, items, violation)?))
 }
 
 /// What is said of whole items that cannot be encoded so that they keep the set: the error is that
@@ -28,12 +32,12 @@ pub fn not_encoded(
     items: Piece,
     error: ReencodeError,
 ) -> Result<Message, Error> {
-    let breach = match error {
+    let violation = match error {
         ReencodeError::Memory => return Err(Error::Memory),
-        ReencodeError::Breach(breach) => breach,
-        ReencodeError::KeyTwice { first, second } => Breach {
+        ReencodeError::Violation(violation) => violation,
+        ReencodeError::KeyTwice { first, second } => Violation {
             place: second,
-            kind: BreachKind::KeyTwice { first },
+            kind: ViolationKind::KeyTwice { first },
         },
         ReencodeError::Written(_) => {
             let mut words = Words::new(alloc, items);
@@ -42,15 +46,20 @@ pub fn not_encoded(
             return Ok(words.at(0));
         }
     };
-    message_on(alloc, set, items, breach)
+    message_on(alloc, set, items, violation)
 }
 
-/// What is said of a breach of the set.
-fn message_on(alloc: Global, set: RuleSet, items: Piece, breach: Breach) -> Result<Message, Error> {
+/// What is said of a violation of the set.
+fn message_on(
+    alloc: Global,
+    set: RuleSet,
+    items: Piece,
+    violation: Violation,
+) -> Result<Message, Error> {
     let mut words = Words::new(alloc, items);
     words.push(set.not)?;
-    words.push_breach(breach)?;
-    Ok(words.at(breach.place))
+    words.push_violation(violation)?;
+    Ok(words.at(violation.place))
 }
 
 /// What a head opens.
@@ -65,44 +74,48 @@ fn noun_of(bytes: &[u8]) -> &'static str {
 
 impl Words<'_> {
     /// Writes what is wrong at a place.
-    fn push_breach(&mut self, breach: Breach) -> Result<(), Error> {
-        let Breach { place, kind } = breach;
+    fn push_violation(&mut self, violation: Violation) -> Result<(), Error> {
+        let Violation { place, kind } = violation;
         let rest = self.from(place);
         match kind {
-            BreachKind::NoItem(error) => self.push(error.text())?,
-            BreachKind::LongSimple => self.push(TWO_BYTES)?,
-            BreachKind::LongHead { number, width } => push_long_head(
+            ViolationKind::NoItem(error) => self.push(error.text())?,
+            ViolationKind::LongSimple => self.push(TWO_BYTES)?,
+            ViolationKind::LongHead { number, width } => push_long_head(
                 &mut self.out,
                 rest,
                 number,
                 width,
             )?,
-            BreachKind::LongFloat { float, shortest } => push_long_float(
+            ViolationKind::LongFloat { float, shortest } => push_long_float(
                 &mut self.out,
                 float,
                 shortest,
             )?,
-            BreachKind::IntegerFloat {
+            ViolationKind::IntegerFloat {
                 float,
                 negative,
                 size,
             } => push_integer_float(&mut self.out, float, negative, size)?,
-            BreachKind::OtherNan { .. } => self.push("the only NaN of dCBOR is f97e00")?,
-            BreachKind::OtherSimple(value) => {
+            ViolationKind::OtherNan { .. } => self.push("the only NaN of dCBOR is f97e00")?,
+            ViolationKind::OtherSimple(value) => {
                 write!(
                     self.out,
                     "dCBOR has no simple({value}), only false, true and null"
                 )?;
             }
-            BreachKind::NotNfc => self.push_not_nfc(place)?,
-            BreachKind::Indefinite => write!(self.out, "{} of indefinite length", noun_of(rest))?,
-            BreachKind::Tag => self.push("CTAP2 has no tags")?,
-            BreachKind::LeadingZero | BreachKind::SmallBigNumber => {
+            ViolationKind::NotNfc => self.push_not_nfc(place)?,
+            ViolationKind::Indefinite => write!(
+                self.out,
+                "{} of indefinite length",
+                noun_of(rest)
+            )?,
+            ViolationKind::Tag => self.push("CTAP2 has no tags")?,
+            ViolationKind::LeadingZero | ViolationKind::SmallBigNumber => {
                 self.push(kind_text(kind_number(kind)))?;
             }
-            BreachKind::TooDeep => self.push("CTAP2 has at most 4 levels of arrays and maps")?,
-            BreachKind::KeyOrder { .. } | BreachKind::KeyTwice { .. } => {
-                self.push_key_breach(place, kind)?;
+            ViolationKind::TooDeep => self.push("CTAP2 has at most 4 levels of arrays and maps")?,
+            ViolationKind::KeyOrder { .. } | ViolationKind::KeyTwice { .. } => {
+                self.push_key_violation(place, kind)?;
             }
         }
         Ok(())
@@ -117,15 +130,15 @@ impl Words<'_> {
     }
 
     /// Writes what is wrong with a key.
-    fn push_key_breach(&mut self, place: usize, kind: BreachKind) -> Result<(), Error> {
+    fn push_key_violation(&mut self, place: usize, kind: ViolationKind) -> Result<(), Error> {
         self.push("the key ")?;
         self.push_key(place)?;
         match kind {
-            BreachKind::KeyOrder { previous } => {
+            ViolationKind::KeyOrder { previous } => {
                 self.push(" comes after ")?;
                 self.push_key(previous)?;
             }
-            BreachKind::KeyTwice { first } => {
+            ViolationKind::KeyTwice { first } => {
                 self.push(" was ")?;
                 self.push_byte(first)?;
                 self.push_other(place, first)?;

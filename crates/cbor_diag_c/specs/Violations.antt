@@ -5,10 +5,10 @@ use Rattle.cbor_grammar.specs.Refusals.{number_of}
 use Rattle.cbor_rules.specs.declared.rules.Rules.{Rules}
 use Rattle.cbor_rules.specs.declared.rules.TheConstants.Rules.{RFC_8949, VALID, PREFERRED, CORE, LENGTH_FIRST, CTAP2}
 use Rattle.cbor_rules.specs.declared.rules.TheConstants.Rules.{DCBOR}
-use Rattle.cbor_rules.specs.declared.kind.Breach.{Breach}
-use Rattle.cbor_rules.specs.declared.kind.BreachKind.{BreachKind}
-use Rattle.cbor_rules.specs.declared.kind.BreachKind.TheVariants as kind
-use Rattle.cbor_reencode.specs.OneKey.{IsBreach, KeepsWithKeys}
+use Rattle.cbor_rules.specs.declared.kind.Violation.{Violation}
+use Rattle.cbor_rules.specs.declared.kind.ViolationKind.{ViolationKind}
+use Rattle.cbor_rules.specs.declared.kind.ViolationKind.TheVariants as kind
+use Rattle.cbor_reencode.specs.OneKey.{IsViolation, KeepsWithKeys}
 use Rattle.cbor_messages.specs.Kinds.{kind_number}
 use Rattle.cbor_diag_c.specs.Places.{no_place}
 
@@ -25,14 +25,14 @@ rules_of number =
     else None
 
 -- what else is told: the number of the error for which there is no item, or the place of the other key
-abbrev pub detail_of : BreachKind → ℕ
+abbrev pub detail_of : ViolationKind → ℕ
 detail_of (kind.NoItem e) = number_of e
 detail_of (kind.KeyOrder previous) = previous
 detail_of (kind.KeyTwice first) = first
 detail_of _ = no_place
 
--- what is told of the first breach, if there is one
-abbrev pub IsTold : Option Breach → ℕ → ℕ → ℕ → Type 0
+-- what is told of the first violation, if there is one
+abbrev pub IsTold : Option Violation → ℕ → ℕ → ℕ → Type 0
 IsTold None n place detail = (n ≡ 0) × (place ≡ no_place) × (detail ≡ no_place)
 IsTold (Some b) n place detail = (n ≡ kind_number b.kind) × (place ≡ b.place) × (detail ≡ detail_of b.kind)
 
@@ -40,7 +40,7 @@ IsTold (Some b) n place detail = (n ≡ kind_number b.kind) × (place ≡ b.plac
 abbrev pub IsFoundBy : ℕ → List ℕ → ℕ → ℕ → ℕ → Type 0
 IsFoundBy number input n place detail =
     (rules : Rules) × (rules_of number ≡ Some rules)
-    × (found : Option Breach) × IsBreach rules input found × IsTold found n place detail
+    × (found : Option Violation) × IsViolation rules input found × IsTold found n place detail
 
 -- The input is items one after the other that keep the rules of this number, and where these ask for distinct keys, no
 -- two keys of a map are one.

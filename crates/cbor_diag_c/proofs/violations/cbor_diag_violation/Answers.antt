@@ -1,10 +1,10 @@
 use Rattle.std.proofs.Common.{rules, ◌≡◌, ◌↔◌, Some}
 use Rattle.cbor_diag_c.specs.Answers.{IfLength}
-use Rattle.cbor_diag_c.specs.Breaches.{rules_of, KeepsBy}
+use Rattle.cbor_diag_c.specs.Violations.{rules_of, KeepsBy}
 use Rattle.cbor_diag_c.proofs.Told.{kept_if_told}
-use Rattle.cbor_diag_c.proofs.breaches.cbor_diag_breach.Goals as goal
+use Rattle.cbor_diag_c.proofs.violations.cbor_diag_violation.Goals as goal
 
--- src/breaches.rt:91:1
+-- src/violations.rt:91:1
 pub returns-in-Ok-clause-kept : goal.returns-in-Ok-clause-kept
 returns-in-Ok-clause-kept c =
     let is : rules_of c.args.rules ≡ Some c.in-Some.rules = search rules in

@@ -1,7 +1,7 @@
--- There is no breach exactly if the rules are kept.
+-- There is no violation exactly if the rules are kept.
 use Rattle.std.proofs.Common.{arith}
 use Rattle.cbor_rules.proofs.Exactly.{exactly_ok}
-use Rattle.cbor_rules.proofs.check.breach_in.Goals as goal
+use Rattle.cbor_rules.proofs.check.violation_in.Goals as goal
 
 pub returns-clause-none : goal.returns-clause-none
 returns-clause-none c =

@@ -1,6 +1,6 @@
--- Bytes that keep the rules have no breach, and no keys are one where none are found.
+-- Bytes that keep the rules have no violation, and no keys are one where none are found.
 use Rattle.std.proofs.Common.{refl, sym, ◌∙◌}
-use Rattle.cbor_reencode.proofs.keys.breach_of.Goals as goal
+use Rattle.cbor_reencode.proofs.keys.violation_of.Goals as goal
 
 pub returns-in_default-2-clause-is : goal.returns-in_default-2-clause-is
 returns-in_default-2-clause-is c = (
