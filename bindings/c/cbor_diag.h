@@ -325,7 +325,7 @@ static inline int64_t cbor_diag_fault_path_checked(uint32_t from, const void *in
  * returns minus CBOR_DIAG_ERROR_MEMORY or minus CBOR_DIAG_ERROR_NO_FORM, and `message` is unchanged.
  *
  *     cbor_diag_fault_message(CBOR_DIAG_FORM_BYTES, "\x82\x01", 2, message, sizeof message);
- *     // "cut short: the array at byte 0 has 2 items, 1 is there"
+ *     // "truncated: the array at byte 0 has 2 items, 1 is there"
  *
  * No zero byte is added. A pointer may be null if its length is 0.
  */

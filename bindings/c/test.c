@@ -729,8 +729,8 @@ static void test_fault_paths(void)
         const char *path, *message;
     } rows[] = {
         {BYTES, TEXT("\x82\x01\x02"), "", ""},
-        {BYTES, TEXT(""), "/", "cut short: no item is at byte 0"},
-        {BYTES, TEXT("\x82\x01"), "1", "cut short: the array at byte 0 has 2 items, 1 is there"},
+        {BYTES, TEXT(""), "/", "truncated: no item is at byte 0"},
+        {BYTES, TEXT("\x82\x01"), "1", "truncated: the array at byte 0 has 2 items, 1 is there"},
         {BYTES, TEXT("\x1f"), "/", "1f: this major type has no indefinite length"},
         {BYTES, TEXT("\xa1\x61k\x82\x01\x1f\x00"), "k/1",
          "1f: this major type has no indefinite length, at k/1, in the array of 2 at byte 3, of which 1 is there"},

@@ -720,8 +720,8 @@ class Errors(unittest.TestCase):
 
     def test_paths(self):
         for source, given, path, text in (
-            (Form.BYTES, b"", "/", "cut short: no item is at byte 0"),
-            (Form.BYTES, b"\x82\x01", "1", "cut short: the array at byte 0 has 2 items, 1 is there"),
+            (Form.BYTES, b"", "/", "truncated: no item is at byte 0"),
+            (Form.BYTES, b"\x82\x01", "1", "truncated: the array at byte 0 has 2 items, 1 is there"),
             (Form.BYTES, bytearray(b"\xa1\x61k\x82\x01\x1f\x00"), "k/1",
              "1f: this major type has no indefinite length, at k/1, in the array of 2 at byte 3, of which 1 is there"),
             (Form.BYTES, b"\xa1\x62\xc3\xbc\x62\xff\x00", "\u00fc",

@@ -45,7 +45,7 @@ def fault_words(row):
 def cut_words(row):
     if not row.bytes():
         return f"no item is at byte {BEGINS}"
-    return said(row.bytes(), BEGINS).removeprefix("cut short: ").strip()
+    return said(row.bytes(), BEGINS).removeprefix("truncated: ").strip()
 
 
 def head_words(data, start):

@@ -115,7 +115,7 @@ def odd_paths(program):
     same("many lines", run("-t", "paths", data=many)[0].count(b"\n"), 60000)
     same("no -p", run("-t", "paths", "-p", "1", "-x", "[1, 2]")[::2], (b"", 2))
     same("before a cut", run("-t", "paths", data=b"\x01\x82\x02"), (
-        b"/  1\n", "cborcat: standard input: cut short: the array at byte 1 has 2 items, 1 is there\n", 1))
+        b"/  1\n", "cborcat: standard input: truncated: the array at byte 1 has 2 items, 1 is there\n", 1))
 
 
 def bytes_at(program):
@@ -136,7 +136,7 @@ def bytes_at(program):
             f"cborcat: standard input: byte 2 (0x2): {WRONG}\n"
             "    at 1, in the array of 2 at byte 0, of which 1 is there\n    82 01 1f\n          ^^\n")
     same_at("of a cut text", 3, "82016361", ["path: 1", "head: 63 # text(3)", "item: from byte 2 (0x2) on, not whole"],
-            "cborcat: standard input: cut short: the text at 1 (byte 2) has 3 bytes, 1 is there\n")
+            "cborcat: standard input: truncated: the text at 1 (byte 2) has 3 bytes, 1 is there\n")
     same_at("before an offset", 0, "01ff05", [],
             "cborcat: standard input: byte 0: no item has this byte; 3 bytes came\n", ["--offset=2"])
     for words in (["-t", "hex"], ["-p", "1"], ["-c"]):
@@ -149,13 +149,13 @@ def partial(program):
         out, error, status = program.run("-f", "bytes", "--partial", "-t", form, data=data)
         program.same(what, (out.decode(), error != "", status), (wanted, True, 1))
 
-    fault = f"/fault: {WRONG}/"
+    fault = f"/malformed: {WRONG}/"
     same_partial("a fault", "diag", b"\x01\xa1\x61a\x83\x01\x02\x1f\x00", f"1\n{{\"a\": [1, 2, {fault} h'1f00']}}\n")
-    same_partial("a cut", "diag", b"\x82\x01\x62a", "[1, /cut short/ h'6261']\n")
-    same_partial("between items", "diag", b"\x82\x01", "[1, /cut short/ h'']\n")
+    same_partial("a cut", "diag", b"\x82\x01\x62a", "[1, /truncated/ h'6261']\n")
+    same_partial("between items", "diag", b"\x82\x01", "[1, /truncated/ h'']\n")
     same_partial("in lines", "pretty", b"\x82\x01\x1f", f"[\n    1,\n    {fault} h'1f'\n]\n")
     same_partial("a dump", "hex", b"\x82\x01\x1f\x00",
-                 f"82 # array(2)\n   01 # unsigned(1)\n   # fault: {WRONG}\n   1f00\n")
+                 f"82 # array(2)\n   01 # unsigned(1)\n   # malformed: {WRONG}\n   1f00\n")
     same_partial("digits", "digits", b"\x01\x82\x01", "01\n")
     program.same("a whole item", program.run("--partial", "-t", "diag", data=b"\x81\x01"), (b"[1]\n", "", 0))
     for word in ("-c", "--path=1"):
@@ -173,7 +173,7 @@ def any_in_part(program):
         whole = program.run("-f", "bytes", "-t", "diag", data=data)[0].decode()
         for end in range(1, len(data)):
             text = program.run("-f", "bytes", "--partial", "-t", "diag", data=data[:end])[0].decode()
-            front, said, _ = text.rpartition("/cut short/")
+            front, said, _ = text.rpartition("/truncated/")
             # Between members it is not known whether one more follows, as it does not before a break.
             front = front.removesuffix(", ")
             program.same(f"{data.hex()} to {end}", (said != "", whole.startswith(front)), (True, True))
@@ -185,8 +185,8 @@ def examples_in_part(program, name):
     whole = program.run("-f", "bytes", "-t", "diag", data=data)[0].decode()
     leaves = [(int(at, 16), text) for at, _, text in program.lines("-f", "bytes", "--no-names", data=data)]
     starts = places.starts(data)
-    shown = [(data[:end], end, "/cut short/") for end in range(1, len(data)) if end not in starts]
-    shown += [(data[:at] + b"\x1f" + data[at + 1:], at, f"/fault: {WRONG}/") for at in places.heads(data)]
+    shown = [(data[:end], end, "/truncated/") for end in range(1, len(data)) if end not in starts]
+    shown += [(data[:at] + b"\x1f" + data[at + 1:], at, f"/malformed: {WRONG}/") for at in places.heads(data)]
     for part, end, said in shown:
         def written(*words):
             return program.run("-f", "bytes", "--partial", *words, data=part)[0].decode()

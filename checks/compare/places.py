@@ -63,7 +63,7 @@ class Decoder:
     def cut(self, noun, path, in_key, start, rest):
         words = f"the {noun}{' in a key' if in_key else ''}{f' at {path}' if path else ''}"
         words += f" ({self.byte(start)})" if in_key or path else f" at {self.byte(start)}"
-        raise Stop(f"cut short: {words} has {rest}\n")
+        raise Stop(f"truncated: {words} has {rest}\n")
 
     def fault(self, place, line, words=""):
         at, byte = self.begins + place, self.data[place]

@@ -97,7 +97,7 @@ class Error(enum.IntEnum):
     MEMORY = 1
     """Out of memory. It says nothing of the input."""
     CUT_SHORT = 2
-    """The item is cut short: more bytes are needed."""
+    """The item is truncated: more bytes are needed."""
     HEAD = 3
     """No item can have this head."""
     UTF8 = 4

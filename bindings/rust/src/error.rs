@@ -90,7 +90,7 @@ impl Error {
     /// the fault.
     ///
     /// In bytes the fault is the byte that no item can have there, or the last byte of a text that is not UTF-8; the
-    /// end of bytes that are cut short; or the first byte after an item that is not the last. In hex it is the first
+    /// end of truncated bytes; or the first byte after an item that is not the last. In hex it is the first
     /// digit of that byte; or the digit that is wrong, which is the last of an odd number. In notation and EDN it is
     /// where the reader stops: before the first byte with which the text cannot go on, or at the end of a text that is
     /// only truncated. In hex, notation or EDN that is not UTF-8 it is the first byte that is not.

@@ -108,7 +108,7 @@ fn explanations() {
         (
             Form::Bytes,
             b"\x82\x01",
-            "cut short: the array at byte 0 has 2 items, 1 is there",
+            "truncated: the array at byte 0 has 2 items, 1 is there",
         ),
     ];
     for (from, input, text) in rows {

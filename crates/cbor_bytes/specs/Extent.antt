@@ -20,8 +20,8 @@ IfFault _ Fact = Unit {0}
 abbrev pub FaultEnds : List ℕ → Error → ℕ → Type 0
 FaultEnds b error end = (1 ≤ end) × (end ≤ length b) × HasFault (take end b) error
 
--- How the bytes begin: with an item of this length; cut; or with a fault that this number of first bytes has,
--- of which fewer are cut.
+-- How the bytes begin: with an item of this length; cut; or with a fault. The fault is in this number of first bytes,
+-- and any fewer are cut.
 abbrev pub IsExtent : List ℕ → Extent → Type 0
 IsExtent b (extent.Item n) = (i : Item) × BeginsWithItem b i n
 IsExtent b extent.Cut = IsCut b

@@ -1,4 +1,4 @@
--- What a `Scanner` has scanned. Clauses of its calls keep this relation; a caller need not look into it.
+-- Which bytes a `Scanner` has scanned. The clauses of its calls keep this relation; a caller need not look into it.
 use Rattle.std.specs.Prelude.{◌≡◌, ℕ, ◌<◌, List, length, slice_index, Option}
 use Rattle.cbor_bytes.specs.declared.skip.answer.Extent.{Extent}
 use Rattle.cbor_bytes.specs.declared.skip.answer.Extent.TheVariants as extent

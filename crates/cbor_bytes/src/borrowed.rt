@@ -1,4 +1,4 @@
-//! Strings where they are in the bytes, in no memory of their own.
+//! Reads strings without copying them: each is a slice of the bytes.
 ghost use Rattle.std.specs.Prelude.{◌≡◌, ◌<◌, ◌≤◌, length, IfOk, IfSome, option_map};
 ghost use Rattle.cbor_grammar.specs.declared.width.IntegerWidth.{IntegerWidth};
 ghost use Rattle.cbor_grammar.specs.mirror.StringView.{kind_of, borrowed_chunk};
@@ -8,7 +8,7 @@ use crate::strings::{read_chunk_length, split_at};
 use cbor_grammar::strings::{StringContent, StringKind};
 use cbor_grammar::{IntegerWidth, Result};
 
-/// A string of definite length after a head with its length.
+/// A string of definite length, read after the head with its length.
 #[tactic(auto, unfolding(cbor_grammar::specs::Reading::read_content))]
 pub fn read_borrowed(
     kind: StringKind,
@@ -24,7 +24,8 @@ pub fn read_borrowed(
     Ok((kind.content(content)?, rest))
 }
 
-/// The next chunk of an indefinite string, with the width of its length, or `None` at its break.
+/// The next chunk of an indefinite-length string, with the width of its length, or `None` at its
+/// break.
 #[tactic(auto, unfolding(cbor_grammar::specs::Reading::read_chunk_length, cbor_grammar::specs::Reading::read_chunk))]
 pub fn next_chunk(
     kind: StringKind,

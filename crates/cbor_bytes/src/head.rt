@@ -1,5 +1,5 @@
-//! Heads, read from bytes (RFC 7049 section 2): the first byte of an item, and the number that
-//! goes with it.
+//! Reads heads from bytes (RFC 7049 section 2): the first byte of an item, and the number that goes
+//! with it.
 ghost use Rattle.std.specs.Prelude.{◌≡◌, ◌≢◌, ◌<◌, ◌≤◌, length, IfOk, IfErr};
 ghost use Rattle.std.specs.Int.{w8, w16, w32, w64};
 ghost use Rattle.std.specs.Result.{result_map_both};
@@ -69,7 +69,7 @@ fn read_u64(bytes: &[u8]) -> Result<(u64, &[u8])>
     Ok((number, rest))
 }
 
-/// What these five bits of info say, with the bytes that they ask for; `info` is below 32.
+/// What these five bits of info and the bytes that they ask for say; `info` is below 32.
 #[tactic(auto, unfolding(cbor_grammar::specs::Reading::read_argument, cbor_grammar::specs::Reading::read_wide))]
 pub(super) fn read_argument(info: u8, bytes: &[u8]) -> Result<(Argument, &[u8])>
     requires { info < 32 }
@@ -104,7 +104,7 @@ pub(super) fn read_argument(info: u8, bytes: &[u8]) -> Result<(Argument, &[u8])>
     Ok((Argument::Number(number, width), rest))
 }
 
-/// In major type 7 a number of up to 8 bits is a simple value; a wider one is a float.
+/// A number of major type 7: up to 8 bits it is a simple value, in more bits a float.
 fn simple_or_float(number: u64, width: IntegerWidth) -> ItemHead
     requires { FitsStated width number }
     ensures { result ≡ simple_or_float number width }
@@ -119,7 +119,7 @@ fn simple_or_float(number: u64, width: IntegerWidth) -> ItemHead
     }
 }
 
-/// What a head of that major type and argument opens. No item begins with a break.
+/// What a head of this major type and argument opens. No item begins with a break.
 #[tactic(auto, unfolding(cbor_grammar::specs::Reading::head_of))]
 fn head_of(major: Major, argument: Argument) -> Result<ItemHead>
     requires { FitsArgument argument }

@@ -1,6 +1,6 @@
-//! Reads bytes from hex with blanks and comments. They may be no item.
+//! Reads bytes from hex with blanks and comments. The bytes need not encode an item.
 //!
-//! The text is read once, line by line: comments are skipped, and what is kept is gathered and then
+//! The text is read once, line by line. Comments are skipped, and the rest is gathered and then
 //! decoded.
 mod place;
 
@@ -19,7 +19,7 @@ use memchr::{memchr, memchr2};
 pub use place::{hex_fault, hex_place};
 use std::alloc::{AllocError, Global};
 
-/// What the first line has before its first `#` or its end, and what follows that line.
+/// The part of the first line before its `#` or its end, and the text after that line.
 fn cut_line(text: &[u8]) -> (&[u8], &[u8])
     ensures kept { uncommented text.now ≡ unspaced result.0.now ++ uncommented result.1.now }
     ensures shorter { 0 < length text.now → length result.1.now < length text.now }
@@ -31,7 +31,7 @@ fn cut_line(text: &[u8]) -> (&[u8], &[u8])
     }
 }
 
-/// What follows the first line feed.
+/// The text after the first line feed.
 fn after_line(text: &[u8]) -> &[u8]
     ensures { result.now ≡ after_first (λ b. b == 10) text.now }
 {
@@ -41,7 +41,7 @@ fn after_line(text: &[u8]) -> &[u8]
     }
 }
 
-/// A line that ends at a line feed, without the one carriage return before it.
+/// A line that ends at a line feed, without the carriage return before that, if there is one.
 fn without_return(line: &[u8]) -> &[u8]
     ensures { result.now ≡ strip_carriage_return line.now }
 {
@@ -51,7 +51,7 @@ fn without_return(line: &[u8]) -> &[u8]
     }
 }
 
-/// What follows the spaces at the front.
+/// The text after the spaces at the front.
 #[tactic(auto, using(cbor_grammar::proofs::hex::Lines::space_here))]
 fn after_spaces(line: &[u8]) -> &[u8]
     ensures same { unspaced result.now ≡ unspaced line.now }
@@ -66,7 +66,7 @@ fn after_spaces(line: &[u8]) -> &[u8]
     &near[at..]
 }
 
-/// What follows the spaces at the front, in eights: most lines of a dump have that many.
+/// The text after the spaces at the front, eight at a time: most lines of a dump have that many.
 #[tactic(auto, using(cbor_grammar::proofs::hex::Lines::eight_spaces))]
 fn after_eights(line: &[u8]) -> &[u8]
     ensures same { unspaced result.now ≡ unspaced line.now }
@@ -79,8 +79,8 @@ fn after_eights(line: &[u8]) -> &[u8]
     rest
 }
 
-/// The place of the first space, or the end of the line. It looks at single bytes, since most
-/// digits are in short runs.
+/// The place of the first space, or the end of the line. It tests single bytes, since most digits
+/// are in short runs.
 #[tactic(auto, using(cbor_grammar::proofs::hex::Lines::front_kept))]
 fn first_space(line: &[u8]) -> usize
     ensures within { result ≤ length line.now }
@@ -107,8 +107,8 @@ fn push_unspaced(out: &mut Vec<u8>, line: &[u8]) -> Result<(), AllocError>
     Ok(())
 }
 
-/// What is kept of all lines. Decoding finds out whether these bytes are hex digits. Memory is
-/// reserved at first for a fourth of the text: most dumps keep less.
+/// The kept bytes of all lines. Decoding finds out whether they are hex digits. At first, memory is
+/// reserved for a fourth of the text: most dumps keep less.
 pub fn uncommented(alloc: Global, text: &str) -> Result<Vec<u8>, AllocError>
     ensures { IfOk result (λ digits. digits.items ≡ uncommented text.now) }
 {
@@ -139,10 +139,11 @@ pub fn decode(alloc: Global, digits: Vec<u8>) -> cbor_grammar::Result<Vec<u8>>
 }
 
 /// Decodes hex with comments, by the rules of [`parse_hex`]: two digits, of either case, for each
-/// byte. The bytes may be no item, and [`extent`] reports how they begin.
+/// byte. The bytes need not encode an item; [`extent`] reports how they begin.
 ///
-/// Returns `OddHex` if the number of kept bytes is odd, and otherwise `BadHex` if one of them is
-/// not a hex digit. Returns `Memory` if an allocation fails.
+/// All bytes of the text are kept except spaces, ends of lines and comments. Returns `OddHex` if
+/// the number of kept bytes is odd, and otherwise `BadHex` if one of them is not a hex digit.
+/// Returns `Memory` if an allocation fails.
 ///
 /// ```rust
 /// use cbor_diag::hex_bytes;

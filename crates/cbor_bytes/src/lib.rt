@@ -1,8 +1,9 @@
 //! Reads and writes the heads of CBOR items (RFC 7049 section 2), and finds where items end without
-//! building any.
+//! building them.
 //!
-//! [`extent`] tells how bytes begin, [`Scanner`] does the same with bytes that come in pieces,
-//! `hex_text` finds the bytes of hex with comments, and [`utf8_fault`] where bytes are not UTF-8.
+//! [`extent`] reports how bytes begin, and [`Scanner`] does so for bytes that come in pieces.
+//! `hex_text` reads the bytes of hex with comments. [`utf8_fault`] finds where bytes stop being
+//! UTF-8.
 #![tactic(auto)]
 
 pub mod borrowed;

@@ -42,8 +42,8 @@ fn push_encoded(out: &mut String, bytes: &[u8], encoding: Encoding) -> Result<()
     }
 }
 
-/// Writes bytes in base 64. It is a function of its own since it has a large buffer, which
-/// whatever it is inlined into would clear at each call.
+/// Writes bytes in base 64. It is a separate function because of its large buffer: where it was
+/// inlined, each call would clear the buffer.
 #[inline(never)]
 fn push_base64(out: &mut String, bytes: &[u8]) -> Result<(), AllocError>
     ensures { AppendsText result out.old out.new (standard bytes.now) }
@@ -51,7 +51,7 @@ fn push_base64(out: &mut String, bytes: &[u8]) -> Result<(), AllocError>
     STANDARD.encode_string(bytes, out)
 }
 
-/// Writes bytes in the base 64 of URLs, apart for the same reason.
+/// Writes bytes in URL-safe base 64. It is separate for the same reason.
 #[inline(never)]
 fn push_base64_url(out: &mut String, bytes: &[u8]) -> Result<(), AllocError>
     ensures { AppendsText result out.old out.new (url_safe bytes.now) }

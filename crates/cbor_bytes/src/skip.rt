@@ -1,7 +1,9 @@
-//! Reports how bytes begin, without building an item: a loop over heads with a stack of the open
-//! containers. For each container it keeps how many parts are still to come; strings are skipped.
+//! Finds how bytes begin, without building an item: it loops over heads with a stack of the open
+//! containers. For each container it keeps how many parts are still to come. The content of strings
+//! is skipped.
 //!
-//! Each private function takes the remaining bytes and returns those after what it skips, or why it
+//! Each private function takes the remaining bytes. It returns the bytes after what it skips, or
+//! why it stops.
 //! stops.
 mod answer;
 mod containers;
@@ -43,12 +45,12 @@ use to_come::ToCome;
 enum Stop {
     /// The bytes end.
     Cut,
-    /// An error, and how many bytes follow the first ones that have it.
+    /// An error, and how many bytes follow the first bytes that have it.
     Fault { error: Error, after: usize },
 }
 
 impl Stop {
-    /// The reason for an error in the head at the front of these bytes, which its first byte shows.
+    /// The reason to stop at a head with this error at the front. Its first byte has the error.
     fn in_head(error: Error, bytes: &[u8]) -> Stop
         ensures { result ≡ stop_of error (length bytes.now - 1) }
     {
@@ -62,7 +64,7 @@ impl Stop {
     }
 }
 
-/// The bytes after a string of that length; its head is read already.
+/// The bytes after the content of a string of this length. Its head is already read.
 fn after_content(kind: StringKind, count: u64, bytes: &[u8]) -> Result<&[u8], Stop>
     ensures goes { (w : IntegerWidth) → IfOk result (λ rest.
         Goes (skip_content kind count w) here bytes.now rest.now) }
@@ -82,8 +84,8 @@ fn after_content(kind: StringKind, count: u64, bytes: &[u8]) -> Result<&[u8], St
     Err(Stop::Fault { error, after })
 }
 
-/// The length of the next chunk of an indefinite string, or `None` at its break, and the bytes
-/// after this head.
+/// The length of the next chunk of an indefinite-length string, or `None` at its break, and the
+/// bytes after that head.
 fn read_chunk_length(
     kind: StringKind,
     bytes: &[u8],
@@ -100,7 +102,7 @@ fn read_chunk_length(
     }
 }
 
-/// The bytes after the break of an indefinite string; its opening byte is read already.
+/// The bytes after the break of an indefinite-length string. Its opening byte is already read.
 fn after_chunks(kind: StringKind, bytes: &[u8]) -> Result<&[u8], Stop>
     ensures goes { IfOk result (λ rest. Goes (skip_chunks kind) here bytes.now rest.now) }
     ensures stops { IfErr result (λ stop. StopsSo (skip_chunks kind) bytes.now stop) }
@@ -116,7 +118,7 @@ fn after_chunks(kind: StringKind, bytes: &[u8]) -> Result<&[u8], Stop>
     }
 }
 
-/// The head of an item with `levels` left for it, and the bytes after it.
+/// The head of an item with `levels` left for it, and the bytes after the head.
 #[inline(always)]
 fn read_item_head(bytes: &[u8], levels: usize) -> Result<(ItemHead, &[u8]), Stop>
     ensures goes { IfOk result (λ x.
@@ -132,7 +134,7 @@ fn read_item_head(bytes: &[u8], levels: usize) -> Result<(ItemHead, &[u8]), Stop
     }
 }
 
-/// The bytes after a string of that length, or one in chunks; its head is read already.
+/// The bytes after a string of this length, or one in chunks. Its head is already read.
 #[inline(always)]
 fn after_string(kind: StringKind, len: Argument, bytes: &[u8]) -> Result<&[u8], Stop>
     ensures goes { (left : ℕ) → IfOk result (λ rest. Goes (skip_body left
@@ -147,7 +149,7 @@ fn after_string(kind: StringKind, len: Argument, bytes: &[u8]) -> Result<&[u8], 
     }
 }
 
-/// The bytes after an item without parts; its head is read already.
+/// The bytes after an item without parts. Its head is already read.
 #[inline(always)]
 fn after_atom(head: ItemHead, bytes: &[u8]) -> Result<&[u8], Stop>
     requires { opened head ≡ None }
@@ -163,9 +165,9 @@ fn after_atom(head: ItemHead, bytes: &[u8]) -> Result<&[u8], Stop>
     }
 }
 
-/// What is still to come of an item with `levels` left for it, and the bytes after its head: all of
-/// a container if the head opens one, otherwise nothing. Inlined into the loop of `extent` and into
-/// that of a `Scanner`.
+/// What is still to come of an item with `levels` left for it, and the bytes after its head. It is
+/// all of a container if the head opens one, otherwise nothing. Inlined into the loops of `extent`
+/// and `Scanner`.
 #[inline(always)]
 fn read_part(bytes: &[u8], levels: usize) -> Result<(Option<ToCome>, &[u8]), Stop>
     ensures goes { IfOk result
@@ -182,7 +184,7 @@ fn read_part(bytes: &[u8], levels: usize) -> Result<(Option<ToCome>, &[u8]), Sto
     Ok((None, rest))
 }
 
-/// The bytes after the item at the front, if it is whole and has no parts.
+/// The bytes after the item at the front, if it is complete and has no parts.
 fn after_whole(bytes: &[u8]) -> Option<&[u8]>
     ensures { IfSome result (λ rest. Goes (skip_item deepest) here bytes.now rest.now) }
 {
@@ -192,8 +194,8 @@ fn after_whole(bytes: &[u8]) -> Option<&[u8]>
     }
 }
 
-/// The bytes after the item whose head is read already, at `level`, of which these parts are to
-/// come. Not inlined: its stack is made for containers alone.
+/// The bytes after an item at `level` with these parts still to come. Its head is already read. Not
+/// inlined: only containers need its stack.
 #[inline(never)]
 fn after_parts(parts: ToCome, bytes: &[u8], level: u8) -> Result<&[u8], Stop>
     requires { level ≤ deepest }
@@ -239,7 +241,7 @@ fn after_item(bytes: &[u8], level: u8) -> Result<&[u8], Stop>
     }
 }
 
-/// The bytes after the item at the front, read from `level`; `None` where none is read.
+/// The bytes after the item at the front, read from `level`, or `None` if there is no item.
 pub fn after_front(bytes: &[u8], level: u8) -> Option<&[u8]>
     requires from { 1 ≤ level }
     requires to { level ≤ deepest + 1 }
@@ -272,8 +274,8 @@ fn begins(bytes: &[u8]) -> Extent
 ///
 /// Returns `Item` with the length of the item; `Cut` if the bytes end before the item does and
 /// before any error; or `Fault` with the first error from the left. The first `end` bytes have this
-/// error, and fewer are cut. For `Head` and `TooDeep`, the last of them is the byte at fault. For
-/// `Utf8`, they end with the text that is not UTF-8.
+/// error, and any fewer are truncated. For `Head` and `TooDeep`, the last of them is the wrong
+/// byte. For `Utf8`, they end with the text that is not UTF-8.
 ///
 /// ```rust
 /// use cbor_diag::{Error, Extent, extent};
@@ -286,15 +288,15 @@ fn begins(bytes: &[u8]) -> Extent
 ///
 /// [`parse_bytes_partial`]: cbor_diag::parse_bytes_partial
 pub fn extent(bytes: &[u8]) -> Extent
-    // An item of `n` bytes, exactly if they spell one.
+    // An item of `n` bytes if and only if they encode one.
     ensures item { IfItem result (λ n. (i : Item) × BeginsWithItem bytes.now i n) }
     ensures every_item { (i : Item) (n : ℕ) → BeginsWithItem bytes.now i n
         → result ≡ Extent.Item n }
 
-    // Cut, exactly if the bytes are.
+    // Cut if and only if the bytes are.
     ensures cut { (result ≡ Extent.Cut) ↔ IsCut bytes.now }
 
-    // A fault, exactly if the bytes have it.
+    // A fault if and only if the bytes have it.
     ensures fault { IfFault result (λ error end. HasFault bytes.now error) }
     ensures every_fault { (error : Error) → HasFault bytes.now error
         → (end : ℕ) × (result ≡ Extent.Fault error end) }

@@ -1,5 +1,5 @@
-//! Finds out whether bytes that are an item are its encoding already: whether no simple value below
-//! 24 takes two bytes. It goes from head to head, and keeps nothing of what is open.
+//! Checks whether the bytes of an item have a simple value below 24 in a non-minimal encoding (such
+//! as `f8 00`). It goes from head to head, and keeps no stack of what is open.
 ghost use Rattle.std.specs.Prelude.{◌≡◌, ◌≢◌, ◌↔◌, ◌<◌, ◌≤◌, ◌⊎◌, ◌/◌, ℕ, List, ◌∷◌, length, drop};
 ghost use Rattle.std.specs.Prelude.{IsTrue, IfSome};
 ghost use Rattle.cbor_grammar.specs.mirror.StrictHeads.{LongSimple, NoLongSimple, StrictHeads};
@@ -11,7 +11,7 @@ use cbor_grammar::argument::{Argument, after_break};
 use cbor_grammar::head::ItemHead;
 use memchr::memchr;
 
-/// Whether the bytes begin with a simple value below 24 in two bytes.
+/// Whether the bytes begin with a simple value below 24 in a non-minimal encoding, such as `f8 00`.
 fn is_long_simple(bytes: &[u8]) -> bool
     ensures { IsTrue result ↔ LongSimple bytes.now }
 {
@@ -21,7 +21,7 @@ fn is_long_simple(bytes: &[u8]) -> bool
     }
 }
 
-/// Whether the two bytes of such a value stand anywhere, at a head or not. In most inputs they do
+/// Whether the two bytes of such a value are anywhere, at a head or not. In most inputs they are
 /// not, and then no head is read a second time: `bytes_to_bytes` of integers takes half as long.
 fn holds_long_simple(bytes: &[u8]) -> bool
     ensures { IsTrue result ⊎ NoLongSimple bytes.now }
@@ -38,7 +38,7 @@ fn holds_long_simple(bytes: &[u8]) -> bool
     false
 }
 
-/// How many bytes of content follow a head: those of a string of definite length.
+/// How many bytes of content follow a head: those of a string of definite length, otherwise 0.
 fn content_len(head: ItemHead) -> u64
     ensures { (b : List ℕ) → after_content head b ≡ drop result b }
 {
@@ -48,7 +48,8 @@ fn content_len(head: ItemHead) -> u64
     }
 }
 
-/// How many bytes of a number follow a first byte with these five bits of info, if a number does.
+/// How many bytes of a number follow a first byte with these five bits of info, or `None` if no
+/// number does.
 fn number_len(info: u8) -> Option<usize>
     ensures { IfSome result (λ k. IsNumberLen info k) }
 {
@@ -69,8 +70,9 @@ fn begins_string(first: u8) -> bool
     first / 32 == 2 || first / 32 == 3
 }
 
-/// How many bytes follow a first byte before the next head, where it says that alone: those of a
-/// number that is not read, or of a short string. A simple value in two bytes is looked at.
+/// How many bytes come between a first byte and the next head, if the first byte alone decides
+/// that: the bytes of a number, which is not read, or of a short string. `None` after `f8`, whose
+/// simple value has to be checked.
 fn body_len(first: u8) -> Option<usize>
     ensures { IfSome result (λ k. IsBodyLen first k) }
 {
@@ -87,8 +89,8 @@ fn body_len(first: u8) -> Option<usize>
     None
 }
 
-/// The bytes after a head and its content, where its first byte says alone how many these are. With
-/// [`after_other`] alone, a map with integer keys takes a quarter more.
+/// The bytes after a head and its content, if the first byte alone decides how many these are. With
+/// [`after_other`] alone, a map with integer keys takes a quarter longer.
 fn after_body(first: u8, bytes: &[u8]) -> Option<&[u8]>
     ensures strict { IfSome result (λ after. StrictHeads after.now
         → StrictHeads (first ∷ bytes.now)) }
@@ -119,7 +121,8 @@ fn after_read_head(bytes: &[u8]) -> Option<&[u8]>
     Some(after)
 }
 
-/// The bytes after the break or the head at the front, unless it takes a byte too many.
+/// The bytes after the break or the head at the front, unless that is a simple value in a
+/// non-minimal encoding.
 fn after_other(bytes: &[u8]) -> Option<&[u8]>
     ensures strict { IfSome result (λ after. StrictHeads after.now → StrictHeads bytes.now) }
     ensures shorter { IfSome result (λ after. length after.now < length bytes.now) }
@@ -133,7 +136,7 @@ fn after_other(bytes: &[u8]) -> Option<&[u8]>
     after_read_head(bytes)
 }
 
-/// The same, by the shorter way where it is there.
+/// The same, by the shorter way if it applies.
 fn after_strict(bytes: &[u8]) -> Option<&[u8]>
     ensures strict { IfSome result (λ after. StrictHeads after.now → StrictHeads bytes.now) }
     ensures shorter { IfSome result (λ after. length after.now < length bytes.now) }
@@ -147,7 +150,8 @@ fn after_strict(bytes: &[u8]) -> Option<&[u8]>
     }
 }
 
-/// Whether the bytes are heads, with the content of strings, none of which takes a byte too many.
+/// Whether the bytes are heads with the content of strings, and none is a simple value in a
+/// non-minimal encoding.
 fn has_strict_heads(bytes: &[u8]) -> bool
     ensures { IsTrue result → StrictHeads bytes.now }
 {
@@ -161,7 +165,7 @@ fn has_strict_heads(bytes: &[u8]) -> bool
     true
 }
 
-/// Whether an item that the bytes are is spelled strictly in them.
+/// Whether the bytes that encode an item have no simple value in a non-minimal encoding.
 pub fn is_strict(bytes: &[u8]) -> bool
     ensures { IsTrue result → NoLongSimple bytes.now ⊎ StrictHeads bytes.now }
 {

@@ -1,5 +1,5 @@
-//! Strings of definite length, and the chunks of indefinite ones, read from bytes (RFC 7049
-//! sections 2.1 and 2.2.2).
+//! Reads strings of definite length, and the chunks of indefinite-length strings, from bytes (RFC
+//! 7049 sections 2.1 and 2.2.2).
 ghost use Rattle.std.specs.Prelude.{◌≡◌, ◌≢◌, ◌+◌, ◌*◌, ◌^◌, ◌<◌, ◌≤◌, length, IfOk};
 ghost use Rattle.std.specs.Prelude.{IfErr, map, option_map};
 ghost use Rattle.cbor_grammar.specs.mirror.MajorNumber.{major_number};
@@ -27,7 +27,7 @@ pub fn split_at(bytes: &[u8], count: u64) -> Result<(&[u8], &[u8])>
     Ok(bytes.split_at(count as usize))
 }
 
-/// A string of definite length after a head with its length.
+/// A string of definite length, read after the head with its length.
 #[tactic(auto, unfolding(cbor_grammar::specs::Reading::read_content))]
 pub fn read_string<S: DefiniteString>(
     alloc: Global,
@@ -44,8 +44,8 @@ pub fn read_string<S: DefiniteString>(
     Ok((S::new(content, bitwidth)?, rest))
 }
 
-/// The length of the next chunk of an indefinite string of that major type, or `None` at its break.
-/// The first byte decides whether a chunk begins here, before more of its head is read.
+/// The length of the next chunk of an indefinite-length string of this major type, or `None` at its
+/// break. The first byte decides whether a chunk begins here, before more of its head is read.
 #[tactic(auto, unfolding(cbor_grammar::specs::Reading::read_chunk_length))]
 pub fn read_chunk_length(major: Major, bytes: &[u8]) -> Result<(Option<(u64, IntegerWidth)>, &[u8])>
     ensures gives { Gives (λ x. (x.0, x.1.now)) result
@@ -68,7 +68,7 @@ pub fn read_chunk_length(major: Major, bytes: &[u8]) -> Result<(Option<(u64, Int
     }
 }
 
-/// The next chunk of an indefinite string, or `None` at its break.
+/// The next chunk of an indefinite-length string, or `None` at its break.
 #[tactic(auto, unfolding(cbor_grammar::specs::Reading::read_chunk_length, cbor_grammar::specs::Reading::read_chunk))]
 fn read_chunk<S: DefiniteString>(alloc: Global, bytes: &[u8]) -> Result<(Option<S>, &[u8])>
     ensures gives { Gives (λ x. (option_map S.chunk x.0, x.1.now)) result
@@ -83,8 +83,8 @@ fn read_chunk<S: DefiniteString>(alloc: Global, bytes: &[u8]) -> Result<(Option<
     Ok((Some(chunk), rest))
 }
 
-/// The chunks of an indefinite string up to its break. Each of them takes a turn, and so does the
-/// break.
+/// The chunks of an indefinite-length string up to its break. Each chunk takes a turn, and so does
+/// the break.
 pub fn read_chunks<'a, S: DefiniteString>(
     alloc: Global,
     bytes: &'a [u8],

@@ -1,4 +1,4 @@
-//! The work of a reader, counted in turns.
+//! `Turns`: counts the work of a reader.
 ghost use Rattle.std.specs.Prelude.{◌≡◌, ℕ, ◌+◌, ◌<◌, ◌^◌};
 
 use std::marker::Model;

@@ -5,7 +5,7 @@ ghost use Rattle.cbor_bytes.specs.Utf8.{BeginsText, IsUtf8Fault};
 ghost use Rattle.cbor_bytes.specs.mirror.Characters.{MayFollow, NoCharFirst};
 ghost use Rattle.cbor_bytes.specs.mirror.Scanning.{WholeChars};
 
-/// How many of the first bytes are whole characters.
+/// How many of the first bytes form complete characters.
 pub(crate) fn whole_chars(bytes: &[u8]) -> usize
     ensures { WholeChars bytes.now result }
 {
@@ -15,7 +15,7 @@ pub(crate) fn whole_chars(bytes: &[u8]) -> usize
     }
 }
 
-/// Whether this byte may come after the first of a character of several bytes.
+/// Whether `second` may come after `first` in a character of several bytes.
 fn may_follow(first: u8, second: u8) -> bool
     ensures { IsTrue result ↔ MayFollow first second }
 {
@@ -29,7 +29,7 @@ fn may_follow(first: u8, second: u8) -> bool
     least <= second && second <= greatest
 }
 
-/// How many of the bytes a character begins with, where they do not begin with a whole one.
+/// How many of the first bytes begin a character, if they do not begin with a complete one.
 fn begun_len(bytes: &[u8]) -> usize
     requires { NoCharFirst bytes.now }
     ensures within { result ≤ length bytes.now }
@@ -57,11 +57,11 @@ fn begun_len(bytes: &[u8]) -> usize
     3
 }
 
-/// Finds where bytes stop being UTF-8: the place of the first byte with which no UTF-8 goes on, as
-/// the number of bytes before it. It allocates nothing.
+/// Finds where bytes stop being UTF-8: the number of bytes before the first byte that UTF-8 cannot
+/// have there. It allocates nothing.
 ///
-/// If the bytes end within a character, and are UTF-8 up to it, the place is their end. Returns
-/// `None` if they are UTF-8. In a character of several bytes the place may be after its first byte.
+/// Returns `None` if the bytes are UTF-8. If they end within a character, and are UTF-8 up to it,
+/// the place is their end. In a character of several bytes, the place may be after its first byte.
 ///
 /// ```rust
 /// use cbor_diag::utf8_fault;
@@ -72,7 +72,7 @@ fn begun_len(bytes: &[u8]) -> usize
 /// assert_eq!(rt; utf8_fault(b"a\xe2\x82\xac"), None);
 /// ```
 pub fn utf8_fault(bytes: &[u8]) -> Option<usize>
-    // The place, or none exactly where the bytes are UTF-8.
+    // The place, or none if and only if the bytes are UTF-8.
     ensures fault { IfSome result (λ place. IsUtf8Fault bytes.now place) }
     ensures none { (result ≡ None) ↔ IsUtf8 bytes.now }
 {

@@ -1,5 +1,5 @@
-//! Heads as they are written (RFC 7049 section 2), and the opening byte and the break in their
-//! place.
+//! Writes the heads of items (RFC 7049 section 2), and the opening bytes and breaks of indefinite
+//! lengths.
 #![tactic(auto, using(cbor_tokens::proofs::texts::Appending::appending_steps))]
 
 ghost use Rattle.cbor_tokens.specs.Appends.{Appends};
@@ -81,8 +81,8 @@ pub fn push_simple(out: &mut Vec<u8>, value: u8) -> Result<(), AllocError>
     Ok(())
 }
 
-/// Writes what comes before the members of a container: a head with their count, or an opening
-/// byte.
+/// Writes what comes before the members of a container: a head with their count, or the opening
+/// byte of an indefinite length.
 pub fn push_open(
     out: &mut Vec<u8>,
     major: Major,

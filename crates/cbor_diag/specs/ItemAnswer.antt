@@ -1,4 +1,4 @@
--- What a reader of a `DataItem` returns, in the words of `specs/Answer.antt` of `cbor_grammar`.
+-- The results of a reader of a `DataItem`, in the terms of `specs/Answer.antt` of `cbor_grammar`.
 use Rattle.std.specs.Prelude.{◌≡◌, ◌⊎◌, ℕ, List, Option, Some, None, Result, Ok, Err, MatchResult}
 use Rattle.cbor_grammar.specs.declared.error.Error.{Error}
 use Rattle.cbor_grammar.specs.declared.error.Error.TheVariants as refusal

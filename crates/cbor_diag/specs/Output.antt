@@ -1,4 +1,4 @@
--- What the conversion of an input from one form to another returns.
+-- The result of converting an input from one form to another.
 use Rattle.std.specs.Prelude.{◌≡◌, ℕ, List, [], ◌∷◌, ◌++◌, IsUtf8, Result, Ok, Err, ◌⊎◌}
 use Rattle.cbor_grammar.specs.declared.error.Error.{Error}
 use Rattle.cbor_grammar.specs.declared.error.Error.TheVariants as refusal

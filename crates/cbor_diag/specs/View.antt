@@ -1,4 +1,4 @@
--- The item that a `DataItem` is.
+-- The item that a `DataItem` stands for in the definitions.
 use Rattle.std.specs.Prelude.{List, map}
 use Rattle.cbor_grammar.specs.Item as spec
 use Rattle.cbor_grammar.specs.Item.{Item, Items, Pairs}

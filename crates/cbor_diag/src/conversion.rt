@@ -28,10 +28,10 @@ use std::alloc::Global;
 
 /// Reads one item from `input` in the form `from`, and returns it in the form `to`.
 ///
-/// Returns the errors of `parse_bytes`, `parse_hex` or `parse_diag`, and `Utf8` if hex or notation
-/// is not UTF-8.
+/// Returns the errors of `parse_bytes`, `parse_hex` or `parse_diag`. If hex or notation is not
+/// UTF-8, returns `Utf8`.
 pub fn convert(alloc: Global, from: Source, to: To, input: &[u8]) -> Result<Vec<u8>, Error>
-    // The output of the item that the input is, or why it is none.
+    // The output of the item that the input encodes, or why the input is not an item.
     ensures ok { IfOk result (λ output. IsOutput from to input.now (Ok output.items)) }
     ensures refused { RefusedSo result (λ e. IsOutput from to input.now (Err e)) }
 {
@@ -46,7 +46,7 @@ pub fn convert(alloc: Global, from: Source, to: To, input: &[u8]) -> Result<Vec<
 }
 
 /// Returns the output for an input in bytes. No item is built, unless the output is bytes and the
-/// input spells a simple value below 24 in two of them.
+/// input has a simple value below 24 in a non-minimal encoding (`f8 00`).
 fn from_bytes(alloc: Global, to: To, input: &[u8]) -> Result<Vec<u8>, Error>
     ensures ok { IfOk result (λ output. IsOutput Source.Bytes to input.now (Ok output.items)) }
     ensures refused { RefusedSo result (Refuses Source.Bytes input.now) }
@@ -59,7 +59,7 @@ fn from_bytes(alloc: Global, to: To, input: &[u8]) -> Result<Vec<u8>, Error>
     }
 }
 
-/// The same for an input in hex.
+/// Returns the output for an input in hex. An item is built in the same cases.
 fn from_hex(alloc: Global, to: To, input: &[u8]) -> Result<Vec<u8>, Error>
     ensures ok { IfOk result (λ output. IsOutput Source.Hex to input.now (Ok output.items)) }
     ensures refused { RefusedSo result (Refuses Source.Hex input.now) }
@@ -77,7 +77,7 @@ fn from_hex(alloc: Global, to: To, input: &[u8]) -> Result<Vec<u8>, Error>
 
 /// Reads one item from `input` in the form `from`. Its errors are those of [`convert`].
 pub fn read_item(alloc: Global, from: Source, input: &[u8]) -> Result<DataItem, Error>
-    // The item that the input is, which has an encoding, or why it is none.
+    // The item that the input encodes, which is well formed, or why the input is not an item.
     ensures item { IfOk result (λ item. Reads from input.now (view item)) }
     ensures refused { RefusedSo result (Refuses from input.now) }
     ensures well_formed { IfOk result (λ item. IsWellFormed (view item)) }
@@ -95,8 +95,8 @@ pub fn read_item(alloc: Global, from: Source, input: &[u8]) -> Result<DataItem, 
     }
 }
 
-/// Returns the item in the form `to`, in the memory of `spare`, whose bytes are dropped. A dump has
-/// memory of its own.
+/// Returns the item in the form `to`, in the memory of `spare`. The bytes of `spare` are dropped. A
+/// dump has memory of its own.
 ///
 /// The item has to be well formed, as `DataItem::is_well_formed` checks. The only error is
 /// `Memory`.

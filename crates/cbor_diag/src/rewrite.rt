@@ -1,5 +1,5 @@
-//! From bytes or hex to the bytes that their `DataItem` is written as: the same, but where a
-//! simple value below 24 takes two of them.
+//! Converts bytes or hex to the bytes that their `DataItem` is written as. These are the same
+//! bytes, except that a simple value below 24 is written in one byte.
 ghost use Rattle.std.specs.Prelude.{◌≡◌, ◌<◌, ◌++◌, ℕ, slice_index, None, Ok, IfSome, IsTrue};
 ghost use Rattle.std.specs.Prelude.{IfOk, IfErr, OnOk, OnErr, MatchResult};
 ghost use Rattle.cbor_grammar.specs.Item.{Item};
@@ -16,8 +16,8 @@ use cbor_bytes::{Extent, extent};
 use cbor_grammar::{Error, Result};
 use std::alloc::Global;
 
-/// Whether the bytes, which are to be one item, are known to be its encoding. The errors are those
-/// of [`parse_bytes`], but for `Memory`.
+/// Whether the bytes are known to be the encoding of their item. If they do not encode one item,
+/// returns the errors of [`parse_bytes`], except `Memory`.
 fn is_encoding(bytes: &[u8]) -> Result<bool>
     ensures known { IfOk result (λ yes. IsTrue yes
         → (i : Item) × IsItem bytes.now i × (bytes.now ≡ encoded i)) }
@@ -36,7 +36,7 @@ fn is_encoding(bytes: &[u8]) -> Result<bool>
     }
 }
 
-/// The encoding of the item that the bytes are.
+/// Reads the item that the bytes encode, and returns its encoding.
 fn encoding_of(alloc: Global, bytes: Vec<u8>) -> Result<Vec<u8>>
     ensures ok { IfOk result (λ out.
         (i : Item) × IsItem bytes.items i × (out.items ≡ encoded i)) }
@@ -50,12 +50,12 @@ fn encoding_of(alloc: Global, bytes: Vec<u8>) -> Result<Vec<u8>>
     }
 }
 
-/// Reads one item from all of the bytes, and returns its encoding: what [`parse_bytes`] and
-/// [`DataItem::to_bytes`] return one after the other, the errors of [`parse_bytes`] included.
+/// Reads one item from all of the bytes, and returns its encoding. The result is that of
+/// [`parse_bytes`] followed by [`DataItem::to_bytes`], including the errors of [`parse_bytes`].
 ///
-/// The result is the same bytes, unless a simple value below 24 takes two of them: it takes one in
-/// the encoding. No clause says where the result is: without such a value it is the memory that was
-/// given, and no item is built.
+/// The result is the same bytes, except that a simple value below 24 in a non-minimal encoding
+/// (`f8 00`) becomes one byte. Without such a value no item is built, and the result is in the
+/// memory of `bytes`. No clause states this.
 ///
 /// ```rust
 /// use cbor_diag::bytes_to_bytes;
@@ -66,13 +66,13 @@ fn encoding_of(alloc: Global, bytes: Vec<u8>) -> Result<Vec<u8>>
 ///
 /// [`DataItem::to_bytes`]: crate::DataItem::to_bytes
 pub fn bytes_to_bytes(alloc: Global, bytes: Vec<u8>) -> Result<Vec<u8>>
-    // The encoding of the item that the bytes are, exactly if they are one.
+    // The encoding of the item that the bytes encode, if and only if they encode one.
     ensures ok { IfOk result (λ out.
         (i : Item) × IsItem bytes.items i × (out.items ≡ encoded i)) }
     ensures every_item { (i : Item) → IsItem bytes.items i
         → MatchResult result (λ out. out.items ≡ encoded i) (λ e. e ≡ Error.Memory) }
 
-    // Each error, exactly if it is true.
+    // Each error, if and only if it holds for the input.
     ensures refused { RefusedSo result (IsNoItem bytes.items) }
     ensures every_refusal { (e : Error) → IsNoItem bytes.items e → GaveRefusal result e }
 {
@@ -82,10 +82,10 @@ pub fn bytes_to_bytes(alloc: Global, bytes: Vec<u8>) -> Result<Vec<u8>>
 /// Appends the encoding of the item at the front of the bytes to `out`, and returns the number of
 /// bytes that the item takes. More bytes may follow.
 ///
-/// It returns what [`parse_bytes_partial`] returns, and appends what [`DataItem::push_bytes`]
-/// appends: `Ok(None)` if the bytes end before the item does and before any error, and otherwise
-/// the first error from the left. In both cases, and if an allocation fails, `out` is unchanged. An
-/// item is built only where [`bytes_to_bytes`] builds one.
+/// The encoding is that of [`parse_bytes_partial`] followed by [`DataItem::push_bytes`]. If the
+/// bytes end before the item does and before any error, returns `Ok(None)`. If there is an error,
+/// returns the first one from the left. In both cases, and if an allocation fails, `out` is
+/// unchanged. An item is built only where [`bytes_to_bytes`] builds one.
 ///
 /// ```rust
 /// use cbor_diag::push_bytes_to_bytes_partial;
@@ -106,13 +106,13 @@ pub fn push_bytes_to_bytes_partial(
     bytes: &[u8],
     out: &mut Vec<u8>,
 ) -> Result<Option<usize>>
-    // Each of the three results, only if it is true.
+    // Each of the three results, only if it holds for the input.
     ensures found { IfOk result (λ o. IfSome o (λ n. (i : Item) × BeginsWithItem bytes.now i n
         × (out.new.items ≡ out.old.items ++ encoded i))) }
     ensures cut { result ≡ Ok None → IsCut bytes.now }
     ensures fault { RefusedSo result (HasFault bytes.now) }
 
-    // Bytes begin in exactly one of the three ways, and that one is returned.
+    // Bytes begin in exactly one of the three ways, and the result is that one.
     ensures exact { (o : Outcome) → BeginsSo bytes.now o
         → GaveText encoded result out.old.items out.new.items o }
     ensures one_of_three { BeginsInOneWay bytes.now }
@@ -131,7 +131,7 @@ pub fn push_bytes_to_bytes_partial(
     }
 }
 
-/// Appends the encoding of the item that the bytes are.
+/// Appends the encoding of the item that the bytes encode.
 fn push_encoding(alloc: Global, bytes: &[u8], out: &mut Vec<u8>) -> Result<()>
     ensures bytes { (i : Item) → IsItem bytes.now i
         → OnOk result (out.new.items ≡ out.old.items ++ encoded i) }
@@ -146,8 +146,8 @@ fn push_encoding(alloc: Global, bytes: &[u8], out: &mut Vec<u8>) -> Result<()>
     }
 }
 
-/// Reads one item from hex with comments, and returns its encoding: what [`parse_hex`] and
-/// [`DataItem::to_bytes`] return one after the other, the errors of [`parse_hex`] included. An item
+/// Reads one item from hex with comments, and returns its encoding. The result is that of
+/// [`parse_hex`] followed by [`DataItem::to_bytes`], including the errors of [`parse_hex`]. An item
 /// is built only where [`bytes_to_bytes`] builds one.
 ///
 /// ```rust
@@ -160,13 +160,13 @@ fn push_encoding(alloc: Global, bytes: &[u8], out: &mut Vec<u8>) -> Result<()>
 /// [`parse_hex`]: crate::parse_hex
 /// [`DataItem::to_bytes`]: crate::DataItem::to_bytes
 pub fn hex_to_bytes(alloc: Global, hex: &str) -> Result<Vec<u8>>
-    // The encoding of the item that the hex is, exactly if it is one.
+    // The encoding of the item that the hex encodes, if and only if it encodes one.
     ensures ok { IfOk result (λ out.
         (i : Item) × IsHexOf hex.now i × (out.items ≡ encoded i)) }
     ensures every_item { (i : Item) → IsHexOf hex.now i
         → MatchResult result (λ out. out.items ≡ encoded i) (λ e. e ≡ Error.Memory) }
 
-    // Each error, exactly if it is true.
+    // Each error, if and only if it holds for the input.
     ensures refused { RefusedSo result (IsHexRefused hex.now) }
     ensures every_refusal { (e : Error) → IsHexRefused hex.now e → GaveRefusal result e }
 {

@@ -1,4 +1,5 @@
-//! Data items, with how they were encoded: widths, and definite or indefinite lengths.
+//! The type `DataItem`: an item that keeps how it was encoded, that is, the widths of its numbers
+//! and whether its lengths are definite.
 mod clone;
 mod equal;
 mod well_formed;
@@ -9,7 +10,7 @@ use cbor_grammar::{ByteString, FloatWidth, IntegerWidth, Simple, Tag, TextString
 ///
 /// The outermost item is at level 1. The items in a container or below a tag are one level deeper
 /// than it. The chunks of a string have no level. An item is well formed if each number fits its
-/// width and no item in it is deeper than level 128, as [`DataItem::is_well_formed`] checks.
+/// width and no item in it is deeper than level 128. [`DataItem::is_well_formed`] checks this.
 #[derive(Debug, Drop)]
 pub enum DataItem {
     /// An unsigned integer (RFC 7049 section 2.1, major type 0).
@@ -30,10 +31,10 @@ pub enum DataItem {
     ByteString(ByteString),
     /// A text string of definite length.
     TextString(TextString),
-    /// A byte string in chunks, up to a break (RFC 7049 section 2.2.2).
+    /// A byte string of indefinite length: its chunks, which a break ends (RFC 7049 section 2.2.2).
     IndefiniteByteString(Vec<ByteString>),
-    /// A text string in chunks, up to a break; each chunk is UTF-8 by itself (RFC 7049 section
-    /// 2.2.2).
+    /// A text string of indefinite length: its chunks, which a break ends. Each chunk is UTF-8 by
+    /// itself (RFC 7049 section 2.2.2).
     IndefiniteTextString(Vec<TextString>),
     /// An array of items (RFC 7049 section 2.1, major type 4).
     Array {
@@ -62,7 +63,7 @@ pub enum DataItem {
     },
     /// A float, as its bits (RFC 7049 section 2.3, major type 7).
     Float {
-        /// The bits in IEEE 754, of the format of that width.
+        /// The bits in IEEE 754, in the format of that width.
         bits: u64,
         /// The width of the float.
         bitwidth: FloatWidth,

@@ -1,4 +1,4 @@
--- The comments of a dump.
+-- The comments of a dump: what each line says about its bytes.
 use Rattle.std.specs.Prelude.{ℕ, ◌+◌, ◌==◌, ◌||◌, ◌&&◌, nat_le, List, [], ◌++◌, drop, codes, decimal, true, false}
 use Rattle.std.specs.Prelude.{Option, Some, None, if◌then◌else◌}
 use Rattle.hex.specs.Hex.{encode_lower}

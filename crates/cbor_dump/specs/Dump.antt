@@ -1,5 +1,5 @@
--- The lines of the dump of an item: what its bytes are, in their order, each with a comment, and notes on what
--- tags say of their values. The layout of the lines depends on the lines alone.
+-- The lines of the dump of an item: its bytes in order, each line with a comment, and notes on the values of tags. The
+-- layout of the lines depends on the lines alone.
 use Rattle.std.specs.Prelude.{ℕ, zero, suc, ◌+◌, ◌%◌, ◌==◌, List, [], ◌∷◌, ◌++◌, length, min, map, Option, Some}
 use Rattle.std.specs.Prelude.{None, Ok, Err, unwrap_or, codes, nat_le, take, drop, if◌then◌else◌}
 use Rattle.std.specs.List.{flat_map}
@@ -190,7 +190,7 @@ abbrev pub bytes_in : Item → Option (List ℕ)
 bytes_in (atom (string Bytes c)) = Some c.bytes
 bytes_in _ = None
 
--- tag 24: the item that the bytes are, with the lines that `dump` gives it (RFC 7049 section 2.4.4.1)
+-- tag 24: the item that the bytes encode, with the lines that `dump` gives it (RFC 7049 section 2.4.4.1)
 abbrev pub whole_note : (Item → List DumpLine) → Read Item → Note
 whole_note dump (Ok (i, [])) = embedded_note (dump i)
 whole_note dump (Ok (i, rest)) = failed_note (codes "failed to parse encoded cbor data item") Remaining
@@ -232,7 +232,7 @@ notes_lines depth left dump known (Some t) i = flat_map (note_lines depth) (note
 
 -- ---- items
 
--- the items of a container one after the other, each written by `write`, `known` values being shared before
+-- the items of a container in order, each written by `write`; `known` values were shared before
 abbrev pub items_lines : (ℕ → Item → List DumpLine) → ℕ → Items → List DumpLine
 items_lines write known no_items = []
 items_lines write known (item i is) = write known i ++ items_lines write (known + shared_in i) is

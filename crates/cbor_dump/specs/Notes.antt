@@ -1,4 +1,4 @@
--- The notes of a dump: what is said of a tag's value, below the lines of the value.
+-- The notes of a dump: what it says about a tag's value, below the lines of the value.
 use Rattle.std.specs.Prelude.{ℕ, ◌-◌, ◌%◌, ◌==◌, nat_lt, pos, negsuc, Bool, true, Option, Some, None, List, [], ◌∷◌}
 use Rattle.std.specs.Prelude.{◌++◌, length, replicate, codes, decimal, false, nat_eq, if◌then◌else◌}
 use Rattle.std.specs.List.{ends_with}

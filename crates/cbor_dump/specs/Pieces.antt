@@ -1,4 +1,4 @@
--- In a dump, the pieces of a string, each of which has a line of its own.
+-- The pieces of a string in a dump. Each piece has its own line.
 use Rattle.std.specs.Prelude.{ℕ, zero, suc, nat_lt, nat_le, ◌||◌, Bool, List, [], ◌∷◌, length, min, max, take, drop}
 use Rattle.std.specs.Prelude.{slice_index, if◌then◌else◌}
 

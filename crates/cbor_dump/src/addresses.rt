@@ -3,8 +3,8 @@
 /// A family of network addresses.
 #[derive(Clone, Copy)]
 pub enum Family {
-    /// Of four bytes.
+    /// IPv4, with addresses of four bytes.
     IPv4,
-    /// Of sixteen bytes.
+    /// IPv6, with addresses of sixteen bytes.
     IPv6,
 }

@@ -1,4 +1,4 @@
-//! The comments of a dump, written at the end of a text.
+//! Appends the comments of a dump to a text.
 ghost use Rattle.std.specs.Prelude.{◌≡◌, ◌++◌, OnOk, decimal};
 ghost use Rattle.std.specs.String.{string_bytes};
 ghost use Rattle.cbor_notes.specs.TagNames.{tag_name};
@@ -15,12 +15,12 @@ use cbor_notes::{push_element_text, push_escaped_text, push_grouped, push_quoted
 use cbor_tokens::push_hex;
 use std::alloc::AllocError;
 
-/// What a line of a dump says of its digits.
+/// What the comment on a line says about its bytes.
 #[derive(Clone, Copy)]
 pub enum Comment<'a> {
     /// The number of a head: an integer, a tag or a length.
     Head(Major, u64),
-    /// A string or a container with its length or count, or none where that is indefinite.
+    /// A string or a container with its length or count, or `None` if that is indefinite.
     Counted(Major, Option<u64>),
     /// A float, by its encoding.
     Float(&'a [u8]),
@@ -41,7 +41,7 @@ pub enum Comment<'a> {
 }
 
 impl<'a> Comment<'a> {
-    /// What is said of a head, whose bytes these are.
+    /// The comment on a head, given with its bytes.
     pub fn of(head: ItemHead, bytes: &'a [u8]) -> Comment<'a>
         ensures { IsHead head bytes.now → comment_text result ≡ head_said head }
     {
@@ -59,7 +59,7 @@ impl<'a> Comment<'a> {
 }
 
 impl Comment<'_> {
-    /// Appends the comment to a text.
+    /// Appends the comment to a text. The only error is out of memory.
     pub fn push(&self, out: &mut String) -> Result<(), AllocError>
         ensures { OnOk result (string_bytes out.new ≡ string_bytes out.old
             ++ comment_text self.now) }
@@ -86,7 +86,7 @@ impl Comment<'_> {
     }
 }
 
-/// Appends what a head says with its number.
+/// Appends the comment on a head that has a number.
 fn push_head(out: &mut String, major: Major, number: u64) -> Result<(), AllocError>
     ensures { OnOk result (string_bytes out.new ≡ string_bytes out.old
         ++ head_comment major number) }
@@ -107,7 +107,7 @@ fn push_head(out: &mut String, major: Major, number: u64) -> Result<(), AllocErr
     }
 }
 
-/// The word of a string or a container.
+/// The word for a string or a container.
 fn word(major: Major) -> &'static str
     ensures { result.now ≡ major_word major }
 {

@@ -1,4 +1,4 @@
-//! Where in a dump an item is.
+//! The context of an item in a dump: its level and depth, and what the tags above it state.
 ghost use Rattle.std.specs.Prelude.{◌≡◌, ◌+◌};
 ghost use Rattle.cbor_dump.specs.Comments.{encoding_below};
 ghost use Rattle.cbor_dump.specs.Dump as spec;
@@ -10,11 +10,11 @@ use cbor_grammar::encoding::Encoding;
 /// Where in a dump an item is.
 #[derive(Clone, Copy)]
 pub struct DumpContext {
-    /// The item's level: 1 plus the number of items round it, of those that embed it, too.
+    /// The item's level: 1 plus the number of items around it, including those that embed it.
     pub level: u8,
     /// The depth of its lines, which are indented by it.
     pub depth: usize,
-    /// How byte strings are shown; they are quoted where there is none.
+    /// How byte strings are shown; `None` shows them between quotes.
     pub encoding: Option<Encoding>,
     /// The tag right above it.
     pub tag: Option<Tag>,
@@ -23,7 +23,7 @@ pub struct DumpContext {
 }
 
 impl DumpContext {
-    /// Outside of any item, where the next one is at `level`.
+    /// The context of an outermost item, which is at `level`.
     pub fn top(level: u8) -> DumpContext
         ensures context { context_view result ≡ spec.top }
         ensures depth { result.depth ≡ 0 }
@@ -38,7 +38,7 @@ impl DumpContext {
         }
     }
 
-    /// In a container, or in a string in chunks.
+    /// The context in a container, or in a string in chunks.
     pub fn inside(&self) -> DumpContext
         requires { IsContext self.now }
         ensures context { context_view result ≡ spec.inside (context_view self.now) }
@@ -54,7 +54,7 @@ impl DumpContext {
         }
     }
 
-    /// Right below a tag, before which `known` values were shared.
+    /// The context right below a tag, before which `known` values were shared.
     pub fn below(&self, tag: Tag, known: u64) -> DumpContext
         requires { IsContext self.now }
         ensures context { context_view result ≡ spec.below tag.0 known (context_view self.now) }
@@ -71,8 +71,9 @@ impl DumpContext {
     }
 }
 
-/// The encoding in which a dump shows byte strings below a tag: the tag's own (RFC 7049 section
-/// 2.4.4.2; base 16 below UUIDs and addresses, too), or the one outside.
+/// The encoding in which a dump shows byte strings below a tag. Tags 21, 22 and 23 state it (RFC
+/// 7049 section 2.4.4.2), and it is base 16 below UUIDs and addresses. Other tags keep the encoding
+/// outside.
 fn encoding_below(tag: Tag, outside: Option<Encoding>) -> Option<Encoding>
     ensures { result ≡ encoding_below tag.0 outside }
 {

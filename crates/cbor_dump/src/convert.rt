@@ -1,4 +1,4 @@
-//! From bytes and hex to dumps, without an item between them.
+//! Converts bytes and hex to dumps, without building an item.
 ghost use Rattle.std.specs.Prelude.{◌≡◌, ℕ, ◌+◌, ◌++◌, IfOk, IfErr, IfSome, OnOk, OnErr};
 ghost use Rattle.std.specs.Prelude.{MatchResult};
 ghost use Rattle.std.specs.Prelude.{None, Ok};
@@ -23,7 +23,7 @@ use cbor_bytes::hex_text::{decode, uncommented};
 use cbor_grammar::Error;
 use std::alloc::Global;
 
-/// The dump of the one item that the bytes are, all of them.
+/// The dump of the one item that the bytes encode, all of them.
 fn dump_whole(alloc: Global, bytes: &[u8]) -> cbor_grammar::Result<String>
     ensures ok { IfOk result (λ s. (i : Item) × IsItem bytes.now i
         × (string_bytes s ≡ spec.dump i)) }
@@ -37,10 +37,11 @@ fn dump_whole(alloc: Global, bytes: &[u8]) -> cbor_grammar::Result<String>
     }
 }
 
-/// Returns the one item that the bytes are as a dump: their hex digits, each line with a comment.
+/// Converts the one item that the bytes encode to a dump: their hex digits, each line with a
+/// comment.
 ///
-/// It returns what [`parse_bytes`] and [`DataItem::to_hex`] return one after the other, the errors
-/// of [`parse_bytes`] included. It builds no item, so it takes less time and less memory.
+/// The result is that of [`parse_bytes`] followed by [`DataItem::to_hex`], including the errors of
+/// [`parse_bytes`]. It builds no item, so it takes less time and less memory.
 ///
 /// ```rust
 /// use cbor_diag::{Error, bytes_to_hex};
@@ -55,13 +56,13 @@ fn dump_whole(alloc: Global, bytes: &[u8]) -> cbor_grammar::Result<String>
 /// [`parse_bytes`]: cbor_diag::parse_bytes
 /// [`DataItem::to_hex`]: cbor_diag::DataItem::to_hex
 pub fn bytes_to_hex(alloc: Global, bytes: &[u8]) -> cbor_grammar::Result<String>
-    // The dump of the item that the bytes are, exactly if they are one.
+    // The dump of the item that the bytes encode, if and only if they encode one.
     ensures ok { IfOk result (λ s. (i : Item) × IsItem bytes.now i
         × (string_bytes s ≡ spec.dump i)) }
     ensures every_item { (i : Item) → IsItem bytes.now i
         → MatchResult result (λ s. string_bytes s ≡ spec.dump i) (λ e. e ≡ Error.Memory) }
 
-    // Each error, exactly if it is true.
+    // Each error, if and only if it holds for the input.
     ensures refused { RefusedSo result (IsNoItem bytes.now) }
     ensures every_refusal { (e : Error) → IsNoItem bytes.now e → GaveRefusal result e }
 
@@ -78,8 +79,8 @@ pub fn bytes_to_hex(alloc: Global, bytes: &[u8]) -> cbor_grammar::Result<String>
     ensures one_column { IfOk result (λ s. (i : Item) × IsItem bytes.now i
         × IsColumn (width_of (spec.lines i) + 1) (string_bytes s)) }
 
-    // What is dumped as embedded items is exactly what the bytes spell, and else the note says why
-    // not.
+    // What is dumped as embedded items is exactly what the bytes encode. Otherwise the note says
+    // why not.
     ensures embedded { EmbedsExactly }
     ensures not_embedded { RejectsExactly }
 {
@@ -89,13 +90,13 @@ pub fn bytes_to_hex(alloc: Global, bytes: &[u8]) -> cbor_grammar::Result<String>
 /// Appends the dump of [`bytes_to_hex`] to `out`. The errors are the same, and after one `out` is
 /// unchanged.
 pub fn push_bytes_to_hex(alloc: Global, bytes: &[u8], out: &mut String) -> cbor_grammar::Result<()>
-    // The dump of the item that the bytes are, exactly if they are one.
+    // The dump of the item that the bytes encode, if and only if they encode one.
     ensures ok { OnOk result ((i : Item) × IsItem bytes.now i
         × (string_bytes out.new ≡ string_bytes out.old ++ spec.dump i)) }
     ensures every_item { (i : Item) → IsItem bytes.now i → MatchResult result
         (λ _. string_bytes out.new ≡ string_bytes out.old ++ spec.dump i) (λ e. e ≡ Error.Memory) }
 
-    // Each error, exactly if it is true.
+    // Each error, if and only if it holds for the input.
     ensures refused { RefusedSo result (IsNoItem bytes.now) }
     ensures every_refusal { (e : Error) → IsNoItem bytes.now e → GaveRefusal result e }
     ensures unchanged { OnErr result (string_bytes out.new ≡ string_bytes out.old) }
@@ -103,7 +104,7 @@ pub fn push_bytes_to_hex(alloc: Global, bytes: &[u8], out: &mut String) -> cbor_
     push_whole(alloc, bytes, out)
 }
 
-/// Appends the dump of the one item that the bytes are.
+/// Appends the dump of the one item that the bytes encode.
 fn push_whole(alloc: Global, bytes: &[u8], out: &mut String) -> cbor_grammar::Result<()>
     ensures ok { OnOk result ((i : Item) × IsItem bytes.now i
         × (string_bytes out.new ≡ string_bytes out.old ++ spec.dump i)) }
@@ -116,11 +117,11 @@ fn push_whole(alloc: Global, bytes: &[u8], out: &mut String) -> cbor_grammar::Re
 }
 
 /// Appends the dump of the item at the front of the bytes to `out`, and returns the number of bytes
-/// that it takes. More bytes may follow.
+/// that the item takes. More bytes may follow.
 ///
-/// It returns what [`parse_bytes_partial`] returns, and appends what [`DataItem::to_hex`] returns:
-/// `Ok(None)` if the bytes end before the item does and before any error, and otherwise the first
-/// error from the left. In both cases, and if an allocation fails, `out` is unchanged.
+/// The text is that of [`parse_bytes_partial`] followed by [`DataItem::to_hex`]. If the bytes end
+/// before the item does and before any error, returns `Ok(None)`. If there is an error, returns the
+/// first one from the left. In both cases, and if an allocation fails, `out` is unchanged.
 ///
 /// ```rust
 /// use cbor_diag::push_bytes_to_hex_partial;
@@ -140,13 +141,13 @@ pub fn push_bytes_to_hex_partial(
     bytes: &[u8],
     out: &mut String,
 ) -> cbor_grammar::Result<Option<usize>>
-    // Each of the three results, only if it is true.
+    // Each of the three results, only if it holds for the input.
     ensures found { IfOk result (λ o. IfSome o (λ n. (i : Item) × BeginsWithItem bytes.now i n
         × (string_bytes out.new ≡ string_bytes out.old ++ spec.dump i))) }
     ensures cut { result ≡ Ok None → IsCut bytes.now }
     ensures fault { RefusedSo result (HasFault bytes.now) }
 
-    // Bytes begin in exactly one of the three ways, and that one is returned.
+    // Bytes begin in exactly one of the three ways, and the result is that one.
     ensures exact { (o : Outcome) → BeginsSo bytes.now o
         → GaveText spec.dump result (string_bytes out.old) (string_bytes out.new) o }
     ensures one_of_three { BeginsInOneWay bytes.now }
@@ -167,10 +168,10 @@ pub fn push_bytes_to_hex_partial(
     }
 }
 
-/// Returns the item of hex with comments as a dump.
+/// Reads one item from hex with comments, and returns it as a dump.
 ///
-/// It returns what [`parse_hex`] and [`DataItem::to_hex`] return one after the other, the errors of
-/// [`parse_hex`] included. It builds no item, so it takes less time and less memory.
+/// The result is that of [`parse_hex`] followed by [`DataItem::to_hex`], including the errors of
+/// [`parse_hex`]. It builds no item, so it takes less time and less memory.
 ///
 /// ```rust
 /// use cbor_diag::hex_to_hex;

@@ -1,6 +1,5 @@
-//! What the definitions of dumps say of a few inputs: each is computed, or shown by a witness,
-//! when the crate is checked, so that a wrong definition does not pass. Nothing calls these
-//! functions.
+//! Examples of dumps, which test the definitions in `specs/`. Each is computed, or shown by a
+//! witness, when the crate is checked. Nothing calls these functions.
 ghost use Rattle.std.specs.Prelude.{◌≡◌, [], ◌∷◌, ◌++◌, codes, length, map, replicate};
 ghost use Rattle.cbor_grammar.specs.declared.strings.StringKind.TheVariants.{Bytes};
 ghost use Rattle.cbor_grammar.specs.Item.{atom, chunked_string};

@@ -1,4 +1,4 @@
-//! The digits of a line of a dump.
+//! Writes the hex digits of a line of a dump.
 ghost use Rattle.std.specs.Prelude.{◌≡◌, ◌≤◌, ◌++◌, OnOk, length};
 ghost use Rattle.std.specs.String.{string_bytes};
 ghost use Rattle.cbor_dump.specs.Dump.{head_hex};
@@ -30,7 +30,7 @@ impl HexStyle {
         }
     }
 
-    /// How many digits and blanks these are.
+    /// How many digits and blanks `push` appends for these bytes.
     pub(super) fn count(self, bytes: &[u8]) -> usize
         requires { length bytes.now ≤ 24 }
         ensures { result ≡ length (style_hex self bytes.now) }
@@ -42,7 +42,7 @@ impl HexStyle {
     }
 }
 
-/// The same of a head.
+/// How many digits and blanks a head takes.
 fn head_count(bytes: &[u8]) -> usize
     requires { length bytes.now ≤ 24 }
     ensures { result ≡ length (head_hex bytes.now) }

@@ -1,11 +1,11 @@
-//! Dumps of CBOR items: annotated hex, written straight from their bytes. The definitions of dumps
-//! are in `specs/`: lines, comments and notes.
+//! Writes CBOR items as dumps, annotated hex, straight from their bytes. `specs/` defines the
+//! lines, comments and notes of a dump.
 //!
-//! One recursion over the bytes finds the column of the digits, and one writes each line as soon as
-//! it is read.
+//! A first recursion over the bytes finds the column of the comments. A second one writes each line
+//! as soon as it is read.
 //!
-//! Lines, comments, columns and notes are public: `cbor_screen` makes the dumps of `cborcat` of
-//! them, with names and with the items that are in byte strings.
+//! Lines, comments, columns and notes are public: `cbor_screen` builds the dumps of `cborcat` from
+//! them, which also have names and the items in byte strings.
 #![tactic(auto)]
 
 pub mod addresses;

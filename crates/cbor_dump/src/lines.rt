@@ -1,4 +1,4 @@
-//! The lines of a dump for heads and strings.
+//! Writes the lines of a dump for heads and strings.
 ghost use Rattle.std.specs.Prelude.{◌≡◌, ◌<◌, ◌≤◌, ◌+◌, ◌*◌, ◌==◌, ◌++◌, ◌∷◌, [], length, OnOk};
 ghost use Rattle.std.specs.Prelude.{if◌then◌else◌, replicate};
 ghost use Rattle.std.specs.String.{string_bytes};
@@ -36,7 +36,7 @@ pub(crate) struct Elements {
     pub(crate) size: usize,
 }
 
-/// Where the digits of a line begin at a depth, of which there are this many; without any it is 0.
+/// The column where the digits of a line begin at a depth. A line without digits has column 0.
 fn indent(depth: usize, digits: usize) -> usize
     requires { depth < 140 }
     ensures { result ≡ (if digits == 0 then 0 else 3 * depth) }
@@ -45,7 +45,7 @@ fn indent(depth: usize, digits: usize) -> usize
 }
 
 impl Writer {
-    /// Writes what stands before each line, and blanks.
+    /// Begins a line: writes the text before each line, and blanks.
     fn begin_line(&mut self, blanks: usize) -> Result<(), AllocError>
         ensures out { OnOk result (string_bytes self.new.out
             ≡ (string_bytes self.old.out ++ string_bytes self.old.prefix) ++ replicate blanks 32) }
@@ -58,8 +58,8 @@ impl Writer {
         push_blanks(&mut self.out, blanks)
     }
 
-    /// Writes a line at a depth: bytes, the style of their digits, and a comment. Digits that reach
-    /// past the left column stay whole. The only error is out of memory.
+    /// Writes a line at a depth: bytes, as digits in a style, and a comment. Digits that reach past
+    /// the left column are all written. The only error is out of memory.
     pub fn line(
         &mut self,
         depth: usize,
@@ -83,7 +83,7 @@ impl Writer {
         Ok(())
     }
 
-    /// The line of a head, whose bytes these are.
+    /// Writes the line of a head, given with its bytes.
     pub(super) fn head_line(
         &mut self,
         depth: usize,
@@ -100,7 +100,7 @@ impl Writer {
         }
     }
 
-    /// The line of a simple value.
+    /// Writes the line of a simple value.
     fn simple(&mut self, depth: usize, value: u8) -> Result<(), AllocError>
         requires { depth < 140 }
         ensures { OnOk result (Wrote self.old self.new
@@ -114,7 +114,7 @@ impl Writer {
         }
     }
 
-    /// The line of a break.
+    /// Writes the line of a break.
     pub fn break_line(&mut self, depth: usize) -> Result<(), AllocError>
         requires { depth < 140 }
         ensures { OnOk result (Wrote self.old self.new (spec.break_line depth ∷ [])) }
@@ -122,7 +122,7 @@ impl Writer {
         self.line(depth, HexStyle::Head, &[0xff], &Comment::Break)
     }
 
-    /// The line after the members of a container of that length, if there is one.
+    /// Writes the line of the break that ends a container, if its length is indefinite.
     pub(super) fn close(&mut self, depth: usize, length: Argument) -> Result<(), AllocError>
         requires { depth < 140 }
         ensures { OnOk result (Wrote self.old self.new
@@ -134,7 +134,7 @@ impl Writer {
         }
     }
 
-    /// The line of a piece of a string.
+    /// Writes the line of a piece of a string.
     fn piece_line(
         &mut self,
         depth: usize,
@@ -149,7 +149,7 @@ impl Writer {
         self.line(depth, HexStyle::Content, piece, comment)
     }
 
-    /// The content of a byte string, a line for each piece.
+    /// Writes the content of a byte string, a line for each piece.
     fn bytes_content(
         &mut self,
         depth: usize,
@@ -172,7 +172,7 @@ impl Writer {
         Ok(())
     }
 
-    /// The elements of a typed array, a line for each.
+    /// Writes the elements of a typed array, a line for each.
     fn elements(&mut self, depth: usize, of: Elements, bytes: &[u8]) -> Result<(), AllocError>
         requires depth { depth < 140 }
         requires some { 0 < of.size }
@@ -189,8 +189,8 @@ impl Writer {
         Ok(())
     }
 
-    /// The content of a byte string, one deeper than the context: its elements where the tag above
-    /// is that of a typed array and the bytes are whole elements.
+    /// Writes the content of a byte string, one deeper than the context. It is shown as elements if
+    /// the tag above is that of a typed array and the bytes are whole elements.
     fn tagged_content(&mut self, context: &DumpContext, bytes: &[u8]) -> Result<(), AllocError>
         requires { IsContext context.now }
         ensures { OnOk result (Wrote self.old self.new
@@ -209,7 +209,7 @@ impl Writer {
         }
     }
 
-    /// The content of a text, in one line or a line for each piece.
+    /// Writes the content of a text, in one line or a line for each piece.
     fn text_content(&mut self, depth: usize, text: &str) -> Result<(), AllocError>
         requires { depth < 140 }
         ensures { OnOk result (Wrote self.old self.new
@@ -230,7 +230,7 @@ impl Writer {
         Ok(())
     }
 
-    /// The content of a string, one deeper than the context.
+    /// Writes the content of a string, one deeper than the context.
     pub fn string_content(
         &mut self,
         context: &DumpContext,
@@ -246,7 +246,7 @@ impl Writer {
         }
     }
 
-    /// A chunk, whose length has this width: its head, whose bytes these are, and its content.
+    /// Writes a chunk, given with the width of its length: its head and its content.
     pub(super) fn chunk(
         &mut self,
         context: &DumpContext,

@@ -1,4 +1,4 @@
-//! Notes, which are lines without digits.
+//! Writes the notes of a dump, which are lines without digits.
 ghost use Rattle.std.specs.Prelude.{◌<◌, ◌∷◌, [], OnOk};
 ghost use Rattle.cbor_dump.specs.Dump as spec;
 ghost use Rattle.cbor_dump.specs.mirror.NotesView.{note_view};
@@ -12,7 +12,7 @@ use cbor_grammar::Error;
 use std::alloc::AllocError;
 
 impl Writer {
-    /// A line of a note.
+    /// Writes a line of a note.
     pub(super) fn note_line(&mut self, depth: usize, text: &str) -> Result<(), AllocError>
         requires { depth < 140 }
         ensures { OnOk result (Wrote self.old self.new
@@ -22,7 +22,7 @@ impl Writer {
         self.line(depth, HexStyle::Content, &[], &comment)
     }
 
-    /// A note: its text, and the texts below it one deeper.
+    /// Writes a note: its text, and the texts below it one deeper.
     pub(super) fn note(&mut self, depth: usize, note: &Note) -> Result<(), AllocError>
         requires { depth < 139 }
         ensures { OnOk result (Wrote self.old self.new
@@ -35,7 +35,7 @@ impl Writer {
         Ok(())
     }
 
-    /// The note of what cannot be read, and below it the error.
+    /// Writes the note on bytes that cannot be read, and the error below it.
     pub(super) fn failed_note(
         &mut self,
         depth: usize,

@@ -1,4 +1,4 @@
-//! The notes of a dump: what is said of the value of a tag, by the value alone.
+//! The notes of a dump, which explain the value of a tag.
 ghost use Rattle.std.specs.Prelude.{◌≡◌, ◌<◌, ℕ, false, option_map, Some, None, IfOk};
 ghost use Rattle.std.specs.String.{string_bytes};
 ghost use Rattle.cbor_dump.specs.Comments as comments;
@@ -26,14 +26,14 @@ pub(super) use value::Value;
 /// A note on a value.
 #[derive(Drop)]
 pub(crate) struct Note {
-    /// What it says.
+    /// The text of its first line.
     pub(crate) text: String,
-    /// The texts one deeper that belong to it.
+    /// The texts of the lines below it, one level deeper.
     pub(crate) below: Vec<String>,
 }
 
 impl Note {
-    /// A note with nothing below it.
+    /// A note of one line.
     fn plain(alloc: Global, text: String) -> Note
         ensures { note_view result ≡ spec.plain_note (string_bytes text) }
     {
@@ -43,7 +43,7 @@ impl Note {
         }
     }
 
-    /// A note of these words, with nothing below it.
+    /// A note of one line with these words.
     fn words(alloc: Global, text: &str) -> Result<Note, AllocError>
         ensures { IfOk result (λ note. note_view note ≡ spec.plain_note text.now) }
     {
@@ -51,7 +51,7 @@ impl Note {
     }
 }
 
-/// Whether `value_note` may have a note on a value right below this tag.
+/// Whether `value_note` may return a note on a value right below this tag.
 #[tactic(auto, unfolding(crate::specs::Notes::value_note))]
 pub(super) fn may_have_note(tag: Tag) -> bool
     ensures { result ≡ false → (known : ℕ) (i : Item) → spec.value_note known tag.0 i ≡ None }
@@ -74,8 +74,8 @@ pub(super) fn may_have_note(tag: Tag) -> bool
     }
 }
 
-/// The note on a value right below a tag, where `known` values were shared before the tag, if there
-/// is one. Tags 24 and 63 have theirs in the walk.
+/// The note on a value right below a tag, or `None` if it has none. `known` values were shared
+/// before the tag. The notes of tags 24 and 63 are in `walk.rt`.
 #[tactic(auto, unfolding(crate::specs::Notes::value_note))]
 pub(super) fn value_note(
     alloc: Global,
@@ -123,8 +123,8 @@ fn in_brackets(alloc: Global, word: &str, text: &str) -> Result<String, AllocErr
     Ok(note)
 }
 
-/// The note on a value that should be a typed array with elements of `size` bytes: why it is not.
-/// Whole elements are shown, and need no note.
+/// The note on a value that should be a typed array with elements of `size` bytes, but is not: it
+/// says why. Whole elements are shown, and need no note.
 fn typed_array_note(
     alloc: Global,
     size: usize,

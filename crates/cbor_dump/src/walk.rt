@@ -1,5 +1,5 @@
-//! Writes the lines of an item straight from its bytes: what the bytes are, each part as soon as it
-//! is read, and the notes on the values of tags. No item is built.
+//! Writes the lines of an item straight from its bytes: a line for each part as soon as it is read,
+//! and the notes on the values of tags. No item is built.
 //!
 //! Each function takes the remaining bytes and returns those after what it wrote.
 ghost use Rattle.std.specs.Prelude.{◌≡◌, ◌≤◌, ◌+◌, ℕ, List, Ok, IfOk, IfErr, OnOk, option_copied};
@@ -45,11 +45,11 @@ pub struct Walk {
     pub writer: Writer,
     /// The number of values that were shared so far.
     pub shared: u64,
-    /// What notes are allocated from.
+    /// The allocator of the notes.
     pub alloc: Global,
 }
 
-/// The dump of the item at the front, which is at `level`, and the bytes after it.
+/// Returns the dump of the item at the front, which is at `level`, and the bytes after the item.
 pub fn dump(alloc: Global, bytes: &[u8], level: u8) -> cbor_grammar::Result<(String, &[u8])>
     requires from { 1 ≤ level }
     requires to { level ≤ deepest + 1 }
@@ -67,11 +67,11 @@ pub fn dump(alloc: Global, bytes: &[u8], level: u8) -> cbor_grammar::Result<(Str
     Ok((walk.writer.out, rest))
 }
 
-/// Dumps the item at the front, without the notes on it; what a container or a tag holds is one
-/// deeper.
+/// Dumps the item at the front, without the notes on it. The items in a container or below a tag
+/// are one deeper.
 ///
-/// What dumps containers and tags isn't inlined here: it keeps values over calls, and space for
-/// these would be made for each number and text, too.
+/// The functions for containers and tags are not inlined here: they keep values across calls, and
+/// each number and text would need space for these, too.
 #[cycle(walk)]
 fn dump_front<'a>(
     walk: &mut Walk,
@@ -157,8 +157,7 @@ fn dump_pairs<'a>(
     }
 }
 
-/// Dumps what is below a tag after its head, by its number: the value right below it, and the notes
-/// on the value.
+/// Dumps the value right below a tag, after the tag's head, and the notes on the value.
 #[cycle(walk)]
 #[inline(never)]
 fn dump_tagged<'a>(
@@ -181,8 +180,8 @@ fn dump_tagged<'a>(
     Ok(rest)
 }
 
-/// How many values were shared when the value below a tag begins. No memory holds more of them than
-/// fit.
+/// How many values were shared before the value below a tag begins. The only error is an overflow:
+/// no memory holds that many values.
 pub fn shared_below(shared: u64, tag: Tag) -> Result<u64, AllocError>
     ensures { IfOk result (λ n. n ≡ spec.shared_from tag.0 shared) }
 {
@@ -247,8 +246,8 @@ fn dump_chunks<'a>(
     }
 }
 
-/// Dumps the notes on the value at the front, which is right below this tag. It was read before, so
-/// the only error is out of memory.
+/// Dumps the notes on the value at the front, which is right below this tag. The value was read
+/// before, so the only error is out of memory.
 #[cycle(walk)]
 #[inline(never)]
 pub fn dump_notes(
@@ -276,7 +275,7 @@ pub fn dump_notes(
     }
 }
 
-/// Dumps the note of the other tags, for which the value is read where there may be one.
+/// Dumps the note of a tag other than 24 and 63. The value is read only if it may have a note.
 fn dump_value_note(
     walk: &mut Walk,
     context: &DumpContext,
@@ -299,8 +298,8 @@ fn dump_value_note(
     }
 }
 
-/// The content of the byte string of definite length at the front, if an item of that kind is
-/// there. The item was read before, so the only error is out of memory.
+/// The content of the item at the front if it is a byte string of definite length, otherwise
+/// `None`. The item was read before, so the only error is out of memory.
 fn definite_bytes(bytes: &[u8]) -> Result<Option<&[u8]>, AllocError>
     ensures { (level : ℕ) (i : Item) (rest : List ℕ) → level ≤ deepest + 1
         → read_at level bytes.now ≡ Ok (i, rest)
@@ -324,7 +323,8 @@ fn definite_bytes(bytes: &[u8]) -> Result<Option<&[u8]>, AllocError>
     }
 }
 
-/// The note of tag 24: the dump of the item that the bytes are, one level deeper, or the error.
+/// Dumps the note of tag 24: the dump of the item that the bytes encode, one level deeper, or the
+/// error.
 #[cycle(walk)]
 fn embedded_item(walk: &mut Walk, context: &DumpContext, bytes: &[u8]) -> Result<(), AllocError>
     requires context { IsContext context.now }
@@ -349,8 +349,8 @@ fn embedded_item(walk: &mut Walk, context: &DumpContext, bytes: &[u8]) -> Result
     }
 }
 
-/// The notes of tag 63: the dumps of the items in the bytes, one after the other, and the error
-/// after them.
+/// Dumps the notes of tag 63: the dumps of the items in the bytes, in order, and then the error, if
+/// any.
 #[cycle(walk)]
 fn embedded_sequence(walk: &mut Walk, context: &DumpContext, bytes: &[u8]) -> Result<(), AllocError>
     requires context { IsContext context.now }
@@ -375,8 +375,8 @@ fn embedded_sequence(walk: &mut Walk, context: &DumpContext, bytes: &[u8]) -> Re
     Ok(())
 }
 
-/// The note of an embedded item, which is at the front of the bytes: its dump, whose left column
-/// has that width. The item was read before, so the only error is out of memory.
+/// Dumps the note of an embedded item at the front of the bytes: its dump, with a left column of
+/// this width. The item was read before, so the only error is out of memory.
 #[cycle(walk)]
 fn embedded_note(
     walk: &mut Walk,

@@ -1,7 +1,8 @@
-//! How far the digits of a dump reach, found from its bytes: no item is built, and no comment.
+//! Finds how far the digits of a dump reach, from the bytes of the item. No item and no comment is
+//! built.
 //!
 //! Each function takes the remaining bytes and returns those after what it counted. Notes have no
-//! digits, so what is embedded in a byte string counts as its bytes.
+//! digits, so an item in a byte string counts as the bytes of the string.
 ghost use Rattle.std.specs.Prelude.{◌≡◌, ◌<◌, ◌≤◌, ◌+◌, ◌-◌, length, max, IfOk, IfErr};
 ghost use Rattle.std.specs.Str.{IsCharBoundary};
 ghost use Rattle.cbor_notes.specs.Layout.{width_of};
@@ -24,16 +25,16 @@ use cbor_grammar::level::DEEPEST;
 use cbor_grammar::strings::{StringContent, StringKind};
 use cbor_notes::element_size;
 
-/// How many bytes of a string a line shows at most.
+/// The most bytes of a string that one line shows.
 pub const PIECE: usize = 16;
 
-/// How many bytes a text has at most that is shown in one line.
+/// The most bytes of a text that is shown in one line.
 pub const SHORT_TEXT: usize = 24;
 
 /// Where in a dump an item is, as far as its digits depend on it.
 #[derive(Clone, Copy)]
 pub(crate) struct Place {
-    /// The item's level: 1 plus the number of items round it, of those that embed it, too.
+    /// The item's level: 1 plus the number of items around it, including those that embed it.
     pub(crate) level: u8,
     /// The depth of its lines, which are indented by it.
     pub(crate) depth: usize,
@@ -42,7 +43,7 @@ pub(crate) struct Place {
 }
 
 impl Place {
-    /// In a container.
+    /// The place in a container.
     fn inside(self) -> Place
         requires place { IsPlace self }
         requires level { self.level ≤ deepest }
@@ -57,7 +58,7 @@ impl Place {
         }
     }
 
-    /// Right below a tag.
+    /// The place right below a tag.
     fn below(self, tag: Tag) -> Place
         requires place { IsPlace self }
         requires level { self.level ≤ deepest }
@@ -73,8 +74,8 @@ impl Place {
     }
 }
 
-/// The width of the left column of the dump of the item at the front, which is at `level`, and the
-/// bytes after it. The error is the one of reading it; `Memory` never comes.
+/// Returns the width of the left column of the dump of the item at the front, which is at `level`,
+/// and the bytes after the item. The errors are those of reading the item, but never `Memory`.
 pub fn dump_width(bytes: &[u8], level: u8) -> cbor_grammar::Result<(usize, &[u8])>
     requires some { 1 ≤ level }
     requires level { level ≤ deepest + 1 }
@@ -130,7 +131,7 @@ impl Reach {
         self.line(depth, 2 * longest);
     }
 
-    /// Counts the line after the members of a container of that length, if there is one.
+    /// Counts the line of the break that ends a container, if its length is indefinite.
     fn end(&mut self, depth: usize, count: Argument)
         requires depth { depth ≤ deepest + 2 }
         ensures { self.new.widest ≡ max self.old.widest
@@ -291,8 +292,8 @@ impl Reach {
     }
 }
 
-/// How many bytes of a dump a head shows that took this many: the same, but for a simple value
-/// below 24, which one byte shows.
+/// How many bytes a dump shows for a head that took this many. The number is the same, except that
+/// a simple value below 24 is shown in one byte.
 fn shown_length(head: ItemHead, taken: usize) -> usize
     ensures { result ≡ spec.shown_length head taken }
 {
@@ -314,8 +315,8 @@ pub fn longest_piece(content: StringContent<'_>, tag: Option<Tag>) -> usize
     }
 }
 
-/// The same of a byte string of that length: an element, where the tag is that of a typed array and
-/// the bytes are whole elements.
+/// The length of the longest piece of a byte string of this length. If the tag is that of a typed
+/// array and the bytes are whole elements, each piece is an element.
 fn bytes_piece(len: usize, tag: Option<Tag>) -> usize
     ensures longest { result ≡ spec.tagged_piece (tag_number tag) len }
     ensures short { result ≤ PIECE }
@@ -329,8 +330,8 @@ fn bytes_piece(len: usize, tag: Option<Tag>) -> usize
     }
 }
 
-/// The same of a text. No piece is longer than `PIECE`, so one of that length ends the search: in
-/// ASCII that is the first.
+/// The length of the longest piece of a text. No piece is longer than `PIECE`, so the search ends
+/// at a piece of that length: in ASCII, at the first.
 fn text_piece(text: &str) -> usize
     ensures longest { result ≡ spec.longest (text_pieces text.now) }
     ensures short { result ≤ SHORT_TEXT }
@@ -348,7 +349,7 @@ fn text_piece(text: &str) -> usize
     longest
 }
 
-/// After how many bytes a text is cut: at most `PIECE`, before a character.
+/// How many bytes the first piece of a text takes: at most `PIECE`, and only whole characters.
 pub fn text_cut(rest: &str) -> usize
     requires { 0 < length rest.now }
     ensures cut { result ≡ cut_of rest.now }

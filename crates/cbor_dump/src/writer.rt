@@ -1,4 +1,4 @@
-//! Writes the lines of a dump.
+//! The text of a dump that is being written, and its layout.
 ghost use Rattle.std.specs.Prelude.{◌≡◌, ◌<◌, ◌*◌, ◌++◌, [], IfOk, OnOk};
 ghost use Rattle.std.specs.String.{string_bytes};
 ghost use Rattle.cbor_notes.specs.Layout.{gap};
@@ -14,12 +14,12 @@ pub struct Writer {
     pub out: String,
     /// The width of its left column.
     pub width: usize,
-    /// What stands before each line: where the dump is embedded, the columns around it.
+    /// The text before each line: for an embedded dump, the columns around it.
     pub prefix: String,
 }
 
 impl Writer {
-    /// No text yet, and a left column of that width.
+    /// A writer with no text yet, and a left column of this width.
     pub fn new(alloc: Global, width: usize) -> Writer
         ensures out { string_bytes result.out ≡ [] }
         ensures prefix { string_bytes result.prefix ≡ [] }
@@ -32,8 +32,8 @@ impl Writer {
         }
     }
 
-    /// A writer for an embedded dump with a left column of that width: its lines are lines of a
-    /// note at a depth. It takes the text, and the caller puts it back.
+    /// A writer for an embedded dump with a left column of that width. Its lines are lines of a
+    /// note at a depth. It takes the text, which the caller has to put back.
     pub(super) fn embedded(
         &mut self,
         alloc: Global,

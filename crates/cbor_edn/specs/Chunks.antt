@@ -1,4 +1,4 @@
--- Items that are read in EDN: the chunks of a string.
+-- The chunks of a string that is read from EDN.
 use Rattle.std.specs.Prelude.{◌≡◌, List, [], ◌∷◌, ◌++◌, map, Option, Some, Result, Ok, Err}
 use Rattle.cbor_grammar.specs.Item.{Chunk}
 use Rattle.cbor_grammar.specs.declared.strings.StringKind.{StringKind}

@@ -1,2 +1,2 @@
--- Definitions for the checker alone, which follow the code that reads items of EDN.
+-- Definitions for the checker alone. They follow the code that reads items of EDN.
 pub mod LowBytes

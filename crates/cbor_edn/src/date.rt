@@ -1,4 +1,4 @@
-//! In EDN, dates with a time, as seconds from 1970-01-01T00:00:00Z.
+//! Reads dates of EDN with a time of day, as seconds since 1970-01-01T00:00:00Z.
 ghost use Rattle.std.specs.Prelude.{◌≡◌, ◌==◌, ◌-◌, ◌<◌, ◌≤◌, ℕ, length, option_map, slice_index};
 ghost use Rattle.std.specs.Prelude.{◌+◌, IfOk, IfErr};
 ghost use Rattle.std.specs.List.{list_any};
@@ -57,7 +57,7 @@ fn seconds_item(alloc: Global, seconds: &[u8], inner: u8) -> Result<DataItem, St
     number_item(alloc, seconds, inner)
 }
 
-/// A text that is UTF-8.
+/// The bytes as a text, if they are UTF-8.
 #[tactic(auto, using(crate::proofs::Dates::utf8_laws))]
 fn utf8_text(content: &[u8]) -> Option<&str>
     ensures { option_map (λ x. x.now) result ≡ utf8_text content.now }

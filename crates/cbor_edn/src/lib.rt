@@ -1,7 +1,8 @@
 //! Reads EDN, the extended diagnostic notation of CBOR that people write (RFC 8949 section 8, RFC
 //! 8610 appendix G), and re-exports what writes it. docs/EDN.md has the rules.
 //!
-//! Each width that a text states is kept, so the bytes are exactly those that it asks for.
+//! The reader keeps each width that a text states, so the bytes are exactly those that the text
+//! describes.
 #![tactic(auto)]
 
 mod big;

@@ -1,4 +1,4 @@
-//! Reads items of EDN: network addresses between apostrophes, and prefixes of them.
+//! Reads network addresses of EDN between apostrophes, and address prefixes.
 ghost use Rattle.std.specs.Prelude.{◌≡◌, ◌==◌, ◌+◌, ◌-◌, ◌<◌, ◌≤◌, ℕ, length, position, IfOk};
 ghost use Rattle.std.specs.Prelude.{IfErr, IfSome};
 ghost use Rattle.cbor_edn_grammar.specs.declared.error.Stop.TheVariants.{Memory};
@@ -22,7 +22,7 @@ use cbor_grammar::level::DEEPEST;
 use cbor_grammar::strings::StringKind;
 use std::alloc::Global;
 
-/// A byte string, its length in the shortest width.
+/// A byte string whose length is in the shortest width.
 fn bytes_item(alloc: Global, bytes: Vec<u8>) -> Result<DataItem, Stop>
     ensures gives { Gives view result (bytes_item bytes.items) }
     ensures well { IfOk result (λ x. (level : ℕ) → level ≤ deepest → WellFormed level (view x)) }
@@ -39,7 +39,7 @@ fn address_item(alloc: Global, six: bool, text: &[u8]) -> Result<DataItem, Stop>
     bytes_item(alloc, bytes)
 }
 
-/// A count of bits and a string of the bytes that they are in.
+/// The array of a count of bits and a byte string with these bits.
 fn pair(alloc: Global, bits: u8, bytes: DataItem) -> Result<DataItem, Stop>
     ensures is { IfOk result (λ x. view x ≡ pair_of bits (view bytes)) }
     ensures memory { IfErr result (λ e. e ≡ Memory) }
@@ -59,7 +59,7 @@ fn pair(alloc: Global, bits: u8, bytes: DataItem) -> Result<DataItem, Stop>
     })
 }
 
-/// A count of bits and the bytes that they are in, without the zeros at the end.
+/// The array of a count of bits and their bytes, without the zeros at the end.
 fn prefix_array(alloc: Global, bits: u8, bytes: Vec<u8>) -> Result<DataItem, Stop>
     ensures gives { Gives view result (prefix_array bits bytes.items) }
     ensures well { IfOk result (λ x. (level : ℕ) → level < deepest → WellFormed level (view x)) }
@@ -72,7 +72,7 @@ fn prefix_array(alloc: Global, bits: u8, bytes: Vec<u8>) -> Result<DataItem, Sto
     Ok(found)
 }
 
-/// The first bits of an address, which has no bit set after them.
+/// The prefix of an address with this many bits. It is an error if a later bit is set.
 fn prefix_of(alloc: Global, bytes: Vec<u8>, bits: u8) -> Result<DataItem, Stop>
     ensures gives { Gives view result (prefix_of bytes.items bits) }
     ensures well { IfOk result (λ x. (level : ℕ) → level < deepest → WellFormed level (view x)) }
@@ -84,7 +84,7 @@ fn prefix_of(alloc: Global, bytes: Vec<u8>, bits: u8) -> Result<DataItem, Stop>
     }
 }
 
-/// A prefix of an address, by the digits of how many bits it has.
+/// The prefix of an address. `digits` writes how many bits it has.
 fn prefix_item(alloc: Global, six: bool, text: &[u8], digits: &[u8]) -> Result<DataItem, Stop>
     ensures gives { Gives view result (prefix_item six text.now digits.now) }
     ensures well { IfOk result (λ x. (level : ℕ) → level < deepest → WellFormed level (view x)) }
@@ -160,7 +160,7 @@ pub(crate) fn read_ip(alloc: Global, text: &mut Cursor<'_>, inner: u8) -> Result
     Ok(item)
 }
 
-/// The same below its tag, after `IP'`.
+/// An address or a prefix of one, below its tag, after `IP'`.
 pub(crate) fn read_tagged_ip(
     alloc: Global,
     text: &mut Cursor<'_>,

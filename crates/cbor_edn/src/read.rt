@@ -1,7 +1,7 @@
 //! Reads items of EDN, by recursion over the levels of nesting.
 //!
-//! Each private function reads at a cursor. It returns a value and leaves the cursor behind it, or
-//! it stops, and then the cursor is at the place of the error, from which the text cannot go on.
+//! Each private function reads at a cursor. It returns a value and moves the cursor past it. After
+//! an error, the cursor is at the place where the text cannot go on.
 mod pieces;
 
 ghost use Rattle.std.specs.Prelude.{◌≡◌, ◌-◌, ◌<◌, ◌≤◌, length, map, IfOk};
@@ -39,7 +39,7 @@ use cbor_grammar::{IntegerWidth, Tag};
 use pieces::{encoded, read_content, read_string};
 use std::alloc::Global;
 
-/// Adds an item, which is a member of a list; returns whether another one follows.
+/// Adds the next member of a list. Returns whether another one follows.
 #[cycle(edn)]
 fn item_turn(
     alloc: Global,
@@ -91,7 +91,7 @@ fn read_items(
     }
 }
 
-/// Adds a key and its value; returns whether another key follows.
+/// Adds a key and its value. Returns whether another key follows.
 #[cycle(edn)]
 fn pair_turn(
     alloc: Global,
@@ -146,7 +146,7 @@ fn read_pairs(
     }
 }
 
-/// Adds a chunk; returns whether another one follows.
+/// Adds a chunk. Returns whether another one follows.
 #[cycle(edn)]
 fn chunk_turn(
     alloc: Global,
@@ -200,7 +200,7 @@ fn read_chunk_list(
     }
 }
 
-/// The kind of the first of the chunks that begin here; without one it is bytes.
+/// The kind of the first of the chunks that begin here. Without chunks it is bytes.
 fn first_kind(text: &Cursor<'_>) -> StringKind
     ensures { result ≡ first_kind text.now }
 {
@@ -317,7 +317,7 @@ fn read_number(alloc: Global, text: &mut Cursor<'_>, inner: u8) -> Result<DataIt
     }
 }
 
-/// An item that is no string, by its first byte.
+/// An item other than a string, by its first byte.
 #[cycle(edn)]
 fn other_item(alloc: Global, text: &mut Cursor<'_>, inner: u8) -> Result<DataItem, Stop>
     requires low { 2 ≤ inner }
@@ -386,7 +386,7 @@ fn error_at(stop: Stop, text: &str, left: usize) -> EdnError
     }
 }
 
-/// The items of all of a text.
+/// The items of a whole text.
 fn items_of(alloc: Global, text: &str) -> Result<Vec<DataItem>, EdnError>
     ensures gives { Answers (λ x. map view x.items) text.now (items_of_edn text.now) result }
     ensures well { IfOk result (λ x. WellFormedItems 1 (items_view x.items)) }
@@ -398,12 +398,12 @@ fn items_of(alloc: Global, text: &str) -> Result<Vec<DataItem>, EdnError>
     }
 }
 
-/// Reads one item from EDN.
+/// Reads one item from EDN, and returns it.
 ///
-/// Returns `Wrong` if the text is not one item, with the place of the error in bytes, and `Memory`
-/// if an allocation fails.
+/// Returns `Wrong`, with the byte offset of the error, if the text is not exactly one item. Returns
+/// `Memory` if an allocation fails.
 pub fn parse_edn(alloc: Global, text: &str) -> Result<DataItem, EdnError>
-    // The item that the text is; and an error only for a text that is none.
+    // The item that the text denotes, and an error only for a text that denotes no item.
     ensures gives { Answers view text.now (item_of_edn text.now) result }
 
     // The item has an encoding.
@@ -423,12 +423,12 @@ pub fn parse_edn(alloc: Global, text: &str) -> Result<DataItem, EdnError>
     }
 }
 
-/// Reads the items of EDN, none or more, and returns their bytes, one after the other.
+/// Reads zero or more items from EDN, and returns their concatenated encodings.
 ///
-/// Returns `Wrong` if the text is not EDN, with the place of the error in bytes, and `Memory` if an
-/// allocation fails.
+/// Returns `Wrong`, with the byte offset of the error, if the text is not EDN. Returns `Memory` if
+/// an allocation fails.
 pub fn edn_to_bytes(alloc: Global, text: &str) -> Result<Vec<u8>, EdnError>
-    // The bytes of the items that the text is; and an error only for a text that is not EDN.
+    // The bytes of the items that the text denotes, and an error only for a text that is not EDN.
     ensures gives { Answers (λ x. x.items) text.now (bytes_of_edn text.now) result }
 {
     let items = items_of(alloc, text)?;

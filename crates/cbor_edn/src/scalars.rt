@@ -1,4 +1,4 @@
-//! Reads items of EDN: numbers and simple values.
+//! Reads numbers and simple values of EDN.
 ghost use Rattle.std.specs.Prelude.{◌≡◌, ◌-◌, ◌<◌, ◌≤◌, ℕ, length, option_map, IfOk, IfSome};
 ghost use Rattle.cbor_diag.specs.View.{view};
 ghost use Rattle.cbor_grammar.specs.WellFormed.{deepest, levels_left, WellFormed};
@@ -24,14 +24,14 @@ use cbor_edn_tokens::number::{negated, unsigned};
 use cbor_grammar::{IntegerWidth, Simple};
 use std::alloc::Global;
 
-/// Whether an item is a string of definite length.
+/// Whether an item is a definite-length string.
 pub(crate) fn is_string(item: &DataItem) -> bool
     ensures { result ≡ is_string (view item.now) }
 {
     matches!(item, DataItem::ByteString(_) | DataItem::TextString(_))
 }
 
-/// The 0 that a word after `-` is, which is no negative integer, and its width.
+/// Reads the 0 after a `-`, and its width: -0 is no negative integer. Any other number is an error.
 fn zero(word: &[u8]) -> Result<(u64, IntegerWidth), Stop>
     ensures gives { Gives (λ x. integer x.0 x.1) result (zero_of word.now) }
     ensures some { IfOk result (λ _. 0 < length word.now) }
@@ -44,7 +44,7 @@ fn zero(word: &[u8]) -> Result<(u64, IntegerWidth), Stop>
     Ok((value, bitwidth))
 }
 
-/// The integer that a word is.
+/// Reads an integer from a word.
 fn integer_item(word: &[u8]) -> Result<DataItem, Stop>
     ensures gives { Gives view result (integer_item word.now) }
     ensures some { IfOk result (λ _. 0 < length word.now) }
@@ -71,8 +71,8 @@ fn integer_item(word: &[u8]) -> Result<DataItem, Stop>
     }
 }
 
-/// What to say of a word that is no number, where this is wrong with it as an integer, and that as
-/// a big number.
+/// The error for a word that is not a number. `expected` is its error as an integer, and `as_big`
+/// is its error as a big number.
 fn no_number(word: &[u8], expected: Expected, as_big: Expected) -> Expected {
     if word.starts_with(b"...") {
         Expected::NoEllipsis
@@ -83,7 +83,7 @@ fn no_number(word: &[u8], expected: Expected, as_big: Expected) -> Expected {
     }
 }
 
-/// The number that a word is, by its form a float or an integer.
+/// Reads a number from a word: a float or an integer, by the form of the word.
 pub(crate) fn number_item(alloc: Global, word: &[u8], inner: u8) -> Result<DataItem, Stop>
     requires low { 2 ≤ inner }
     requires high { inner ≤ 129 }
@@ -166,7 +166,7 @@ fn read_float(alloc: Global, text: &mut Cursor<'_>) -> Result<DataItem, Stop>
     }
 }
 
-/// The item that a word is: a simple value, or a float that is no finite number.
+/// The item that a word is: a simple value, NaN or an infinity.
 fn name_item(word: &[u8]) -> Result<DataItem, Stop>
     ensures gives { Gives view result (name_item word.now) }
     ensures some { IfOk result (λ _. 0 < length word.now) }
@@ -181,7 +181,7 @@ fn name_item(word: &[u8]) -> Result<DataItem, Stop>
     }
 }
 
-/// Whether a word is a prefix of content between apostrophes.
+/// Whether a word is a known prefix, such as `h` in `h'01'`.
 fn is_prefix(word: &[u8]) -> bool
     ensures { result ≡ is_prefix word.now }
 {

@@ -1,5 +1,5 @@
-//! Reads items of EDN: what joins the pieces of a string, what follows the last, and the string
-//! that they are.
+//! Reads strings of EDN: the `+` between their pieces, the width after the last piece, and the item
+//! that the pieces make.
 ghost use Rattle.std.specs.Prelude.{◌≡◌, ℕ, ◌≤◌, length, map, [], IfOk};
 ghost use Rattle.std.specs.List.{AllByRecursion};
 ghost use Rattle.cbor_grammar.specs.Item.{atom, chunked_string};
@@ -46,8 +46,8 @@ pub(crate) fn take_plus(text: &mut Cursor<'_>) -> bool
     false
 }
 
-/// Takes the width right after a string; without one it is unstated, and after `_` alone there is
-/// none.
+/// Takes the width indicator right after a string, if there is one. Without one the width is
+/// unstated. For `_` alone the result is `None`.
 pub(crate) fn width_after(text: &mut Cursor<'_>) -> Result<Option<IntegerWidth>, Stop>
     ensures gives { Gives (λ x. (x, text.new)) result (width_after text.old) }
     ensures within { length text.new ≤ length text.old }
@@ -64,7 +64,7 @@ pub(crate) fn width_after(text: &mut Cursor<'_>) -> Result<Option<IntegerWidth>,
     }
 }
 
-/// The string of definite length with these bytes.
+/// The definite-length string with these bytes.
 pub(crate) fn make_chunk<S: DefiniteString>(bytes: Vec<u8>, width: IntegerWidth) -> Result<S, Stop>
     ensures gives { Gives S.chunk result (chunk_of S.kind bytes.items width) }
     ensures well { IfOk result (λ x. IsChunk S.kind (S.chunk x)) }
@@ -79,7 +79,7 @@ pub(crate) fn make_chunk<S: DefiniteString>(bytes: Vec<u8>, width: IntegerWidth)
     }
 }
 
-/// Adds the string of definite length with these bytes to some chunks.
+/// Adds the definite-length string with these bytes to some chunks.
 #[tactic(auto, using(std::proofs::lemmas::List::map_push))]
 fn push_chunk<S: DefiniteString>(
     chunks: &mut Vec<S>,
@@ -97,7 +97,8 @@ fn push_chunk<S: DefiniteString>(
     Ok(())
 }
 
-/// The item that a string is, of definite length or, where it has no width, of no chunks.
+/// The item of a string: of definite length, or, if it has no width, of indefinite length without
+/// chunks.
 pub(crate) fn string_item(
     alloc: Global,
     kind: StringKind,
@@ -119,7 +120,7 @@ pub(crate) fn string_item(
     }
 }
 
-/// The chunks of an indefinite string.
+/// The chunks of an indefinite-length string.
 #[derive(Drop)]
 pub(crate) enum Chunks {
     Bytes(Vec<ByteString>),
@@ -138,7 +139,8 @@ impl Chunks {
         }
     }
 
-    /// Adds a chunk of this kind, where it has a width.
+    /// Adds a chunk of this kind. It is an error if the kind is wrong, or if the chunk has no
+    /// width.
     pub(crate) fn push(
         &mut self,
         kind: StringKind,

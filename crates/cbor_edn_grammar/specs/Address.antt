@@ -1,4 +1,4 @@
--- In EDN, network addresses between apostrophes, and prefixes of them (RFC 9164 sections 3 and 4).
+-- Network addresses between apostrophes in EDN, and address prefixes (RFC 9164 sections 3 and 4).
 use Rattle.std.specs.Prelude.{ℕ, zero, suc, ◌+◌, ◌-◌, ◌%◌, ◌^◌, List, [], ◌∷◌, length, take, drop, position}
 use Rattle.std.specs.Prelude.{Option, Some, None, Bool, true, ◌==◌, ◌&&◌, if◌then◌else◌, nat_lt, nat_le, slice_index}
 use Rattle.std.specs.List.{list_any}
@@ -17,11 +17,11 @@ use Rattle.cbor_edn_grammar.specs.Strings.{string_item}
 abbrev pub is_ipv6 : List ℕ → Bool
 is_ipv6 text = list_any (λ b. b == 58) text
 
--- the four bytes of the address of IPv4 that all of a text writes
+-- the four bytes of the IPv4 address that all of a text writes
 unfoldable pub ipv4_bytes : List ℕ → Option (List ℕ)
 ipv4_bytes text = whole_value (read_ipv4 text)
 
--- the sixteen bytes of the address of IPv6 that it writes
+-- the sixteen bytes of the IPv6 address that it writes
 unfoldable pub ipv6_bytes : List ℕ → Option (List ℕ)
 ipv6_bytes text = whole_value (read_ipv6 text) >>= λ segments. Some (octets_of segments)
 
@@ -42,7 +42,7 @@ address_item six text = address_bytes six text >>= bytes_item
 abbrev pub address_bits : Bool → ℕ
 address_bits six = if six then 128 else 32
 
--- how many bits a prefix has, where an address has that many
+-- the length of a prefix in bits, if an address has that many
 abbrev pub fitting_bits : Bool → ℕ → Option ℕ
 fitting_bits six n = if nat_le n (address_bits six) then Some n else None
 
@@ -56,7 +56,7 @@ abbrev pub is_clear_after : ℕ → List ℕ → Bool
 is_clear_after n [] = true
 is_clear_after n (b ∷ bytes) = (b % 2 ^ (8 - n) == 0) && is_clear_after (n - 8) bytes
 
--- how many bytes there are up to the last that is not 0
+-- the number of bytes without the zeros at the end
 abbrev pub used : List ℕ → ℕ
 used [] = 0
 used (b ∷ bytes) = if (b == 0) && (used bytes == 0) then 0 else suc (used bytes)

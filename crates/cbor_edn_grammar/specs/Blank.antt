@@ -1,4 +1,4 @@
--- In EDN, blanks: spaces, tabs, line ends and comments.
+-- Blanks in EDN: spaces, tabs, line ends and comments.
 use Rattle.std.specs.Prelude.{ℕ, zero, suc, List, [], ◌∷◌, length, Option, Some, None, Bool, true, false}
 use Rattle.std.specs.Prelude.{◌==◌, ◌&&◌, if◌then◌else◌, is_some}
 use Rattle.cbor_tokens.specs.Token.{is_whitespace}

@@ -1,4 +1,4 @@
--- In EDN, digits between apostrophes: base 16, 32 and 64, with blanks between them.
+-- The bytes that digits between apostrophes encode in EDN: base 16, 32 and 64, with blanks between the digits.
 use Rattle.std.specs.Prelude.{ℕ, ◌+◌, ◌-◌, ◌%◌, List, [], ◌∷◌, ◌++◌, length, take, drop, position, map, replicate}
 use Rattle.std.specs.Prelude.{Option, Some, Bool, true, false, ◌==◌, ◌||◌, if◌then◌else◌}
 use Rattle.std.specs.List.{list_any}
@@ -48,20 +48,20 @@ abbrev pub has_url_safe : List ℕ → Bool
 has_url_safe digits = list_any (λ d. (d == 45) || (d == 95)) digits
 
 -- Digits of base 64 in the form that either alphabet has by RFC 4648: padded ones in the standard alphabet, others in
--- the one for URLs. Digits of both alphabets at once stay as they are, and are no encoding.
+-- the URL-safe one. Digits of both alphabets at once stay as they are, and encode no bytes.
 abbrev pub one_alphabet : List ℕ → List ℕ
 one_alphabet digits =
     if is_padded digits then (if has_standard digits then digits else map to_standard digits)
     else (if has_url_safe digits then digits else map to_url_safe digits)
 
--- the bytes that digits are the encoding of
+-- the bytes that digits encode
 abbrev pub decoded : Base → List ℕ → Option (List ℕ)
 decoded Hex digits = base16_of digits
 decoded Base64 digits = base64_of (one_alphabet digits)
 decoded Base32 digits = base32_of standard (padded digits)
 decoded Base32Hex digits = base32_of extended_hex (padded digits)
 
--- the bytes that this many characters are the digits of
+-- the bytes that this many characters encode
 abbrev pub decoded_front : Base → List ℕ → ℕ → Option (List ℕ)
 decoded_front base text n = digits_of (slashes_in base) (take n text) >>= decoded base
 

@@ -1,4 +1,4 @@
--- EDN, the notation that people write: the items that a text is (RFC 8949 section 8, RFC 8610 appendix G).
+-- EDN, the notation that people write: which items a text denotes (RFC 8949 section 8, RFC 8610 appendix G).
 use Rattle.std.specs.Prelude.{◌≡◌, ℕ, ◌≤◌, List, [], ◌∷◌, length, Option, Some, None, Result, Ok, Err}
 use Rattle.cbor_grammar.specs.Item.{Item, items_of}
 use Rattle.cbor_grammar.specs.WellFormed.{deepest}
@@ -13,7 +13,7 @@ use Rattle.cbor_edn_grammar.specs.Reading.{◌>>=◌}
 use Rattle.cbor_edn_grammar.specs.Lists.{read_members}
 use Rattle.cbor_edn_grammar.specs.Items.{item_turn, read_item}
 
--- the items of all of a text, perhaps none
+-- the items of a whole text, perhaps none
 abbrev pub items_of_edn : List ℕ → Option (List Item)
 items_of_edn text = read_members (item_turn (read_item deepest) End) End text >>= λ is. Some is.0
 
@@ -22,16 +22,16 @@ abbrev pub only_item : List Item → Option Item
 only_item (i ∷ []) = Some i
 only_item items = None
 
--- the item that a text is, all of it
+-- the item that a whole text denotes
 abbrev pub item_of_edn : List ℕ → Option Item
 item_of_edn text = items_of_edn text >>= only_item
 
--- the bytes of the items of a text, one after the other
+-- the concatenated encodings of the items of a text
 abbrev pub bytes_of_edn : List ℕ → Option (List ℕ)
 bytes_of_edn text = items_of_edn text >>= λ items. Some (encoded_items (items_of items))
 
--- An answer is what the text is; and an error other than out of memory is returned only where it is none, with a
--- place in the text.
+-- The answer is what the text denotes. An error other than out of memory is returned only if the text denotes nothing,
+-- with a place in the text.
 abbrev pub Answers : {X Y : Type 0} → (X → Y) → List ℕ → Option Y → Result X EdnError → Type 0
 Answers view text read (Ok x) = read ≡ Some (view x)
 Answers view text read (Err failure.Memory) = Unit {0}

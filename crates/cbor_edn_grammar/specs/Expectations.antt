@@ -1,4 +1,4 @@
--- What an error of EDN says.
+-- The texts of EDN's error messages.
 use Rattle.std.specs.Prelude.{ℕ, List, codes, Option, Some, None, Bool, ◌&&◌, nat_le}
 use Rattle.cbor_edn_grammar.specs.declared.close.Close.{Close}
 use Rattle.cbor_edn_grammar.specs.declared.close.Close.TheVariants.{Bracket, Brace, Parenthesis, Angles, End}
@@ -83,6 +83,6 @@ words_of (expected.SecondHalf first) = None
 words_of (expected.FirstHalf second) = None
 words_of e = Some (text_of e)
 
--- a character of ASCII that prints
+-- a printable ASCII character
 abbrev pub is_printing : ℕ → Bool
 is_printing b = nat_le 32 b && nat_le b 126

@@ -1,4 +1,4 @@
--- In EDN, floats: the words that they are, and their bits.
+-- Floats in EDN: which words are floats, and their bits.
 use Rattle.std.specs.Prelude.{ℕ, List, [], length, take, drop, position, codes, Option, Some, None, Bool, true, false}
 use Rattle.std.specs.Prelude.{◌==◌, ◌&&◌, ◌||◌, if◌then◌else◌, nat_lt, bytes_eq, to_bits, unwrap_or, is_some}
 use Rattle.std.specs.Option.{option_or}
@@ -29,7 +29,7 @@ is_decimal text =
 abbrev pub finite : Float → Option Float
 finite x = if float_is_finite x then Some x else None
 
--- what the three words for no finite number stand for
+-- what the three words for NaN and the infinities stand for
 abbrev pub number_of_word : List ℕ → Option Float
 number_of_word text =
     if bytes_eq text (codes "NaN") then Some nan
@@ -58,7 +58,7 @@ single_of x = if is_same (round_to_format binary32 x) x then Some (Single (to_bi
 abbrev pub double_of : Float → EncodedFloat
 double_of x = Double (to_bits binary64 x)
 
--- the number in the shortest width that has it
+-- the number in the shortest width that represents it
 unfoldable pub shortest_of : Float → EncodedFloat
 shortest_of x = unwrap_or (option_or (half_of x) (single_of x)) (double_of x)
 
@@ -101,7 +101,7 @@ width_after suffix =
     else if bytes_eq suffix (codes "_3") then Some SixtyFour
     else None
 
--- the word that RFC 8949 has for what is no finite number, also by the names that other tools write
+-- the word that RFC 8949 has for NaN or an infinity, also by the names that other tools write
 abbrev pub special : List ℕ → Option (List ℕ)
 special word =
     if bytes_eq word (codes "NaN") || bytes_eq word (codes "nan") then Some (codes "NaN")

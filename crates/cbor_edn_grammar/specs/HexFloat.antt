@@ -1,4 +1,4 @@
--- In EDN, numbers in base 16 times a power of 2, as C writes floats: `0x1.8p3` (ISO C, section 6.4.4.2).
+-- Hexadecimal floats in EDN: a number in base 16 times a power of 2, as in C: `0x1.8p3` (ISO C, section 6.4.4.2).
 use Rattle.std.specs.Prelude.{ℕ, ◌+◌, ◌*◌, ◌^◌, List, [], ◌∷◌, length, take, drop, position, codes, bytes_eq}
 use Rattle.std.specs.Prelude.{Option, Some, None, Bool, ◌==◌, ◌&&◌, ◌||◌, if◌then◌else◌, nat_lt, is_some, false}
 use Rattle.std.specs.Char.{digit_value}
@@ -17,7 +17,7 @@ digits_at digits None = hex_run 0 digits >>= λ n. Some (n, 0)
 digits_at digits (Some at) = hex_run 0 (take at digits) >>= λ whole. hex_run whole (drop (at + 1) digits)
     >>= λ n. Some (n, length (drop (at + 1) digits))
 
--- the same of digits of which there is one at least
+-- the same, if there is at least one digit
 abbrev pub hex_digits : List ℕ → Option (ℕ × ℕ)
 hex_digits digits = if bytes_eq digits [] || bytes_eq digits (codes ".") then None
     else digits_at digits (position (λ b. b == 46) digits)
@@ -31,11 +31,11 @@ abbrev pub small_run : ℕ → List ℕ → Option ℕ
 small_run n [] = Some n
 small_run n (b ∷ digits) = one_more n (digit_value b) >>= λ m. small_run m digits
 
--- the size of an exponent: decimal digits, perhaps after a sign
+-- the magnitude of an exponent: decimal digits, perhaps after a sign
 abbrev pub exponent : List ℕ → Option ℕ
 exponent text = if bytes_eq (unsigned text) [] then None else small_run 0 (unsigned text)
 
--- a number: its sign, and its size, which is digits * 2 ^ up / 2 ^ down
+-- a number: its sign, and its magnitude, which is digits * 2 ^ up / 2 ^ down
 pub record Dyadic : Type 0 where
   pub negative : Bool
   pub digits : ℕ
@@ -47,7 +47,7 @@ pub record Dyadic : Type 0 where
 unfoldable pub rounded : Format → Dyadic → Float
 rounded f x = round f x.negative (x.digits * 2 ^ x.up) (2 ^ x.down)
 
--- a number with this many of its digits after the point, times 2 to an exponent of this sign and size
+-- a number with this many of its digits after the point, times 2 to an exponent of this sign and magnitude
 abbrev pub with_exponent : Bool → ℕ → ℕ → Bool → ℕ → Dyadic
 with_exponent negative n places below size = record {
   negative = negative;

@@ -1,4 +1,4 @@
--- In EDN, items: containers, tags, simple values, and which of all of them a text begins with.
+-- Items in EDN: containers, tags and simple values, and which kind of item a text begins with.
 use Rattle.std.specs.Prelude.{ℕ, zero, suc, List, [], ◌∷◌, length, codes, Option, Some, None, Bool, true, false}
 use Rattle.std.specs.Prelude.{◌==◌, ◌&&◌, ◌||◌, ◌+◌, if◌then◌else◌, nat_le, nat_lt, bytes_eq, take, drop, position}
 use Rattle.std.specs.Prelude.{slice_index}
@@ -65,7 +65,7 @@ chunk_turn read kind text =
     read_content (read_embedded read) text >>= λ c. chunk_from kind c.0.0 c.0.1 c.0.2
     >>= λ chunk. separated Parenthesis true c.1 >>= λ s. Some (chunk ∷ [], s.0, s.1)
 
--- an indefinite string is of the kind of its first chunk, and one of bytes without any
+-- an indefinite-length string has the kind of its first chunk, and is one of bytes if it has no chunks
 abbrev pub kind_from : Read Opening → StringKind
 kind_from None = Bytes
 kind_from (Some o) = kind_of o.0
@@ -151,7 +151,7 @@ read_simple text =
 abbrev pub read_float : List ℕ → Read Item
 read_float text = read_digits Hex text >>= λ d. float_of_bytes d.0 >>= λ a. Some (atom a, d.1)
 
--- a word that is an item: a simple value, or a float that is no finite number
+-- a word that is an item: a simple value, NaN or an infinity
 abbrev pub name_item : List ℕ → Option Item
 name_item word = option_or (named word >>= λ n. Some (atom (simple n))) (special_word word >>= λ a. Some (atom a))
 
@@ -208,7 +208,7 @@ read_word left word rest =
 abbrev pub read_name : ℕ → List ℕ → Read Item
 read_name left text = read_word left (word_of text) (after_word text)
 
--- An item that is no string, by its first byte. So many levels are left for the items in it.
+-- An item other than a string, by its first byte. The number says how many levels are left for the items in it.
 abbrev pub other_item : ℕ → (List ℕ → Read Item) → List ℕ → Read Item
 other_item left read [] = None
 other_item left read (b ∷ text) =

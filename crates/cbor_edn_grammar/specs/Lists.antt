@@ -1,4 +1,4 @@
--- In EDN, lists: what opens, separates and closes them.
+-- Lists in EDN: what opens a list, what separates its members, and what closes it.
 use Rattle.std.specs.Prelude.{ℕ, ◌-◌, List, [], ◌∷◌, codes, length, take, Option, Some, None, Bool, true, false}
 use Rattle.std.specs.Prelude.{◌==◌, ◌&&◌, ◌||◌, if◌then◌else◌, is_some, not, nat_eq}
 use Rattle.std.specs.List.{list_any}

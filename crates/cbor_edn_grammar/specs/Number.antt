@@ -1,4 +1,4 @@
--- In EDN, integers, and the widths that they state.
+-- Integers in EDN, and the widths that they state.
 use Rattle.std.specs.Prelude.{ℕ, zero, suc, ◌^◌, List, [], ◌∷◌, take, drop, position, Option, Some, None, Bool}
 use Rattle.std.specs.Prelude.{◌==◌, if◌then◌else◌, nat_lt}
 use Rattle.std.specs.Option.{option_or}

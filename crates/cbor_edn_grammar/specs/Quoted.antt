@@ -1,4 +1,4 @@
--- In EDN, what is between quotes: text with JSON's escapes.
+-- Text between quotes in EDN, with JSON's escapes.
 use Rattle.std.specs.Prelude.{ℕ, ◌+◌, ◌-◌, ◌*◌, List, [], ◌∷◌, Option, Some, None, Bool, true, false}
 use Rattle.std.specs.Prelude.{◌==◌, ◌&&◌, ◌||◌, if◌then◌else◌, nat_lt, nat_le, encode_utf8, codes}
 use Rattle.std.specs.List.{position_or_len}
@@ -30,18 +30,18 @@ abbrev pub braced : List ℕ → Read ℕ
 braced [] = None
 braced (b ∷ text) = if b == 125 then None else braced_from 0 (b ∷ text)
 
--- the first and the second half of a character past ffff
+-- a high surrogate, and a low surrogate
 abbrev pub is_first_half : ℕ → Bool
 is_first_half n = nat_le 0xd800 n && nat_lt n 0xdc00
 
 abbrev pub is_second_half : ℕ → Bool
 is_second_half n = nat_le 0xdc00 n && nat_lt n 0xe000
 
--- a character; half of one is none
+-- a character, which a surrogate is not
 abbrev pub character : ℕ → List ℕ → Read ℕ
 character n text = if is_first_half n || is_second_half n || nat_le 0x110000 n then None else Some (n, text)
 
--- the character of two halves
+-- the character of a surrogate pair
 abbrev pub joined_halves : ℕ → ℕ → List ℕ → Read ℕ
 joined_halves first second text = if is_second_half second
     then character (0x10000 + (first - 0xd800) * 0x400 + (second - 0xdc00)) text else None
@@ -49,7 +49,7 @@ joined_halves first second text = if is_second_half second
 abbrev pub second_half : ℕ → List ℕ → Read ℕ
 second_half first text = after_bytes (codes "\\u") text >>= four_hex >>= λ n. joined_halves first n.0 n.1
 
--- the character that four hex digits are, or twice four where these are the first half of one
+-- the character that four hex digits write, or twice four if the first four are a high surrogate
 abbrev pub from_units : List ℕ → Read ℕ
 from_units text = four_hex text >>= λ n. if is_first_half n.0 then second_half n.0 n.1 else character n.0 n.1
 

@@ -1,4 +1,4 @@
--- What reading EDN gives: a value and the text after it, or nothing. A text is the list of its bytes in UTF-8.
+-- The result of reading EDN: a value and the text after it, or nothing. A text is the list of its bytes in UTF-8.
 use Rattle.std.specs.Prelude.{◌≡◌, ℕ, zero, suc, List, [], ◌∷◌, ◌++◌, length, drop, Option, Some, None, Result, Ok}
 use Rattle.std.specs.Prelude.{Err}
 use Rattle.std.specs.Prelude.{Bool, true, false, nat_eq, ◌==◌, if◌then◌else◌}
@@ -29,8 +29,8 @@ abbrev pub with_later : {X : Type 0} → (List ℕ → Read (List X)) → List X
 with_later later (found, true, rest) = later rest >>= λ more. Some (found ++ more.0, more.1)
 with_later later (found, false, rest) = Some (found, rest)
 
--- What turns give, one after the other. Each gives values, whether a further turn follows, and the text from there
--- on. The number bounds the turns; no text has more of them than it has bytes.
+-- The values of all turns in order. Each turn gives values, whether a further turn follows, and the text from there on.
+-- The number bounds the turns; no text has more of them than it has bytes.
 unfoldable pub turns : {X : Type 0} → (List ℕ → Option (List X × Bool × List ℕ)) → ℕ → List ℕ → Read (List X)
 turns turn zero text = None
 turns turn (suc n) text = turn text >>= with_later (turns turn n)

@@ -1,12 +1,12 @@
--- Items by RFC 8949: no simple value below 32 takes two bytes in them, which section 3.3 forbids and RFC 7049 allows.
--- These are the items whose bytes EDN keeps.
+-- Items by RFC 8949: none of them has a simple value below 32 in two bytes (f8 00 to f8 1f), which section 3.3 forbids
+-- and RFC 7049 allows. EDN keeps the bytes of these items.
 use Rattle.std.specs.Prelude.{◌⊎◌, ℕ, ◌<◌, ◌≤◌, List}
 use Rattle.cbor_grammar.specs.Item as spec
 use Rattle.cbor_grammar.specs.Item.{Atom, integer, negative, string, chunked_string, float, simple, Item, atom, array}
 use Rattle.cbor_grammar.specs.Item.{tagged, Items, no_items, item, Pairs, no_pairs, pair}
 use Rattle.cbor_grammar.specs.Facts.{IsItem, IsStrictItem}
 
--- no simple value from 24 to 31, which has no spelling but in two bytes
+-- no simple value from 24 to 31, which has no encoding other than two bytes
 abbrev pub NotReserved : Atom → Type 0
 NotReserved (integer n w) = Unit {0}
 NotReserved (negative n w) = Unit {0}

@@ -1,4 +1,4 @@
--- In EDN, strings: their pieces, the `+` between these, and the width that is stated after the last.
+-- Strings in EDN: their pieces, the `+` between pieces, and the width that is stated after the last piece.
 use Rattle.std.specs.Prelude.{ℕ, List, [], ◌∷◌, length, codes, Option, Some, None, Bool, true, false}
 use Rattle.std.specs.Prelude.{◌==◌, ◌&&◌, ◌||◌, if◌then◌else◌, is_some, not, bytes_eq}
 use Rattle.std.specs.Str.{is_utf8}
@@ -81,7 +81,7 @@ width_after (b ∷ text) =
     if b == 95 then (stated_by (word_of (b ∷ text)) >>= λ width. Some (width, after_word (b ∷ text)))
     else Some (Some Unknown, b ∷ text)
 
--- of a string the kind, the bytes and the width of the length, which is none after a `_` alone
+-- the kind of a string, its bytes and the width of its length, which is none after a `_` alone
 unfoldable pub read_content : (List ℕ → Read (List ℕ)) → List ℕ → Read (StringKind × List ℕ × Option IntegerWidth)
 read_content embedded text =
     opening_of text >>= λ o. repeated (piece_turn embedded) text >>= λ p. width_after p.1

@@ -1,4 +1,4 @@
--- In EDN, words: the longest run of letters, digits, `_` and `.`; a number may also have signs.
+-- Words in EDN: the longest run of letters, digits, `_` and `.`. A number may also have signs.
 use Rattle.std.specs.Prelude.{ℕ, suc, List, [], ◌∷◌, Option, Some, None, Bool, false}
 use Rattle.std.specs.Prelude.{◌==◌, ◌&&◌, ◌||◌, if◌then◌else◌, nat_le, take, drop}
 use Rattle.cbor_grammar.specs.declared.width.IntegerWidth.{IntegerWidth}

@@ -1,4 +1,4 @@
-//! What may close a list of EDN: the type, which errors name too.
+//! The type of what may close a list of EDN. Error messages name it too.
 ghost use Rattle.std.specs.Prelude.{◌≡◌};
 ghost use Rattle.cbor_edn_grammar.specs.Expectations.{missing};
 
@@ -18,7 +18,7 @@ pub enum Close {
 }
 
 impl Close {
-    /// What to say where neither a comma nor this follows a member.
+    /// The message where a member is followed by neither a comma nor this.
     pub(crate) fn missing(self) -> &'static str
         ensures { result.now ≡ missing self }
     {

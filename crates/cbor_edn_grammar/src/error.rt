@@ -10,7 +10,7 @@ use ryu::Buffer;
 use std::alloc::{AllocError, AllocFailed};
 use std::fmt;
 
-/// What has to be at the place of an error, in EDN.
+/// What EDN requires at the place of an error.
 #[derive(Clone, Copy, PartialEq, Eq, Debug)]
 pub enum Expected {
     /// An item: none begins here.
@@ -21,92 +21,92 @@ pub enum Expected {
     FewerCommas,
     /// The value of a key, after the colon.
     Value,
-    /// The item that a tag is of, between its parentheses.
+    /// The content of a tag, between its parentheses.
     TagContent,
     /// The end of a comment that began here.
     CommentEnd,
-    /// A word, spelled as EDN does.
+    /// A word in the spelling of EDN.
     Literal(Literal),
-    /// A text between quotes, and not a word that is no item.
+    /// Quotes around a text: the word here is not an item.
     Quotes,
-    /// Apostrophes after a prefix, and not quotes.
+    /// Apostrophes after a prefix, instead of quotes.
     Apostrophes,
-    /// Another item: nothing that is read so far is one.
+    /// One item: the text has more than one.
     OneItem,
-    /// A number, with an indicator of its width or without.
+    /// A number, with or without a width indicator.
     Number,
-    /// A number from 0 on, before the parenthesis of a tag.
+    /// An unsigned number, before the parenthesis of a tag.
     TagNumber,
-    /// A number of 64 bits, before the parenthesis of a tag.
+    /// A number that fits 64 bits, before the parenthesis of a tag.
     LargestTag,
     /// A number from 0 to 23 or from 32 to 255, for a simple value.
     SimpleNumber,
     /// An opening parenthesis, after `simple`.
     SimpleParenthesis,
-    /// A number: an ellipsis has no bytes.
+    /// A number instead of an ellipsis: an ellipsis has no bytes.
     NoEllipsis,
-    /// A prefix that is known, before an apostrophe.
+    /// A known prefix before an apostrophe.
     Prefix,
     /// A width that the number fits.
     FittingWidth,
     /// One of the indicators `_i`, `_0`, `_1`, `_2` and `_3`, or `_` alone.
     Indicator,
-    /// A number that a float of 16 bits is.
+    /// A number that a 16-bit float can represent.
     Half {
-        /// The bits of the nearest one.
+        /// The bits of the nearest 16-bit float.
         nearest: u16,
     },
-    /// A number that is not past the largest float of 16 bits.
+    /// A number that is not past the largest 16-bit float.
     LargestHalf,
-    /// A number that is not past the largest float of 32 bits.
+    /// A number that is not past the largest 32-bit float.
     LargestSingle,
-    /// A number that is not past the largest float of 64 bits.
+    /// A number that is not past the largest 64-bit float.
     LargestDouble,
-    /// One of the indicators of a float, `_1`, `_2` and `_3`.
+    /// One of the width indicators of a float, `_1`, `_2` and `_3`.
     FloatIndicator,
-    /// An exponent between -2^20 and 2^20, of a float in base 16.
+    /// An exponent between -2^20 and 2^20, in a hexadecimal float.
     HexExponent,
-    /// The 4, 8 or 16 digits of the bits of a float.
+    /// The bits of a float, as 4, 8 or 16 hex digits.
     FloatBits,
     /// A date with a time of day and an offset.
     Date,
-    /// A moment from 1970 on, or one without a fraction of a second.
+    /// A moment from 1970 on, or an earlier one without a fraction of a second.
     LaterDate,
     /// A network address.
     Address,
-    /// How many bits a prefix has, after a network address and a slash.
+    /// The length of a prefix in bits, after a network address and a slash.
     PrefixLength,
-    /// A network address without a bit that is set after the prefix.
+    /// A network address whose bits after the prefix are all 0.
     ClearBits,
-    /// A blank, after the width of a count.
+    /// A blank, after the width indicator of a count.
     BlankAfterWidth,
-    /// A blank or what closes the list, after `_`.
+    /// A blank, or what closes the list, after `_`.
     BlankAfterUnderscore,
-    /// `_`, after the parenthesis of a string in chunks.
+    /// `_`, after the opening parenthesis of a string in chunks.
     Underscore,
     /// A string.
     String,
-    /// A chunk: a string of definite length of the same kind as those before.
+    /// A chunk: a definite-length string of the same kind as the chunks before it.
     Chunk,
-    /// Nothing between the quotes, where `_` follows them.
+    /// No content between quotes that `_` follows.
     NoContent,
     /// A closing quote.
     Quote,
-    /// An escape of JSON.
+    /// A JSON escape.
     Escape,
-    /// The escape of the second half of a character, after the first.
+    /// The escape of a low surrogate, after that of a high surrogate.
     SecondHalf {
-        /// The first half.
+        /// The high surrogate.
         first: u16,
     },
-    /// The escape of the first half of a character, before the second.
+    /// The escape of a high surrogate, before that of a low surrogate.
     FirstHalf {
-        /// The second half.
+        /// The low surrogate.
         second: u16,
     },
-    /// A digit that the encoding of bytes may have here.
+    /// A digit that may be here in the encoding of a byte string.
     Digit,
-    /// A digit more: those up to here are no whole encoding of bytes.
+    /// More digits: those up to here do not encode whole bytes.
     MoreDigits,
     /// UTF-8, for a text.
     Utf8,
@@ -118,13 +118,13 @@ pub enum Expected {
     Colon,
     /// A closing parenthesis.
     Parenthesis,
-    /// At most 128 levels.
+    /// At most 128 levels of nesting.
     Levels,
 }
 
 impl Expected {
-    /// Returns what is wrong, in a few words without a full stop. `Display` adds the values that
-    /// the error has.
+    /// Returns what is wrong, in a few words without a full stop. `Display` also writes the values
+    /// that the error holds.
     pub fn text(&self) -> &'static str
         ensures { result.now ≡ text_of self.now }
     {
@@ -219,7 +219,7 @@ impl fmt::Display for Expected {
     }
 }
 
-/// Writes the number of a float of 16 bits, if it is finite.
+/// Writes the value of a 16-bit float, if it is finite.
 fn write_half<W: fmt::Write>(bits: u16, f: &mut fmt::Formatter<W>) -> fmt::Result {
     let x = half_value(bits);
     if x.is_finite() {
@@ -236,14 +236,14 @@ pub enum EdnError {
     Memory,
     /// The text is not EDN.
     Wrong {
-        /// How many bytes come before the place of the error.
+        /// The byte offset of the error.
         place: usize,
-        /// What has to be there.
+        /// What is expected there.
         expected: Expected,
     },
 }
 
-/// Why a function that reads stops; its cursor says where.
+/// Why a reading function stops. Its cursor is at the place of the error.
 #[derive(Clone, Copy, PartialEq, Eq, Debug)]
 pub enum Stop {
     /// An allocation failed.

@@ -1,6 +1,7 @@
-//! What EDN is, the extended diagnostic notation of CBOR that people write (RFC 8949 section 8, RFC
-//! 8610 appendix G): the definitions which texts are EDN and which items and bytes they are, in
-//! `specs`, the lemmas that its reader and its writer share, and the errors of reading.
+//! What EDN is: the extended diagnostic notation of CBOR that people write (RFC 8949 section 8, RFC
+//! 8610 appendix G). `specs` defines which texts are EDN, and which items and bytes they denote.
+//! The crate also has the lemmas that the reader and the writer of EDN share, and the errors of
+//! reading.
 #![tactic(auto)]
 
 pub mod close;

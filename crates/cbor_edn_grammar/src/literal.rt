@@ -1,4 +1,4 @@
-//! Words of EDN that other languages spell otherwise.
+//! The words of EDN that are items, such as `null`, and how other languages spell them.
 ghost use Rattle.std.specs.Prelude.{◌≡◌};
 ghost use Rattle.cbor_edn_grammar.specs.Expectations.{spelled};
 
@@ -19,7 +19,7 @@ pub enum Literal {
     Infinity,
 }
 
-/// How other languages spell the words, but for the case of letters.
+/// Spellings of these words in EDN and in other languages. The case of letters does not matter.
 const SPELLINGS: [(&str, Literal); 9] = [
     ("false", Literal::False),
     ("true", Literal::True),
@@ -33,7 +33,7 @@ const SPELLINGS: [(&str, Literal); 9] = [
 ];
 
 impl Literal {
-    /// Returns the word of EDN for a word of another language, if it has one.
+    /// Returns the word of EDN that has this spelling, in any case of letters, if there is one.
     pub fn of(word: &str) -> Option<Literal> {
         for (spelling, literal) in SPELLINGS {
             if word.eq_ignore_ascii_case(spelling) {
@@ -43,7 +43,7 @@ impl Literal {
         None
     }
 
-    /// What to say where it is spelled otherwise.
+    /// The message where this word is spelled as in another language.
     pub(crate) fn advice(self) -> &'static str
         ensures { result.now ≡ spelled self }
     {

@@ -1,4 +1,4 @@
-//! Errors: what they say of a text, with the word that is at their place.
+//! Error messages that repeat the word of the text at the place of the error.
 ghost use Rattle.std.specs.Prelude.{IfSome, ◌≡◌, true};
 ghost use Rattle.std.specs.List.{list_all};
 ghost use Rattle.cbor_edn_grammar.specs.Expectations.{is_printing};
@@ -7,24 +7,24 @@ use crate::error::Expected;
 use crate::word::word_len;
 use std::{fmt, str};
 
-/// The longest word and the longest content that a message repeats.
+/// The length in bytes of the longest word, and of the longest content, that a message repeats.
 const LONGEST: usize = 64;
 
-/// Whether a byte is a character of ASCII that prints.
+/// Whether a byte is a printable ASCII character.
 fn is_printing(byte: u8) -> bool
     ensures { result ≡ is_printing byte }
 {
     byte >= b' ' && byte <= b'~'
 }
 
-/// Whether all bytes are such characters.
+/// Whether all bytes are printable ASCII characters.
 fn are_printing(bytes: &[u8]) -> bool
     ensures { result ≡ list_all is_printing bytes.now }
 {
     bytes.iter().all(|byte| is_printing(*byte))
 }
 
-/// The text that a message may repeat: it is not long, and each character of it prints.
+/// The bytes as a text, if a message may repeat them: if they are few, and all printable.
 fn shown(bytes: &[u8]) -> Option<&str>
     ensures { IfSome result (λ text. list_all is_printing text.now ≡ true) }
 {
@@ -60,19 +60,19 @@ fn content_of(rest: &[u8]) -> Option<&str>
     shown(&content[..len])
 }
 
-/// What an error says of a text.
+/// The message of an error in a text.
 #[derive(Clone, Copy)]
 pub struct Message<'a> {
     expected: Expected,
     /// The word at the place of the error.
     word: Option<&'a str>,
-    /// What is between the quotes after it.
+    /// The content of the quotes after that word.
     content: Option<&'a str>,
 }
 
 impl Expected {
-    /// Returns the message on a text that goes on so from the place of the error. What it repeats
-    /// of the text is characters of ASCII that print.
+    /// Returns the message of an error in a text. `rest` is the text from the place of the error
+    /// on. The message repeats only printable ASCII characters of it.
     pub fn in_text(self, rest: &[u8]) -> Message<'_>
         ensures word { IfSome result.word (λ text. list_all is_printing text.now ≡ true) }
         ensures content { IfSome result.content (λ text. list_all is_printing text.now ≡ true) }
@@ -101,5 +101,5 @@ impl<'a> fmt::Display for Message<'a> {
     }
 }
 
-/// The prefixes that are known.
+/// The known prefixes.
 const PREFIXES: &str = "h, b64, b32, h32, dt, DT, ip, IP and float";

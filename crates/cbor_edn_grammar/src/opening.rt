@@ -1,4 +1,4 @@
-//! What a piece of a string of EDN may begin with: the type.
+//! The type of what a piece of an EDN string may begin with.
 ghost use Rattle.std.specs.Prelude.{◌≡◌};
 ghost use Rattle.cbor_edn_grammar.specs.Strings.{kind_of};
 ghost use Rattle.cbor_edn_grammar.specs.Digits.{slashes_in};
@@ -19,7 +19,7 @@ pub enum Opening {
 }
 
 impl Opening {
-    /// The kind of a string whose first piece begins so.
+    /// The kind of a string whose first piece has this opening.
     pub fn kind(self) -> StringKind
         ensures { result ≡ kind_of self }
     {
@@ -30,21 +30,21 @@ impl Opening {
     }
 }
 
-/// What digits between apostrophes are, by the prefix before them.
+/// The base of digits between apostrophes, which the prefix before them states.
 #[derive(Clone, Copy)]
 pub enum Base {
-    /// `h`: base 16, of either case.
+    /// `h`: base 16, in upper or lower case.
     Hex,
-    /// `b64`: base 64 in either alphabet, with padding or without.
+    /// `b64`: base 64 in either alphabet, with or without padding.
     Base64,
-    /// `b32`: base 32, with padding or without.
+    /// `b32`: base 32, with or without padding.
     Base32,
-    /// `h32`: base 32 with the extended hex alphabet, with padding or without.
+    /// `h32`: base 32 with the extended hex alphabet, with or without padding.
     Base32Hex,
 }
 
 impl Base {
-    /// Whether slashes begin comments; in base 64 they are digits.
+    /// Whether slashes begin comments. In base 64 they are digits.
     pub fn slashes(self) -> bool
         ensures { result ≡ slashes_in self }
     {

@@ -1,4 +1,4 @@
-//! Errors: why no item begins at a place, by the text around it.
+//! Explains why no item begins at a place, from the text before and after it.
 
 use crate::error::Expected;
 use crate::literal::Literal;
@@ -6,8 +6,8 @@ use crate::word::word_len;
 use std::str;
 
 impl Expected {
-    /// Returns the reason why no item begins between these texts, where an item is expected. Any
-    /// other expectation is its own reason.
+    /// Makes the error `Expected::Item` more precise: returns why no item begins between `before`
+    /// and `rest`. Any other error is returned unchanged.
     pub fn between(self, before: &[u8], rest: &[u8]) -> Expected {
         if self != Expected::Item {
             return self;
@@ -22,7 +22,7 @@ impl Expected {
     }
 }
 
-/// Why a word before this text is no item.
+/// Why `word`, which `after` follows, is not an item.
 fn no_item(word: &[u8], after: &[u8]) -> Expected {
     if let [b'"', ..] = after {
         return if is_prefix(word) {
@@ -37,16 +37,16 @@ fn no_item(word: &[u8], after: &[u8]) -> Expected {
     }
 }
 
-/// Whether a word is a prefix of content between apostrophes.
+/// Whether a word is a known prefix, such as `h` in `h'01'`.
 fn is_prefix(word: &[u8]) -> bool {
     PREFIXES.into_iter().any(|prefix| prefix.as_bytes() == word)
 }
 
-/// The prefixes that are known.
+/// The known prefixes.
 const PREFIXES: [&str; 9] = ["h", "b64", "b32", "h32", "dt", "DT", "ip", "IP", "float"];
 
-/// What is missing between these texts, of which the second begins with a comma or with what
-/// closes a list, or is empty.
+/// What is missing between `before` and `rest`. `rest` is empty, or begins with a comma or with
+/// what closes a list.
 fn missing(before: &[u8], rest: &[u8]) -> Expected {
     match (before.trim_ascii_end(), rest) {
         ([.., b':'], _) => Expected::Value,

@@ -1,4 +1,4 @@
-//! Which texts are words of EDN, by their bytes, and the widths that they state.
+//! Recognizes the words of EDN, and the widths that they state.
 ghost use Rattle.std.specs.Prelude.{◌≡◌, ◌≤◌, length, true, option_map};
 ghost use Rattle.std.specs.List.{list_all};
 ghost use Rattle.std.specs.Str.Parse.{IsNumeral};
@@ -70,7 +70,7 @@ pub fn begins_number(text: &[u8]) -> bool
     }
 }
 
-/// How long the word at the front is.
+/// The length in bytes of the word at the front.
 #[tactic(auto, unfolding(crate::specs::Word::word_len))]
 pub fn word_len(text: &[u8]) -> usize
     ensures same { result ≡ word_len text.now }
@@ -115,7 +115,8 @@ pub fn width_of(word: &[u8]) -> Option<IntegerWidth>
     }
 }
 
-/// The width that a word states, which is none for `_` alone.
+/// The width that an indicator states. It is `Some(None)` for `_` alone, and `None` for other
+/// words.
 pub fn stated_by(word: &[u8]) -> Option<Option<IntegerWidth>>
     ensures { result ≡ stated_by word.now }
 {

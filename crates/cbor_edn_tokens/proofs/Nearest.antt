@@ -305,7 +305,7 @@ kept_bits h q k most normal = elim (cases_Bool (ltb q (2 ^ suc h))) [
         ∙ ap (λ z. (1 + k) * 2 ^ h + z) (mul-div_cancel (2 ^ h) (pow_pos (1 + k)))
         ∙ omega (arith, add-mul 1 k (2 ^ h), two-pow-succ h, e)
 
--- Units are below 2 ^ (j + suc h), where the infinity is, exactly if the bits are below its bits, (j + 2) * 2 ^ h.
+-- Units are below 2 ^ (j + suc h), where the infinity is, if and only if the bits are below its bits, (j + 2) * 2 ^ h.
 below_top : (j h q k : ℕ) → 0 < j → q ≤ 2 ^ suc h → Normal h q k → k * 2 ^ h + q < (j + 2) * 2 ^ h
     → q * 2 ^ k < 2 ^ (j + suc h)
 below_top j h q k some most (inl none) lt =

@@ -1,2 +1,2 @@
--- Definitions for the checker alone, which follow the code that reads tokens of EDN.
+-- Definitions for the checker alone. They follow the code that reads tokens of EDN.
 pub mod Front

@@ -1,4 +1,4 @@
-//! Reads tokens of EDN: network addresses in text, and the bits of a prefix.
+//! Reads network addresses of EDN, and checks the bits of address prefixes.
 ghost use Rattle.std.specs.Prelude.{◌≡◌, ◌==◌, ◌-◌, ◌%◌, ◌^◌, ◌≤◌, length};
 ghost use Rattle.cbor_edn_grammar.specs.Reading.{Gives};
 ghost use Rattle.cbor_edn_grammar.specs.Address.{is_ipv6, ipv4_bytes, ipv6_bytes, address_bytes};
@@ -9,14 +9,14 @@ use cbor_edn_grammar::error::{Expected, Stop};
 use std::alloc::Global;
 use std::net::{Ipv4Addr, Ipv6Addr};
 
-/// Whether an address is one of IPv6, which has a colon.
+/// Whether the text of an address is of IPv6, which has colons.
 pub fn is_ipv6(text: &[u8]) -> bool
     ensures { result ≡ is_ipv6 text.now }
 {
     text.iter().any(|byte| *byte == b':')
 }
 
-/// The bytes of an address of IPv4.
+/// The bytes of an IPv4 address.
 #[tactic(auto, using(crate::proofs::Addresses::address_laws))]
 fn ipv4_bytes(alloc: Global, text: &[u8]) -> Result<Vec<u8>, Stop>
     ensures { Gives (λ x. x.items) result (ipv4_bytes text.now) }
@@ -27,7 +27,7 @@ fn ipv4_bytes(alloc: Global, text: &[u8]) -> Result<Vec<u8>, Stop>
     }
 }
 
-/// The bytes of an address of IPv6.
+/// The bytes of an IPv6 address.
 #[tactic(auto, using(crate::proofs::Addresses::address_laws))]
 fn ipv6_bytes(alloc: Global, text: &[u8]) -> Result<Vec<u8>, Stop>
     ensures { Gives (λ x. x.items) result (ipv6_bytes text.now) }
@@ -38,7 +38,7 @@ fn ipv6_bytes(alloc: Global, text: &[u8]) -> Result<Vec<u8>, Stop>
     }
 }
 
-/// The bytes of an address, of IPv6 or else of IPv4.
+/// The bytes of an address: of IPv6 if `six` is set, and otherwise of IPv4.
 pub fn address_bytes(alloc: Global, six: bool, text: &[u8]) -> Result<Vec<u8>, Stop>
     ensures { Gives (λ x. x.items) result (address_bytes six text.now) }
 {
@@ -56,7 +56,7 @@ fn address_bits(six: bool) -> u8
     if six { 128 } else { 32 }
 }
 
-/// How many bits a prefix has, by its decimal digits.
+/// Reads the length of a prefix in bits, from its decimal digits.
 pub fn bit_count(six: bool, digits: &[u8]) -> Result<u8, Stop>
     ensures { Gives (λ n. n) result (bit_count six digits.now) }
 {
@@ -69,7 +69,7 @@ pub fn bit_count(six: bool, digits: &[u8]) -> Result<u8, Stop>
     }
 }
 
-/// Whether no bit of a byte is set after the first ones.
+/// Whether no bit of a byte is set after the first `bits` bits.
 fn is_clear(byte: u8, bits: u8) -> bool
     ensures { result ≡ (byte % 2 ^ (8 - bits) == 0) }
 {
@@ -77,7 +77,7 @@ fn is_clear(byte: u8, bits: u8) -> bool
     byte as u16 % (1 << unused) == 0
 }
 
-/// Whether no bit of some bytes is set after the first ones.
+/// Whether no bit of the bytes is set after the first `bits` bits.
 pub fn is_clear_after(bits: u8, bytes: &[u8]) -> bool
     ensures { result ≡ is_clear_after bits bytes.now }
 {
@@ -93,7 +93,7 @@ pub fn is_clear_after(bits: u8, bytes: &[u8]) -> bool
     true
 }
 
-/// How many bytes there are up to the last that is not 0.
+/// The number of bytes without the zeros at the end.
 pub fn used(bytes: &[u8]) -> usize
     ensures is { result ≡ used bytes.now }
     ensures within { result ≤ length bytes.now }

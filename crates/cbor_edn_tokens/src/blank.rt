@@ -1,4 +1,4 @@
-//! Reads tokens of EDN: blanks, which are spaces, tabs, line ends and comments.
+//! Reads blanks of EDN: spaces, tabs, line ends and comments.
 ghost use Rattle.std.specs.Prelude.{◌≡◌, ◌<◌, ◌≤◌, length, false, option_map, IfSome};
 ghost use Rattle.cbor_tokens.specs.Token.{is_whitespace};
 ghost use Rattle.cbor_edn_grammar.specs.Blank.{after_line, after_slash, after_star, after_comment};
@@ -11,7 +11,7 @@ fn is_whitespace(byte: u8) -> bool
     byte <= b' ' && matches!(byte, b' ' | b'\t' | b'\n' | b'\r')
 }
 
-/// The text after the first line feed; nothing if there is none.
+/// The text after the first line feed. It is empty if there is no line feed.
 fn after_line(text: &[u8]) -> &[u8]
     ensures gives { result.now ≡ after_line text.now }
     ensures shorter { length result.now ≤ length text.now }
@@ -71,8 +71,8 @@ fn after_comment(text: &[u8]) -> Option<&[u8]>
     }
 }
 
-/// The text after a space, a tab, a line end or a comment. If `slashes` is not set, `#` alone
-/// begins a comment.
+/// The text after a space, a tab, a line end or a comment. If `slashes` is not set, only `#` begins
+/// a comment.
 pub fn after_space(text: &[u8], slashes: bool) -> Option<&[u8]>
     ensures gives { option_map (λ x. x.now) result ≡ after_space slashes text.now }
     ensures shorter { IfSome result (λ x. length x.now < length text.now) }

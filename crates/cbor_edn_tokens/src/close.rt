@@ -1,4 +1,4 @@
-//! Reads tokens of EDN: what opens, separates and closes lists.
+//! Reads what opens, separates and closes lists of EDN.
 ghost use Rattle.std.specs.Prelude.{◌≡◌, ◌≤◌, length, option_map, IfSome};
 ghost use Rattle.cbor_notation.specs.mirror.Cursor.{Takes};
 ghost use Rattle.cbor_edn_grammar.specs.Reading.{Gives};
@@ -32,7 +32,7 @@ pub fn after_close(text: &[u8], close: Close) -> Option<&[u8]>
     }
 }
 
-/// Takes what closes a list, if that is next.
+/// Takes what closes a list if that is next, and returns whether it did.
 pub fn take_close(text: &mut Cursor<'_>, close: Close) -> bool
     ensures takes { Takes result text.old text.new (after_close close text.old) }
     ensures within { length text.new ≤ length text.old }
@@ -46,14 +46,14 @@ pub fn take_close(text: &mut Cursor<'_>, close: Close) -> bool
     }
 }
 
-/// Whether a blank that is not empty comes first.
+/// Whether the text begins with a blank that is not empty.
 fn is_apart(text: &[u8]) -> bool
     ensures { result ≡ is_apart text.now }
 {
     after_space(text, true).is_some()
 }
 
-/// Whether the text goes on as it has to after a `_` and after a stated width.
+/// Whether this text may follow the `_` or the stated width at the start of a list.
 fn is_length_end(text: &[u8], close: Close, width: Option<IntegerWidth>) -> bool
     ensures { result ≡ is_length_end close width text.now }
 {
@@ -63,8 +63,8 @@ fn is_length_end(text: &[u8], close: Close, width: Option<IntegerWidth>) -> bool
     }
 }
 
-/// Takes the width of a count right after the opening of a list, which is none for an indefinite
-/// length.
+/// Takes the width indicator right after the opening of a list. Returns the width of the count, or
+/// `None` for an indefinite length.
 pub fn take_length(text: &mut Cursor<'_>, close: Close) -> Result<Option<IntegerWidth>, Stop>
     ensures gives { Gives (λ x. (x, text.new)) result (read_length close text.old) }
     ensures within { length text.new ≤ length text.old }
@@ -85,7 +85,8 @@ pub fn take_length(text: &mut Cursor<'_>, close: Close) -> Result<Option<Integer
     }
 }
 
-/// Passes the end of a list after a comma, if that is next; otherwise a member follows.
+/// Takes the end of a list after a comma, if that is next. Returns whether a member follows
+/// instead.
 fn take_last_comma(text: &mut Cursor<'_>, close: Close) -> bool
     ensures takes { (result, text.new) ≡ after_comma close text.old }
     ensures within { length text.new ≤ length text.old }
@@ -110,8 +111,8 @@ fn on_new_line(close: Close, text: &[u8], next: &[u8]) -> bool
     }
 }
 
-/// Takes what follows a member of a list, which may be a string: what separates it from the next
-/// one, and then true is returned, or what closes the list.
+/// Takes what follows a member of a list. Returns true if it separates the member from the next
+/// one, and false if it closes the list. `is_string` says whether the member is a string.
 #[tactic(auto, unfolding(cbor_edn_grammar::specs::Lists::separated))]
 pub fn take_separator(text: &mut Cursor<'_>, close: Close, is_string: bool) -> Result<bool, Stop>
     ensures gives { Gives (λ more. (more, text.new)) result (separated close is_string text.old) }

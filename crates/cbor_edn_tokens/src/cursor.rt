@@ -1,7 +1,7 @@
-//! Reads tokens of EDN: what is still to be read of a text, and what is taken from its front.
+//! The text that is still to be read, as a cursor, and functions that take tokens from its front.
 //!
-//! A function that reads at a cursor leaves it behind what it read. Where it stops for an error,
-//! the cursor is at the place of the error.
+//! A function that reads at a cursor moves it past what it read. After an error, the cursor is at
+//! the place of the error.
 ghost use Rattle.std.specs.Prelude.{◌≡◌, ◌+◌, ◌<◌, ◌≤◌, ◌↔◌, length, option_map, take, IfOk};
 ghost use Rattle.std.specs.Prelude.{IfSome};
 ghost use Rattle.std.specs.Prelude.{IsTrue, []};
@@ -15,7 +15,7 @@ use cbor_edn_grammar::error::{Expected, Stop};
 use cbor_edn_grammar::word::word_len;
 use std::marker::Model;
 
-/// The text after this byte, if it begins with it.
+/// The text after its first byte, if that is `byte`.
 pub fn after_byte(text: &[u8], byte: u8) -> Option<&[u8]>
     ensures gives { option_map (λ x. x.now) result ≡ after_byte byte text.now }
     ensures shorter { IfSome result (λ x. length x.now < length text.now) }
@@ -26,7 +26,7 @@ pub fn after_byte(text: &[u8], byte: u8) -> Option<&[u8]>
     }
 }
 
-/// The text after these bytes, if it begins with them.
+/// The text after `bytes`, if it begins with them.
 pub fn after_bytes<'a>(text: &'a [u8], bytes: &[u8]) -> Option<&'a [u8]>
     ensures gives { option_map (λ x. x.now) result ≡ after_bytes bytes.now text.now }
     ensures shorter { IfSome result (λ x. length x.now + length bytes.now ≡ length text.now) }
@@ -38,7 +38,7 @@ pub fn after_bytes<'a>(text: &'a [u8], bytes: &[u8]) -> Option<&'a [u8]>
     }
 }
 
-/// The text that is still to be read. A clause sees its bytes.
+/// The text that is still to be read. In clauses its value is the bytes of that text.
 #[derive(Drop)]
 pub struct Cursor<'a> {
     rest: &'a [u8],
@@ -75,7 +75,7 @@ impl<'a> Cursor<'a> {
         self.rest = after_blank(self.rest, true);
     }
 
-    /// Takes this byte, if it is next.
+    /// Takes this byte if it is next, and returns whether it was.
     pub fn take_byte(&mut self, byte: u8) -> bool
         ensures takes { Takes result self.old self.new (after_byte byte self.old) }
         ensures within { length self.new ≤ length self.old }
@@ -89,7 +89,7 @@ impl<'a> Cursor<'a> {
         }
     }
 
-    /// Takes this byte, which is expected by that name.
+    /// Takes this byte. If it is not next, the error is `expected`.
     pub fn expect_byte(&mut self, byte: u8, expected: Expected) -> Result<(), Stop>
         ensures gives { Gives (λ _. self.new) result (after_byte byte self.old) }
         ensures within { length self.new ≤ length self.old }

@@ -1,4 +1,4 @@
-//! Reads tokens of EDN: where digits between apostrophes are no encoding of bytes.
+//! Finds where digits between apostrophes in EDN do not encode bytes.
 ghost use Rattle.std.specs.Prelude.{◌≤◌, length};
 
 use crate::blank::after_blank;
@@ -6,17 +6,17 @@ use crate::digits::find_apostrophe;
 use cbor_edn_grammar::error::Expected;
 use cbor_edn_grammar::opening::Base;
 
-/// Digits that are the front of an encoding.
+/// Digits that an encoding of bytes may begin with.
 #[derive(Drop)]
 struct Front {
     base: Base,
-    /// How many there are, padding aside.
+    /// How many there are, without the padding.
     digits: usize,
     /// The value of the last one.
     last: u8,
     /// How many characters of padding follow them.
     padding: usize,
-    /// Whether they are in the alphabet of base 64 for URLs, once that is known.
+    /// Whether they are in the URL-safe alphabet of base 64, once that is known.
     url_safe: Option<bool>,
 }
 
@@ -39,7 +39,8 @@ fn value_of(base: Base, digit: u8) -> Option<u8> {
     }
 }
 
-/// Which alphabet of base 64 a digit is of, if it is not of both.
+/// True for a digit of the URL-safe alphabet of base 64 alone, and false for one of the standard
+/// alphabet alone.
 fn alphabet_of(base: Base, digit: u8) -> Option<bool> {
     match (base, digit) {
         (Base::Base64, b'+' | b'/') => Some(false),
@@ -49,8 +50,8 @@ fn alphabet_of(base: Base, digit: u8) -> Option<bool> {
 }
 
 impl Front {
-    /// The bits of the last digit that no byte has, which have to be 0; none where no encoding has
-    /// this many digits.
+    /// The bits of the last digit that belong to no byte and have to be 0. `None` if no encoding
+    /// has this many digits.
     fn spare_bits(&self) -> Option<u8> {
         match (self.base, self.digits % 8) {
             (_, 0) => Some(0),
@@ -100,8 +101,8 @@ impl Front {
     }
 }
 
-/// The index of the first of these characters that no encoding of bytes can have there; their
-/// number, if a digit is missing at the end.
+/// The index of the first character that no encoding of bytes can have there, or the number of
+/// characters if a digit is missing at the end.
 fn wrong_digit(content: &[u8], base: Base) -> usize
     ensures { result ≤ length content.now }
 {
@@ -123,7 +124,7 @@ fn wrong_digit(content: &[u8], base: Base) -> usize
     content.len()
 }
 
-/// Where digits are no encoding of bytes up to the next apostrophe, and what is expected there.
+/// Where the digits up to the next apostrophe do not encode bytes, and what is expected there.
 pub(crate) fn digit_fault(text: &[u8], base: Base) -> (usize, Expected)
     ensures { result.0 ≤ length text.now }
 {

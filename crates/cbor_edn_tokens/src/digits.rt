@@ -1,5 +1,4 @@
-//! Reads tokens of EDN: digits between apostrophes, in base 16, 32 and 64, with blanks between
-//! them.
+//! Reads the digits between apostrophes in EDN, in base 16, 32 and 64, with blanks between them.
 ghost use Rattle.std.specs.Prelude.{◌≡◌, ◌<◌, ◌≤◌, ◌==◌, drop, true, length, option_map};
 ghost use Rattle.std.specs.Prelude.{position, IfOk, IfErr, IfSome};
 ghost use Rattle.cbor_tokens.specs.Base32.{standard, extended_hex};
@@ -20,7 +19,7 @@ use cbor_notation::content::base16;
 use memchr::memchr;
 use std::alloc::{AllocError, Global};
 
-/// Adds the next digit after a blank; returns false at the end.
+/// Adds the next digit after a blank. Returns false at the end.
 fn digit_turn(digits: &mut Vec<u8>, text: &mut Cursor<'_>, slashes: bool) -> Result<bool, Stop>
     ensures gives { TurnGives result digits.old.items digits.new.items text.new
         (digit_turn slashes text.old) }
@@ -72,21 +71,21 @@ fn pad(digits: &mut Vec<u8>) -> Result<(), AllocError>
     Ok(())
 }
 
-/// Whether a digit is one of the two that the standard alphabet of base 64 has alone.
+/// Whether any digit is one of the two that only the standard alphabet of base 64 has.
 fn has_standard(digits: &[u8]) -> bool
     ensures { result ≡ has_standard digits.now }
 {
     digits.iter().any(|digit| *digit == b'+' || *digit == b'/')
 }
 
-/// Whether a digit is one of the two that the alphabet for URLs has alone.
+/// Whether any digit is one of the two that only the URL-safe alphabet of base 64 has.
 fn has_url_safe(digits: &[u8]) -> bool
     ensures { result ≡ has_url_safe digits.now }
 {
     digits.iter().any(|digit| *digit == b'-' || *digit == b'_')
 }
 
-/// A digit of base 64 as the standard alphabet has it.
+/// Translates a digit of base 64 to the standard alphabet.
 fn to_standard(digit: u8) -> u8
     ensures { result ≡ to_standard digit }
 {
@@ -97,7 +96,7 @@ fn to_standard(digit: u8) -> u8
     }
 }
 
-/// A digit of base 64 as the alphabet for URLs has it.
+/// Translates a digit of base 64 to the URL-safe alphabet.
 fn to_url_safe(digit: u8) -> u8
     ensures { result ≡ to_url_safe digit }
 {
@@ -108,8 +107,8 @@ fn to_url_safe(digit: u8) -> u8
     }
 }
 
-/// Digits of base 64 in the form that RFC 4648 gives them: the standard alphabet with padding, or
-/// that for URLs without. Digits of both alphabets stay as they are.
+/// Returns digits of base 64 in a form of RFC 4648: in the standard alphabet with padding, or in
+/// the URL-safe alphabet without. A mix of both alphabets stays as it is.
 fn one_alphabet(alloc: Global, digits: &[u8]) -> Result<Vec<u8>, AllocError>
     ensures { IfOk result (λ v. v.items ≡ one_alphabet digits.now) }
 {
@@ -166,7 +165,7 @@ fn decode_base32hex(alloc: Global, digits: &[u8]) -> Result<Option<Vec<u8>>, All
     cbor_tokens::base32hex_decode(alloc, digits)
 }
 
-/// The bytes that digits are the encoding of, if they are one.
+/// The bytes that the digits encode, or `None` if they do not encode bytes.
 fn found(alloc: Global, base: Base, mut digits: Vec<u8>) -> Result<Option<Vec<u8>>, Stop>
     ensures gives { IfOk result (λ found. option_map (λ x. x.items) found
         ≡ decoded base digits.items) }
@@ -189,7 +188,7 @@ fn found(alloc: Global, base: Base, mut digits: Vec<u8>) -> Result<Option<Vec<u8
     }
 }
 
-/// The bytes that digits are the encoding of.
+/// The bytes that the digits encode, or an error if they do not encode bytes.
 fn decoded(alloc: Global, base: Base, digits: Vec<u8>) -> Result<Vec<u8>, Stop>
     ensures { Gives (λ x. x.items) result (decoded base digits.items) }
 {
@@ -199,8 +198,8 @@ fn decoded(alloc: Global, base: Base, digits: Vec<u8>) -> Result<Vec<u8>, Stop>
     }
 }
 
-/// The bytes that the first `end` characters are the hex digits of. Digits with no blanks between
-/// them, the usual case, are decoded in place; others are gathered first.
+/// The bytes that the first `end` characters encode in hex. Digits without blanks between them, the
+/// usual case, are decoded in place. Others are gathered first.
 fn hex_front(alloc: Global, text: &[u8], end: usize) -> Result<Vec<u8>, Stop>
     requires { end ≤ length text.now }
     ensures { Gives (λ x. x.items) result (decoded_front Base.Hex text.now end) }
@@ -213,7 +212,7 @@ fn hex_front(alloc: Global, text: &[u8], end: usize) -> Result<Vec<u8>, Stop>
     decoded(alloc, Base::Hex, digits)
 }
 
-/// The bytes that the first `end` characters are the digits of.
+/// The bytes that the first `end` characters encode.
 fn decoded_front(alloc: Global, text: &[u8], base: Base, end: usize) -> Result<Vec<u8>, Stop>
     requires { end ≤ length text.now }
     ensures { Gives (λ x. x.items) result (decoded_front base text.now end) }
@@ -233,7 +232,7 @@ pub fn find_apostrophe(text: &[u8]) -> Option<usize>
     memchr(b'\'', text)
 }
 
-/// The bytes of the digits up to the next apostrophe, and the index of what follows that.
+/// The bytes that the digits up to the next apostrophe encode, and the index after the apostrophe.
 fn digits_front(alloc: Global, text: &[u8], base: Base) -> Result<(Vec<u8>, usize), Stop>
     ensures gives { Gives (λ x. (x.0.items, drop x.1 text.now)) result
         (read_digits base text.now) }
@@ -248,8 +247,8 @@ fn digits_front(alloc: Global, text: &[u8], base: Base) -> Result<(Vec<u8>, usiz
     }
 }
 
-/// The bytes of the digits up to the next apostrophe. An error is at the first character that cannot
-/// be there.
+/// Reads the digits up to the next apostrophe, and returns the bytes that they encode. An error is
+/// at the first character that cannot be there.
 pub fn read_digits(alloc: Global, text: &mut Cursor<'_>, base: Base) -> Result<Vec<u8>, Stop>
     ensures gives { Gives (λ x. (x.items, text.new)) result (read_digits base text.old) }
     ensures within { length text.new ≤ length text.old }

@@ -1,4 +1,4 @@
-//! Reads tokens of EDN: floats, the words that they are, and their bits.
+//! Reads floats of EDN: recognizes which words are floats, and returns their bits.
 ghost use Rattle.std.specs.Prelude.{◌≡◌, ◌<◌, ◌≤◌, ◌==◌, ◌||◌, true, false, length, position};
 ghost use Rattle.std.specs.Prelude.{option_map, IfOk, IfSome};
 ghost use Rattle.cbor_grammar.specs.Item.{float};
@@ -27,7 +27,7 @@ use cbor_grammar::FloatWidth;
 use fast_float::Numeral;
 use std::num::f32_to_bits_with_nan;
 
-/// The number that a text writes, which has no indicator.
+/// The number that a text without a width indicator writes.
 fn number_of(text: &[u8]) -> Result<f64, Stop>
     ensures { Gives (λ x. x) result (number_of text.now) }
 {
@@ -38,7 +38,7 @@ fn number_of(text: &[u8]) -> Result<f64, Stop>
     }
 }
 
-/// The number in 16 bits, if they have it.
+/// The number as a 16-bit float, or an error if no such float represents it.
 fn half_of(x: f64) -> Result<EncodedFloat, Stop>
     ensures { Gives (λ f. f) result (half_of x) }
 {
@@ -48,7 +48,7 @@ fn half_of(x: f64) -> Result<EncodedFloat, Stop>
     }
 }
 
-/// What to say of a number that no half is, by the bits of the nearest half.
+/// The error for a number that no 16-bit float represents, by the bits of the nearest one.
 fn no_half(nearest: u16) -> Expected {
     if nearest % 0x8000 < 0x7c00 {
         Expected::Half { nearest }
@@ -57,7 +57,7 @@ fn no_half(nearest: u16) -> Expected {
     }
 }
 
-/// The number that a text writes, in 32 bits, or else the single that is nearest to it.
+/// The 32-bit float that is nearest to the number that a text writes.
 fn single_of(text: &[u8]) -> Result<EncodedFloat, Stop>
     ensures { Gives (λ f. f) result (single_in text.now) }
 {
@@ -68,14 +68,14 @@ fn single_of(text: &[u8]) -> Result<EncodedFloat, Stop>
     }
 }
 
-/// The number in the shortest width that has it.
+/// The number in the shortest width that represents it.
 fn shortest_of(x: f64) -> EncodedFloat
     ensures { result ≡ shortest_of x }
 {
     EncodedFloat::shortest(x)
 }
 
-/// The number in 64 bits.
+/// The number as a 64-bit float.
 fn double_of(x: f64) -> EncodedFloat
     ensures { result ≡ double_of x }
 {
@@ -94,7 +94,7 @@ fn bits_and_width(found: EncodedFloat) -> (u64, FloatWidth)
     }
 }
 
-/// The float that a text is in this width: its bits, and the width that they have.
+/// Reads a text as a float of this width. Returns the bits, and the width that they have.
 #[tactic(auto, unfolding(cbor_edn_grammar::specs::Float::float_in))]
 fn float_in(text: &[u8], width: FloatWidth) -> Result<(u64, FloatWidth), Stop>
     ensures gives { Gives (λ x. float x.0 x.1) result (float_in width text.now) }
@@ -109,7 +109,7 @@ fn float_in(text: &[u8], width: FloatWidth) -> Result<(u64, FloatWidth), Stop>
     Ok(bits_and_width(found))
 }
 
-/// The width that stands after a number.
+/// The width that the suffix of a number states.
 fn width_after(suffix: &[u8]) -> Option<FloatWidth>
     ensures { result ≡ width_after suffix.now }
 {
@@ -122,7 +122,7 @@ fn width_after(suffix: &[u8]) -> Option<FloatWidth>
     }
 }
 
-/// The word that RFC 8949 has for what is no finite number.
+/// The word that RFC 8949 has for NaN or an infinity.
 fn special(word: &[u8]) -> Option<&'static [u8]>
     ensures { option_map (λ x. x.now) result ≡ special word.now }
 {
@@ -153,7 +153,7 @@ fn underscore_or_f(word: &[u8]) -> Option<usize>
     word.iter().position(|byte| *byte == b'_' || *byte == b'f')
 }
 
-/// A word up to this index, and from there on.
+/// Splits a word at this index, or at its end if there is none.
 fn cut_at(word: &[u8], at: Option<usize>) -> (&[u8], &[u8])
     requires { IfSome at (λ n. n ≤ length word.now) }
     ensures { (result.0.now, result.1.now) ≡ cut_at word.now at }
@@ -178,7 +178,7 @@ fn digits_and_width(word: &[u8]) -> (&[u8], &[u8])
     cut_at(word, underscore_or_f(word))
 }
 
-/// Whether a word is NaN or an infinity, with a width or what is taken for one.
+/// Whether a word is NaN or an infinity. A width, or anything in its place, may follow.
 fn is_special(word: &[u8]) -> bool
     ensures { result ≡ is_special word.now }
 {
@@ -196,7 +196,7 @@ fn is_decimal(text: &[u8]) -> bool
         && (numeral.has_point() || !numeral.exponent().is_empty())
 }
 
-/// Whether a word is a decimal number with a point or an exponent, by its form.
+/// Whether a word has the form of a decimal number with a point or an exponent.
 fn is_decimal_word(word: &[u8]) -> bool
     ensures is { result ≡ is_decimal (digits_and_width word.now).0 }
     ensures some { result ≡ true → 0 < length word.now }
@@ -204,7 +204,7 @@ fn is_decimal_word(word: &[u8]) -> bool
     is_decimal(digits_and_width(word).0)
 }
 
-/// Whether a word is a number in base 16 with an exponent, by its form.
+/// Whether a word has the form of a hexadecimal number with an exponent.
 fn is_hex_word(word: &[u8]) -> bool
     ensures is { result ≡ is_hex_word word.now }
     ensures some { result ≡ true → 0 < length word.now }
@@ -212,7 +212,7 @@ fn is_hex_word(word: &[u8]) -> bool
     is_hex(name_and_width(word).0)
 }
 
-/// Whether a word is digits, which a minus may precede. Most numbers are: then no form of a float
+/// Whether a word is digits, perhaps after a minus. Most numbers are, and then no form of a float
 /// is looked for.
 fn is_plain_integer(word: &[u8]) -> bool
     ensures { result ≡ true → is_float word.now ≡ false }
@@ -223,7 +223,7 @@ fn is_plain_integer(word: &[u8]) -> bool
     }
 }
 
-/// Whether a number is a float by its form: one of the words, or a point or an exponent in it.
+/// Whether a number has the form of a float: a word such as `NaN`, or a point or an exponent in it.
 pub fn is_float(word: &[u8]) -> bool
     ensures is { result ≡ is_float word.now }
     ensures some { result ≡ true → 0 < length word.now }
@@ -231,7 +231,7 @@ pub fn is_float(word: &[u8]) -> bool
     !is_plain_integer(word) && (is_special(word) || is_decimal_word(word) || is_hex_word(word))
 }
 
-/// NaN or an infinity, with its width.
+/// Reads NaN or an infinity, with its width.
 pub fn special_word(word: &[u8]) -> Result<(u64, FloatWidth), Stop>
     ensures gives { Gives (λ x. float x.0 x.1) result (special_word word.now) }
     ensures fits { IfOk result (λ x. FitsFloat x.1 x.0) }
@@ -246,7 +246,7 @@ pub fn special_word(word: &[u8]) -> Result<(u64, FloatWidth), Stop>
     }
 }
 
-/// A decimal number with a point or an exponent, and with its width.
+/// Reads a decimal number with a point or an exponent, with its width.
 fn decimal_word(word: &[u8]) -> Result<(u64, FloatWidth), Stop>
     ensures gives { Gives (λ x. float x.0 x.1) result (decimal_word word.now) }
     ensures fits { IfOk result (λ x. FitsFloat x.1 x.0) }
@@ -258,7 +258,7 @@ fn decimal_word(word: &[u8]) -> Result<(u64, FloatWidth), Stop>
     float_in(digits, width)
 }
 
-/// The double that is nearest to a number in base 16.
+/// The 64-bit float that is nearest to a hexadecimal number.
 fn nearest_double(number: HexNumber) -> Result<f64, Stop>
     requires { FitsNumber number }
     ensures { (exact : Dyadic) → IsNumber number exact
@@ -272,7 +272,7 @@ fn nearest_double(number: HexNumber) -> Result<f64, Stop>
     }
 }
 
-/// The single that is nearest to a number in base 16.
+/// The 32-bit float that is nearest to a hexadecimal number.
 fn nearest_single(number: HexNumber) -> Result<EncodedFloat, Stop>
     requires { FitsNumber number }
     ensures { (exact : Dyadic) → IsNumber number exact
@@ -286,7 +286,7 @@ fn nearest_single(number: HexNumber) -> Result<EncodedFloat, Stop>
     }
 }
 
-/// A number in base 16, in this width.
+/// A hexadecimal number as a float of this width.
 fn hex_in_width(number: HexNumber, width: FloatWidth) -> Result<EncodedFloat, Stop>
     requires { FitsNumber number }
     ensures { (exact : Dyadic) → IsNumber number exact
@@ -300,7 +300,8 @@ fn hex_in_width(number: HexNumber, width: FloatWidth) -> Result<EncodedFloat, St
     }
 }
 
-/// The float that a text in base 16 is in this width: its bits, and the width that they have.
+/// Reads a hexadecimal text as a float of this width. Returns the bits, and the width that they
+/// have.
 #[tactic(auto, unfolding(cbor_edn_grammar::specs::Float::hex_in))]
 fn hex_in(text: &[u8], width: FloatWidth) -> Result<(u64, FloatWidth), Stop>
     ensures gives { Gives (λ x. float x.0 x.1) result (hex_in width text.now) }
@@ -311,7 +312,7 @@ fn hex_in(text: &[u8], width: FloatWidth) -> Result<(u64, FloatWidth), Stop>
     Ok(bits_and_width(found))
 }
 
-/// A number in base 16 with an exponent, and with its width.
+/// Reads a hexadecimal number with an exponent, with its width.
 fn hex_word(word: &[u8]) -> Result<(u64, FloatWidth), Stop>
     ensures gives { Gives (λ x. float x.0 x.1) result (hex_word word.now) }
     ensures fits { IfOk result (λ x. FitsFloat x.1 x.0) }
@@ -323,7 +324,7 @@ fn hex_word(word: &[u8]) -> Result<(u64, FloatWidth), Stop>
     hex_in(digits, width)
 }
 
-/// A number with a point or an exponent, in base 10 or else in base 16.
+/// Reads a number with a point or an exponent, in base 10 or else in base 16.
 fn number_word(word: &[u8]) -> Result<(u64, FloatWidth), Stop>
     ensures gives { Gives (λ x. float x.0 x.1) result
         (option_or (decimal_word word.now) (hex_word word.now)) }
@@ -341,7 +342,7 @@ fn number_word(word: &[u8]) -> Result<(u64, FloatWidth), Stop>
     }
 }
 
-/// The float that a word of a number is.
+/// Reads a float from a word. Returns its bits and its width.
 pub fn float_word(word: &[u8]) -> Result<(u64, FloatWidth), Stop>
     ensures gives { Gives (λ x. float x.0 x.1) result (float_word word.now) }
     ensures fits { IfOk result (λ x. FitsFloat x.1 x.0) }
@@ -353,7 +354,7 @@ pub fn float_word(word: &[u8]) -> Result<(u64, FloatWidth), Stop>
     }
 }
 
-/// The float of these bits.
+/// The float whose bits are these bytes, with its width.
 pub fn float_of_bytes(bytes: &[u8]) -> Result<(u64, FloatWidth), Stop>
     ensures gives { Gives (λ x. float x.0 x.1) result (float_of_bytes bytes.now) }
     ensures fits { IfOk result (λ x. FitsFloat x.1 x.0) }

@@ -1,4 +1,4 @@
-//! Reads tokens of EDN: numbers in base 16 times a power of 2, as C writes floats: `0x1.8p3`.
+//! Reads hexadecimal floats of EDN: numbers in base 16 times a power of 2, as in C: `0x1.8p3`.
 mod nearest;
 
 ghost use Rattle.std.specs.Prelude.{◌≡◌, ◌==◌, ◌||◌, ℕ, ◌+◌, ◌^◌, ◌<◌, ◌≤◌, length, position};
@@ -19,7 +19,7 @@ use crate::hex_float::nearest::{Format, Front, nearest};
 use cbor_edn_grammar::error::{Expected, Stop};
 use std::num::{f32_from_bits_with_nan, f64_from_bits_with_nan};
 
-/// A number in base 16: its sign, and its size, which is the digits times 2^up / 2^down.
+/// A hexadecimal number: its sign, and its magnitude, which is the digits times 2^up / 2^down.
 #[derive(Clone, Copy)]
 pub struct HexNumber {
     negative: bool,
@@ -29,7 +29,7 @@ pub struct HexNumber {
 }
 
 impl HexNumber {
-    /// The nearest float of 64 bits.
+    /// The nearest 64-bit float.
     pub fn to_f64(self) -> f64
         requires { FitsNumber self }
         ensures { (number : Dyadic) → IsNumber self number → result ≡ rounded binary64 number }
@@ -39,7 +39,7 @@ impl HexNumber {
         if self.negative { -size } else { size }
     }
 
-    /// The nearest float of 32 bits.
+    /// The nearest 32-bit float.
     pub fn to_f32(self) -> f32
         requires { FitsNumber self }
         ensures { (number : Dyadic) → IsNumber self number → result ≡ rounded binary32 number }
@@ -50,7 +50,7 @@ impl HexNumber {
     }
 }
 
-/// What digits in base 16 are after those of a number.
+/// Continues a number that begins with `start` by these hex digits.
 fn hex_run(digits: &[u8], start: Front) -> Result<Front, Stop>
     requires fits { FitsFront start }
     requires room { start.behind + length digits.now < 2 ^ 64 }
@@ -78,7 +78,7 @@ fn find_point(digits: &[u8]) -> Option<usize>
     digits.iter().position(|byte| *byte == b'.')
 }
 
-/// What digits are without their point, and how many of them are after it.
+/// The number that hex digits write without their point, and how many digits are after the point.
 fn hex_digits(digits: &[u8]) -> Result<(Front, usize), Stop>
     ensures finds { FindsDigits result (hex_digits digits.now) }
     ensures fits { IfOk result (λ x. FitsFront x.0) }
@@ -96,7 +96,7 @@ fn hex_digits(digits: &[u8]) -> Result<(Front, usize), Stop>
     Ok((number, fraction.len()))
 }
 
-/// The text without a sign at its front.
+/// The text without the sign at its front, if it has one.
 pub fn unsigned(text: &[u8]) -> &[u8]
     ensures { result.now ≡ unsigned_of text.now }
 {
@@ -113,7 +113,7 @@ fn is_negative(text: &[u8]) -> bool
     matches!(text, [b'-', ..])
 }
 
-/// The number that decimal digits are, below 2^20.
+/// Reads decimal digits of a number below 2^20.
 fn small_run(digits: &[u8]) -> Result<u64, Stop>
     ensures gives { Gives (λ n. n) result (small_run 0 digits.now) }
     ensures less { IfOk result (λ n. n < 2 ^ 20) }
@@ -134,7 +134,7 @@ fn small_run(digits: &[u8]) -> Result<u64, Stop>
     Ok(number)
 }
 
-/// The size of an exponent.
+/// The magnitude of an exponent, without its sign.
 fn exponent(text: &[u8]) -> Result<u64, Stop>
     ensures gives { Gives (λ n. n) result (exponent text.now) }
     ensures less { IfOk result (λ n. n < 2 ^ 20) }
@@ -146,8 +146,8 @@ fn exponent(text: &[u8]) -> Result<u64, Stop>
     small_run(digits)
 }
 
-/// A number with this many of its digits after the point, times 2 to an exponent of this sign and
-/// size.
+/// The number of these digits, as `hex_digits` returns them, times 2 to an exponent of this sign
+/// and magnitude.
 fn with_exponent(negative: bool, digits: (Front, usize), below: bool, size: u64) -> HexNumber
     requires fits { FitsFront digits.0 }
     requires size { size < 2 ^ 20 }
@@ -166,7 +166,7 @@ fn with_exponent(negative: bool, digits: (Front, usize), below: bool, size: u64)
     }
 }
 
-/// What is after `0x`, which a sign may precede.
+/// The text after `0x`, if it begins with that. A sign may precede it.
 fn after_hex(text: &[u8]) -> Option<&[u8]>
     ensures { option_map (λ x. x.now) result ≡ after_hex text.now }
 {
@@ -183,7 +183,7 @@ fn find_p(digits: &[u8]) -> Option<usize>
         .position(|byte| *byte == b'p' || *byte == b'P')
 }
 
-/// The number that a text writes, which has no indicator.
+/// Reads a hexadecimal number without a width indicator.
 #[tactic(auto, unfolding(cbor_edn_grammar::specs::HexFloat::hex_number))]
 pub fn hex_number(text: &[u8]) -> Result<HexNumber, Stop>
     ensures finds { FindsNumber result (hex_number text.now) }
@@ -201,7 +201,7 @@ pub fn hex_number(text: &[u8]) -> Result<HexNumber, Stop>
     Ok(with_exponent(is_negative(text), found, is_negative(after), size))
 }
 
-/// Whether a text is such a number by its form.
+/// Whether a text has the form of a hexadecimal number.
 #[tactic(auto, unfolding(cbor_edn_grammar::specs::HexFloat::is_hex))]
 pub fn is_hex(text: &[u8]) -> bool
     ensures { result ≡ is_hex text.now }

@@ -1,5 +1,5 @@
-//! The tokens of EDN, read: blanks, words, numbers, floats, quoted text, digits, network addresses,
-//! and what opens, separates and closes lists. No item is needed for them.
+//! Reads the tokens of EDN: blanks, words, numbers, floats, quoted text, digits, network addresses,
+//! and what opens, separates and closes lists. The crate builds no items.
 #![tactic(auto)]
 
 pub mod address;

@@ -1,4 +1,4 @@
-//! Reads tokens of EDN: integers, and the widths that they state.
+//! Reads integers of EDN, and the widths that they state.
 ghost use Rattle.std.specs.Prelude.{◌≡◌, ◌==◌, ◌<◌, ◌≤◌, ℕ, length, position, IfSome, IfNone, IfOk};
 ghost use Rattle.std.specs.Prelude.{Some, None};
 ghost use Rattle.cbor_tokens.specs.Token.{capped};
@@ -35,7 +35,7 @@ pub fn parted(word: &[u8]) -> Result<(&[u8], IntegerWidth), Stop>
     }
 }
 
-/// The number that these digits are, all of them; past 2^64 it is 2^64 + 1.
+/// The number that all of these digits write, or 2^64 + 1 if it is past 2^64.
 #[tactic(auto, using(cbor_edn_grammar::proofs::Numbers::whole_none))]
 pub fn number_from(digits: &[u8]) -> Option<u128>
     ensures found { IfSome result (λ n. (value : ℕ) × (n ≡ capped value)
@@ -64,7 +64,7 @@ fn past(width: IntegerWidth) -> u128
     }
 }
 
-/// The number where it fits its width.
+/// The number, if it fits its width.
 fn fitting(number: u128, width: IntegerWidth) -> Result<(u64, IntegerWidth), Stop>
     ensures gives { Gives (λ x. (x.0, x.1)) result (fitting number width) }
     ensures fits { IfOk result (λ x. FitsWidth x.1 x.0) }
@@ -76,7 +76,7 @@ fn fitting(number: u128, width: IntegerWidth) -> Result<(u64, IntegerWidth), Sto
     }
 }
 
-/// What a word without a sign is: the number, past 2^64 as 2^64 + 1, and the width that it states.
+/// Reads a word without a sign. Returns its number, or 2^64 + 1 if it is past 2^64, and its width.
 fn magnitude(word: &[u8]) -> Result<(u128, IntegerWidth), Stop>
     ensures gives { Gives (λ x. (x.0, x.1)) result (capped_magnitude word.now) }
     ensures some { IfOk result (λ _. 0 < length word.now) }
@@ -88,7 +88,7 @@ fn magnitude(word: &[u8]) -> Result<(u128, IntegerWidth), Stop>
     }
 }
 
-/// The number of a word without a sign, from 0 on, which fits its width.
+/// Reads a word without a sign. Returns its number, which has to fit its width, and the width.
 pub fn unsigned(word: &[u8]) -> Result<(u64, IntegerWidth), Stop>
     ensures gives { Gives (λ x. (x.0, x.1)) result (unsigned word.now) }
     ensures some { IfOk result (λ _. 0 < length word.now) }
@@ -98,8 +98,8 @@ pub fn unsigned(word: &[u8]) -> Result<(u64, IntegerWidth), Stop>
     Ok(fitting(number, width)?)
 }
 
-/// The number that is encoded for a negative integer, by the word after its `-`. There is none for
-/// 0.
+/// Reads the word after a `-`. Returns the number that encodes the negative integer, which is one
+/// less than the word's number, and its width. 0 is an error.
 pub fn negated(word: &[u8]) -> Result<(u64, IntegerWidth), Stop>
     ensures gives { Gives (λ x. (x.0, x.1)) result (negated word.now) }
     ensures some { IfOk result (λ _. 0 < length word.now) }
@@ -112,7 +112,7 @@ pub fn negated(word: &[u8]) -> Result<(u64, IntegerWidth), Stop>
     Ok(fitting(number - 1, width)?)
 }
 
-/// The number of a tag, by a word that begins with a digit.
+/// Reads the number and the width of a tag from a word that begins with a digit.
 pub fn tag_number(word: &[u8]) -> Result<(u64, IntegerWidth), Stop>
     ensures gives { Gives (λ x. (x.0, x.1)) result (tag_number word.now) }
     ensures some { IfOk result (λ _. 0 < length word.now) }
@@ -128,7 +128,7 @@ pub fn tag_number(word: &[u8]) -> Result<(u64, IntegerWidth), Stop>
     }
 }
 
-/// What to say of a word that is the number of no tag, if this is wrong with it as an integer.
+/// The error for a word that is not a tag number. `expected` is its error as an integer.
 fn no_tag(word: &[u8], expected: Expected) -> Expected {
     if expected == Expected::FittingWidth && !word.contains(&b'_') {
         Expected::LargestTag

@@ -1,11 +1,11 @@
-//! Reads tokens of EDN: what a piece of a string begins with.
+//! Reads what a piece of an EDN string begins with.
 ghost use Rattle.std.specs.Prelude.{◌≡◌, ◌<◌, length, option_map, IfSome};
 ghost use Rattle.cbor_edn_grammar.specs.Strings.{may_open, opening_of, begins_string};
 
 use crate::cursor::after_bytes;
 use cbor_edn_grammar::opening::{Base, Opening};
 
-/// Whether an opening may begin with this byte. Most items are told from strings by it.
+/// Whether an opening may begin with this byte. This check rules out most items but strings.
 fn may_open(first: u8) -> bool
     ensures { result ≡ may_open first }
 {

@@ -1,4 +1,4 @@
-//! Reads tokens of EDN: what is between quotes, which is text with JSON's escapes.
+//! Reads quoted text of EDN, with JSON's escapes.
 ghost use Rattle.std.specs.Prelude.{◌≡◌, ◌<◌, ◌≤◌, ◌^◌, ◌++◌, true, length, take, drop, IfOk};
 ghost use Rattle.std.specs.Prelude.{IfSome};
 ghost use Rattle.std.specs.Prelude.{option_map};
@@ -13,7 +13,7 @@ use crate::cursor::{Cursor, after_byte, after_bytes};
 use cbor_edn_grammar::error::{Expected, Stop};
 use std::alloc::{AllocError, Global};
 
-/// The number that two hex digits are, and the text after them.
+/// The number of the two hex digits at the front, and the text after them.
 fn two_hex(text: &[u8]) -> Option<(u32, &[u8])>
     ensures gives { option_map (λ x. (x.0, x.1.now)) result ≡ two_hex text.now }
     ensures small { IfSome result (λ x. x.0 < 2 ^ 8) }
@@ -27,7 +27,7 @@ fn two_hex(text: &[u8]) -> Option<(u32, &[u8])>
     Some((high * 16 + low, rest))
 }
 
-/// The number that four hex digits are, and the text after them.
+/// The number of the four hex digits at the front, and the text after them.
 fn four_hex(text: &[u8]) -> Option<(u32, &[u8])>
     ensures gives { option_map (λ x. (x.0, x.1.now)) result ≡ four_hex text.now }
     ensures small { IfSome result (λ x. x.0 < 2 ^ 16) }
@@ -38,7 +38,7 @@ fn four_hex(text: &[u8]) -> Option<(u32, &[u8])>
     Some((high * 256 + low, rest))
 }
 
-/// The number of the hex digits up to a `}`, and the text after it; none is past `10ffff`.
+/// The number of the hex digits up to a `}`, at most `10ffff`, and the text after it.
 fn braced(text: &[u8]) -> Option<(u32, &[u8])>
     ensures gives { option_map (λ x. (x.0, x.1.now)) result ≡ braced text.now }
     ensures shorter { IfSome result (λ x. length x.1.now < length text.now) }
@@ -61,21 +61,21 @@ fn braced(text: &[u8]) -> Option<(u32, &[u8])>
     None
 }
 
-/// Whether the number is the first half of a character past `ffff`.
+/// Whether the number is a high surrogate.
 fn is_first_half(number: u32) -> bool
     ensures { result ≡ is_first_half number }
 {
     number >= 0xd800 && number < 0xdc00
 }
 
-/// Whether the number is the second half of such a character.
+/// Whether the number is a low surrogate.
 fn is_second_half(number: u32) -> bool
     ensures { result ≡ is_second_half number }
 {
     number >= 0xdc00 && number < 0xe000
 }
 
-/// The character of two halves, of which the first was read, and the text after it.
+/// The character of a surrogate pair, whose first half was read, and the text after it.
 fn second_half(first: u32, text: &[u8]) -> Option<(char, &[u8])>
     requires { is_first_half first ≡ true }
     ensures gives { option_map (λ x. (x.0, x.1.now)) result ≡ second_half first text.now }
@@ -137,7 +137,7 @@ fn escape(text: &[u8], quote: u8) -> Option<(char, &[u8])>
     }
 }
 
-/// What to say of an escape that is none, by what follows its `\`.
+/// The error for an invalid escape, by what follows its `\`.
 fn no_escape(text: &[u8]) -> Expected {
     let [b'u', digits @ ..] = text else {
         return Expected::Escape;
@@ -170,7 +170,7 @@ fn plain_len(text: &[u8], quote: u8) -> usize
         .unwrap_or(text.len())
 }
 
-/// Adds one byte of content, or the character of an escape; returns false at the closing quote.
+/// Adds one byte of content, or the character of an escape. Returns false at the closing quote.
 fn content_turn(content: &mut Vec<u8>, text: &mut Cursor<'_>, quote: u8) -> Result<bool, Stop>
     ensures gives { TurnGives result content.old.items content.new.items text.new
         (content_turn quote text.old) }
@@ -200,7 +200,7 @@ fn content_turn(content: &mut Vec<u8>, text: &mut Cursor<'_>, quote: u8) -> Resu
     }
 }
 
-/// Adds the bytes before the first quote or backslash at once: byte by byte a text takes twice as
+/// Adds the bytes before the first quote or backslash at once. Byte by byte, a text takes twice as
 /// long.
 fn push_plain(content: &mut Vec<u8>, text: &mut Cursor<'_>, quote: u8) -> Result<(), AllocError>
     ensures content { IfOk result (λ _. content.new.items
@@ -213,7 +213,7 @@ fn push_plain(content: &mut Vec<u8>, text: &mut Cursor<'_>, quote: u8) -> Result
     content.extend_from_slice(plain)
 }
 
-/// The content up to the closing quote.
+/// Reads the content up to the closing quote, and decodes its escapes.
 pub fn read_quoted(alloc: Global, text: &mut Cursor<'_>, quote: u8) -> Result<Vec<u8>, Stop>
     ensures gives { Gives (λ x. (x.items, text.new)) result (quoted quote text.old) }
     ensures within { length text.new ≤ length text.old }

@@ -1,4 +1,4 @@
--- In EDN, where line feeds are in a text that is written.
+-- Where the line feeds are in a written text of EDN: outside of quotes and comments.
 use Rattle.std.specs.Prelude.{◌≡◌, ℕ, ◌==◌, List, [], ◌∷◌, if◌then◌else◌}
 
 -- what a character of a text is within: neither quotes nor a comment, or one of these; a text or bytes also right

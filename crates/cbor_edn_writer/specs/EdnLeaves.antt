@@ -1,4 +1,4 @@
--- EDN as a dialect of notation: what is written of numbers, strings and what is round members.
+-- EDN as a dialect of notation: how numbers and strings are written, and what is written around members.
 use Rattle.std.specs.Prelude.{◌≡◌, ◌⊎◌, ◌+◌, ◌-◌, ℕ, ◌^◌, List, [], ◌∷◌, ◌++◌, length, codes, Bool, true, false}
 use Rattle.std.specs.Prelude.{Option, Some, None, ◌&&◌, ◌||◌, if◌then◌else◌, nat_lt, nat_le, ◌==◌, not, max}
 use Rattle.std.specs.Borrow.{Bor}
@@ -54,11 +54,11 @@ length_mark n w = indicator (longer n w)
 
 -- ---- notes
 
--- a byte that no note has: all but the characters of ASCII that print, and a slash
+-- a byte that no note has: a slash, and all but the printable ASCII characters
 abbrev pub ends_note : ℕ → Bool
 ends_note b = nat_lt b 32 || nat_lt 126 b || (b == 47)
 
--- a note: characters of ASCII that print, and no slash
+-- a note: printable ASCII characters, and no slash
 abbrev pub IsNote : List ℕ → Type 0
 IsNote note = list_any ends_note note ≡ false
 
@@ -119,7 +119,7 @@ Beside p texts t = texts t ⊎ ((core : List ℕ) × texts core × (t ≡ note_b
 abbrev pub After : EdnPlace → Texts → Texts
 After p texts t = texts t ⊎ ((core : List ℕ) × texts core × (t ≡ note_before p ++ core))
 
--- it is one of these notes, on the item from which on there are this many of the outermost bytes
+-- it is one of these notes, and its item has this many of the outermost bytes from its start on
 abbrev pub IsGiven : List Note → ℕ → Option (Bor Note) → Type 0
 IsGiven notes here None = Unit {0}
 IsGiven notes here (Some n) = Contains notes n.now × (n.now.at ≡ here)
@@ -164,7 +164,7 @@ float_indicator float_width.Sixteen = codes "_1"
 float_indicator float_width.ThirtyTwo = codes "_2"
 float_indicator w = codes "_3"
 
--- the indicator of a float's width stands beside the number exactly if each does, or if a shorter width has the number
+-- the indicator of a float's width stands beside the number if and only if each does, or a shorter width has the number
 abbrev pub HasIndicator : Bool → EncodedFloat → Type 0
 HasIndicator all f = (all ≡ true) ⊎ ¬ (IsShortest f (value_of f))
 

@@ -1,4 +1,4 @@
--- Items in EDN one after the other, as the programs write them: a line feed is after each.
+-- A sequence of items in EDN, as the programs write it: a line feed is after each item.
 use Rattle.std.specs.Prelude.{◌≡◌, ℕ, List, [], ◌∷◌, ◌++◌}
 use Rattle.cbor_grammar.specs.Item.{Item}
 use Rattle.cbor_edn_writer.specs.declared.style.EdnStyle.{EdnStyle}

@@ -1,5 +1,5 @@
--- In EDN, bytes that give the same bytes again when the items in them are written and read: no simple value below 32 in
--- them takes two bytes.
+-- Bytes that EDN may show as the items in them, since the same bytes are read back: no simple value below 32 in them is
+-- in two bytes (f8 00 to f8 1f).
 use Rattle.std.specs.Prelude.{ℕ, zero, suc, ◌+◌, List, [], ◌∷◌, length, drop, Option, Some, None, Ok, Err, Bool}
 use Rattle.std.specs.Prelude.{true, false, ◌==◌, ◌&&◌, if◌then◌else◌, nat_lt, nat_le}
 use Rattle.cbor_grammar.specs.declared.argument.Argument.TheVariants.{Number}
@@ -48,6 +48,6 @@ are_heads (suc n) (b ∷ bs) = go_on (are_heads n) (after_head (b ∷ bs))
 abbrev pub is_strict : List ℕ → Bool
 is_strict b = are_heads (length b) b
 
--- all of the bytes are items, one after the other, below a byte string at this level
+-- the bytes are a sequence of items, below a byte string at this level
 abbrev pub is_sequence : ℕ → List ℕ → Bool
 is_sequence level b = nat_le level deepest && is_empty (sequence_at (levels_left (level + 1)) b).1

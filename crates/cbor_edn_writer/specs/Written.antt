@@ -1,4 +1,4 @@
--- What is written as EDN.
+-- Which texts of EDN may be written for an item.
 use Rattle.std.specs.Prelude.{◌≡◌, ℕ, true, false, List, [], ◌++◌, Option, Some, None, Result, Ok, Err}
 use Rattle.cbor_grammar.specs.declared.error.Error.{Error}
 use Rattle.cbor_grammar.specs.declared.error.Error.TheVariants as refusal
@@ -32,8 +32,8 @@ pub record IsOutermost (style : EdnStyle) (notes : List Note) (place : EdnPlace)
   pub found : place.found ≡ None
 
 -- The text is one that EDN has for the item, where these are the notes on it and on items in it: each part of it is
--- what `edn_leaves` says. It is read back as the bytes of the item, all widths included, if no simple value from 24 to 31
--- is in it. No character in it is hidden. Where it has lines, line feeds are in no quotes and in no comment.
+-- what `edn_leaves` says. It is read back as the bytes of the item, all widths included, if no simple value from 24 to
+-- 31 is in it. No character in it is hidden. Where it has lines, line feeds are in no quotes and in no comment.
 pub record IsNotedText (style : EdnStyle) (notes : List Note) (i : Item) (text : List ℕ) : Type 0 where
   pub place : EdnPlace
   pub outermost : IsOutermost style notes place
@@ -53,8 +53,8 @@ AppendsNoted style notes i old new = (text : List ℕ) × IsNotedText style note
 abbrev pub AppendsEdn : EdnStyle → Item → List ℕ → List ℕ → Type 0
 AppendsEdn style i old new = AppendsNoted style [] i old new
 
--- A call that appends the text of the item at the front gave this outcome, and of an item its text after the old one;
--- or memory ran out.
+-- A call that appends the text of the item at the front gave this outcome, and for an item it appended a text of it to
+-- the old text; or memory ran out.
 abbrev pub GaveNoted : EdnStyle → List Note → Result (Option ℕ) Error → List ℕ → List ℕ → Outcome → Type 0
 GaveNoted style notes (Ok (Some n)) old new o = (i : Item) × (o ≡ spelled i n) × AppendsNoted style notes i old new
 GaveNoted style notes (Ok None) old new o = o ≡ cut

@@ -1,4 +1,4 @@
-//! Laws of what is written as EDN, as contracts of functions that nobody calls.
+//! Laws of written EDN, as contracts of functions that nobody calls.
 ghost use Rattle.std.specs.Prelude.{◌≡◌, ℕ, List, Some};
 ghost use Rattle.std.specs.List.{AllByRecursion};
 ghost use Rattle.cbor_grammar.specs.Item.{Item, items_of};
@@ -9,8 +9,8 @@ ghost use Rattle.cbor_edn_grammar.specs.Reserved.{NoneReserved};
 ghost use Rattle.cbor_edn_writer.specs.Lines.{AreEdnLines};
 ghost use Rattle.cbor_edn_writer.specs.declared.style.EdnStyle.{EdnStyle};
 
-/// Items that are written one after the other, with a line feed after each, are read back as the
-/// bytes of these items, if no simple value from 24 to 31 is in them.
+/// Items that are written with a line feed after each are read back as their bytes, if no simple
+/// value from 24 to 31 is in them.
 fn lines_back()
     ensures { (style : EdnStyle) (items : List Item) (text : List ℕ)
         → AllByRecursion (WellFormed 1) items → AllByRecursion NoneReserved items

@@ -1,21 +1,21 @@
-//! Notes in written EDN that a caller has on items, by the place of each item.
+//! The notes of a caller on items of written EDN. Each note has the place of its item.
 
-/// What to write at an item of the bytes that are shown.
+/// The texts that a caller wants before and after an item.
 ///
-/// A text that a comment cannot have is left out: an empty one, one that begins with `*`, and one
-/// with a slash, a control character or a character beyond ASCII.
+/// A text that cannot be in a comment is left out. Such a text is empty, begins with `*`, or has a
+/// slash, a control character or a character beyond ASCII.
 #[derive(Clone, Copy)]
 pub struct Note<'a> {
-    /// How many bytes there are from the first byte of the item on. Of an item in a byte string
-    /// that is shown as `<<..>>` it is counted to the end of the outermost bytes, too.
+    /// The number of bytes from the first byte of the item to the end of the outermost bytes. The
+    /// end is the same for an item in a byte string that is shown as `<<..>>`.
     pub at: usize,
-    /// What to write before the item; nothing if it is empty.
+    /// What to write before the item. An empty text writes nothing.
     pub before: &'a str,
-    /// What to write after it, if it is a number, a float, a simple value or a string of definite
-    /// length.
+    /// What to write after the item, if it is an integer, a float, a simple value or a
+    /// definite-length string.
     pub after: &'a str,
-    /// Whether a byte string is shown as the array, the map or the tagged item in it, as
-    /// [`EdnStyle::embedded`] shows all of them.
+    /// Whether to show a byte string as the array, the map or the tagged item in it.
+    /// [`EdnStyle::embedded`] does this for all byte strings.
     ///
     /// [`EdnStyle::embedded`]: crate::EdnStyle::embedded
     pub encoded: bool,

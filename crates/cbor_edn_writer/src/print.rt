@@ -1,4 +1,4 @@
-//! EDN as a dialect of notation, which is written straight from bytes.
+//! EDN as a dialect of notation: how each part of it is written straight from bytes.
 #![tactic(auto, using(cbor_tokens::proofs::texts::Appending::appending_steps))]
 
 mod elements;
@@ -31,7 +31,7 @@ use cbor_notation_writer::members::{push_end, push_start};
 use cbor_notation_writer::parts::{Container, Leaf};
 use std::alloc::{AllocError, Global};
 
-/// EDN, in which no notes are looked for. They are borrowed for so long.
+/// EDN where no notes of a caller are looked for. They are borrowed for `'a`.
 pub(crate) struct Edn<'a> {
     notes: &'a [Note<'a>],
 }

@@ -1,9 +1,9 @@
-//! How EDN is written.
+//! The styles of written EDN.
 
 use crate::note::Note;
 
-/// How EDN is written: what is shown, and how it is laid out. The bytes that are read back are the
-/// same in each style.
+/// How EDN is written: what is shown, and how it is laid out. The same bytes are read back in each
+/// style.
 ///
 /// ```rust
 /// use cbor_edn::{EdnStyle, push_bytes_to_edn};
@@ -18,23 +18,25 @@ use crate::note::Note;
 /// ```
 #[derive(Clone, Copy, PartialEq, Eq, Debug)]
 pub struct EdnStyle {
-    /// A container that is long takes a line for each member.
+    /// Whether a long container takes a line for each member.
     pub lines: bool,
-    /// Comments say what dates, addresses and big numbers are, and which characters bytes are.
+    /// Whether comments say what dates, addresses and big numbers are, and which characters bytes
+    /// are.
     pub notes: bool,
-    /// Byte strings that are an array, a map or a tagged item are shown as that item.
+    /// Whether byte strings that are an array, a map or a tagged item are shown as that item.
     pub embedded: bool,
-    /// Each float, and each number above 23, has its width beside it, also the shortest.
+    /// Whether each float, and each number above 23, has its width beside it, even the shortest
+    /// width.
     pub widths: bool,
-    /// The columns of a line, where there are lines: a container is on one line if its estimate is
-    /// below those that its indentation leaves, of which it always has [`LEAST_COLUMNS`].
+    /// The columns of a line, if `lines` is set. A container is on one line if its estimated length
+    /// is below the columns that its indentation leaves. These are at least [`LEAST_COLUMNS`].
     ///
     /// [`LEAST_COLUMNS`]: EdnStyle::LEAST_COLUMNS
     pub columns: u16,
 }
 
 impl EdnStyle {
-    /// The columns that a container may take on one line, however far it is indented.
+    /// The columns that a container may take on one line, however deep its indentation is.
     pub const LEAST_COLUMNS: u16 = 20;
 
     /// On one line, without notes.
@@ -59,10 +61,10 @@ impl EdnStyle {
 /// How EDN is written, with notes on items.
 #[derive(Clone, Copy)]
 pub struct NotedStyle<'a> {
-    /// How it is written. Without [`EdnStyle::notes`] no comment is written, also none of these
-    /// notes.
+    /// How it is written. Without [`EdnStyle::notes`] no comment is written, and none of these
+    /// notes either.
     pub style: EdnStyle,
-    /// The notes as the items come, so their [`Note::at`] fall. In another order some notes are
-    /// left out.
+    /// The notes in the order of their items, so their [`Note::at`] decrease. In another order some
+    /// notes are left out.
     pub notes: &'a [Note<'a>],
 }

@@ -1,4 +1,4 @@
-//! From bytes to EDN, without an item between them.
+//! Writes EDN straight from bytes, without building items.
 
 ghost use Rattle.std.specs.Prelude.{◌≡◌, IfOk, IfErr, IfSome, OnOk, OnErr, MatchResult};
 ghost use Rattle.std.specs.Prelude.{None, Some, Ok};
@@ -24,12 +24,12 @@ use cbor_grammar::Error;
 use cbor_notation_writer::outermost::push_outermost;
 use std::alloc::Global;
 
-/// Returns the one item that the bytes are in EDN on one line, without notes.
+/// Returns the EDN text of the one item that the bytes encode, on one line and without notes.
 ///
-/// An encoding indicator stands exactly where a head is longer than it has to be, or a float wider
-/// than its value needs. So [`edn_to_bytes`] reads the same bytes, unless there is a simple value
-/// below 32 in two bytes, which RFC 8949 does not have: one below 24 is read back in one byte, and
-/// from 24 on it is an error.
+/// An encoding indicator stands wherever a head is longer than it has to be, or a float is wider
+/// than its value needs, and nowhere else. So [`edn_to_bytes`] returns the same bytes. The
+/// exception is a simple value below 32 in two bytes (`f8 00` to `f8 1f`), which RFC 8949 does not
+/// allow: below 24 it is read back in one byte, and from 24 on it is an error.
 ///
 /// ```rust
 /// use cbor_edn::bytes_to_edn;
@@ -40,26 +40,28 @@ use std::alloc::Global;
 ///
 /// [`edn_to_bytes`]: crate::edn_to_bytes
 pub fn bytes_to_edn(alloc: Global, bytes: &[u8]) -> cbor_grammar::Result<String>
-    // The text of the item that the bytes are, exactly if they are one.
+    // The text of the item that the bytes encode, if and only if they encode one.
     ensures ok { IfOk result (λ s. (i : Item) × IsItem bytes.now i
         × IsEdnText line_style i (string_bytes s)) }
     ensures every_item { (i : Item) → IsItem bytes.now i → MatchResult result
         (λ s. IsEdnText line_style i (string_bytes s)) (λ e. e ≡ Error.Memory) }
 
-    // The same bytes are read back, if no simple value below 32 takes two of them.
+    // The same bytes are read back, if no simple value below 32 is in two bytes.
     ensures lossless { (i : Item) → IsItem8949 bytes.now i
         → IfOk result (λ s. bytes_of_edn (string_bytes s) ≡ Some bytes.now) }
 
-    // Each error, exactly if it is true.
+    // Each error, if and only if the bytes have it.
     ensures refused { RefusedSo result (IsNoItem bytes.now) }
     ensures every_refusal { (e : Error) → IsNoItem bytes.now e → GaveRefusal result e }
 {
     whole_text(alloc, bytes, EdnStyle::LINE)
 }
 
-/// Returns the one item that the bytes are in EDN with notes, over several lines where it is long.
+/// Returns the EDN text of the one item that the bytes encode, with notes. A long item takes
+/// several lines.
 ///
-/// Without the notes and the line ends it is the text of [`bytes_to_edn`], and the same is read.
+/// Without the notes and the line ends it is the text of [`bytes_to_edn`]. Both texts are read back
+/// as the same bytes.
 ///
 /// ```rust
 /// use cbor_edn::bytes_to_edn_pretty;
@@ -68,39 +70,39 @@ pub fn bytes_to_edn(alloc: Global, bytes: &[u8]) -> cbor_grammar::Result<String>
 /// assert_eq!(rt; text.as_str(), "1(1700000000 /2023-11-14T22:13:20Z/)");
 /// ```
 pub fn bytes_to_edn_pretty(alloc: Global, bytes: &[u8]) -> cbor_grammar::Result<String>
-    // The text of the item that the bytes are, exactly if they are one.
+    // The text of the item that the bytes encode, if and only if they encode one.
     ensures ok { IfOk result (λ s. (i : Item) × IsItem bytes.now i
         × IsEdnText pretty_style i (string_bytes s)) }
     ensures every_item { (i : Item) → IsItem bytes.now i → MatchResult result
         (λ s. IsEdnText pretty_style i (string_bytes s)) (λ e. e ≡ Error.Memory) }
 
-    // The same bytes are read back, if no simple value below 32 takes two of them.
+    // The same bytes are read back, if no simple value below 32 is in two bytes.
     ensures lossless { (i : Item) → IsItem8949 bytes.now i
         → IfOk result (λ s. bytes_of_edn (string_bytes s) ≡ Some bytes.now) }
 
-    // Each error, exactly if it is true.
+    // Each error, if and only if the bytes have it.
     ensures refused { RefusedSo result (IsNoItem bytes.now) }
     ensures every_refusal { (e : Error) → IsNoItem bytes.now e → GaveRefusal result e }
 {
     whole_text(alloc, bytes, EdnStyle::PRETTY)
 }
 
-/// Appends the text of the one item that the bytes are to `out`, in this style. The errors are
-/// those of [`bytes_to_edn`], and after one `out` is unchanged.
+/// Appends to `out` the text of the one item that the bytes encode, in this style. The errors are
+/// those of [`bytes_to_edn`]. After an error `out` is unchanged.
 pub fn push_bytes_to_edn(
     alloc: Global,
     bytes: &[u8],
     style: EdnStyle,
     out: &mut String,
 ) -> cbor_grammar::Result<()>
-    // The text of the item that the bytes are, exactly if they are one.
+    // The text of the item that the bytes encode, if and only if they encode one.
     ensures ok { OnOk result ((i : Item) × IsItem bytes.now i
         × AppendsEdn style i (string_bytes out.old) (string_bytes out.new)) }
     ensures every_item { (i : Item) → IsItem bytes.now i → MatchResult result
         (λ _. AppendsEdn style i (string_bytes out.old) (string_bytes out.new))
         (λ e. e ≡ Error.Memory) }
 
-    // Each error, exactly if it is true.
+    // Each error, if and only if the bytes have it.
     ensures refused { RefusedSo result (IsNoItem bytes.now) }
     ensures every_refusal { (e : Error) → IsNoItem bytes.now e → GaveRefusal result e }
     ensures unchanged { OnErr result (string_bytes out.new ≡ string_bytes out.old) }
@@ -108,10 +110,10 @@ pub fn push_bytes_to_edn(
     push_only(out, bytes, NotedStyle { style, notes: &[] }, alloc)
 }
 
-/// Appends the text of the one item that the bytes are to `out`, with notes on it and on items in
-/// it. The errors are those of [`bytes_to_edn`], and after one `out` is unchanged.
+/// Appends to `out` the text of the one item that the bytes encode, with notes on it and on items
+/// in it. The errors are those of [`bytes_to_edn`]. After an error `out` is unchanged.
 ///
-/// Whatever the notes are, the same bytes are read back.
+/// The same bytes are read back, whatever the notes are.
 ///
 /// ```rust
 /// use cbor_edn::{EdnStyle, Note, NotedStyle, push_bytes_to_edn_noted};
@@ -145,7 +147,7 @@ pub fn push_bytes_to_edn_noted(
     noted: NotedStyle<'_>,
     out: &mut String,
 ) -> cbor_grammar::Result<()>
-    // The text of the item that the bytes are, exactly if they are one.
+    // The text of the item that the bytes encode, if and only if they encode one.
     ensures ok { OnOk result ((i : Item) × IsItem bytes.now i
         × AppendsNoted noted.entry.style noted.entry.notes.now i (string_bytes out.old)
         (string_bytes out.new)) }
@@ -154,7 +156,7 @@ pub fn push_bytes_to_edn_noted(
         (string_bytes out.new))
         (λ e. e ≡ Error.Memory) }
 
-    // Each error, exactly if it is true.
+    // Each error, if and only if the bytes have it.
     ensures refused { RefusedSo result (IsNoItem bytes.now) }
     ensures every_refusal { (e : Error) → IsNoItem bytes.now e → GaveRefusal result e }
     ensures unchanged { OnErr result (string_bytes out.new ≡ string_bytes out.old) }
@@ -162,11 +164,12 @@ pub fn push_bytes_to_edn_noted(
     push_only(out, bytes, noted, alloc)
 }
 
-/// Appends the text of the item at the front of the bytes to `out`, in this style, and returns the
-/// number of bytes that it takes. More bytes may follow.
+/// Appends to `out` the text of the item at the front of the bytes, in this style. Returns the
+/// number of bytes that the item takes. More bytes may follow it.
 ///
-/// Returns `Ok(None)` if the bytes end before the item does and before any error, and otherwise the
-/// first error from the left. In both cases, and if an allocation fails, `out` is unchanged.
+/// Returns `Ok(None)` if the bytes end before the item does, and before any error. Otherwise the
+/// error is the first one from the left. In both cases, and if an allocation fails, `out` is
+/// unchanged.
 ///
 /// ```rust
 /// use cbor_edn::{EdnStyle, push_bytes_to_edn_partial};
@@ -202,9 +205,9 @@ pub fn push_bytes_to_edn_partial(
     push_bytes_to_edn_noted_partial(alloc, bytes, NotedStyle { style, notes: &[] }, out)
 }
 
-/// Appends the text of the item at the front of the bytes to `out`, with notes on it and on items
-/// in it, and returns what [`push_bytes_to_edn_partial`] does. Each [`Note::at`] counts all of the
-/// bytes, also those after the item.
+/// Appends to `out` the text of the item at the front of the bytes, with notes on it and on items
+/// in it. Returns what [`push_bytes_to_edn_partial`] returns. Each [`Note::at`] counts all of the
+/// bytes, including those after the item.
 pub fn push_bytes_to_edn_noted_partial(
     alloc: Global,
     bytes: &[u8],
@@ -237,8 +240,8 @@ pub fn push_bytes_to_edn_noted_partial(
     }
 }
 
-/// Writes the item at the front, and returns the bytes after it. After an error the text is what it
-/// was.
+/// Writes the item at the front, and returns the bytes after it. After an error the text is
+/// unchanged.
 fn push_front<'a>(
     out: &mut String,
     bytes: &'a [u8],
@@ -259,7 +262,7 @@ fn push_front<'a>(
     }
 }
 
-/// Writes the one item that the bytes are, all of them. After an error the text is what it was.
+/// Writes the one item that all of the bytes encode. After an error the text is unchanged.
 fn push_only(
     out: &mut String,
     bytes: &[u8],
@@ -281,15 +284,15 @@ fn push_only(
     Err(Error::Remaining)
 }
 
-/// For how many bytes of an input memory is taken before its text is written, at most.
+/// The most bytes of input that memory is taken for before the text is written.
 const MOST: usize = 1 << 19;
 
-/// How much memory a text of that many bytes begins with: it is mostly up to twice as long.
+/// The capacity that the text of `len` bytes begins with. Most texts are up to twice as long.
 fn first_capacity(len: usize) -> usize {
     2 * len.min(MOST) + 32
 }
 
-/// Returns the text of the one item that the bytes are.
+/// Returns the text of the one item that the bytes encode, in this style.
 fn whole_text(alloc: Global, bytes: &[u8], style: EdnStyle) -> cbor_grammar::Result<String>
     ensures ok { IfOk result (λ s. (i : Item) × IsItem bytes.now i
         × IsEdnText style i (string_bytes s)) }

@@ -231,7 +231,7 @@ shorter_finds (Double d) =
       ]
     ]
 
--- there is no shorter float exactly if the width is preferred
+-- there is no shorter float if and only if the width is preferred
 pub none_preferred : (f : EncodedFloat) → shorter f ≡ None → IsPreferred f
 none_preferred f e = subst (Finds f) e (shorter_finds f)
 

@@ -1,5 +1,5 @@
--- Decimal texts of floats, as diagnostic notation has them (RFC 8949 section 8, RFC 8610 appendix G), and the numbers
--- that they write.
+-- Decimal texts of floats in diagnostic notation (RFC 8949 section 8, RFC 8610 appendix G), and the numbers that they
+-- stand for.
 use Rattle.std.specs.Prelude.{◌≡◌, ◌⊎◌, ℕ, ◌<◌, Bool, true, false, List, length, drop, codes, ◌==◌, slice_index, IsTrue}
 use Rattle.std.specs.Prelude.{IsFalse}
 use Rattle.std.specs.Float.{float_is_finite}

@@ -1,4 +1,4 @@
--- The half that is nearest to a number, at a tie the one whose last digit is 0 (IEEE 754 section 4.3.1).
+-- The half that is nearest to a number; at a tie, the one whose last digit is 0 (IEEE 754 section 4.3.1).
 use Rattle.std.specs.Prelude.{ℕ, ◌+◌, ◌-◌, ◌*◌, ◌/◌, ◌^◌, Bool, min, if◌then◌else◌}
 use Rattle.std.specs.Float.Ieee.{Float, nan, inf, fin, size, up, down}
 use Rattle.std.specs.Float.Ieee.Nearest.{closest}

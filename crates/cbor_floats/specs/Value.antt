@@ -1,7 +1,6 @@
--- The numbers that floats of 16, 32 and 64 bits stand for (IEEE 754 section 3.4: binary16, binary32 and binary64), and
--- their encodings.
--- `Float` has the numbers of all formats, and a NaN with no sign and no payload: a half and a double with one number
--- are one `Float`.
+-- The numbers that floats of 16, 32 and 64 bits stand for (IEEE 754 section 3.4: binary16, binary32 and binary64),
+-- and their encodings. `Float` has the numbers of all formats, and one NaN without sign or payload: a half and a
+-- double with the same number are the same `Float`.
 use Rattle.std.specs.Prelude.{◌≡◌, ℕ, ◌+◌, ◌-◌, ◌*◌, ◌/◌, ◌%◌, ◌^◌, ◌<◌, Bool, ◌==◌, nat_le, if◌then◌else◌, from_bits}
 use Rattle.std.specs.Float.Ieee.{Float, nan, inf, binary32, binary64, round}
 use Rattle.cbor_floats.specs.declared.float.Width.{Width}

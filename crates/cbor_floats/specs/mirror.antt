@@ -1,2 +1,2 @@
--- Definitions for the checker alone, which follow the code of floats as numbers.
+-- Definitions for the checker alone, which follow the code for floats as numbers.
 pub mod DoubleBits

@@ -1,4 +1,4 @@
-//! Decimal texts of floats, read and written.
+//! Reads and writes floats as decimal texts.
 ghost use Rattle.std.specs.Prelude.{◌≡◌, ◌↔◌, ◌++◌, List, ℕ, string_bytes, IsTrue, IsFalse, OnOk};
 ghost use Rattle.std.specs.Prelude.{MatchOption, MatchResult};
 ghost use Rattle.std.specs.Float.{float_is_finite};
@@ -19,21 +19,24 @@ use ryu::Buffer;
 use std::alloc::AllocError;
 use std::num::f32_to_bits_with_nan;
 
-/// Why a text is not the number of a float.
+/// Why a text is not a float.
 #[derive(Clone, Copy, PartialEq, Eq, Debug)]
 pub enum NumberError {
     /// It is neither a decimal number with a point or an exponent, nor one of the words `NaN`,
     /// `Infinity` and `-Infinity`.
     NoNumber,
-    /// It lies past the largest float of the width, by half of the last place or more.
+    /// The number is past the largest float of the width, by half of the last place or more.
     TooLarge,
-    /// No float of 16 bits is the number.
+    /// No float of 16 bits equals the number.
     NoHalf,
 }
 
-/// The number that the text writes, to the nearest double, and at a tie to the even one: zero if it
-/// is too small for each other. The text is `NaN`, `Infinity` or `-Infinity`, or it is a decimal
-/// number that has a point or an exponent, as `1.5`, `1.`, `.5`, `-1e3` or `+1.0E+300`.
+/// Returns the double that is nearest to the number in a text. A tie goes to the even double, and a
+/// number too small for any other double gives zero. The text is `NaN`, `Infinity` or `-Infinity`,
+/// or a decimal number with a point or an exponent, such as `1.5`, `1.`, `.5`, `-1e3` or
+/// `+1.0E+300`.
+///
+/// Returns `NoNumber` for any other text, and `TooLarge` if the nearest double is not finite.
 pub fn parse_number(text: &[u8]) -> Result<f64, NumberError>
     ensures { MatchResult result (λ x. IsNumber text.now x) (λ error. IsRefused error text.now) }
 {
@@ -51,9 +54,11 @@ pub fn parse_number(text: &[u8]) -> Result<f64, NumberError>
     }
 }
 
-/// The float that the text writes before the indicator of a width, `_1`, `_2` or `_3` in diagnostic
-/// notation: its number, as `parse_number` reads it. A number that 32 bits do not have is the
-/// nearest single, and one that 16 bits do not have is `NoHalf`.
+/// Returns the float of this width that a text means. In diagnostic notation the width follows the
+/// text, as `_1`, `_2` or `_3`. The text is read as `parse_number` reads it, with the same errors.
+///
+/// In 32 bits, a number that no single equals gives the nearest single, or `TooLarge` if that is
+/// not finite. In 16 bits, a number that no half equals gives `NoHalf`.
 pub fn parse_in_width(text: &[u8], width: Width) -> Result<EncodedFloat, NumberError>
     ensures { MatchResult result (IsReadAs text.now width)
         (λ error. IsRefusedIn error text.now width) }
@@ -75,7 +80,7 @@ pub fn parse_in_width(text: &[u8], width: Width) -> Result<EncodedFloat, NumberE
     }
 }
 
-/// The single that is nearest to a decimal number, as it is encoded.
+/// The single that is nearest to a decimal number, as CBOR encodes it.
 fn nearest_in_single(text: &[u8]) -> Result<EncodedFloat, NumberError>
     ensures { MatchResult result
         (λ float. (width_of float ≡ ThirtyTwo)
@@ -92,7 +97,7 @@ fn nearest_in_single(text: &[u8]) -> Result<EncodedFloat, NumberError>
     }
 }
 
-/// The number of a word.
+/// The number that a word stands for, or `None` for any other text.
 fn word(text: &[u8]) -> Option<f64>
     ensures { MatchOption result ((x : Float) → ¬ (IsWordOf text.now x))
         (λ x. IsWordOf text.now x) }
@@ -105,7 +110,7 @@ fn word(text: &[u8]) -> Option<f64>
     }
 }
 
-/// The text without a sign at its front.
+/// The text without the sign at its front, if it has one.
 fn without_sign(text: &[u8]) -> &[u8]
     ensures { result.now ≡ unsigned text.now }
 {
@@ -147,8 +152,8 @@ fn nearest_single(text: &[u8]) -> f32
     Numeral::scan(without_sign(text)).to_float(is_negative(text))
 }
 
-/// A text of the number, which reads back as this number: one of the three words, or decimal digits
-/// with a point or an exponent, which are in the buffer.
+/// Returns a text that reads back as this number: one of the three words, or decimal digits with a
+/// point or an exponent, written to the buffer.
 #[inline]
 pub fn number_text(buffer: &mut Buffer, x: f64) -> &str
     ensures { IsTextOf result.now x }
@@ -164,8 +169,8 @@ pub fn number_text(buffer: &mut Buffer, x: f64) -> &str
     }
 }
 
-/// Appends a text of the number, as `number_text` gives it. An error is out of memory; the text may
-/// then have a part of it.
+/// Appends a text of the number, as `number_text` returns it. The only error is `AllocError`; a
+/// part of the text may be appended before it.
 pub fn push_number(out: &mut String, x: f64) -> Result<(), AllocError>
     ensures { OnOk result ((text : List ℕ)
         × (string_bytes out.new ≡ string_bytes out.old ++ text) × IsTextOf text x) }

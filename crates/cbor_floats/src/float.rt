@@ -1,4 +1,4 @@
-//! A float as CBOR encodes it, its number, and the shortest encoding of a number.
+//! A float as CBOR encodes it: its width, its number, and the shortest encoding of a number.
 ghost use Rattle.std.specs.Prelude.{◌≡◌, ◌↔◌, IsTrue, MatchOption};
 ghost use Rattle.cbor_floats.specs.Value.{value_of, width_of, IsEncodingOf, IsShortest};
 
@@ -30,8 +30,8 @@ pub enum EncodedFloat {
 }
 
 impl EncodedFloat {
-    /// The number that the bits stand for. Each half and each single is a double, so nothing is
-    /// rounded. The bits of a NaN give a NaN with no particular sign or payload.
+    /// The number that the bits stand for. Each half and each single is also a double, so nothing
+    /// is rounded. The bits of a NaN give a NaN with no particular sign or payload.
     pub fn value(self) -> f64
         ensures { result ≡ value_of self }
     {
@@ -42,8 +42,8 @@ impl EncodedFloat {
         }
     }
 
-    /// The number in this width, or `None` if the width does not have it. A NaN gives the usual NaN
-    /// of the width: 7e00, 7fc00000 or 7ff8000000000000.
+    /// Encodes the number in this width, or returns `None` if the width cannot hold it. A NaN gives
+    /// the usual NaN of the width: 7e00, 7fc00000 or 7ff8000000000000.
     pub fn in_width(x: f64, width: Width) -> Option<EncodedFloat>
         ensures { MatchOption result
             ((float : EncodedFloat) → width_of float ≡ width → ¬ (IsEncodingOf float x))
@@ -56,7 +56,7 @@ impl EncodedFloat {
         }
     }
 
-    /// The number in 64 bits, which have each number.
+    /// Encodes the number in 64 bits, which can hold every number.
     pub fn double(x: f64) -> EncodedFloat
         ensures encodes { IsEncodingOf result x }
         ensures width { width_of result ≡ Width.SixtyFour }
@@ -64,7 +64,7 @@ impl EncodedFloat {
         EncodedFloat::Double(f64_to_bits_with_nan(x))
     }
 
-    /// The number in the shortest width that has it.
+    /// Encodes the number in the shortest width that can hold it.
     pub fn shortest(x: f64) -> EncodedFloat
         ensures { IsShortest result x }
     {
@@ -76,8 +76,8 @@ impl EncodedFloat {
             EncodedFloat::double(x)
         }
     }
-    /// Whether these are the bits that the number is encoded as in this width: of a NaN only the
-    /// usual ones, 7e00, 7fc00000 and 7ff8000000000000.
+    /// Whether the number is encoded as these bits in this width. For a NaN, only the usual bits
+    /// are: 7e00, 7fc00000 and 7ff8000000000000.
     pub fn is_usual(self) -> bool
         ensures { IsTrue result ↔ IsEncodingOf self (value_of self) }
     {
@@ -90,7 +90,7 @@ impl EncodedFloat {
         }
     }
 
-    /// Whether these are the bits that the number is encoded as in the shortest width that has it.
+    /// Whether the number is encoded as these bits in the shortest width that can hold it.
     pub fn is_shortest(self) -> bool
         ensures { IsTrue result ↔ IsShortest self (value_of self) }
     {

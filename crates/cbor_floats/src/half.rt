@@ -1,19 +1,20 @@
-//! Floats of 16 bits (IEEE 754 binary16): a sign, five bits of exponent, ten of fraction.
+//! Converts floats of 16 bits (IEEE 754 binary16) to numbers. They have a sign, five bits of
+//! exponent and ten of fraction.
 ghost use Rattle.std.specs.Prelude.{◌≡◌, ◌+◌, ◌*◌, ◌^◌, ◌<◌, false};
 ghost use Rattle.std.specs.Float.Ieee.{round, binary64};
 ghost use Rattle.cbor_floats.specs.Value.{half_value as half_value_of, half_units as units_of};
 ghost use Rattle.cbor_floats.specs.Value.{half_of_fields};
 
-/// The bits of the infinity with a clear sign.
+/// The bits of positive infinity.
 pub(crate) const INFINITY: u16 = 0x7c00;
 
 /// The bits of the usual NaN (RFC 8949 section 4.2.2).
 pub(crate) const NAN: u16 = 0x7e00;
 
-/// The bit of the sign.
+/// The sign bit.
 pub(crate) const SIGN: u16 = 0x8000;
 
-/// The number of a half, as a double. Nothing is rounded.
+/// The number of a half, as a double, without rounding.
 pub fn half_value(bits: u16) -> f64
     ensures { result ≡ half_value_of bits }
 {
@@ -21,7 +22,7 @@ pub fn half_value(bits: u16) -> f64
     if bits < SIGN { size } else { -size }
 }
 
-/// The number of a half with these fields and a clear sign.
+/// The number of a half with these fields and a clear sign bit.
 fn value_of_fields(exponent: u16, fraction: u16) -> f64
     requires { (exponent < 32) × (fraction < 1024) }
     ensures { result ≡ half_of_fields false exponent fraction }
@@ -35,7 +36,7 @@ fn value_of_fields(exponent: u16, fraction: u16) -> f64
     }
 }
 
-/// How many times 2^-24, the least half above zero, a finite half is, without its sign.
+/// A finite half without its sign, as a multiple of 2^-24, the least half above zero.
 fn half_units(exponent: u16, fraction: u16) -> u64
     requires { (exponent < 31) × (fraction < 1024) }
     ensures same { result ≡ units_of exponent fraction }
@@ -48,7 +49,7 @@ fn half_units(exponent: u16, fraction: u16) -> u64
     }
 }
 
-/// So many times 2^-24.
+/// This multiple of 2^-24.
 fn value_of_units(units: u64) -> f64
     requires { units < 2 ^ 41 }
     ensures { result ≡ round binary64 false units (2 ^ 24) }

@@ -1,5 +1,6 @@
-//! Floats of 16, 32 and 64 bits, as numbers and as the bits that CBOR has for them (RFC 8949
-//! section 3.3; IEEE 754 names the formats binary16, binary32 and binary64).
+//! Converts floats of 16, 32 and 64 bits between numbers, decimal texts and the bits that CBOR
+//! encodes them in (RFC 8949 section 3.3; IEEE 754 names the formats binary16, binary32 and
+//! binary64).
 //!
 //! Each half and each single is a double, so one type, `f64`, holds the numbers of all widths.
 //!

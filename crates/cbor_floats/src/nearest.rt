@@ -1,4 +1,4 @@
-//! The float of 16 bits that is nearest to a number, and the one that is the number.
+//! Rounds numbers to floats of 16 bits, and finds the one that equals a number.
 ghost use Rattle.std.specs.Prelude.{◌≡◌, ◌+◌, ◌*◌, ◌^◌, ◌<◌, ◌≤◌, ℕ, MatchOption};
 ghost use Rattle.std.specs.Float.{is_sign_negative, NotNan};
 ghost use Rattle.std.specs.Float.Ieee.Nearest.{closest};
@@ -12,15 +12,15 @@ use crate::half::{INFINITY, NAN, SIGN, half_value};
 use crate::single::same_number;
 use std::num::f64_to_bits_with_nan;
 
-/// The weight of the exponent in the bits of a double, and of the leading digit, which they leave
-/// out.
+/// The weight of the exponent in the bits of a double. The leading digit, which the bits leave out,
+/// has the same weight.
 const HIDDEN: u64 = 0x10_0000_0000_0000;
 
-/// The bits of the double 2^17, which lies past what rounds to a finite half.
+/// The bits of the double 2^17, which is past every number that rounds to a finite half.
 const FAR: u64 = 0x4100_0000_0000_0000;
 
-/// The bits of the half that is nearest to the number, at a tie of the even one: an infinity from
-/// 65520 on, a zero up to 2^-25, and 7e00 for a NaN.
+/// The bits of the half that is nearest to the number; a tie goes to the even half. From 65520 on
+/// the half is an infinity, and up to 2^-25 a zero. A NaN gives 7e00.
 pub fn nearest_half(x: f64) -> u16
     ensures { result ≡ nearest_half_of x }
 {
@@ -48,7 +48,7 @@ fn nearest_size(x: f64) -> u16
     }
 }
 
-/// The bits of the number as a half, or `None` if no half is this number. A NaN gives 7e00.
+/// The bits of the half that equals the number, or `None` if none does. A NaN gives 7e00.
 pub fn half_of(x: f64) -> Option<u16>
     ensures { MatchOption result ((bits : ℕ) → ¬ (IsEncodingOf (Half bits) x))
         (λ bits. IsEncodingOf (Half bits) x) }
@@ -61,8 +61,8 @@ pub fn half_of(x: f64) -> Option<u16>
     }
 }
 
-/// The bits of the half that is nearest to the double of these bits, if that is finite and its sign
-/// is clear.
+/// The bits of the half that is nearest to the double with these bits, which is finite and has a
+/// clear sign bit.
 fn rounded_bits(bits: u64) -> u16
     ensures near { bits < 1040 * 2 ^ 52
         → result ≡ half_bits_of_units (digits_of_bits bits) (2 ^ shift_of_bits bits) }
@@ -93,7 +93,7 @@ fn bits_of_shifted(digits: u64, shift: u32) -> u16
     (dropped as u64 * 1024 + kept).min(INFINITY as u64) as u16
 }
 
-/// The whole number closest to digits * 2^-cut, at a tie the even one.
+/// The whole number closest to digits * 2^-cut; a tie goes to the even one.
 fn rounded(digits: u64, cut: u32) -> u64
     requires { (digits < 2 ^ 53) × (cut < 64) }
     ensures same { result ≡ closest digits (2 ^ cut) }

@@ -1,4 +1,4 @@
-//! The width that RFC 8949 prefers for a float (sections 4.1 and 4.2.2).
+//! Finds the width that RFC 8949 prefers for a float (sections 4.1 and 4.2.2).
 ghost use Rattle.std.specs.Prelude.{◌≡◌, ◌<◌, ◌^◌, MatchOption};
 ghost use Rattle.cbor_floats.specs.Preferred.{widened, shorter, double_of, double_nan, half_nan};
 ghost use Rattle.cbor_floats.specs.Preferred.{single_nan};
@@ -13,7 +13,7 @@ use std::num::{
     f32_to_bits_with_nan, f64_from_bits_with_nan, f64_to_bits_with_nan, nearest_f64_to_f32_with_nan,
 };
 
-/// The bits of a double that is a NaN, by its sign and its fraction.
+/// The bits of the double that is a NaN with this sign and this fraction.
 fn double_nan(negative: bool, fraction: u64) -> u64
     requires { fraction < 2 ^ 52 }
     ensures { result ≡ double_nan negative fraction }
@@ -25,7 +25,7 @@ fn double_nan(negative: bool, fraction: u64) -> u64
     }
 }
 
-/// The bits of a half that is a NaN, by its sign and its fraction.
+/// The bits of the half that is a NaN with this sign and this fraction.
 fn half_nan(negative: bool, fraction: u64) -> u16
     requires { fraction < 2 ^ 10 }
     ensures { result ≡ half_nan negative fraction }
@@ -37,7 +37,7 @@ fn half_nan(negative: bool, fraction: u64) -> u16
     }
 }
 
-/// The bits of a single that is a NaN, by its sign and its fraction.
+/// The bits of the single that is a NaN with this sign and this fraction.
 fn single_nan(negative: bool, fraction: u64) -> u32
     requires { fraction < 2 ^ 23 }
     ensures { result ≡ single_nan negative fraction }
@@ -49,7 +49,7 @@ fn single_nan(negative: bool, fraction: u64) -> u32
     }
 }
 
-/// The bits of the double that is this number; of a NaN those with this sign and this fraction.
+/// The bits of this number as a double; for a NaN, those with this sign and this fraction.
 fn double_of(x: f64, negative: bool, fraction: u64) -> u64
     requires { fraction < 2 ^ 52 }
     ensures { result ≡ double_of x negative fraction }
@@ -61,7 +61,7 @@ fn double_of(x: f64, negative: bool, fraction: u64) -> u64
     }
 }
 
-/// The half that is the double of these bits, if one is.
+/// The half that equals the double with these bits, if there is one.
 #[tactic(auto, unfolding(crate::specs::Preferred::half_candidate))]
 fn half_candidate(bits: u64) -> u16
     ensures { result ≡ half_candidate bits }
@@ -74,7 +74,7 @@ fn half_candidate(bits: u64) -> u16
     }
 }
 
-/// The single that is the double of these bits, if one is.
+/// The single that equals the double with these bits, if there is one.
 #[tactic(auto, unfolding(crate::specs::Preferred::single_candidate))]
 fn single_candidate(bits: u64) -> u32
     ensures { result ≡ single_candidate bits }
@@ -88,9 +88,9 @@ fn single_candidate(bits: u64) -> u32
 }
 
 impl EncodedFloat {
-    /// The bits of the float as a double, which has each number and each NaN of a shorter width.
-    /// The fraction of a NaN gets zeros behind it, so two floats with the same bits here are one
-    /// float: one number with one sign, or NaNs with one sign and one payload.
+    /// The bits of the float as a double, which can hold each number and each NaN of a shorter
+    /// width. The fraction of a NaN gets trailing zeros. So two floats with the same bits here are
+    /// the same float: the same number with the same sign, or NaNs with the same sign and payload.
     #[tactic(auto, unfolding(crate::specs::Preferred::widened))]
     pub fn widened(self) -> u64
         ensures { result ≡ widened self }
@@ -108,7 +108,7 @@ impl EncodedFloat {
         }
     }
 
-    /// This float if it is the double of these bits, or else the other one.
+    /// This float if it equals the double with these bits, otherwise the other one.
     fn same_or(self, bits: u64, other: Option<EncodedFloat>) -> Option<EncodedFloat>
         ensures { result ≡ same_or self bits other }
     {
@@ -119,8 +119,8 @@ impl EncodedFloat {
         }
     }
 
-    /// The same float in the shortest width that has it, or `None` if no shorter width has it. It
-    /// keeps the number with its sign, and of a NaN the sign and the payload.
+    /// The same float in the shortest width that can hold it, or `None` if no shorter width can. It
+    /// keeps the number and its sign; for a NaN, it keeps the sign and the payload.
     pub fn shorter(self) -> Option<EncodedFloat>
         ensures is { result ≡ shorter self }
         ensures preferred { MatchOption result (IsPreferred self)

@@ -1,4 +1,4 @@
--- What a reader returns, out of memory aside.
+-- What a reader returns, unless memory runs out.
 use Rattle.std.specs.Prelude.{◌≡◌, ◌≢◌, ℕ, ◌+◌, ◌/◌, ◌%◌, ◌<◌, ◌≤◌, List, [], ◌∷◌, ◌++◌, length, take, Option, Some}
 use Rattle.std.specs.Prelude.{None}
 use Rattle.std.specs.Prelude.{Result, Ok, Err, MatchResult, IfErr, ◌⊎◌}

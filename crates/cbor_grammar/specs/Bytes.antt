@@ -1,4 +1,4 @@
--- Which bytes are an item (RFC 7049 section 2).
+-- Which bytes encode an item (RFC 7049 section 2).
 use Rattle.std.specs.Prelude.{◌≡◌, ℕ, ◌+◌, ◌<◌, ◌≤◌, List, [], ◌∷◌, ◌++◌, length, Option, Some, None, ◌⊎◌}
 use Rattle.std.specs.Int.{w16, w32, w64, to_be_bytes}
 use Rattle.cbor_grammar.specs.declared.width.IntegerWidth.{IntegerWidth}
@@ -64,8 +64,8 @@ abbrev pub MembersThen
 MembersThen major n (Some w) b Members = HeadThen major n w b (λ rest. Members rest [])
 MembersThen major n None b Members = OpenThen major b (λ rest. Members rest (break_byte ∷ []))
 
--- The bytes, all of them, are this item, which is at this level. No item with an unstated width is
--- spelled, and none deeper than the deepest level.
+-- All of the bytes encode this item, which is at this level. No bytes encode an item with an unstated width, or one
+-- deeper than the deepest level.
 abbrev mutual
   pub Spells : Rule → ℕ → List ℕ → Item → Type 0
   Spells rule level b (atom a) = (level ≤ deepest) × SpellsAtom rule b a
@@ -75,7 +75,7 @@ abbrev mutual
       × MembersThen 5 (pair_count ps) w b (λ rest end. SpellsPairs rule (level + 1) rest ps end)
   Spells rule level b (tagged t w i) = (level ≤ deepest) × HeadThen 6 t w b (λ rest. Spells rule (level + 1) rest i)
 
-  -- the items one after the other, and then the end
+  -- the items in sequence, and then the end
   pub SpellsItems : Rule → ℕ → List ℕ → Items → List ℕ → Type 0
   SpellsItems rule level b no_items end = b ≡ end
   SpellsItems rule level b (item i is) end =

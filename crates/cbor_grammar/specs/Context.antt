@@ -1,4 +1,4 @@
--- Where in a text of notation an item is: what decides how it is written, beside the item itself.
+-- Where in a text of notation an item is. The place and the item together decide how the item is written.
 use Rattle.cbor_grammar.specs.declared.encoding.Encoding.{Encoding}
 use Rattle.cbor_grammar.specs.declared.layout.Content.{Content}
 use Rattle.cbor_grammar.specs.declared.layout.Layout.{Layout}

@@ -1,4 +1,4 @@
--- Items that are embedded in the bytes of a byte string (RFC 7049 section 2.4.4.1, RFC 8742).
+-- Items that are embedded in the content of a byte string (RFC 7049 section 2.4.4.1, RFC 8742).
 use Rattle.std.specs.Prelude.{◌≡◌, ◌↔◌, ℕ, zero, suc, ◌+◌, ◌<◌, ◌≤◌, List, [], ◌++◌, length, take, drop, slice_index}
 use Rattle.std.specs.Prelude.{Option, Some, None, Ok, Err}
 use Rattle.cbor_grammar.specs.declared.error.Error.{Error}
@@ -14,12 +14,12 @@ abbrev pub if_whole : Read Item → Option Item
 if_whole (Ok (i, [])) = Some i
 if_whole _ = None
 
--- the item that the bytes are, where `left` levels are left for it
+-- the item that the bytes encode, with `left` levels left for it
 abbrev pub embedded_at : ℕ → List ℕ → Option Item
 embedded_at left b = if_whole (read_item left b)
 
--- The item that the bytes spell at this level, if there is one: `embedded level b` is `Some e` exactly
--- where `Spells any level b e`, as `Embeds` below says.
+-- The item that the bytes encode at this level, if there is one: `embedded level b` is `Some e` if and only if
+-- `Spells any level b e`, as `Embeds` below says.
 abbrev pub embedded : ℕ → List ℕ → Option Item
 embedded level b = embedded_at (levels_left level) b
 
@@ -32,8 +32,8 @@ abbrev pub and_then : (List ℕ → Items × List ℕ) → List ℕ → Read Ite
 and_then more b (Ok x) = before x.0 (more x.1)
 and_then more b (Err e) = (no_items, b)
 
--- As many items as can be read one after the other, and the rest. The number bounds how many are looked
--- for; no bytes are more items than they are bytes.
+-- As many items as can be read in sequence, and the rest. The number bounds how many items are read; bytes never have
+-- more items than bytes.
 unfoldable pub sequence_of : (List ℕ → Read Item) → ℕ → List ℕ → Items × List ℕ
 sequence_of read zero b = (no_items, b)
 sequence_of read (suc n) b = and_then (sequence_of read n) b (read b)
@@ -41,14 +41,13 @@ sequence_of read (suc n) b = and_then (sequence_of read n) b (read b)
 abbrev pub sequence_at : ℕ → List ℕ → Items × List ℕ
 sequence_at left b = sequence_of (read_item left) (length b) b
 
--- The longest list of items whose spellings at this level, joined, are a front of the bytes, and the rest:
--- the items are spelled one after the other and then the rest follows, which begins with no item, as
--- `Embeds` below says.
+-- The longest sequence of items whose encodings at this level, joined, are a front of the bytes, and the rest, which
+-- begins with no item, as `Embeds` below says.
 abbrev pub sequence : ℕ → List ℕ → Items × List ℕ
 sequence level b = sequence_at (levels_left level) b
 
--- What `embedded` and `sequence` mean at this level, by the grammar of bytes alone: the item that the bytes
--- spell; the longest list of items that are spelled one after the other, and a rest that begins with none.
+-- What `embedded` and `sequence` mean at this level, by the grammar of bytes alone: the item that the bytes encode;
+-- the longest sequence of items at their front, and a rest that begins with none.
 pub record Embeds (level : ℕ) (b : List ℕ) : Type 0 where
   pub one : (e : Item) → (embedded level b ≡ Some e) ↔ Spells any level b e
   pub items : SpellsItems any level b (sequence level b).0 (sequence level b).1

@@ -1,4 +1,4 @@
--- How long a text would be on one line, roughly: what pretty text goes by.
+-- The rough length of a text on one line, which decides the layout of pretty text.
 use Rattle.std.specs.Prelude.{ℕ, ◌+◌, ◌*◌, List, length, sum_by}
 use Rattle.std.specs.Fmt.{decimal}
 use Rattle.cbor_grammar.specs.declared.width.FloatWidth.{FloatWidth}

@@ -1,4 +1,4 @@
--- A few items and their bytes, for which the definitions are computed.
+-- A few items and their bytes, which the definitions are checked against.
 use Rattle.std.specs.Prelude.{ℕ, zero, suc, List, [], ◌∷◌, codes, Some, None}
 use Rattle.cbor_grammar.specs.declared.width.IntegerWidth.TheVariants.{Unknown, Zero, Eight}
 use Rattle.cbor_grammar.specs.Item as spec
@@ -38,8 +38,8 @@ bytes b = atom (string Bytes (record { bytes = b; width = Zero }))
 abbrev pub over_bytes : ℕ → List ℕ → Item
 over_bytes tag b = tagged tag Eight (bytes b)
 
--- Tag 24 over the bytes of tag 24 over the two bytes of a simple value that has a byte of its own, and the
--- bytes of its normal form: the length needs no byte of its own, and the value has one.
+-- Tag 24 over the bytes of another tag 24, over a simple value in a non-minimal encoding (`f8 14`); and the bytes of
+-- its normal form: the length needs no byte of its own, and the value has one.
 abbrev pub nested_tag : Item
 nested_tag = over_bytes 24 (0xd8 ∷ 0x18 ∷ 0x58 ∷ 0x02 ∷ 0xf8 ∷ 0x14 ∷ [])
 

@@ -1,4 +1,4 @@
--- The facts that callers read: of bytes as a whole, and of an item at the outermost level.
+-- The facts that public clauses state: of bytes as a whole, and of an item at the outermost level.
 use Rattle.std.specs.Prelude.{ℕ, ◌≤◌, List, length, take}
 use Rattle.cbor_grammar.specs.declared.error.Error.{Error}
 use Rattle.cbor_grammar.specs.Item.{Item}
@@ -11,15 +11,15 @@ use Rattle.cbor_grammar.specs.Pretty.{pretty}
 use Rattle.cbor_grammar.specs.Normal.{normal}
 use Rattle.cbor_grammar.specs.Answer.{Outcome, IsOutcome, OneOutcome, IsRefused}
 
--- the bytes, all of them, are this item
+-- all of the bytes encode this item
 abbrev pub IsItem : List ℕ → Item → Type 0
 IsItem b i = Spells any 1 b i
 
--- the same, and no simple value below 24 takes two bytes
+-- the same, and no simple value below 24 is in a non-minimal encoding (`f8 00`)
 abbrev pub IsStrictItem : List ℕ → Item → Type 0
 IsStrictItem b i = Spells strict 1 b i
 
--- the first n bytes are this item, and n is at least 1
+-- the first n bytes encode this item, and n is at least 1
 abbrev pub BeginsWithItem : List ℕ → Item → ℕ → Type 0
 BeginsWithItem b i n = (1 ≤ n) × (n ≤ length b) × IsItem (take n b) i
 

@@ -1,4 +1,4 @@
--- Which hex with comments is an item: which digits a text has, and which item they are.
+-- Which hex with comments encodes an item: which digits a text has, and which item they encode.
 use Rattle.std.specs.Prelude.{◌≡◌, ℕ, ◌+◌, ◌%◌, ◌<◌, List, [], ◌∷◌, ◌++◌, length, take, drop, slice_index, false, Ok}
 use Rattle.std.specs.Prelude.{◌⊎◌}
 use Rattle.std.specs.List.{AllPass}

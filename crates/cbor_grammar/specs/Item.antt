@@ -1,4 +1,4 @@
--- The data item that contracts speak of: what a `DataItem` says, without where it lies in memory.
+-- The data item that contracts speak of: what a `DataItem` says, whatever its place in memory.
 use Rattle.std.specs.Prelude.{ℕ, suc, List, Option}
 use Rattle.cbor_grammar.specs.declared.width.IntegerWidth.{IntegerWidth}
 use Rattle.cbor_grammar.specs.declared.width.FloatWidth.{FloatWidth}

@@ -1,5 +1,5 @@
--- What a text keeps of an item: two items have the same compact text exactly where their normal forms are
--- equal.
+-- What a text keeps of an item, its normal form: two items have the same compact text if and only if their normal
+-- forms are equal.
 use Rattle.std.specs.Prelude.{ℕ, zero, suc, List, ◌++◌, map, Option, Some, None, nat_lt, if◌then◌else◌, ◌==◌}
 use Rattle.cbor_grammar.specs.declared.width.IntegerWidth.{IntegerWidth}
 use Rattle.cbor_grammar.specs.declared.width.IntegerWidth.TheVariants.{Unknown, Zero}
@@ -40,7 +40,7 @@ abbrev pub normal_embedded : (Item → Item) → List ℕ → Option Item → Li
 normal_embedded into b (Some e) = encoded (into e)
 normal_embedded into b None = b
 
--- bytes that are items one after the other, and a rest, are those of the normal items, and the rest
+-- bytes that are a sequence of items and a rest become those of the normal items, and the rest
 abbrev pub normal_sequence : (Item → Item) → Items × List ℕ → List ℕ
 normal_sequence into s = encoded_items (normal_items into s.0) ++ s.1
 

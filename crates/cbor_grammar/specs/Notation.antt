@@ -1,5 +1,5 @@
--- Which texts are an item in diagnostic notation (RFC 7049 section 6; docs/NOTATION.md has the rules in
--- plain words). A text is the list of its bytes in UTF-8.
+-- Which texts encode an item in diagnostic notation (RFC 7049 section 6; docs/NOTATION.md has the rules in plain
+-- words). A text is the list of its bytes in UTF-8.
 use Rattle.std.specs.Prelude.{◌≡◌, ℕ, zero, suc, ◌+◌, ◌<◌, List, [], ◌∷◌, ◌++◌, length, codes, Option, Some, None, Ok}
 use Rattle.std.specs.Prelude.{Bool, true, false, nat_lt, ◌==◌, if◌then◌else◌, ◌⊎◌}
 use Rattle.hex.specs.Hex.{decode_of}
@@ -120,8 +120,8 @@ abbrev pub DigitsIn : Bool → List ℕ → List ℕ → List ℕ → Type 0
 DigitsIn comments prefix text digits = (content : List ℕ) × (text ≡ prefix ++ (content ++ codes "'"))
     × DigitsBetween comments content digits
 
--- A notation of bytes: digits that are the encoding of the bytes, a text in apostrophes, or items whose
--- encodings are the bytes, one after the other. In base 64 a `/` is a digit, so there is no comment.
+-- A notation of bytes: digits that encode the bytes, a text in apostrophes, or items whose encodings, joined, are the
+-- bytes. In base 64 a `/` is a digit, so there is no comment.
 pub data Notation (Read : List ℕ → Item → Type 0) : List ℕ → List ℕ → Type 0 where
   in_base16 : {text bytes : List ℕ} (digits : List ℕ) → DigitsIn true (codes "h'") text digits
       → decode_of digits ≡ Ok bytes → Notation Read text bytes

@@ -1,4 +1,4 @@
--- Why a text that no limit of levels reads may be refused: what each refusal says of the text.
+-- Why a reader may refuse a text, whatever the limit on levels: what each refusal says of the text.
 use Rattle.std.specs.Prelude.{◌≡◌, ℕ, ◌<◌, ◌≤◌, ◌==◌, ◌||◌, Bool, List, Result, Ok, Err}
 use Rattle.std.specs.List.{count_by}
 use Rattle.cbor_tokens.specs.Ascii.{quote, parenthesis, less_than, bracket, underscore, brace}

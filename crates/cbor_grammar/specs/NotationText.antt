@@ -1,5 +1,5 @@
--- Diagnostic notation as it is written (RFC 7049 section 6): what compact and pretty text have in common.
--- They differ in their `Layout` alone.
+-- Diagnostic notation as it is written (RFC 7049 section 6): what compact and pretty text share. They differ only in
+-- their `Layout`.
 use Rattle.std.specs.Prelude.{ℕ, zero, suc, ◌+◌, List, [], ◌∷◌, ◌++◌, map, replicate, codes, Option, Some, None}
 use Rattle.std.specs.Prelude.{nat_lt, ◌==◌, if◌then◌else◌}
 use Rattle.std.specs.List.{flat_map}

@@ -1,5 +1,5 @@
--- Diagnostic notation over several lines (RFC 7049 section 6): a container that is short is on one line, of
--- another each member has a line.
+-- Diagnostic notation over several lines (RFC 7049 section 6): a short container is on one line, and a longer one has
+-- a line for each member.
 use Rattle.std.specs.Prelude.{ℕ, ◌+◌, ◌++◌, List, codes}
 use Rattle.cbor_grammar.specs.declared.width.IntegerWidth.{IntegerWidth}
 use Rattle.cbor_grammar.specs.declared.encoding.Encoding.{Encoding}

@@ -1,4 +1,4 @@
--- What each refusal says, which is an `Error`, and its number.
+-- What each `Error` says of the input, and its number.
 use Rattle.std.specs.Prelude.{ℕ, List, codes}
 use Rattle.cbor_grammar.specs.declared.error.Error.{Error}
 use Rattle.cbor_grammar.specs.declared.error.Error.TheVariants.{Memory, CutShort, Head, Utf8, TooDeep, Remaining}

@@ -1,5 +1,5 @@
--- Which bytes stop before an item is whole, and which can't begin one (RFC 7049 section 2). Both are
--- decided at the first part, from the left, that isn't whole.
+-- Which bytes are cut, so that they end before their item does, and which have a fault, so that no item begins with
+-- them (RFC 7049 section 2). The first incomplete part from the left decides both.
 use Rattle.std.specs.Prelude.{◌≡◌, ◌≢◌, ℕ, suc, zero, ◌+◌, ◌*◌, ◌/◌, ◌%◌, ◌^◌, ◌<◌, ◌≤◌, List, [], ◌∷◌, ◌++◌, length}
 use Rattle.std.specs.Prelude.{IsUtf8, ◌⊎◌}
 use Rattle.cbor_grammar.specs.declared.width.IntegerWidth.{IntegerWidth}
@@ -41,13 +41,13 @@ abbrev pub BadText : List ℕ → Type 0
 BadText b = (n : ℕ) × (w : IntegerWidth) × HeadThen 3 n w b (λ rest.
     (text after : List ℕ) × (rest ≡ text ++ after) × (length text ≡ n) × ¬ (IsUtf8 text))
 
--- a number of whole items one after the other
+-- a number of whole items in sequence
 abbrev pub SpelledParts : ℕ → ℕ → List ℕ → Type 0
 SpelledParts level zero b = b ≡ []
 SpelledParts level (suc k) b =
     (x rest : List ℕ) × (i : Item) × (b ≡ x ++ rest) × Spells any level x i × SpelledParts level k rest
 
--- what may come next in a container that is not whole
+-- what may come next in an incomplete container
 pub data Next : Type 0 where
   part : Next
   part_or_break : Next
@@ -59,11 +59,11 @@ pub data Inside (level : ℕ) (b rest : List ℕ) : Next → Type 0 where
   in_tag : (t : ℕ) (w : IntegerWidth)
       → HeadThen 6 t w b (λ r. r ≡ rest)
       → Inside level b rest part
-  -- an array of n items, of which k are whole
+  -- an array of n items, k of them whole
   in_array : (n k : ℕ) (w : IntegerWidth) (whole : List ℕ)
       → HeadThen 4 n w b (λ r. r ≡ whole ++ rest) → SpelledParts (level + 1) k whole → k < n
       → Inside level b rest part
-  -- a map of n pairs, of whose keys and values k are whole
+  -- a map of n pairs, k of its keys and values whole
   in_map : (n k : ℕ) (w : IntegerWidth) (whole : List ℕ)
       → HeadThen 5 n w b (λ r. r ≡ whole ++ rest) → SpelledParts (level + 1) k whole → k < 2 * n
       → Inside level b rest part
@@ -85,7 +85,7 @@ abbrev pub InsideString : StringKind → List ℕ → List ℕ → Type 0
 InsideString kind b rest =
     (cs : List Chunk) × (r : List ℕ) × (b ≡ opening (major_of kind) ∷ r) × SpellsChunks kind r cs rest
 
--- a rest that is no whole chunk, since it is empty, or its head or its content is cut
+-- a rest without a whole chunk: it is empty, or its head or its content is cut
 abbrev pub CutChunk : StringKind → List ℕ → Type 0
 CutChunk kind [] = Unit {0}
 CutChunk kind (first ∷ rest) =

@@ -1,4 +1,4 @@
--- The definition of items that are the same: all their fields are, widths included. `==` tests this.
+-- Which items are the same: those with the same fields, widths included. `==` tests this.
 use Rattle.std.specs.Prelude.{Bool, true, false, ◌&&◌, nat_eq, Option, Some, None}
 use Rattle.std.specs.Cmp.Lexicographic.{pointwise}
 use Rattle.cbor_grammar.specs.declared.width.IntegerWidth.{IntegerWidth}
@@ -27,7 +27,7 @@ same_float_width float_width.ThirtyTwo float_width.ThirtyTwo = true
 same_float_width float_width.SixtyFour float_width.SixtyFour = true
 same_float_width v w = false
 
--- the widths of two counts, of which an indefinite length has none
+-- the widths of two counts; an indefinite length has none
 abbrev pub same_count : Option IntegerWidth → Option IntegerWidth → Bool
 same_count None None = true
 same_count (Some v) (Some w) = same_width v w

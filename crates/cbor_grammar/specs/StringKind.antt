@@ -1,4 +1,4 @@
--- What the two kinds of strings are (RFC 7049 section 2.1).
+-- The two kinds of strings, and what each may hold (RFC 7049 section 2.1).
 use Rattle.std.specs.Prelude.{ℕ, List, codes, IsUtf8}
 use Rattle.cbor_grammar.specs.declared.strings.StringKind.{StringKind}
 use Rattle.cbor_grammar.specs.declared.strings.StringKind.TheVariants.{Bytes, Text}

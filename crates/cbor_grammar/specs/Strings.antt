@@ -1,4 +1,4 @@
--- What types of strings are: the chunk that a `ByteString` and a `TextString` is.
+-- The chunk that a `ByteString` or a `TextString` stands for.
 use Rattle.std.specs.Prelude.{string_bytes}
 use Rattle.cbor_grammar.specs.Item.{Chunk}
 use Rattle.cbor_grammar.specs.declared.strings.ByteString.{ByteString}

@@ -1,5 +1,5 @@
--- How much work an input is, in turns of its reader. A turn reads a head, with the content of a string,
--- reads a chunk or a break, or closes a container that is full.
+-- How much work an input is, in turns of its reader. A turn reads a head, with the content of a string, reads a chunk
+-- or a break, or closes a full container.
 use Rattle.std.specs.Prelude.{ℕ, zero, suc, ◌+◌, ◌*◌, List, length}
 use Rattle.cbor_grammar.specs.declared.error.Error.{Error}
 use Rattle.cbor_grammar.specs.Item as spec
@@ -30,12 +30,12 @@ abbrev mutual
   pairs_turns no_pairs = 0
   pairs_turns (pair k v ps) = item_turns k + (item_turns v + pairs_turns ps)
 
--- the turns of whole parts one after the other
+-- the turns of whole parts in sequence
 abbrev pub parts_turns : (level k : ℕ) (b : List ℕ) → SpelledParts level k b → ℕ
 parts_turns level zero b spelled = 0
 parts_turns level (suc k) b spelled = item_turns spelled.2 + parts_turns level k spelled.1 spelled.5
 
--- one for the head of a container that is not whole, and those of the whole parts in it
+-- one turn for the head of an incomplete container, and those of the whole parts in it
 abbrev pub front_turns : {level : ℕ} {b rest : List ℕ} {next : Next} → Inside level b rest next → ℕ
 front_turns (in_tag t w h) = 1
 front_turns {level = level} (in_array n k w whole h parts few) = 1 + parts_turns (level + 1) k whole parts

@@ -1,4 +1,4 @@
--- The one spelling that a writer gives an item, and the item that it reads as (RFC 7049 section 2).
+-- The encoding that a writer gives an item, and the item that this encoding reads as (RFC 7049 section 2).
 use Rattle.std.specs.Prelude.{ℕ, ◌+◌, List, [], ◌∷◌, ◌++◌, length, map, Option, Some, None, nat_lt, if◌then◌else◌}
 use Rattle.std.specs.List.{flat_map}
 use Rattle.std.specs.Int.{w16, w32, w64, to_be_bytes}

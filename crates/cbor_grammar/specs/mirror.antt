@@ -1,4 +1,4 @@
--- Definitions for the checker alone, which follow the code of types, and that of readers in the crates above.
+-- Definitions for the checker alone, which follow the code of types, and the code of readers in the crates above.
 pub mod Counting
 pub mod AtLevel
 pub mod MajorNumber

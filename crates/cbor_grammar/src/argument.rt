@@ -1,12 +1,12 @@
-//! What a head says beside its major type (RFC 8949 section 3 calls it the argument).
+//! `Argument`: the number of a head, or its indefinite length (RFC 8949 section 3).
 ghost use Rattle.std.specs.Prelude.{◌≡◌, ℕ, option_map};
 ghost use Rattle.cbor_grammar.specs.Reading.{after_break, after_members, count_width};
 ghost use Rattle.cbor_grammar.specs.mirror.Lengths.{argument_count, left_of};
 
 use crate::width::IntegerWidth;
 
-/// What a head says beside its major type, in its five bits of info and the bytes that they ask for
-/// (in RFC 7049 section 2 it is the additional information).
+/// What a head states beside its major type, in its five bits of info and the bytes that they ask
+/// for (additional information in RFC 7049 section 2).
 #[derive(Clone, Copy)]
 pub enum Argument {
     /// A number, and the width that it was written in.
@@ -15,7 +15,7 @@ pub enum Argument {
     Indefinite,
 }
 
-/// The bytes after the break at the front, if there is one.
+/// The bytes after the break at the front, or `None` if there is no break.
 pub fn after_break(bytes: &[u8]) -> Option<&[u8]>
     ensures { option_map (λ x. x.now) result ≡ after_break bytes.now }
 {
@@ -26,7 +26,7 @@ pub fn after_break(bytes: &[u8]) -> Option<&[u8]>
 }
 
 impl Argument {
-    /// The number, where there is one.
+    /// The number, or `None` if there is none.
     pub fn number(self) -> Option<u64>
         ensures { result ≡ argument_count self }
     {
@@ -36,7 +36,7 @@ impl Argument {
         }
     }
 
-    /// The width of a count, where there is one.
+    /// The width of a count, or `None` if there is no count.
     pub fn width(self) -> Option<IntegerWidth>
         ensures { (held : ℕ) → result ≡ count_width (left_of self held) }
     {
@@ -46,8 +46,9 @@ impl Argument {
         }
     }
 
-    /// The bytes after a container of that length which holds `held` members, if it ends here: the
-    /// same bytes if it needs no more members, or those after the break.
+    /// The bytes after a container of this length with `held` members, or `None` if it does not end
+    /// here. If the count is reached they are the same bytes; after an indefinite length they are
+    /// those after the break.
     pub fn after_end(self, held: usize, bytes: &[u8]) -> Option<&[u8]>
         ensures { option_map (λ x. x.now) result ≡ after_members (left_of self held) bytes.now }
     {

@@ -1,4 +1,4 @@
-//! A type: how the bytes of a byte string are written in notation.
+//! `Encoding`: the notation for the bytes of a byte string, base 16 or base 64.
 
 /// How bytes are written between quotes (RFC 4648).
 #[derive(Clone, Copy)]
@@ -7,6 +7,6 @@ pub enum Encoding {
     Base16,
     /// Base 64 in the standard alphabet, with padding, in `b64'..'`.
     Base64,
-    /// Base 64 in the alphabet that is safe in URLs, without padding, in `b64'..'`.
+    /// Base 64 in the URL-safe alphabet, without padding, in `b64'..'`.
     Base64Url,
 }

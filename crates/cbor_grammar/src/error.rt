@@ -1,4 +1,4 @@
-//! `Error`: why bytes, hex or notation are no item.
+//! `Error`: why bytes, hex or notation do not encode an item.
 ghost use Rattle.std.specs.Prelude.{◌≡◌, Some};
 ghost use Rattle.cbor_grammar.specs.Refusals.{text_of, number_of};
 ghost use Rattle.cbor_grammar.specs.declared.error.Error.TheVariants.{Memory};
@@ -8,9 +8,9 @@ use std::fmt;
 
 /// Why a call failed.
 ///
-/// For bytes it is the first error from the left. For hex, `OddHex` comes before `BadHex`, and both
-/// before the errors of the bytes. An error carries nothing else; [`extent`] reports the place of
-/// an error in bytes.
+/// For bytes, it is the first error from the left. For hex, `OddHex` comes before `BadHex`, and
+/// both come before the errors of the bytes. An error carries no place; [`extent`] reports the
+/// place of an error in bytes.
 ///
 /// [`extent`]: cbor_diag::extent
 #[derive(Clone, Copy, PartialEq, Eq, Debug)]

@@ -1,6 +1,6 @@
-//! What the definitions of bytes, notation and normal forms say of a few inputs: each is computed,
-//! or shown by a witness, when the crate is checked, so that a wrong definition does not pass.
-//! Nothing calls these functions.
+//! Checks the definitions of bytes, notation and normal forms on a few inputs. The checker computes
+//! each example or shows it by a witness, so a wrong definition does not pass. No code calls these
+//! functions.
 ghost use Rattle.std.specs.Prelude.{◌≡◌, [], ◌∷◌, ◌++◌, codes, Some, None};
 ghost use Rattle.cbor_grammar.specs.declared.error.Error.TheVariants.{Head, Utf8, TooDeep};
 ghost use Rattle.cbor_grammar.specs.declared.width.IntegerWidth.TheVariants.{Unknown, Zero, Eight};
@@ -26,7 +26,7 @@ ghost use Rattle.cbor_grammar.specs.Examples.{ones};
 ghost use Rattle.cbor_grammar.specs.Examples.{two_chunks, nested, nested_bytes, bytes};
 ghost use Rattle.cbor_grammar.specs.Turns.{item_turns, cut_spent, fault_spent};
 
-/// Items in bytes. A count of 255 takes one byte, and a simple value below 24 takes no second one.
+/// Items as bytes. A count of 255 takes one byte, and a simple value below 24 takes no second byte.
 pub(crate) fn written()
     ensures tagged { encoded uri ≡ uri_bytes }
     ensures counted { encoded three ≡ 0x98 ∷ 3 ∷ 1 ∷ 2 ∷ 3 ∷ [] }
@@ -37,7 +37,7 @@ pub(crate) fn written()
     ensures resolved { resolve open_count ≡ resolved_count }
 {}
 
-/// Bytes that are an item, and a second spelling of `false` that is not strict.
+/// Bytes that encode an item, and a non-minimal encoding of `false` (`f8 14`), which is not strict.
 pub(crate) fn spelled()
     ensures tagged { Spells strict 1 uri_bytes uri }
     ensures broken { Spells any 1 (0xbf ∷ 1 ∷ 2 ∷ 0xff ∷ []) open_map }
@@ -46,16 +46,15 @@ pub(crate) fn spelled()
     ensures too_deep { ¬ (Spells any 129 (1 ∷ []) (small 1)) }
 {}
 
-/// Bytes that end before their item does: in a chunk's head, in a string, and where a value is
-/// needed.
+/// Truncated bytes: they end in the head of a chunk, in a string, and where a value is needed.
 pub(crate) fn cut()
     ensures head { Cut 1 (0x5f ∷ 0x58 ∷ []) }
     ensures content { Cut 1 (0x63 ∷ 0xff ∷ []) }
     ensures value { Cut 1 (0xa1 ∷ 1 ∷ []) }
 {}
 
-/// Bytes that no item begins with: a break in no container, one in a value's place, a text that is
-/// not UTF-8, a text among the chunks of a byte string, and anything below the deepest level.
+/// Malformed bytes: a break in no container, a break in place of a value, a text that is not UTF-8,
+/// a text among the chunks of a byte string, and anything below the deepest level.
 pub(crate) fn faults()
     ensures stray { Fault 1 (0xff ∷ []) Head }
     ensures value { Fault 1 (0xbf ∷ 1 ∷ 2 ∷ 3 ∷ 0xff ∷ []) Head }
@@ -64,7 +63,7 @@ pub(crate) fn faults()
     ensures deep { Fault 129 (1 ∷ []) TooDeep }
 {}
 
-/// A number fits its width, or its item has no encoding.
+/// An item with a number that does not fit its width has no encoding.
 pub(crate) fn well_formed()
     ensures fits { WellFormed 1 (atom (integer 300 Sixteen)) }
     ensures past { ¬ (WellFormed 1 (atom (integer 300 Eight))) }
@@ -72,7 +71,7 @@ pub(crate) fn well_formed()
     ensures deeper { ¬ (WellFormed 129 (small 1)) }
 {}
 
-/// What is kept of texts with comments, with line ends of both kinds, with carriage returns that
+/// What is kept of texts with comments, with both kinds of line ends, with carriage returns that
 /// end no line, with a tab and with spaces.
 pub(crate) fn hex_text()
     ensures comment { uncommented (codes "01 # 02 # 03") ≡ codes "01" }
@@ -92,7 +91,7 @@ pub(crate) fn hex_text()
     ensures nothing { uncommented [] ≡ [] }
 {}
 
-/// Items embedded in bytes: a whole one, one with a byte after it, and a sequence with a rest.
+/// Items embedded in bytes: one item, an item with a byte after it, and a sequence with a rest.
 pub(crate) fn embedded_items()
     ensures whole { embedded 128 (1 ∷ []) ≡ Some (small 1) }
     ensures too_long { embedded 128 (1 ∷ 2 ∷ []) ≡ None }
@@ -101,9 +100,9 @@ pub(crate) fn embedded_items()
         ≡ (item (small 1) (item (small 2) no_items), 255 ∷ []) }
 {}
 
-/// Embedded items in texts: one in the bytes of another, a sequence with a rest, bytes that are an
-/// item at level 128 and none at level 129, and encodings that hold through an embedded item, each
-/// up to the next tag that states one.
+/// Embedded items in texts: one inside another, a sequence with a rest, and bytes that encode an
+/// item at level 128 but not at level 129. The encoding that a tag states holds inside an embedded
+/// item, too, up to the next tag that states one.
 pub(crate) fn embedded_text()
     ensures nested { compact Base16 1 nested_tag ≡ codes "24_0(<<24_0(<<false>>)>>)" }
     ensures rest { compact Base16 1 (over_bytes 63 (1 ∷ 255 ∷ [])) ≡ codes "63_0(<<1>>h'ff')" }
@@ -119,7 +118,7 @@ pub(crate) fn embedded_text()
         ≡ codes "21([b64'_w',24_0(<<b64'_w'>>),23(h'ff')])" }
 {}
 
-/// Normal forms: embedded items are encoded anew, and where they are none the bytes stay.
+/// Normal forms: embedded items are encoded anew, and bytes that embed no item stay.
 pub(crate) fn normal_form()
     ensures nested { encoded (normal 1 nested_tag)
         ≡ 0xd8 ∷ 0x18 ∷ 0x44 ∷ 0xd8 ∷ 0x18 ∷ 0x41 ∷ 0xf4 ∷ [] }
@@ -131,7 +130,7 @@ pub(crate) fn normal_form()
     ensures past { normal 1 (atom (integer 24 Unknown)) ≡ atom (integer 24 Unknown) }
 {}
 
-/// Pretty text: what is 59 long is on one line, what is longer has a line for each member.
+/// Pretty text: an item of length 59 is on one line, and a longer one has a line for each member.
 pub(crate) fn pretty_text()
     ensures estimate { estimated_length (ones 11) ≡ 59 }
     ensures row { pretty Base16 1 0 (ones 11) ≡ codes "[1, 1, 1, 1, 1, 1, 1, 1, 1, 1, 1]" }
@@ -143,7 +142,7 @@ pub(crate) fn pretty_text()
     ensures empty { pretty Base16 1 0 (atom (chunked_string Bytes [])) ≡ codes "''_" }
 {}
 
-/// Turns of items, and of what is whole before the bytes end or a fault comes.
+/// The turns of items, and of the complete parts before the bytes end or an error comes.
 pub(crate) fn turns_taken()
     ensures tagged { item_turns uri ≡ 3 }
     ensures empty { item_turns (array no_items (Some Zero)) ≡ 2 }

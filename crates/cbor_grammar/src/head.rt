@@ -1,4 +1,4 @@
-//! What a head opens (RFC 7049 section 2.1).
+//! `ItemHead`: what the head of an item opens (RFC 7049 section 2.1).
 use crate::argument::Argument;
 use crate::strings::StringKind;
 use crate::width::{FloatWidth, IntegerWidth};
@@ -10,11 +10,11 @@ pub enum ItemHead {
     Integer(u64, IntegerWidth),
     /// A negative integer: -1 minus this number.
     Negative(u64, IntegerWidth),
-    /// A string of that many bytes, or one in chunks.
+    /// A string of this many bytes, or one in chunks.
     String(StringKind, Argument),
-    /// An array of that many items, or one up to a break.
+    /// An array of this many items, or one that ends at a break.
     Array(Argument),
-    /// A map of that many pairs, or one up to a break.
+    /// A map of this many pairs, or one that ends at a break.
     Map(Argument),
     /// A tag, before its item.
     Tag(u64, IntegerWidth),

@@ -1,15 +1,15 @@
-//! How items are laid out in diagnostic notation, and what byte strings are shown as.
+//! How diagnostic notation lays out items, and what it shows byte strings as.
 ghost use Rattle.std.specs.Prelude.{◌≡◌, ◌<◌, ◌^◌};
 ghost use Rattle.cbor_grammar.specs.NotationText.{members_layout, style_indent};
 
-/// What the bytes of a byte string are shown as, where they can be.
+/// What the bytes of a byte string are shown as, if they encode it.
 #[derive(Clone, Copy)]
 pub enum Content {
     /// Bytes.
     Bytes,
-    /// One item: right below tag 24 (RFC 7049 section 2.4.4.1).
+    /// One item: directly below tag 24 (RFC 7049 section 2.4.4.1).
     Item,
-    /// Items one after the other: right below tag 63 (RFC 8742).
+    /// A sequence of items: directly below tag 63 (RFC 8742).
     Sequence,
 }
 
@@ -18,9 +18,9 @@ pub enum Content {
 pub enum Layout {
     /// All on one line, without blanks.
     Compact,
-    /// On one line with blanks where that is short, else each on a line of its own.
+    /// On one line with blanks if that is short, otherwise each on a line of its own.
     Pretty {
-        /// How many blanks the lines of the container round them begin with.
+        /// How many blanks the lines of the enclosing container begin with.
         indent: usize,
     },
 }
@@ -35,7 +35,7 @@ pub enum ContainerStyle {
         /// The indent of the container.
         indent: usize,
     },
-    /// Each on a line of its own, with four blanks more than the container.
+    /// Each on a line of its own, with four more blanks than the container.
     MultiLine {
         /// The indent of the container.
         indent: usize,

@@ -1,4 +1,4 @@
-//! A type: how deep an item may be.
+//! The deepest level that an item may have.
 
 /// The deepest level of an item; the outermost is at level 1.
 pub const DEEPEST: u8 = 128;

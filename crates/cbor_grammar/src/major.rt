@@ -1,4 +1,4 @@
-//! A type: major types (RFC 7049 section 2.1).
+//! `Major`: the major types of CBOR heads (RFC 7049 section 2.1).
 ghost use Rattle.std.specs.Prelude.{◌≡◌, ◌≤◌, ◌*◌, ◌/◌};
 ghost use Rattle.cbor_grammar.specs.mirror.MajorNumber.{major_number};
 
@@ -40,7 +40,7 @@ impl Major {
         }
     }
 
-    /// The first byte of a head, its five low bits being 0.
+    /// The first byte of a head of this major type whose five low bits are 0.
     pub fn high_bits(self) -> u8
         ensures bits { result ≡ 32 * major_number self }
         ensures most { result ≤ 224 }
@@ -57,7 +57,7 @@ impl Major {
         }
     }
 
-    /// The major type of a head, by its first byte.
+    /// The major type of the head with this first byte.
     pub fn of(first: u8) -> Major
         ensures { major_number result ≡ first / 32 }
     {

@@ -1,4 +1,4 @@
-//! What byte strings and text strings have in common.
+//! The types that byte strings and text strings share: the kind of a string, and its content.
 ghost use Rattle.std.proofs.Common.{rules};
 ghost use Rattle.std.specs.Prelude.{◌≡◌, ◌↔◌, length, IsTrue, IfErr, IfOk, IsUtf8};
 ghost use Rattle.cbor_grammar.specs.declared.width.IntegerWidth.{IntegerWidth};
@@ -26,11 +26,11 @@ pub enum StringKind {
     Text,
 }
 
-/// Texts of fewer bytes are tested faster byte by byte than in blocks.
+/// Texts with fewer bytes than this are tested faster byte by byte than in blocks.
 const SHORT_TEXT: usize = 16;
 
-/// Whether the bytes are UTF-8. Not inlined, so that what skips a byte string is short: that saves
-/// 16 in 100 of the instructions of `extent` on COSE messages.
+/// Whether the bytes are UTF-8. Not inlined, so that the code that skips a byte string stays short:
+/// that saves 16 in 100 of the instructions of `extent` on COSE messages.
 #[inline(never)]
 fn is_text(content: &[u8]) -> bool
     ensures { IsTrue result ↔ IsUtf8 content.now }
@@ -43,7 +43,7 @@ fn is_text(content: &[u8]) -> bool
 }
 
 impl StringKind {
-    /// The major type of the heads of such strings.
+    /// The major type of strings of this kind.
     pub fn major(self) -> Major
         ensures { major_number result ≡ major_of self }
     {
@@ -63,7 +63,7 @@ impl StringKind {
         }
     }
 
-    /// The content of a string of this kind, where it may have it.
+    /// The bytes as the content of a string of this kind, or `Utf8` if a text is not UTF-8.
     #[tactic(auto, using(crate::proofs::shared::Utf8::utf8_tests))]
     pub fn content(self, content: &[u8]) -> Result<StringContent<'_>>
         ensures gives { (w : IntegerWidth) → Gives (borrowed_chunk w) result
@@ -168,13 +168,13 @@ pub trait DefiniteString: PartialEq + Drop {
     fn kind() -> StringKind
         ensures { result ≡ kind };
 
-    /// The string of this content; a text string if that is UTF-8.
+    /// Returns the string with this content, or `Utf8` if a text string is not UTF-8.
     fn new(content: Vec<u8>, bitwidth: IntegerWidth) -> Result<Self>
         ensures gives { Gives chunk result (checked_chunk kind bitwidth content.items) }
         ensures well { FitsWidth bitwidth (length content.items)
             → IfOk result (λ x. IsChunk kind (chunk x)) };
 
-    /// A string with the same content and width, in memory of its own.
+    /// Returns a string with the same content and width, in memory of its own.
     fn copy(&self, alloc: Global) -> Result<Self>
         ensures equal { IfOk result (λ v. chunk v ≡ chunk self.now) }
         ensures refused { IfErr result (λ e. e ≡ Error.Memory) };

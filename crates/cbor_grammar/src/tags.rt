@@ -1,5 +1,5 @@
-//! The types of tags and of simple values. The tags with a name are those of RFC 7049, RFC 8742,
-//! RFC 8746, RFC 8943 and RFC 9164, and some of the IANA registry.
+//! The types of tags and simple values, with constants for known tags. They are those of RFC 7049,
+//! RFC 8742, RFC 8746, RFC 8943 and RFC 9164, and some others of the IANA registry.
 
 /// The number of a tag, which gives a meaning to the item below it (RFC 7049 section 2.4).
 ///
@@ -56,7 +56,7 @@ impl Tag {
     /// A byte string that holds one encoded item (RFC 7049 section 2.4.4.1).
     pub const ENCODED_CBOR: Tag = Tag(24);
 
-    /// A value that later tags 29 may refer to (the IANA registry of CBOR tags).
+    /// A value that a later tag 29 may refer to (the IANA registry of CBOR tags).
     pub const SHAREABLE: Tag = Tag(28);
 
     /// The number of a value under an earlier tag 28 (the IANA registry of CBOR tags).
@@ -86,7 +86,7 @@ impl Tag {
     /// An IPv6 address, prefix or interface (RFC 9164).
     pub const IPV6: Tag = Tag(54);
 
-    /// A byte string that holds encoded items one after the other (RFC 8742).
+    /// A byte string that holds a sequence of encoded items (RFC 8742).
     pub const ENCODED_CBOR_SEQ: Tag = Tag(63);
 
     /// A typed array of u8 (RFC 8746 section 2.1).

@@ -1,4 +1,4 @@
-//! Types: widths, which numbers fit, which is the shortest, and which one a number is written in.
+//! The widths of the numbers in heads and of floats: what fits in them, and which is the shortest.
 ghost use Rattle.std.specs.Prelude.{◌≡◌, ◌↔◌, IsTrue};
 ghost use Rattle.cbor_grammar.specs.Head.{FitsWidth, FitsStated, shortest, stated};
 ghost use Rattle.cbor_grammar.specs.WellFormed.{FitsFloat, FitsCount};
@@ -36,7 +36,7 @@ pub enum FloatWidth {
 }
 
 impl IntegerWidth {
-    /// Whether the number can be written in this width; an unstated width takes any.
+    /// Whether the number fits in this width; every number fits in an unstated width.
     pub fn fits(self, number: u64) -> bool
         ensures { IsTrue result ↔ FitsWidth self number }
     {
@@ -49,7 +49,7 @@ impl IntegerWidth {
         }
     }
 
-    /// The shortest width that the number fits.
+    /// The shortest width that the number fits in.
     pub fn shortest(number: u64) -> IntegerWidth
         ensures same { result ≡ shortest number }
         ensures fits { FitsStated result number }
@@ -63,7 +63,7 @@ impl IntegerWidth {
         }
     }
 
-    /// The width that the number is written in.
+    /// The width that the number is written in: this one, or the shortest if this one is unstated.
     pub fn stated(self, number: u64) -> IntegerWidth
         requires { FitsWidth self number }
         ensures same { result ≡ stated self number }
@@ -77,7 +77,7 @@ impl IntegerWidth {
 }
 
 impl FloatWidth {
-    /// Whether the bits of a float can be written in this width; an unstated width takes 64 bits.
+    /// Whether the bits of a float fit in this width; an unstated width takes 64 bits.
     pub fn fits(self, bits: u64) -> bool
         ensures { IsTrue result ↔ FitsFloat self bits }
     {
@@ -89,7 +89,7 @@ impl FloatWidth {
     }
 }
 
-/// Whether a count fits its width; an indefinite length has none to fit.
+/// Whether a count fits in its width; true for an indefinite length.
 pub fn count_fits(width: Option<IntegerWidth>, count: usize) -> bool
     ensures { IsTrue result ↔ FitsCount width count }
 {

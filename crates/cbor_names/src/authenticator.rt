@@ -87,7 +87,7 @@ fn push_flags(text: &mut String, flags: u8) -> Result<(), AllocError> {
 /// Appends the parts of a credential, and returns where it ends. `None` if it is not whole.
 fn push_credential(text: &mut String, data: &[u8]) -> Result<Option<usize>, AllocError> {
     let (Some(aaguid), Some(length)) = (data.get(CREDENTIAL..LENGTH), data.get(LENGTH..ID)) else {
-        text.push_str(", attestedCredentialData is cut short")?;
+        text.push_str(", attestedCredentialData is truncated")?;
         return Ok(None);
     };
     text.push_str(", aaguid ")?;

@@ -1,4 +1,4 @@
-//! What a `Cursor` takes from between the quotes of notation: text with escapes, and digits with
+//! Reads what is between quotes in notation from a `Cursor`: text with escapes, and digits with
 //! blanks.
 ghost use Rattle.std.specs.Prelude.{◌≡◌, ◌⊎◌, ◌<◌, length, true, false, option_map, IfOk, IfErr};
 ghost use Rattle.std.specs.Prelude.{IfSome, Some, None, Err, position};
@@ -34,15 +34,15 @@ pub fn read_quoted(alloc: Global, text: &mut Cursor<'_>, quote: u8) -> Result<Ve
     }
 }
 
-/// How many bytes come before the first double quote or backslash, if there is one.
+/// How many bytes come before the first double quote or backslash; `None` if neither is there.
 fn plain_len(text: &[u8]) -> Option<usize>
     ensures { result ≡ position (is_special 34) text.now }
 {
     text.iter().position(|byte| matches!(*byte, b'"' | b'\\'))
 }
 
-/// The content of a text without escapes after its opening quote, and the text after its closing
-/// one. `None` if a backslash comes first, or there is no closing quote.
+/// The content of a text after its opening quote, and the text after its closing quote. Returns
+/// `None` if a backslash comes first, or if there is no closing quote.
 pub fn read_plain(text: &[u8]) -> Option<(&[u8], &[u8])>
     ensures gives { IfSome result (λ x. unquoted 34 false text.now ≡ Some (x.0.now, x.1.now)) }
     ensures shorter { IfSome result (λ x. length x.1.now < length text.now) }
@@ -69,8 +69,8 @@ fn read_digits(alloc: Global, text: &mut Cursor<'_>, comments: bool) -> Result<V
     }
 }
 
-/// The bytes of hex digits of either case, two digits for each byte, or `None` if they are not such
-/// digits. The only error is `Memory`.
+/// The bytes that hex digits encode, two digits of either case for each byte. Returns `None` if the
+/// digits are not of this form. The only error is `Memory`.
 pub fn base16(alloc: Global, digits: &[u8]) -> Result<Option<Vec<u8>>>
     ensures gives { IfOk result (λ bytes. option_map (λ x. x.items) bytes ≡ base16_of digits.now) }
     ensures refused { IfErr result (λ e. e ≡ Error.Memory) }
@@ -116,8 +116,8 @@ fn base32hex(alloc: Global, digits: &[u8]) -> Result<Vec<u8>>
     found.ok_or(Error::Notation)
 }
 
-/// The bytes that base 64 digits encode, in the alphabet for URLs without padding or in the
-/// standard one with it.
+/// The bytes that base 64 digits encode: in the URL-safe alphabet without padding, or in the
+/// standard alphabet with padding.
 fn base64(alloc: Global, digits: &[u8]) -> Result<Vec<u8>>
     ensures { Gives (λ x. x.items) result (or_refused (base64_of digits.now)) }
 {

@@ -1,5 +1,5 @@
-//! `Cursor`: what is still to be read of a text in notation, and the tokens that are taken from
-//! its front.
+//! `Cursor`: the part of a notation text that is still to be read. Its methods take tokens from the
+//! front.
 ghost use Rattle.std.specs.Prelude.{◌≡◌, ◌⊎◌, ◌↔◌, ◌<◌, ◌≤◌, length, None, Some, IfOk, [], IsTrue};
 ghost use Rattle.cbor_grammar.specs.Reading.{Gives};
 ghost use Rattle.cbor_notation.specs.mirror.Cursor.{Takes, TakesComma};
@@ -60,7 +60,7 @@ impl<'a> Cursor<'a> {
         start
     }
 
-    /// Passes the first byte, if there is one.
+    /// Skips the first byte, if there is one.
     #[inline(always)]
     pub fn skip_byte(&mut self)
         ensures rest { self.new ≡ rest_of self.old }
@@ -70,7 +70,7 @@ impl<'a> Cursor<'a> {
         self.rest = rest;
     }
 
-    /// Passes the longest blank at the front. Most often there is none, which the first byte shows.
+    /// Skips the longest blank at the front. Most often there is none, which the first byte shows.
     #[inline(always)]
     #[tactic(auto, using(crate::proofs::notation::Cursors::no_blank))]
     pub fn skip_blank(&mut self)
@@ -129,8 +129,8 @@ impl<'a> Cursor<'a> {
         }
     }
 
-    /// Takes the end of a list, if it is next: its closing byte, or a last comma, whitespace and
-    /// the closing byte.
+    /// Takes the end of a list, if it is next: its closing byte, or a trailing comma, whitespace
+    /// and the closing byte.
     #[inline(always)]
     pub fn take_end(&mut self, close: u8) -> bool
         ensures takes { Takes result self.old self.new (after_end close self.old) }
@@ -145,8 +145,8 @@ impl<'a> Cursor<'a> {
         }
     }
 
-    /// Takes the comma before a further member of a list, and returns true; or takes the end of the
-    /// list, and returns false.
+    /// Takes the comma before a further member of a list and returns true, or takes the end of the
+    /// list and returns false.
     #[inline(always)]
     #[tactic(auto, using(crate::proofs::notation::Cursors::no_space))]
     pub fn take_comma(&mut self, close: u8) -> Result<bool>
@@ -175,7 +175,7 @@ impl<'a> Cursor<'a> {
         }
     }
 
-    /// The width of a container's count, which is unstated, or none after `_`.
+    /// The width of a container's count: unstated, or none after `_`.
     #[inline(always)]
     pub fn take_length(&mut self) -> Option<IntegerWidth>
         ensures width { result ≡ (read_length self.old).0 }

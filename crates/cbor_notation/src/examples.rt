@@ -1,6 +1,5 @@
-//! What the definitions of reading notation say of a few inputs: each is computed, or shown by a
-//! witness, when the crate is checked, so that a wrong definition does not pass. Nothing calls
-//! these functions.
+//! Checks the definitions of reading notation on a few inputs. The checker computes each example or
+//! shows it by a witness, so a wrong definition does not pass. No code calls these functions.
 ghost use Rattle.std.specs.Prelude.{[], ◌∷◌, codes, Some};
 ghost use Rattle.std.specs.List.{AllByRecursion};
 ghost use Rattle.cbor_grammar.specs.declared.width.IntegerWidth.TheVariants.{Unknown, Zero, Eight};
@@ -16,8 +15,8 @@ ghost use Rattle.cbor_grammar.specs.Examples.{no_items_in_notation, open_bytes};
 ghost use Rattle.cbor_grammar.specs.Notation.{ReadsUnder};
 ghost use Rattle.cbor_grammar.specs.declared.width.FloatWidth.TheVariants as float_width;
 
-/// Texts that are an item in diagnostic notation: numbers in bases, with leading zeros and
-/// indicators, blanks round them, tags, and last commas.
+/// Texts that encode an item in diagnostic notation: numbers in each base, with leading zeros and
+/// indicators, blanks around them, tags, and trailing commas.
 pub(crate) fn notation_items()
     ensures blanks { ReadsUnder 1 (codes "/x/ 1 //") (small 1) }
     ensures hex { ReadsUnder 1 (codes "0x18") (atom (integer 24 Unknown)) }
@@ -35,7 +34,8 @@ pub(crate) fn notation_items()
     ensures float { ReadsUnder 1 (codes "float'3C00'") (atom (float 15360 float_width.Sixteen)) }
 {}
 
-/// Strings in diagnostic notation: each notation of bytes, and indefinite strings of no chunks.
+/// Strings in diagnostic notation: each notation of bytes, and indefinite-length strings without
+/// chunks.
 pub(crate) fn notation_strings()
     ensures spaced { ReadsUnder 1 (codes "h'/x/0 1'") (open_bytes (1 ∷ [])) }
     ensures base32 { ReadsUnder 1 (codes "b32'MZXW6==='") (open_bytes (codes "foo")) }
@@ -48,9 +48,9 @@ pub(crate) fn notation_strings()
     ensures no_texts { ReadsUnder 1 (codes "\"\"_") (atom (chunked_string Text [])) }
 {}
 
-/// Texts that are no item: an indicator past 3, a value past its width, no whitespace after a last
-/// comma, a blank before the parenthesis of a tag, digits that encode nothing, an escape too many,
-/// and others.
+/// Texts that encode no item: an indicator past 3, a value past its width, a trailing comma without
+/// whitespace after it, a blank before the parenthesis of a tag, digits that encode nothing, a
+/// needless escape, and others.
 pub(crate) fn notation_refused()
     ensures { AllByRecursion (λ text. (i : Item) → ¬ (ReadsUnder 128 text i)) no_items_in_notation }
 {}

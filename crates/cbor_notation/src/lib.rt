@@ -1,5 +1,5 @@
-//! The tokens of diagnostic notation (RFC 7049 section 6), taken from a text; and the proof that
-//! reading notation is what `cbor_grammar` defines.
+//! Takes the tokens of diagnostic notation (RFC 7049 section 6) from a text. Its proofs show that
+//! reading notation agrees with the definition in `cbor_grammar`.
 #![tactic(auto)]
 
 pub mod content;

@@ -1,4 +1,4 @@
-//! Numbers that a `Cursor` takes from notation, and the widths that they state.
+//! Reads numbers of notation from a `Cursor`, and the widths that they state.
 ghost use Rattle.std.specs.Prelude.{◌≡◌, ◌≢◌, ◌<◌, ℕ, length, IfOk, Ok, Err, MatchResult};
 ghost use Rattle.cbor_tokens.specs.Token.{capped};
 ghost use Rattle.cbor_grammar.specs.Head.{FitsWidth};
@@ -10,7 +10,7 @@ ghost use Rattle.cbor_notation.specs.mirror.NotationReading.{read_negative_numbe
 use crate::cursor::Cursor;
 use cbor_grammar::{Error, IntegerWidth, Result};
 
-/// The value and the indicator of the longest number at the front; a value past 2^64 is 2^64 + 1.
+/// The longest number at the front: its value and its indicator. A value past 2^64 is 2^64 + 1.
 pub fn read_number(text: &mut Cursor<'_>) -> Result<(u128, Option<u8>)>
     ensures gives { MatchResult result
         (λ x. (value : ℕ) × (read_number text.old ≡ Ok ((value, x.1), text.new))
@@ -28,8 +28,8 @@ pub fn read_number(text: &mut Cursor<'_>) -> Result<(u128, Option<u8>)>
     }
 }
 
-/// A number with its width: the stated one; without an indicator `Zero` up to 23, and else
-/// unstated. It has to fit.
+/// A number and its width: the stated one, or, without an indicator, `Zero` up to 23 and unstated
+/// above. Returns an error if the number does not fit.
 fn with_width(number: u128, indicator: Option<u8>) -> Result<(u64, IntegerWidth)>
     ensures gives { Gives (λ x. (x.0, x.1)) result (with_width number indicator) }
     ensures fits { IfOk result (λ x. FitsWidth x.1 x.0) }
@@ -52,7 +52,7 @@ fn with_width(number: u128, indicator: Option<u8>) -> Result<(u64, IntegerWidth)
     }
 }
 
-/// The number of an unsigned integer or a tag at the front, with its width.
+/// The number of an unsigned integer or a tag at the front, and its width.
 pub fn read_unsigned_number(text: &mut Cursor<'_>) -> Result<(u64, IntegerWidth)>
     ensures gives { Gives (λ x. ((x.0, x.1), text.new)) result (read_unsigned_number text.old) }
     ensures memory { result ≢ Err Error.Memory }
@@ -63,7 +63,7 @@ pub fn read_unsigned_number(text: &mut Cursor<'_>) -> Result<(u64, IntegerWidth)
     Ok(with_width(number, indicator)?)
 }
 
-/// The number that is encoded for a negative integer: one less than the number after its `-`.
+/// The number that encodes a negative integer: one less than the number after its `-`.
 pub fn read_negative_number(text: &mut Cursor<'_>) -> Result<(u64, IntegerWidth)>
     ensures gives { Gives (λ x. ((x.0, x.1), text.new)) result (read_negative_number text.old) }
     ensures memory { result ≢ Err Error.Memory }

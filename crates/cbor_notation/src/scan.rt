@@ -1,5 +1,4 @@
-//! What separates the items of notation as a `Cursor` passes it: blanks, commas, and what closes a
-//! list.
+//! Skips what separates the items of notation: blanks, commas, and the end of a list.
 ghost use Rattle.std.specs.Prelude.{◌≡◌, ◌⊎◌, ◌<◌, ◌≤◌, length, position, not, IfOk, IfSome};
 ghost use Rattle.std.specs.Prelude.{option_map};
 ghost use Rattle.cbor_tokens.specs.Token.{is_whitespace};
@@ -26,7 +25,7 @@ pub fn after_blank(text: &[u8]) -> &[u8]
     &text[cbor_tokens::blank_len(text)..]
 }
 
-/// The text after this byte, if it begins with it.
+/// The text after this byte, or `None` if the text does not begin with it.
 pub fn after_byte(text: &[u8], byte: u8) -> Option<&[u8]>
     ensures gives { option_map (λ x. x.now) result ≡ after_byte byte text.now }
     ensures shorter { IfSome result (λ x. length x.now < length text.now) }
@@ -37,7 +36,7 @@ pub fn after_byte(text: &[u8], byte: u8) -> Option<&[u8]>
     }
 }
 
-/// The text after this byte; returns an error if it does not begin with it.
+/// The text after this byte, or an error if the text does not begin with it.
 pub fn expect_byte(text: &[u8], byte: u8) -> Result<&[u8]>
     ensures gives { Gives (λ x. x.now) result (or_refused (after_byte byte text.now)) }
     ensures shorter { IfOk result (λ x. length x.now < length text.now) }
@@ -45,7 +44,7 @@ pub fn expect_byte(text: &[u8], byte: u8) -> Result<&[u8]>
     after_byte(text, byte).ok_or(Error::Notation)
 }
 
-/// The text after this word, if it begins with it.
+/// The text after this word, or `None` if the text does not begin with it.
 pub fn after_word<'a>(text: &'a [u8], word: &[u8]) -> Option<&'a [u8]>
     ensures gives { option_map (λ x. x.now) result ≡ after_word word.now text.now }
     ensures shorter { IfSome result (λ x. length x.now ≤ length text.now) }
@@ -57,14 +56,15 @@ pub fn after_word<'a>(text: &'a [u8], word: &[u8]) -> Option<&'a [u8]>
     }
 }
 
-/// How many bytes of whitespace come first, if another byte follows them.
+/// How many bytes of whitespace come first, or `None` if no other byte follows them.
 pub fn whitespace_len(text: &[u8]) -> Option<usize>
     ensures { result ≡ position (λ b. not (is_whitespace b)) text.now }
 {
     text.iter().position(|byte| !is_whitespace(*byte))
 }
 
-/// The text after whitespace and the closing byte of a list, if it begins with both.
+/// The text after whitespace and the closing byte of a list, or `None` if it does not begin with
+/// both.
 pub fn after_space(text: &[u8], close: u8) -> Option<&[u8]>
     ensures gives { option_map (λ x. x.now) result ≡ after_space close text.now }
     ensures shorter { IfSome result (λ x. length x.now < length text.now) }
@@ -76,8 +76,8 @@ pub fn after_space(text: &[u8], close: u8) -> Option<&[u8]>
     after_byte(&text[spaces..], close)
 }
 
-/// The text after the end of a list, if the list ends here: its closing byte, or a last comma,
-/// whitespace and the closing byte.
+/// The text after the end of a list, or `None` if the list does not end here. The end is the
+/// closing byte, or a trailing comma, whitespace and the closing byte.
 pub fn after_end(text: &[u8], close: u8) -> Option<&[u8]>
     ensures gives { option_map (λ x. x.now) result ≡ after_end close text.now }
     ensures shorter { IfSome result (λ x. length x.now < length text.now) }
@@ -88,7 +88,8 @@ pub fn after_end(text: &[u8], close: u8) -> Option<&[u8]>
     }
 }
 
-/// The width of a container's count, which is unstated, or none after `_`, and the text after that.
+/// The width of a container's count, and the text after it. The width is unstated, or `None` after
+/// `_`.
 pub fn read_length(text: &[u8]) -> (Option<IntegerWidth>, &[u8])
     ensures gives { let answer = read_length text.now in
         (result.0 ≡ answer.0) × (result.1.now ≡ answer.1) }

@@ -1,4 +1,4 @@
-//! In notation, what begins with which byte.
+//! `Start`: what the first byte of a notation text begins.
 ghost use Rattle.std.specs.Prelude.{◌≡◌, ◌≤◌, length};
 ghost use Rattle.cbor_notation.specs.mirror.NotationReading.{begins_piece, begins_string};
 ghost use Rattle.cbor_notation.specs.mirror.NotationReading.{first_start};
@@ -9,27 +9,27 @@ use cbor_grammar::strings::StringKind;
 /// What an item, or a piece of a string, begins with.
 #[derive(Clone, Copy)]
 pub enum Start {
-    /// `"`, of a text.
+    /// `"` begins a text.
     Quote,
-    /// `'`, of bytes as text.
+    /// `'` begins bytes as text.
     Apostrophe,
-    /// `(`, of an indefinite string.
+    /// `(` begins an indefinite-length string.
     Parenthesis,
-    /// `-`, of a negative integer.
+    /// `-` begins a negative integer.
     Minus,
-    /// A decimal digit, of an integer or a tag.
+    /// A decimal digit begins an integer or a tag.
     Digit,
-    /// `<`, of items whose bytes make a byte string.
+    /// `<` begins items whose bytes make a byte string.
     Angle,
-    /// `[`, of an array.
+    /// `[` begins an array.
     Bracket,
-    /// `b`, of bytes in base 32 or 64.
+    /// `b` begins bytes in base 32 or 64.
     LetterB,
-    /// `h`, of bytes in base 16 or in base 32 with the extended hex alphabet.
+    /// `h` begins bytes in base 16 or in base 32 with the extended hex alphabet.
     LetterH,
-    /// `{`, of a map.
+    /// `{` begins a map.
     Brace,
-    /// Any other byte: a word, or nothing that is notation.
+    /// Any other byte: a word, or no notation at all.
     Other,
 }
 
@@ -76,7 +76,7 @@ impl Start {
         start
     }
 
-    /// The kind of an indefinite string whose first chunk begins so.
+    /// The kind of an indefinite-length string whose first chunk begins with this.
     pub fn kind(self) -> StringKind
         ensures { result ≡ kind_from self }
     {
@@ -86,7 +86,7 @@ impl Start {
         }
     }
 
-    /// Whether a string of this kind begins so. The first piece of a text string is a text.
+    /// Whether a string of this kind begins with this. The first piece of a text string is a text.
     pub fn begins_string(self, kind: StringKind) -> bool
         ensures { result ≡ begins_string kind self }
     {
@@ -96,7 +96,8 @@ impl Start {
         }
     }
 
-    /// Whether a piece of a string of this kind begins so. Texts are pieces of text strings only.
+    /// Whether a piece of a string of this kind begins with this. Only text strings have texts as
+    /// pieces.
     pub fn begins_piece(self, kind: StringKind) -> bool
         ensures { result ≡ begins_piece kind self }
     {

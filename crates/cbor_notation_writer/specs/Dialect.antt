@@ -1,4 +1,4 @@
--- What a dialect of notation writes: the texts of its leaves, and by them the texts of an item.
+-- What a dialect of notation writes: the texts of its leaves, and from these the texts of an item.
 use Rattle.std.specs.Prelude.{◌≡◌, ℕ, zero, suc, List, [], ◌∷◌, ◌++◌, length, Bool, true, false, Option, Some}
 use Rattle.std.specs.Prelude.{None, Result, MatchResult, nat_lt, if◌then◌else◌}
 use Rattle.std.specs.Io.{StartsWith}
@@ -80,7 +80,7 @@ Writes result old new texts = Wrote result (string_bytes old) (string_bytes new)
 
 -- ---- members
 
--- members that are written, one after the other
+-- the members of a container, as they are written
 abbrev pub listed : (Bool → List ℕ) → List ℕ → List (List ℕ) → List ℕ
 listed start end [] = []
 listed start end (m ∷ ms) = (start true ++ (m ++ end)) ++ flat_map (λ x. start false ++ (x ++ end)) ms
@@ -156,7 +156,7 @@ PairsText d write p c l ps t =
 abbrev pub embedding : Chunk → Container
 embedding b = Embedded (Number (length b.bytes) b.width)
 
--- the one item that the bytes are, or the bytes
+-- the one item that the bytes encode, or the bytes
 abbrev pub OneText : {Place : Type 0} → Leaves Place → Writer Place → Place → Chunk → Option Item → Texts
 OneText d write p b (Some i) t =
     (m : List ℕ) × write (d.inside (embedding b) (d.layout p) p) i m × Between d p (embedding b) Compact m t
@@ -167,7 +167,7 @@ abbrev pub EmbeddedText : {Place : Type 0} → Leaves Place → Writer Place →
 EmbeddedText d write p b [] e t = Between d p (embedding b) Compact [] t
 EmbeddedText d write p b (x ∷ xs) e t = OneText d write p b e t
 
--- items one after the other, laid out as an array of them, and the bytes that begin with none
+-- items in order, laid out as an array, and the rest of the bytes, which begins with no item
 abbrev pub SequenceText : {Place : Type 0} → Leaves Place → Writer Place → Place → Chunk → Items × List ℕ → Texts
 SequenceText d write p b s t =
     (u r : List ℕ) × ItemsText d write p (embedding b) (sized_style d p (sequence_size s)) s.0 u

@@ -1,4 +1,4 @@
--- Definitions for the checker alone, which follow the code that writes notation straight from bytes.
+-- Definitions for the checker alone. They follow the code that writes notation straight from bytes.
 pub mod Straight
 pub mod Ahead
 pub mod LayoutView

@@ -1,13 +1,14 @@
-//! How long a container would be on one line, roughly, from its bytes: the estimate that
-//! `encode/notation/estimate.rt` of `cbor_diag` makes from items, before they are read.
+//! Estimates, from bytes that are not read yet, how long a container would be on one line. The file
+//! `encode/notation/estimate.rt` of `cbor_diag` makes the same estimate from items.
 //!
-//! Each function takes a budget of characters and returns what its part leaves of it, and the bytes
-//! after that part; or `None` where the part takes all of the budget, or where the bytes are cut or
-//! have a fault. Then it does not matter what is returned: the caller reads the same bytes next,
-//! and finds the error. Strings are skipped by their length, and texts aren't tested for UTF-8.
+//! Each function takes a budget of characters. It returns how much of the budget its part leaves,
+//! and the bytes after that part. It returns `None` if the part takes all of the budget, or if the
+//! bytes are truncated or malformed. In the last two cases any result will do: the caller reads the
+//! same bytes next, and finds the error. Strings are skipped by their length, and texts are not
+//! tested for UTF-8.
 //!
-//! Each head takes two characters of the budget or more. So one look reads fewer heads than half of
-//! the limit (30 for a limit of 60), however long or deep the container is.
+//! Each head takes at least two characters of the budget. So one look reads fewer heads than half
+//! of the limit (30 for a limit of 60), however long or deep the container is.
 ghost use Rattle.std.specs.Prelude.{◌≡◌, ℕ, ◌+◌, ◌-◌, ◌<◌, ◌≤◌, List, length, Ok, Option, IfSome};
 ghost use Rattle.cbor_grammar.specs.Embedded.{sequence_at};
 ghost use Rattle.cbor_grammar.specs.Estimate.{estimated_string, estimated_chunks};
@@ -32,17 +33,17 @@ use cbor_grammar::head::ItemHead;
 use cbor_grammar::layout::{ContainerStyle, Layout};
 use cbor_grammar::strings::StringKind;
 
-/// What a look at bytes finds.
+/// The result of a look at bytes.
 #[derive(Clone, Copy)]
 struct Ahead<'a> {
-    /// What is left of the budget, which is more than nothing.
+    /// What is left of the budget, at least one character.
     left: usize,
     /// The bytes after those that were looked at.
     rest: &'a [u8],
 }
 
 impl<'a> Ahead<'a> {
-    /// That this much is left before these bytes, if anything is.
+    /// Returns `None` if nothing of the budget is left.
     fn new(left: usize, rest: &'a [u8]) -> Option<Ahead<'a>>
         ensures leaves { (budget size : ℕ) → left ≡ budget - size
             → Leaves result budget size rest.now }
@@ -55,7 +56,7 @@ impl<'a> Ahead<'a> {
     }
 }
 
-/// The style of an array with this count of items, whose bytes after its head these are.
+/// The style of an array with this count of items, from the bytes after its head.
 pub fn array_style_ahead(
     layout: Layout,
     limit: usize,
@@ -78,7 +79,7 @@ pub fn array_style_ahead(
     }
 }
 
-/// The style of a map with this count of pairs, whose bytes after its head these are.
+/// The style of a map with this count of pairs, from the bytes after its head.
 pub fn map_style_ahead(
     layout: Layout,
     limit: usize,
@@ -101,7 +102,7 @@ pub fn map_style_ahead(
     }
 }
 
-/// The style of an indefinite string, whose bytes after its opening byte these are.
+/// The style of an indefinite string, from the bytes after its opening byte.
 pub fn chunks_style_ahead(
     layout: Layout,
     limit: usize,
@@ -124,10 +125,11 @@ pub fn chunks_style_ahead(
     }
 }
 
-/// The style of a sequence of the items that can be read from `level` one after the other.
+/// The style of the sequence of all items, at `level`, that can be read from the front of the
+/// bytes.
 ///
-/// Unlike the members of a container, these items count only if they can be read. So those that
-/// are looked at are read to their end, a quarter of the limit at most.
+/// Unlike the members of a container, these items count only if they can be read. So each item that
+/// is looked at is read to its end: at most as many items as a quarter of the limit.
 pub fn sequence_style_ahead(layout: Layout, limit: usize, level: u8, bytes: &[u8]) -> ContainerStyle
     requires from { 1 ≤ level }
     requires to { level ≤ deepest + 1 }
@@ -143,7 +145,7 @@ pub fn sequence_style_ahead(layout: Layout, limit: usize, level: u8, bytes: &[u8
     }
 }
 
-/// What the members of a container may take of this limit.
+/// The budget for the members of a container with this limit.
 #[inline(always)]
 fn budget_of(limit: usize) -> usize
     ensures { result ≡ limit - 4 }
@@ -151,7 +153,7 @@ fn budget_of(limit: usize) -> usize
     limit.saturating_sub(BRACKETS)
 }
 
-/// The style of a container with blanks, by what a look at its members finds.
+/// The style of a container with blanks, from the result of a look at its members.
 fn style_of(indent: usize, limit: usize, members: Option<Ahead<'_>>) -> ContainerStyle
     ensures style { (budget size : ℕ) (rest : List ℕ) → budget ≡ limit - 4
         → Leaves members.entry (4 + budget) (4 + size) rest
@@ -284,8 +286,8 @@ fn pairs_ahead(count: Argument, bytes: &[u8], budget: usize) -> Option<Ahead<'_>
     }
 }
 
-/// What the items that can be read from `level` one after the other leave of the budget, two
-/// characters more for each.
+/// What is left of the budget after all items, at `level`, that can be read from the front of the
+/// bytes. Each takes two characters more than its text.
 fn left_after_sequence(level: u8, bytes: &[u8], budget: usize) -> usize
     requires from { 1 ≤ level }
     requires to { level ≤ deepest + 1 }

@@ -1,4 +1,4 @@
-//! What numbers, strings and floats take of the budget of an estimate.
+//! Estimates how many characters numbers, strings and floats take of the budget for one line.
 ghost use Rattle.std.specs.Prelude.{◌≡◌, ◌+◌, ◌-◌, ◌^◌, ◌≤◌, nat_lt, length, map};
 ghost use Rattle.std.specs.Prelude.{if◌then◌else◌};
 ghost use Rattle.cbor_grammar.specs.Item.{Chunk};
@@ -11,14 +11,14 @@ use cbor_grammar::FloatWidth;
 use cbor_grammar::layout::{ContainerStyle, Layout};
 use cbor_grammar::strings::{DefiniteString, StringKind};
 
-/// The estimated length from which a container takes a line for each member, in the notation that
+/// The estimated length from which a container gives each member its own line, in the notation that
 /// `cbor_view` writes.
 pub const ONE_LINE_LIMIT: usize = 60;
 
 /// What a container's brackets take of the limit.
 pub const BRACKETS: usize = 4;
 
-/// The budget for the members of a container, which is long where they take all of it.
+/// The budget for the members of a container. The container is long if they take all of it.
 pub const BUDGET: usize = ONE_LINE_LIMIT - BRACKETS;
 
 /// The style of a container with blanks, by what its members leave of the budget.

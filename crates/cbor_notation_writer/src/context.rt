@@ -1,4 +1,4 @@
-//! Where in notation that is written an item is: what decides how it is written, beside the item
+//! The context of an item in a notation text. It decides how the item is written, besides the item
 //! itself.
 ghost use Rattle.std.specs.Prelude.{◌≡◌, ◌+◌, ◌≤◌};
 ghost use Rattle.cbor_grammar.specs.declared.encoding.Encoding.TheVariants.{Base16};
@@ -19,12 +19,12 @@ pub struct NotationContext {
     pub layout: Layout,
     /// How byte strings are written.
     pub encoding: Encoding,
-    /// What the bytes of a byte string right here are shown as.
+    /// What a byte string right here is shown as.
     pub content: Content,
 }
 
 impl NotationContext {
-    /// The beginning of a text: bytes are hex digits.
+    /// The context at the beginning of a text: byte strings are written in hex.
     pub fn new(layout: Layout) -> NotationContext
         ensures level { result.level ≡ 1 }
         ensures context { context_view result ≡ in_encoding layout Base16 }
@@ -37,8 +37,8 @@ impl NotationContext {
         }
     }
 
-    /// Right below this tag. Tags 21, 22 and 23 state an encoding for all that is nested
-    /// below (RFC 7049 section 2.4.4.2).
+    /// The context right below this tag. Tags 21, 22 and 23 state an encoding for all that is
+    /// nested below (RFC 7049 section 2.4.4.2).
     pub fn below(self, tag: Tag) -> NotationContext
         requires { self.level ≤ deepest }
         ensures level { result.level ≡ self.level + 1 }
@@ -63,7 +63,7 @@ impl NotationContext {
         }
     }
 
-    /// In a container, or embedded in a byte string.
+    /// The context in a container, or of an item that is embedded in a byte string.
     pub fn inside(self, layout: Layout) -> NotationContext
         requires { self.level ≤ deepest }
         ensures level { result.level ≡ self.level + 1 }

@@ -1,4 +1,4 @@
-//! From bytes and hex to notation, without an item between them.
+//! Converts bytes and hex to diagnostic notation, without building an item.
 
 ghost use Rattle.std.specs.Prelude.{◌≡◌, ℕ, ◌+◌, ◌<◌, ◌≤◌, ◌++◌, IfOk, IfSome, OnOk, OnErr};
 ghost use Rattle.std.specs.Prelude.{MatchResult, None, Ok};
@@ -26,11 +26,11 @@ use std::alloc::Global;
 /// Pretty text begins at the left.
 const PRETTY: Layout = Layout::Pretty { indent: 0 };
 
-/// Returns the one item that the bytes are in diagnostic notation (RFC 7049 section 6) on one line,
-/// without blanks.
+/// Converts the one item that the bytes encode to diagnostic notation (RFC 7049 section 6), on one
+/// line and without blanks.
 ///
-/// It returns what [`parse_bytes`] and [`DataItem::to_diag`] return one after the other, the errors
-/// of [`parse_bytes`] included. It builds no item, so it takes less time and less memory.
+/// The result is that of [`parse_bytes`] followed by [`DataItem::to_diag`], including the errors of
+/// [`parse_bytes`]. It builds no item, so it takes less time and less memory.
 ///
 /// ```rust
 /// use cbor_diag::{Error, bytes_to_diag};
@@ -44,19 +44,19 @@ const PRETTY: Layout = Layout::Pretty { indent: 0 };
 /// [`parse_bytes`]: cbor_diag::parse_bytes
 /// [`DataItem::to_diag`]: cbor_diag::DataItem::to_diag
 pub fn bytes_to_diag(alloc: Global, bytes: &[u8]) -> cbor_grammar::Result<String>
-    // The text of the item that the bytes are, exactly if they are one.
+    // The text of the item that the bytes encode, if and only if they encode one.
     ensures ok { IfOk result (λ s. (i : Item) × IsItem bytes.now i × (string_bytes s ≡ diag_of i)) }
     ensures every_item { (i : Item) → IsItem bytes.now i
         → MatchResult result (λ s. string_bytes s ≡ diag_of i) (λ e. e ≡ Error.Memory) }
 
-    // Each error, exactly if it is true.
+    // Each error, if and only if it holds for the input.
     ensures refused { RefusedSo result (IsNoItem bytes.now) }
     ensures every_refusal { (e : Error) → IsNoItem bytes.now e → GaveRefusal result e }
 
     // It is read back as the normal form of that item.
     ensures read_back { IfOk result (λ s. (i : Item) × IsItem bytes.now i
         × IsNotation (string_bytes s) (normal_of i)) }
-    // What is shown as embedded items is exactly what the bytes spell.
+    // What is shown as embedded items is exactly what the bytes encode.
     ensures embedded { EmbedsExactly }
 {
     whole_text(alloc, bytes, Layout::Compact)
@@ -65,13 +65,13 @@ pub fn bytes_to_diag(alloc: Global, bytes: &[u8]) -> cbor_grammar::Result<String
 /// Appends the text of [`bytes_to_diag`] to `out`, to reuse its memory. The errors are the same,
 /// and after one `out` is unchanged.
 pub fn push_bytes_to_diag(alloc: Global, bytes: &[u8], out: &mut String) -> cbor_grammar::Result<()>
-    // The text of the item that the bytes are, exactly if they are one.
+    // The text of the item that the bytes encode, if and only if they encode one.
     ensures ok { OnOk result ((i : Item) × IsItem bytes.now i
         × (string_bytes out.new ≡ string_bytes out.old ++ diag_of i)) }
     ensures every_item { (i : Item) → IsItem bytes.now i → MatchResult result
         (λ _. string_bytes out.new ≡ string_bytes out.old ++ diag_of i) (λ e. e ≡ Error.Memory) }
 
-    // Each error, exactly if it is true.
+    // Each error, if and only if it holds for the input.
     ensures refused { RefusedSo result (IsNoItem bytes.now) }
     ensures every_refusal { (e : Error) → IsNoItem bytes.now e → GaveRefusal result e }
     ensures unchanged { OnErr result (string_bytes out.new ≡ string_bytes out.old) }
@@ -80,11 +80,11 @@ pub fn push_bytes_to_diag(alloc: Global, bytes: &[u8], out: &mut String) -> cbor
 }
 
 /// Appends the text of the item at the front of the bytes to `out`, and returns the number of bytes
-/// that it takes. More bytes may follow.
+/// that the item takes. More bytes may follow.
 ///
-/// It returns what [`parse_bytes_partial`] returns, and appends what [`DataItem::push_diag`]
-/// appends: `Ok(None)` if the bytes end before the item does and before any error, and otherwise
-/// the first error from the left. In both cases, and if an allocation fails, `out` is unchanged.
+/// The text is that of [`parse_bytes_partial`] followed by [`DataItem::push_diag`]. If the bytes
+/// end before the item does and before any error, returns `Ok(None)`. If there is an error, returns
+/// the first one from the left. In both cases, and if an allocation fails, `out` is unchanged.
 ///
 /// ```rust
 /// use cbor_diag::push_bytes_to_diag_partial;
@@ -104,13 +104,13 @@ pub fn push_bytes_to_diag_partial(
     bytes: &[u8],
     out: &mut String,
 ) -> cbor_grammar::Result<Option<usize>>
-    // Each of the three results, only if it is true.
+    // Each of the three results, only if it holds for the input.
     ensures found { IfOk result (λ o. IfSome o (λ n. (i : Item) × BeginsWithItem bytes.now i n
         × (string_bytes out.new ≡ string_bytes out.old ++ diag_of i))) }
     ensures cut { result ≡ Ok None → IsCut bytes.now }
     ensures fault { RefusedSo result (HasFault bytes.now) }
 
-    // Bytes begin in exactly one of the three ways, and that one is returned.
+    // Bytes begin in exactly one of the three ways, and the result is that one.
     ensures exact { (o : Outcome) → BeginsSo bytes.now o
         → GaveText diag_of result (string_bytes out.old) (string_bytes out.new) o }
     ensures one_of_three { BeginsInOneWay bytes.now }
@@ -122,11 +122,11 @@ pub fn push_bytes_to_diag_partial(
     push_part(out, bytes, Layout::Compact)
 }
 
-/// Returns the item of hex with comments in diagnostic notation (RFC 7049 section 6) on one line,
-/// without blanks.
+/// Reads one item from hex with comments, and returns it in diagnostic notation (RFC 7049 section
+/// 6), on one line and without blanks.
 ///
-/// It returns what [`parse_hex`] and [`DataItem::to_diag`] return one after the other, the errors
-/// of [`parse_hex`] included. It builds no item, so it takes less time and less memory.
+/// The result is that of [`parse_hex`] followed by [`DataItem::to_diag`], including the errors of
+/// [`parse_hex`]. It builds no item, so it takes less time and less memory.
 ///
 /// ```rust
 /// use cbor_diag::hex_to_diag;
@@ -147,11 +147,11 @@ pub fn hex_to_diag(alloc: Global, hex: &str) -> cbor_grammar::Result<String>
     hex_text(alloc, hex, Layout::Compact)
 }
 
-/// Returns the one item that the bytes are in diagnostic notation (RFC 7049 section 6) with blanks,
-/// over several lines if it is long.
+/// Converts the one item that the bytes encode to diagnostic notation (RFC 7049 section 6) with
+/// blanks, over several lines if it is long.
 ///
-/// It returns what [`parse_bytes`] and [`DataItem::to_diag_pretty`] return one after the other, the
-/// errors of [`parse_bytes`] included. It builds no item, so it takes less time and less memory.
+/// The result is that of [`parse_bytes`] followed by [`DataItem::to_diag_pretty`], including the
+/// errors of [`parse_bytes`]. It builds no item, so it takes less time and less memory.
 ///
 /// ```rust
 /// use cbor_diag::bytes_to_diag_pretty;
@@ -164,20 +164,20 @@ pub fn hex_to_diag(alloc: Global, hex: &str) -> cbor_grammar::Result<String>
 /// [`DataItem::to_diag_pretty`]: cbor_diag::DataItem::to_diag_pretty
 #[tactic(auto, using(cbor_grammar::proofs::text::Forms::pretty_laws))]
 pub fn bytes_to_diag_pretty(alloc: Global, bytes: &[u8]) -> cbor_grammar::Result<String>
-    // The text of the item that the bytes are, exactly if they are one.
+    // The text of the item that the bytes encode, if and only if they encode one.
     ensures ok { IfOk result (λ s. (i : Item) × IsItem bytes.now i
         × (string_bytes s ≡ pretty_of i)) }
     ensures every_item { (i : Item) → IsItem bytes.now i
         → MatchResult result (λ s. string_bytes s ≡ pretty_of i) (λ e. e ≡ Error.Memory) }
 
-    // Each error, exactly if it is true.
+    // Each error, if and only if it holds for the input.
     ensures refused { RefusedSo result (IsNoItem bytes.now) }
     ensures every_refusal { (e : Error) → IsNoItem bytes.now e → GaveRefusal result e }
 
     // It is read back as the normal form of that item.
     ensures read_back { IfOk result (λ s. (i : Item) × IsItem bytes.now i
         × IsNotation (string_bytes s) (normal_of i)) }
-    // A container is on one line exactly where its whole estimate is below 60, at
+    // A container is on one line if and only if its whole estimate is below 60, at
     // any level and indent.
     ensures one_line { (level indent : ℕ) (e : Encoding) (i : Item) → level ≤ deepest
         → estimated_length i < one_line_limit
@@ -195,7 +195,7 @@ pub fn bytes_to_diag_pretty(alloc: Global, bytes: &[u8]) -> cbor_grammar::Result
         → level < deepest → one_line_limit ≤ sequence_size (sequence (level + 2) b.bytes)
         → pretty e level indent (encoded_sequence w b)
         ≡ sequence_in_lines e level indent w b.bytes }
-    // What is shown as embedded items is exactly what the bytes spell.
+    // What is shown as embedded items is exactly what the bytes encode.
     ensures embedded { EmbedsExactly }
 {
     whole_text(alloc, bytes, PRETTY)
@@ -208,13 +208,13 @@ pub fn push_bytes_to_diag_pretty(
     bytes: &[u8],
     out: &mut String,
 ) -> cbor_grammar::Result<()>
-    // The text of the item that the bytes are, exactly if they are one.
+    // The text of the item that the bytes encode, if and only if they encode one.
     ensures ok { OnOk result ((i : Item) × IsItem bytes.now i
         × (string_bytes out.new ≡ string_bytes out.old ++ pretty_of i)) }
     ensures every_item { (i : Item) → IsItem bytes.now i → MatchResult result
         (λ _. string_bytes out.new ≡ string_bytes out.old ++ pretty_of i) (λ e. e ≡ Error.Memory) }
 
-    // Each error, exactly if it is true.
+    // Each error, if and only if it holds for the input.
     ensures refused { RefusedSo result (IsNoItem bytes.now) }
     ensures every_refusal { (e : Error) → IsNoItem bytes.now e → GaveRefusal result e }
     ensures unchanged { OnErr result (string_bytes out.new ≡ string_bytes out.old) }
@@ -223,11 +223,12 @@ pub fn push_bytes_to_diag_pretty(
 }
 
 /// Appends the text of the item at the front of the bytes to `out`, and returns the number of bytes
-/// that it takes. More bytes may follow.
+/// that the item takes. More bytes may follow.
 ///
-/// It returns what [`parse_bytes_partial`] returns, and appends what [`DataItem::push_diag_pretty`]
-/// appends: `Ok(None)` if the bytes end before the item does and before any error, and otherwise
-/// the first error from the left. In both cases, and if an allocation fails, `out` is unchanged.
+/// The text is that of [`parse_bytes_partial`] followed by [`DataItem::push_diag_pretty`]. If the
+/// bytes end before the item does and before any error, returns `Ok(None)`. If there is an error,
+/// returns the first one from the left. In both cases, and if an allocation fails, `out` is
+/// unchanged.
 ///
 /// ```rust
 /// use cbor_diag::push_bytes_to_diag_pretty_partial;
@@ -247,13 +248,13 @@ pub fn push_bytes_to_diag_pretty_partial(
     bytes: &[u8],
     out: &mut String,
 ) -> cbor_grammar::Result<Option<usize>>
-    // Each of the three results, only if it is true.
+    // Each of the three results, only if it holds for the input.
     ensures found { IfOk result (λ o. IfSome o (λ n. (i : Item) × BeginsWithItem bytes.now i n
         × (string_bytes out.new ≡ string_bytes out.old ++ pretty_of i))) }
     ensures cut { result ≡ Ok None → IsCut bytes.now }
     ensures fault { RefusedSo result (HasFault bytes.now) }
 
-    // Bytes begin in exactly one of the three ways, and that one is returned.
+    // Bytes begin in exactly one of the three ways, and the result is that one.
     ensures exact { (o : Outcome) → BeginsSo bytes.now o
         → GaveText pretty_of result (string_bytes out.old) (string_bytes out.new) o }
     ensures one_of_three { BeginsInOneWay bytes.now }
@@ -265,11 +266,11 @@ pub fn push_bytes_to_diag_pretty_partial(
     push_part(out, bytes, PRETTY)
 }
 
-/// Returns the item of hex with comments in diagnostic notation (RFC 7049 section 6) with blanks,
-/// over several lines if it is long.
+/// Reads one item from hex with comments, and returns it in diagnostic notation (RFC 7049 section
+/// 6) with blanks, over several lines if it is long.
 ///
-/// It returns what [`parse_hex`] and [`DataItem::to_diag_pretty`] return one after the other, the
-/// errors of [`parse_hex`] included. It builds no item, so it takes less time and less memory.
+/// The result is that of [`parse_hex`] followed by [`DataItem::to_diag_pretty`], including the
+/// errors of [`parse_hex`]. It builds no item, so it takes less time and less memory.
 ///
 /// ```rust
 /// use cbor_diag::hex_to_diag_pretty;

@@ -199,8 +199,8 @@ impl Dialect for Diag {
     }
 }
 
-/// Writes the bytes of a byte string, or the items that they are where these are shown and can
-/// be read.
+/// Writes a byte string: as the items in it, if these are to be shown and can be read, otherwise as
+/// bytes.
 pub fn push_content(
     out: &mut String,
     bytes: &[u8],

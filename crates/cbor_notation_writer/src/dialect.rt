@@ -1,6 +1,6 @@
-//! What the dialects of notation differ in. `from_bytes.rt` writes any of them straight from bytes:
-//! it reads, goes from item to item, and lays containers out. A dialect writes the leaves, and what
-//! is around members.
+//! The trait of the dialects of notation. `from_bytes.rt` writes any dialect straight from bytes:
+//! it reads, goes from item to item, and lays out containers. A dialect writes the leaves, and the
+//! text around members.
 
 ghost use Rattle.std.specs.Prelude.{◌≡◌, ◌+◌, ◌<◌, ◌≤◌, ◌^◌, ℕ, Ok, IfSome, is_some, unwrap_or};
 ghost use Rattle.std.specs.Io.{StartsWith};
@@ -20,17 +20,17 @@ use cbor_grammar::layout::{ContainerStyle, Content, Layout};
 use cbor_grammar::strings::{StringContent, StringKind};
 use std::alloc::{AllocError, Global};
 
-/// A dialect of notation. Each method that writes appends to `out`; the only error is out of
-/// memory, and after it a part of the text may have been appended.
+/// A dialect of notation. Each method that writes appends to `out`. The only error is out of
+/// memory, and after it `out` may have a part of the text.
 pub trait Dialect {
-    /// Where an item is: what decides how it is written, beside the item itself.
+    /// Where an item is. This decides how the item is written, besides the item itself.
     type Place: Copy;
 
     ghost leaves: { Leaves Self.Place };
 
-    /// The place of an item there, once it is known how many bytes remain from its first byte on:
-    /// in the bytes that are read, or in the content of the byte string that the item stands in.
-    /// `None` where it is the same place.
+    /// The place of an item, once it is known how many bytes remain from its first byte on. These
+    /// are bytes of the input, or of the byte string that embeds the item. `None` if the place
+    /// stays the same.
     fn at(place: &Self::Place, remaining: usize) -> Option<Self::Place>
         ensures place { leaves.At place.now (unwrap_or result place.now) }
         ensures level { leaves.level (unwrap_or result place.now) ≡ leaves.level place.now }
@@ -44,35 +44,35 @@ pub trait Dialect {
     fn layout(place: &Self::Place) -> Layout
         ensures { result ≡ leaves.layout place.now };
 
-    /// The estimated length from which a container there takes a line for each member, where
-    /// lines may be used.
+    /// The estimated length from which a container there gives each member its own line, if the
+    /// layout has lines.
     fn limit(place: &Self::Place) -> usize
         ensures { result ≡ leaves.limit place.now };
 
-    /// What the bytes of this byte string there are shown as.
+    /// What this byte string there is shown as.
     fn content(place: &Self::Place, bytes: &[u8]) -> Content
         ensures { result ≡ leaves.content place.now bytes.now };
 
-    /// If the chunks of a string of this kind are joined there, and written as one string, the
-    /// allocator for that. Only those of a byte string may be.
+    /// The allocator for joining the chunks of a string of this kind there, or `None` if they are
+    /// written one by one. Only the chunks of a byte string may be joined.
     fn joins(place: &Self::Place, kind: StringKind) -> Option<Global>
         ensures joins { is_some result ≡ leaves.joins place.now kind }
         ensures bytes { IfSome result (λ _. kind ≡ StringKind.Bytes) };
 
-    /// The place of the first member of a container there, whose members are laid out so.
+    /// The place of the first member of a container there. The members have this layout.
     fn inside(place: &Self::Place, container: Container, layout: Layout) -> Self::Place
         requires { leaves.level place.now ≤ deepest }
         ensures place { result ≡ leaves.inside container layout place.now }
         ensures level { leaves.level result ≡ leaves.level place.now + 1 }
         ensures layout { leaves.layout result ≡ layout };
 
-    /// From the place of a member, or of a value, to that of the member after it.
+    /// Moves from the place of a member, or of a value, to that of the next member.
     fn pass(place: &mut Self::Place)
         ensures place { place.new ≡ leaves.next place.old }
         ensures level { leaves.level place.new ≡ leaves.level place.old }
         ensures layout { leaves.layout place.new ≡ leaves.layout place.old };
 
-    /// From the place of a key to that of its value. The key is at the front of the bytes, before
+    /// Moves from the place of a key to that of its value. The key is the part of the bytes before
     /// the rest.
     fn pass_key(place: &mut Self::Place, bytes: &[u8], rest: &[u8])
         ensures place { (levels : ℕ) (key : Item) → read_item levels bytes.now ≡ Ok (key, rest.now)
@@ -92,7 +92,8 @@ pub trait Dialect {
         requires { FitsLeaf leaf }
         ensures { Writes result out.old out.new (leaves.leaf place.now (atom_of leaf)) };
 
-    /// Writes a string of definite length; a byte string as bytes. Its length has this width.
+    /// Writes a string of definite length, whose length has this width. A byte string is written as
+    /// bytes.
     fn string(
         out: &mut String,
         content: StringContent<'_>,
@@ -116,7 +117,7 @@ pub trait Dialect {
     fn no_parts(out: &mut String, kind: StringKind, place: &Self::Place) -> Result<(), AllocError>
         ensures { Writes result out.old out.new (leaves.no_parts place.now kind) };
 
-    /// Writes what is before the members of a container.
+    /// Writes the text before the members of a container.
     fn opening(
         out: &mut String,
         container: Container,
@@ -125,7 +126,7 @@ pub trait Dialect {
     ) -> Result<(), AllocError>
         ensures { Writes result out.old out.new (leaves.opening place.now container style) };
 
-    /// Writes what is after the members of a container.
+    /// Writes the text after the members of a container.
     fn closing(
         out: &mut String,
         container: Container,
@@ -134,7 +135,7 @@ pub trait Dialect {
     ) -> Result<(), AllocError>
         ensures { Writes result out.old out.new (leaves.closing place.now container style) };
 
-    /// Writes the bytes, if any, that follow the items of a byte string and begin with none.
+    /// Writes the rest of a byte string, after the items in it, if that is not an item.
     fn rest(
         out: &mut String,
         container: Container,
@@ -143,7 +144,7 @@ pub trait Dialect {
     ) -> Result<(), AllocError>
         ensures { Writes result out.old out.new (leaves.rest place.now container rest.now) };
 
-    /// Writes a tag, by its number and the width of that, and what is before the item below it.
+    /// Writes a tag, given its number and width, and the text before the item below it.
     fn tag(
         out: &mut String,
         tag: u64,
@@ -152,11 +153,11 @@ pub trait Dialect {
     ) -> Result<(), AllocError>
         ensures { Writes result out.old out.new (leaves.tag place.now tag width) };
 
-    /// Writes what is after the item below a tag.
+    /// Writes the text after the item below a tag.
     fn tag_end(out: &mut String, tag: u64, place: &Self::Place) -> Result<(), AllocError>
         ensures { Writes result out.old out.new (leaves.tag_end place.now tag) };
 
-    /// Writes what is before a member.
+    /// Writes the text before a member.
     fn start(
         out: &mut String,
         container: Container,
@@ -166,11 +167,11 @@ pub trait Dialect {
         requires { style_indent style < 2 ^ 32 }
         ensures { AppendsText result out.old out.new (leaves.start container style first) };
 
-    /// Writes what is after a member.
+    /// Writes the text after a member.
     fn end(out: &mut String, container: Container, style: ContainerStyle) -> Result<(), AllocError>
         ensures { AppendsText result out.old out.new (leaves.end container style) };
 
-    /// Writes what is between a key and its value.
+    /// Writes the text between a key and its value.
     fn colon(out: &mut String, style: ContainerStyle) -> Result<(), AllocError>
         ensures { AppendsText result out.old out.new (leaves.colon style) };
 }

@@ -1,10 +1,10 @@
-//! Writes an item straight from its bytes, in any dialect of notation: each part is written as soon
-//! as it is read, and no item is built. How long a container would be on one line is found by a
-//! look ahead (`ahead.rt`).
+//! Writes an item straight from its bytes, in any dialect of notation. Each part is written as soon
+//! as it is read, and no item is built. A look ahead (`ahead.rt`) estimates how long a container
+//! would be on one line.
 //!
 //! Each function takes the remaining bytes and returns those after what it wrote. What was written
-//! before an error stays. Items that are embedded in a byte string are written by the same
-//! functions; what was written of them is cut back where they can't be read.
+//! before an error stays. The same functions write the items that are embedded in a byte string. If
+//! these cannot be read, their text is removed again.
 #![tactic(auto, using(cbor_tokens::proofs::texts::Appending::appending_steps))]
 
 ghost use Rattle.std.specs.Prelude.{◌≡◌, ◌+◌, ◌*◌, ◌<◌, ◌≤◌, ◌^◌, IfOk, IfErr, OnErr, true, false};
@@ -34,13 +34,13 @@ use cbor_grammar::strings::{StringContent, StringKind};
 use cbor_grammar::{Error, IntegerWidth};
 use std::alloc::{AllocError, Global};
 
-/// Whether the simple value at the front takes two bytes.
+/// Whether the simple value at the front has a two-byte encoding (`f8`).
 #[inline(always)]
 fn takes_two(bytes: &[u8]) -> bool {
     matches!(bytes.first(), Some(0xf8))
 }
 
-/// The place of an item that moved there, or stayed at its place.
+/// The new place of an item, or `place` if it has not moved.
 #[inline(always)]
 fn place_of<'a, D: Dialect>(moved: &'a Option<D::Place>, place: &'a D::Place) -> &'a D::Place
     ensures { result.now ≡ unwrap_or moved.now place.now }
@@ -174,7 +174,7 @@ fn push_map_front<'a, D: Dialect>(
     }
 }
 
-/// Writes a tag after its head, by its number and the width of that, and the item below it.
+/// Writes a tag after its head, given its number and width, and the item below it.
 #[cycle(straight)]
 #[inline(never)]
 fn push_tag_front<'a, D: Dialect>(
@@ -245,8 +245,8 @@ fn push_definite<D: Dialect>(
     }
 }
 
-/// Writes the bytes of a byte string, or the items that they are where these are shown and can
-/// be read. Its length has this width.
+/// Writes a byte string: as the items in it, if these are to be shown and can be read, otherwise as
+/// bytes. Its length has this width.
 #[cycle(straight)]
 pub fn push_content<D: Dialect>(
     out: &mut String,
@@ -266,7 +266,7 @@ pub fn push_content<D: Dialect>(
     }
 }
 
-/// Writes the item that the bytes are, or the bytes where they are none.
+/// Writes the item that the bytes encode, or the bytes if they encode none.
 #[cycle(straight)]
 #[inline(never)]
 fn push_embedded<D: Dialect>(
@@ -306,7 +306,7 @@ fn push_embedded<D: Dialect>(
     }
 }
 
-/// Writes as many items as can be read one after the other, and the rest as bytes.
+/// Writes the bytes as the items that can be read from their front, and the rest as bytes.
 #[cycle(straight)]
 #[inline(never)]
 fn push_sequence<D: Dialect>(
@@ -446,7 +446,7 @@ fn push_parts_front<'a, D: Dialect>(
     }
 }
 
-/// Writes what is before a chunk, after `held` others.
+/// Writes the text before a chunk, after `held` others.
 fn push_chunk_start<D: Dialect>(
     out: &mut String,
     kind: StringKind,
@@ -466,7 +466,7 @@ fn push_chunk_start<D: Dialect>(
     }
 }
 
-/// Writes what is after the last of `held` chunks. A string without chunks keeps its kind.
+/// Writes the text after the last of `held` chunks. A string without chunks keeps its kind.
 fn push_chunks_end<D: Dialect>(
     out: &mut String,
     kind: StringKind,

@@ -1,5 +1,5 @@
-//! What is written round the members of containers and the chunks of strings, as their style
-//! has it. What is short and called at each member is inlined.
+//! Writes the text around the members of containers and the chunks of strings, by their style.
+//! Short functions that are called for each member are inlined.
 #![tactic(auto, using(cbor_tokens::proofs::texts::Appending::appending_steps))]
 
 ghost use Rattle.std.specs.Prelude.{◌≡◌, ◌∷◌, [], ◌++◌, ◌<◌, ◌≤◌, ◌^◌, map};
@@ -24,8 +24,8 @@ use std::alloc::AllocError;
 /// A line feed, and as many blanks as are written with it at once.
 const LINE: &str = "\n                                                                ";
 
-/// Begins a new line with this many blanks. Lines near the left are most of them, and a text
-/// whose length is known here is written in less time.
+/// Begins a new line with this many blanks. Most lines are near the left: their text has a length
+/// that is known here, so it is written faster.
 fn push_line(out: &mut String, indent: usize) -> Result<(), AllocError>
     ensures { AppendsText result out.old out.new (line indent) }
 {
@@ -39,7 +39,7 @@ fn push_line(out: &mut String, indent: usize) -> Result<(), AllocError>
     }
 }
 
-/// The same, however far from the left.
+/// Begins a new line with any number of blanks.
 #[inline(never)]
 fn push_far_line(out: &mut String, indent: usize) -> Result<(), AllocError>
     ensures { AppendsText result out.old out.new (line indent) }
@@ -71,7 +71,7 @@ pub fn push_opening(
     }
 }
 
-/// Writes what is before a member.
+/// Writes the text before a member.
 #[inline(always)]
 pub fn push_start(out: &mut String, style: ContainerStyle, first: bool) -> Result<(), AllocError>
     requires { style_indent style < 2 ^ 32 }
@@ -85,7 +85,7 @@ pub fn push_start(out: &mut String, style: ContainerStyle, first: bool) -> Resul
     }
 }
 
-/// Writes what is after a member.
+/// Writes the text after a member.
 #[inline(always)]
 pub fn push_end(out: &mut String, style: ContainerStyle) -> Result<(), AllocError>
     ensures { AppendsText result out.old out.new (after_member style) }
@@ -96,7 +96,7 @@ pub fn push_end(out: &mut String, style: ContainerStyle) -> Result<(), AllocErro
     }
 }
 
-/// Writes what is between a key and its value.
+/// Writes the text between a key and its value.
 #[inline(always)]
 pub fn push_colon(out: &mut String, style: ContainerStyle) -> Result<(), AllocError>
     ensures { AppendsText result out.old out.new (colon style) }
@@ -107,7 +107,7 @@ pub fn push_colon(out: &mut String, style: ContainerStyle) -> Result<(), AllocEr
     }
 }
 
-/// Writes a closing bracket, on a line of its own where the members are on lines.
+/// Writes a closing bracket, on its own line if the members are on lines.
 #[inline(always)]
 pub fn push_closing(
     out: &mut String,
@@ -123,7 +123,7 @@ pub fn push_closing(
     out.push(bracket)
 }
 
-/// Writes the chunks of an indefinite string; one of no chunks keeps its kind.
+/// Writes the chunks of an indefinite string. A string without chunks keeps its kind.
 #[inline(never)]
 pub fn push_chunks<S: DefiniteString>(
     out: &mut String,
@@ -160,7 +160,7 @@ pub(crate) fn push_no_chunks(out: &mut String, kind: StringKind) -> Result<(), A
     }
 }
 
-/// Writes the rest of a sequence, which can't be read as an item.
+/// Writes the rest of a sequence, which cannot be read as an item.
 pub(crate) fn push_rest(
     out: &mut String,
     rest: &[u8],

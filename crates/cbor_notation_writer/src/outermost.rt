@@ -1,5 +1,5 @@
-//! Writes the text of an item at the outermost level straight from bytes and hex, in any layout.
-//! The public calls of `convert.rt` are these functions in their layouts.
+//! Writes an outermost item as notation straight from bytes or hex, in any layout. The public calls
+//! of `convert.rt` are these functions with their layouts.
 #![tactic(auto, using(cbor_tokens::proofs::texts::Appending::appending_steps))]
 
 ghost use Rattle.std.specs.Prelude.{◌≡◌, ◌≤◌, ◌++◌, IfOk, IfErr, IfSome, OnOk, OnErr};
@@ -26,8 +26,8 @@ use cbor_grammar::Error;
 use cbor_grammar::layout::Layout;
 use std::alloc::Global;
 
-/// Writes the item at the front in any dialect, from the outermost level, and returns the bytes
-/// after it. After an error the text is what it was.
+/// Writes the item at the front in any dialect, as the outermost item, and returns the bytes after
+/// it. After an error the text is unchanged.
 pub fn push_outermost<'a, D: Dialect>(
     out: &mut String,
     bytes: &'a [u8],
@@ -50,7 +50,7 @@ pub fn push_outermost<'a, D: Dialect>(
     }
 }
 
-/// The same in the notation of `cbor_view`, in this layout.
+/// Writes the item at the front in the notation of `cbor_view`, in this layout.
 fn push_outermost_front<'a>(
     out: &mut String,
     bytes: &'a [u8],
@@ -65,7 +65,7 @@ fn push_outermost_front<'a>(
     push_outermost::<Diag>(out, bytes, &NotationContext::new(layout))
 }
 
-/// Writes the one item that the bytes are, all of them. After an error the text is what it was.
+/// Writes the one item that the bytes encode, all of them. After an error the text is unchanged.
 fn push_only(out: &mut String, bytes: &[u8], layout: Layout) -> cbor_grammar::Result<()>
     requires { indent_of layout ≤ 4 }
     ensures ok { OnOk result ((i : Item) × IsItem bytes.now i
@@ -82,7 +82,8 @@ fn push_only(out: &mut String, bytes: &[u8], layout: Layout) -> cbor_grammar::Re
     Err(Error::Remaining)
 }
 
-/// The same. It is the one item, and the errors are those that the bytes have.
+/// As `push_only`, with a contract for every item that the bytes encode and every error that they
+/// have.
 pub(super) fn push_whole(out: &mut String, bytes: &[u8], layout: Layout) -> cbor_grammar::Result<()>
     requires { indent_of layout ≤ 4 }
     ensures ok { OnOk result ((i : Item) × IsItem bytes.now i
@@ -97,7 +98,7 @@ pub(super) fn push_whole(out: &mut String, bytes: &[u8], layout: Layout) -> cbor
     push_only(out, bytes, layout)
 }
 
-/// Writes the item at the front, and returns how many bytes it takes, or `None` where it is cut.
+/// Writes the item at the front, and returns how many bytes it takes, or `None` if it is truncated.
 pub(super) fn push_part(
     out: &mut String,
     bytes: &[u8],
@@ -123,16 +124,17 @@ pub(super) fn push_part(
     }
 }
 
-/// For how many bytes of an input memory is taken before its text is written, at most.
+/// The most bytes of an input for which memory is reserved before its text is written.
 const MOST: usize = 1 << 19;
 
-/// How much memory a text of that many bytes begins with: it is mostly up to twice as long. From C,
-/// a message of 98 bytes takes a quarter less than where its text is made longer again and again.
+/// The initial capacity of the text for that many bytes. Most texts are at most twice as long.
+/// Called from C, a message of 98 bytes takes a quarter less time than with a text that grows step
+/// by step.
 fn first_capacity(len: usize) -> usize {
     2 * len.min(MOST) + 32
 }
 
-/// Returns the text of the one item that the bytes are.
+/// Returns the text of the one item that the bytes encode.
 pub(super) fn whole_text(
     alloc: Global,
     bytes: &[u8],

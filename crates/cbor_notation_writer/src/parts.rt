@@ -1,24 +1,24 @@
-//! What a dialect of notation is asked to write: a leaf, and what is around the members of a
-//! container.
+//! The parts that a dialect of notation writes: leaves, and containers by the text around their
+//! members.
 
 use cbor_grammar::argument::Argument;
 use cbor_grammar::strings::StringKind;
 use cbor_grammar::{FloatWidth, IntegerWidth};
 
-/// What holds no item and is no string.
+/// An item without members: a number, a float or a simple value, but no string.
 #[derive(Clone, Copy)]
 pub enum Leaf {
     /// An integer, and the width that its number was written in.
     Integer(u64, IntegerWidth),
-    /// A negative integer, by the encoded number, which is one less than its amount.
+    /// A negative integer, by the encoded number `n`; the integer is `-1 - n`.
     Negative(u64, IntegerWidth),
     /// A float by its bits, which fit this width.
     Float(u64, FloatWidth),
-    /// A simple value, and whether it takes two bytes.
+    /// A simple value, and whether it has a two-byte encoding (`f8`).
     Simple(u8, bool),
 }
 
-/// What has members.
+/// An item that has members.
 #[derive(Clone, Copy)]
 pub enum Container {
     /// An array, with its count of items.

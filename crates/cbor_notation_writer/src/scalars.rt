@@ -1,5 +1,5 @@
-//! Writes numbers, strings, floats and simple values in notation (RFC 7049 section 6), each by a
-//! function of its own, which isn't inlined where the kinds of items are told apart.
+//! Writes numbers, strings, floats and simple values in notation (RFC 7049 section 6). Each kind
+//! has its own function, which is not inlined where the kinds are told apart.
 #![tactic(auto, using(cbor_tokens::proofs::texts::Appending::appending_steps))]
 
 ghost use Rattle.std.specs.Prelude.{◌≡◌, ◌+◌, ◌++◌, codes};
@@ -56,7 +56,7 @@ pub fn push_number(out: &mut String, value: u64, width: IntegerWidth) -> Result<
     push_indicator(out, width)
 }
 
-/// Writes a negative integer by its encoded number, which is one less than what is written.
+/// Writes a negative integer, given by the encoded number `n`: the integer is `-1 - n`.
 #[inline(never)]
 pub fn push_negative(out: &mut String, value: u64, width: IntegerWidth) -> Result<(), AllocError>
     ensures { AppendsText result out.old out.new (codes "-" ++ number (value + 1) width) }
@@ -96,8 +96,8 @@ pub(crate) fn push_string(
     }
 }
 
-/// Whether the text has a byte that is escaped by a backslash. It is looked at to its end,
-/// whatever is found: so the loop has one way out, and many bytes are looked at together.
+/// Whether a backslash escapes any byte of the text. The loop always runs to the end of the text,
+/// so that the compiler can test many bytes at once.
 fn has_escaped(content: &str) -> bool
     ensures { result ≡ list_any (is_special quote) content.now }
 {
@@ -108,7 +108,7 @@ fn has_escaped(content: &str) -> bool
     found > 0
 }
 
-/// Whether the byte is escaped by a backslash in a text.
+/// Whether a backslash escapes this byte in a text.
 fn is_escaped(byte: u8) -> bool
     ensures { result ≡ is_special quote byte }
 {
@@ -150,7 +150,7 @@ pub fn push_float(out: &mut String, bits: u64, width: FloatWidth) -> Result<(), 
     out.push('\'')
 }
 
-/// Writes a simple value, by its name where it has one.
+/// Writes a simple value, by its name if it has one.
 #[inline(never)]
 pub fn push_simple(out: &mut String, simple: Simple) -> Result<(), AllocError>
     ensures { AppendsText result out.old out.new (simple_text simple.0) }

@@ -11,8 +11,8 @@ characters = codes "123456789ABCDEFGHJKLMNPQRSTUVWXYZabcdefghijkmnopqrstuvwxyz"
 abbrev pub leading_zeros : List ℕ → ℕ
 leading_zeros bytes = length (take_while (λ byte. byte == 0) bytes)
 
--- one `1` for each leading zero byte, and then the digits in base 58, the highest first and none for
--- zero, of the number that the bytes are, the first byte highest
+-- one `1` for each leading zero byte, and then the base 58 digits of the number that the bytes encode, the first byte
+-- highest; the highest digit comes first, and zero has no digits
 unfoldable pub base58_of : List ℕ → List ℕ
 base58_of bytes =
     replicate (leading_zeros bytes) digit_one

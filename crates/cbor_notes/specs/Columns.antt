@@ -1,4 +1,4 @@
--- What holds of every layout of plain lines: one column of comments, and digits without them.
+-- What holds for every layout of plain lines: all comments are in one column, and without them only digits are left.
 use Rattle.std.specs.Prelude.{◌≡◌, ℕ, ◌==◌, List, flat_map, Some}
 use Rattle.std.specs.List.{AllByRecursion, position}
 use Rattle.std.specs.Str.Lines.{lines}

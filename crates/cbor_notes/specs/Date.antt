@@ -1,5 +1,5 @@
--- Dates and times of day, as texts and as the days and seconds since 1970-01-01. The dates that there
--- are, and the number of the day of each, are those of `jiff`.
+-- Dates and times of day, as texts and as the days and seconds since 1970-01-01. The dates, and the number of the day
+-- of each, are those of `jiff`.
 use Rattle.std.specs.Prelude.{◌≡◌, ℕ, ◌+◌, ◌*◌, ◌/◌, ◌%◌, ◌≤◌, suc, ℤ, pos, negsuc, ◌+ℤ◌, ◌*ℤ◌, ◌≤ℤ◌, int_le}
 use Rattle.std.specs.Prelude.{unsigned_abs, Bool, true, false, ◌&&◌, if◌then◌else◌, Option, Some, None, option_map}
 use Rattle.std.specs.Prelude.{List, [], ◌∷◌, ◌++◌, codes, bytes_eq}

@@ -1,5 +1,5 @@
--- The days of the calendar, one after the other. They are the dates of `jiff`, with the same numbers, as
--- the law `calendar_days` of laws.rt states.
+-- The days of the calendar in order. They are the dates of `jiff`, with the same numbers, as the law `calendar_days` of
+-- laws.rt states.
 use Rattle.std.specs.Prelude.{◌≡◌, ℕ, zero, suc, ◌+◌, Bool, ◌&&◌, int_le, int_lt, unsigned_abs, ℤ, pos, neg_ℤ, ◌+ℤ◌}
 use Rattle.std.specs.Prelude.{◌-ℤ◌, nat_lt, if◌then◌else◌}
 use Rattle.jiff.specs.Types.{Date}

@@ -1,4 +1,4 @@
--- In comments, the lines that show what a text in base 64 encodes.
+-- The lines that show, in comments, what a text in base 64 encodes.
 use Rattle.std.specs.Prelude.{ℕ, ◌-◌, ◌*◌, Bool, Option, option_map, List, ◌++◌, map, min, length, replicate, codes}
 use Rattle.std.specs.Int.{div_ceil}
 use Rattle.std.specs.List.{range_with_len}
@@ -14,8 +14,8 @@ unfoldable pub decoded_line : ℕ → List ℕ → List ℕ
 decoded_line width piece =
     encode_lower piece ++ replicate (width - 2 * length piece) space ++ codes " # " ++ quoted_bytes piece
 
--- one line for each piece of sixteen bytes, of which the last may be shorter; the hex digits of each are
--- as wide as those of the first
+-- one line for each piece of sixteen bytes; the last piece may be shorter; the hex digits of each line are as wide as
+-- those of the first
 unfoldable pub decoded_lines : List ℕ → List (List ℕ)
 decoded_lines bytes =
     map (λ n. decoded_line (2 * min 16 (length bytes)) (slice_chunk bytes 16 n))

@@ -1,4 +1,4 @@
--- The elements of typed arrays: RFC 8746, section 2.
+-- The elements of typed arrays (RFC 8746, section 2): their sizes, and their texts in comments.
 use Rattle.std.specs.Prelude.{ℕ, ◌+◌, ◌-◌, ◌*◌, ◌/◌, ◌%◌, ◌^◌, ◌==◌, nat_le, nat_lt, Bool, true, false, not, ◌&&◌}
 use Rattle.std.specs.Prelude.{if◌then◌else◌, Option, Some, None, List, ◌++◌, length, reverse, codes}
 use Rattle.std.specs.Int.Digits.{number_from_digits}

@@ -1,4 +1,4 @@
--- The texts of a UUID. RFC 4122, section 4.1, says where its variant and version are.
+-- The texts that describe a UUID. RFC 4122, section 4.1, defines where its variant and version are.
 use Rattle.std.specs.Prelude.{ℕ, false, Option, Some, None, List, [], ◌∷◌, ◌++◌, slice_index, codes, decimal}
 use Rattle.base64.specs.Rfc4648.{encode}
 use Rattle.uuid.specs.Parts.{variant_of, version_of}

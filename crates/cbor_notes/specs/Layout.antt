@@ -3,7 +3,7 @@ use Rattle.std.specs.Prelude.{ℕ, ◌+◌, ◌-◌, ◌*◌, ◌==◌, List, []
 use Rattle.std.specs.Prelude.{if◌then◌else◌}
 use Rattle.cbor_tokens.specs.Ascii.{space}
 
--- a line: its depth, its hex digits, of which there may be none, and its comment
+-- a line: its depth, its hex digits, if any, and its comment
 pub record DumpLine : Type 0 where
   pub depth : ℕ
   pub hex : List ℕ
@@ -39,6 +39,6 @@ row width line = left_column width line ++ codes " # " ++ blanks (2 * line.depth
 abbrev pub line_text : ℕ → DumpLine → List ℕ
 line_text width line = row width line ++ codes "\n"
 
--- all lines, one after the other, with their comments in one column
+-- all lines in order, with their comments in one column
 abbrev pub layout : List DumpLine → List ℕ
 layout lines = flat_map (line_text (width_of lines)) lines

@@ -1,4 +1,4 @@
--- In the columns of a dump, the lines of a tree of lines, and which trees are laid out.
+-- The lines of a tree of lines, in the columns of a dump, and which trees can be laid out.
 use Rattle.std.specs.Prelude.{ℕ, ◌+◌, ◌<◌, ◌≤◌, List, ◌∷◌, length, string_bytes, flat_map}
 use Rattle.std.specs.List.{AllByRecursion}
 use Rattle.std.specs.Str.{IsAscii}
@@ -23,7 +23,7 @@ first_line line depth = record {
       string_bytes (out-Line line).comment;
 }
 
--- the lines of several trees, one after the other
+-- the lines of several trees in order
 abbrev pub forest_lines : List Line → ℕ → List DumpLine
 forest_lines trees depth = flat_map (λ tree. tree_lines tree depth) trees
 

@@ -1,4 +1,4 @@
--- Of dates, the first number of several for which something is found.
+-- The first of several numbers for which something is found, for the search of a date.
 use Rattle.std.specs.Prelude.{ℕ, zero, suc, Option, None}
 use Rattle.std.specs.Option.{option_or}
 

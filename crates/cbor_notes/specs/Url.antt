@@ -1,4 +1,4 @@
--- Which texts are URLs, as the URL Standard's parser of `url` reads them.
+-- Which texts are URLs: those that the URL Standard's parser in `url` accepts.
 use Rattle.std.specs.Prelude.{Bool, List, ℕ, None, is_ok}
 use Rattle.url.specs.Parser.{parse_url}
 

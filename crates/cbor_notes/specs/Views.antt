@@ -1,4 +1,4 @@
--- Which kind of elements of typed arrays the code's own enum is, and the bytes that it looks for.
+-- The kind of elements that each variant of the code's own enum stands for, and the bytes that the code searches for.
 use Rattle.std.specs.Prelude.{ℕ, Bool, ◌==◌, ◌||◌, nat_lt}
 use Rattle.cbor_tokens.specs.Ascii.{quote, backslash}
 use Rattle.cbor_notes.specs.declared.element.Kind.TheVariants as own_kind

@@ -1,4 +1,4 @@
-//! Network addresses as text in comments.
+//! Writes network addresses as texts for comments.
 
 ghost use Rattle.std.specs.Prelude.{◌≡◌, IfOk};
 ghost use Rattle.std.specs.String.{string_bytes};
@@ -23,8 +23,8 @@ pub fn ipv4_text(alloc: Global, octets: &[u8; 4]) -> Result<String, AllocError>
     Ipv4Addr::from(*octets).to_string(alloc)
 }
 
-/// Returns the IPv6 address of sixteen octets, in network order, as RFC 5952 recommends in sections
-/// 4 and 5.
+/// Returns the IPv6 address of sixteen octets, in network order, in the form that RFC 5952
+/// recommends in sections 4 and 5.
 ///
 /// An address in `::ffff:0:0/96` is `::ffff:` and its last four octets as an IPv4 address. Any
 /// other is eight groups of hex digits in lower case without leading zeros, with `:` between them.

@@ -1,17 +1,17 @@
-//! For the texts of comments, ASCII characters that are appended at once.
+//! A buffer that collects ASCII characters and appends them to a comment's text at once.
 ghost use Rattle.std.specs.Prelude.{◌≡◌, ◌≤◌, ◌<◌, ◌+◌, [], ◌∷◌, ◌++◌, ℕ, List, length, take};
 ghost use Rattle.std.specs.Str.{IsAscii};
 ghost use Rattle.hex.specs.Hex.{encode_lower};
 
 use std::marker::Model;
 
-/// How many characters a buffer has room for.
+/// The most characters that a buffer holds.
 pub(crate) const ROOM: usize = 96;
 
 const DIGITS: [u8; 16] = *b"0123456789abcdef";
 
-/// ASCII characters that are gathered here and then appended to a text at once. One append takes as
-/// long as writing some ten characters here.
+/// ASCII characters that are collected here and then appended to a text at once. One append takes
+/// as long as writing some ten characters here.
 #[derive(Drop)]
 pub(crate) struct AsciiBuffer {
     bytes: [u8; ROOM],
@@ -27,7 +27,7 @@ impl Model for AsciiBuffer {
 }
 
 impl AsciiBuffer {
-    /// No characters.
+    /// Returns an empty buffer.
     pub(crate) fn new() -> AsciiBuffer
         ensures { result ≡ [] }
     {
@@ -58,7 +58,7 @@ impl AsciiBuffer {
         self.push(DIGITS[usize::from(byte % 16)]);
     }
 
-    /// The characters as a text.
+    /// Returns the characters as a text.
     #[inline]
     pub(crate) fn as_str(&self) -> &str
         ensures { result.now ≡ self.now }

@@ -1,4 +1,4 @@
-//! Base 58, as Bitcoin's addresses have it.
+//! Writes sixteen bytes in base 58, with the alphabet of Bitcoin's addresses.
 
 ghost use Rattle.std.specs.Prelude.{◌≡◌, ◌++◌, ℕ, List, map, replicate, slice_index, IfOk, OnOk};
 ghost use Rattle.std.specs.String.{string_bytes};
@@ -11,7 +11,7 @@ use std::alloc::{AllocError, Global};
 const CHARACTERS: [u8; 58] = *b"123456789ABCDEFGHJKLMNPQRSTUVWXYZabcdefghijkmnopqrstuvwxyz";
 
 /// Returns sixteen bytes in base 58, in Bitcoin's alphabet: a `1` for each leading zero byte, and
-/// then the digits of the number that the bytes are in big endian. The number zero has no digits.
+/// then the digits of the bytes as a big-endian number. The number zero has no digits.
 ///
 /// The only error is out of memory.
 ///
@@ -46,7 +46,7 @@ pub(crate) fn push_base58(text: &mut String, bytes: &[u8; 16]) -> Result<(), All
     push_digits(text, u128::from_be_bytes(*bytes))
 }
 
-/// How many zero bytes come first.
+/// The number of leading zero bytes.
 fn leading_zeros(bytes: &[u8]) -> usize
     ensures count { result ≡ leading_zeros bytes.now }
 {

@@ -1,4 +1,4 @@
-//! Dates, as texts and as days from 1970-01-01.
+//! Converts dates between texts and days since 1970-01-01.
 
 ghost use Rattle.std.specs.Prelude.{◌≡◌, ◌↔◌, ◌++◌, ℕ, ◌<◌, [], ◌∷◌, pos, IsSome, IfSome, IfOk};
 ghost use Rattle.std.specs.Prelude.{OnOk, IsSomeAnd, option_map};
@@ -96,7 +96,7 @@ pub(crate) fn day_of_date(date: Date) -> i32
     date.to_plain().to_unix_epoch_day()
 }
 
-/// The date that a text is, if it is as long as one.
+/// The date that a text names, if the text is as long as a date.
 fn text_date(text: &str) -> Option<Date>
     ensures found { IfSome result (λ date. IsDateText text.now date) }
     ensures only { (date : CivilDate) → IsDateText text.now date
@@ -105,7 +105,7 @@ fn text_date(text: &str) -> Option<Date>
     read_date(text.as_bytes().as_array()?)
 }
 
-/// The date that ten bytes are: four digits, two and two, with `-` between them.
+/// The date that ten bytes name: four digits, two and two, with `-` between them.
 pub(crate) fn read_date(text: &[u8; 10]) -> Option<Date>
     ensures found { IfSome result (λ date. IsDateText text.now date) }
     ensures only { (date : CivilDate) → IsDateText text.now date

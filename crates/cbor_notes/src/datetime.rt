@@ -1,4 +1,4 @@
-//! Dates with a time of day, as texts and as seconds from 1970-01-01T00:00:00Z.
+//! Converts dates with a time of day between texts and seconds since 1970-01-01T00:00:00Z.
 
 ghost use Rattle.std.specs.Prelude.{IsTrue, length, take_while, ◌≡◌, ◌↔◌, ◌++◌, ℕ, ◌+◌, ◌*◌, ◌/◌};
 ghost use Rattle.std.specs.Prelude.{◌%◌, ◌<◌, ◌≤◌, pos, ◌+ℤ◌, ◌-ℤ◌, ◌*ℤ◌, ℤ, List, IsSome, IfSome};
@@ -63,9 +63,9 @@ pub fn datetime_of_epoch(alloc: Global, seconds: i64) -> Result<Option<String>, 
 /// most 23, minutes 59, and seconds 60, at any time of day: second 60 counts as the next one.
 /// Returns `None` for any other text.
 ///
-/// The fraction is cut to nine digits. It is written in 3, 6 or 9, the fewest that drop only zeros,
-/// and not at all if it is zero. It counts forward from the seconds, also before 1970. The only
-/// error is out of memory.
+/// The fraction is truncated to nine digits. It is written in 3, 6 or 9 digits, the fewest that
+/// drop only zeros, and left out if it is zero. It counts forward from the seconds, also before
+/// 1970. The only error is out of memory.
 ///
 /// ```rust
 /// use cbor_notes::epoch_of_datetime;
@@ -163,7 +163,7 @@ fn split_fraction(text: &[u8]) -> Option<(&[u8], &[u8])>
     Some((&rest[..count], &rest[count..]))
 }
 
-/// How many decimal digits come first.
+/// The number of leading decimal digits.
 fn leading_digits(text: &[u8]) -> usize
     ensures count { result ≡ length (take_while is_ascii_digit text.now) }
 {
@@ -182,7 +182,7 @@ fn read_zone(text: &[u8]) -> Option<i32>
     }
 }
 
-/// The seconds that a sign, hours and minutes are.
+/// The seconds of an offset: a sign, hours and minutes.
 fn read_offset(text: &[u8; 6]) -> Option<i32>
     ensures found { IfSome result (λ offset. IsOffset text.now offset) }
     ensures only { (offset : ℤ) → IsOffset text.now offset
@@ -218,7 +218,7 @@ fn push_clock(text: &mut String, seconds: u32) -> Result<(), AllocError>
     push_two_digits(text, (seconds % 60) as u8)
 }
 
-/// Appends a fraction, cut to nine digits: `.` and 3, 6 or 9 digits, or nothing if all are
+/// Appends a fraction, truncated to nine digits: `.` and 3, 6 or 9 digits, or nothing if all are
 /// zeros.
 fn push_fraction(text: &mut String, digits: &[u8]) -> Result<(), AllocError>
     requires { IsTrue (list_all is_ascii_digit digits.now) }

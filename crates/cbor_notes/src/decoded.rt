@@ -1,4 +1,4 @@
-//! In comments, the lines that show what a text in base 64 decodes to.
+//! Writes the lines that show, in comments, what a text in base 64 decodes to.
 ghost use Rattle.std.specs.Prelude.{◌≡◌, ◌≢◌, ◌*◌, ◌≤◌, ℕ, List, length, map, option_map};
 ghost use Rattle.std.specs.Prelude.{IfSome, IfNone, IfOk, IsSomeAnd};
 ghost use Rattle.std.specs.String.{string_bytes};

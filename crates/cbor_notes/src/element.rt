@@ -1,4 +1,4 @@
-//! The elements of typed arrays: RFC 8746, section 2.
+//! Writes the elements of typed arrays as texts (RFC 8746, section 2).
 
 ghost use Rattle.std.specs.Prelude.{◌≡◌, [], ◌++◌, is_some, unwrap_or, ◌-◌, ◌<◌, ◌≤◌, ◌*◌, ◌^◌};
 ghost use Rattle.std.specs.Prelude.{length, take, reverse, option_map, if◌then◌else◌, IfSome};
@@ -14,7 +14,7 @@ use crate::text::{cut_after_error, push_grouped};
 use cbor_tokens::push_hex;
 use std::alloc::{AllocError, Global};
 
-/// What the elements of a typed array are.
+/// The kind of the elements of a typed array.
 #[derive(Clone, Copy)]
 enum Kind {
     Unsigned,
@@ -22,7 +22,7 @@ enum Kind {
     Float,
 }
 
-/// How a typed array holds an element.
+/// How a typed array encodes an element.
 #[derive(Clone, Copy)]
 struct Element {
     kind: Kind,
@@ -100,7 +100,7 @@ pub fn push_element_text(text: &mut String, tag: u64, bytes: &[u8]) -> Result<bo
     Ok(true)
 }
 
-/// Appends an element, whose highest byte comes first, between brackets, after its name.
+/// Appends the kind of an element and, between brackets, its value. The highest byte comes first.
 /// After an error `text` may end with a part of it.
 fn write_value_text(text: &mut String, kind: Kind, bytes: &[u8]) -> Result<(), AllocError>
     requires { IsInRange 1 16 (length bytes.now) }
@@ -113,7 +113,7 @@ fn write_value_text(text: &mut String, kind: Kind, bytes: &[u8]) -> Result<(), A
 }
 
 impl Kind {
-    /// What an element is called.
+    /// The word for this kind.
     fn word(self) -> &'static str
         ensures word { result.now ≡ spec.word (kind_view self) }
     {
@@ -126,7 +126,7 @@ impl Kind {
 }
 
 impl Element {
-    /// How the typed array of a tag holds its elements.
+    /// How the typed array of a tag encodes its elements.
     fn of_tag(tag: u64) -> Option<Element>
         ensures found { IfSome result (λ element. (spec.is_typed_array tag ≡ true)
             × (kind_view element.kind ≡ spec.kind tag)
@@ -184,7 +184,7 @@ fn push_value(text: &mut String, kind: Kind, bytes: &[u8]) -> Result<(), AllocEr
     }
 }
 
-/// The number that at most sixteen bytes are, the highest first.
+/// The number that at most sixteen bytes encode, the highest first.
 fn number(bytes: &[u8]) -> u128
     requires { length bytes.now ≤ 16 }
     ensures value { result ≡ number_from_digits 256 bytes.now }
@@ -197,7 +197,7 @@ fn number(bytes: &[u8]) -> u128
     number
 }
 
-/// Appends a number in two's complement, grouped: from half of its range on it is negative. After
+/// Appends a number in two's complement, grouped. It is negative from half of its range on. After
 /// an error `text` is unchanged.
 fn push_signed(text: &mut String, bytes: &[u8]) -> Result<(), AllocError>
     requires { IsInRange 1 16 (length bytes.now) }

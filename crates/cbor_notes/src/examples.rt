@@ -1,5 +1,5 @@
-//! What the definitions of comments and dates say of a few inputs: each is computed when the crate
-//! is checked, so that a wrong definition does not pass. Nothing calls these functions.
+//! Examples of comments and dates, which test the definitions in `specs/`. Each is computed when
+//! the crate is checked. Nothing calls these functions.
 ghost use Rattle.std.specs.Prelude.{◌≡◌, [], ◌∷◌, ◌++◌, map, replicate, codes, true, false, Some};
 ghost use Rattle.std.specs.Prelude.{None, pos, negsuc, neg_ℤ};
 ghost use Rattle.cbor_notes.specs.Address.{ipv4_text, ipv6_text, mac_text};
@@ -19,13 +19,14 @@ ghost use Rattle.cbor_notes.specs.DateTime.{IsZone, epoch_text, fraction_text};
 ghost use Rattle.cbor_notes.specs.Element.{element_size, element_text};
 ghost use Rattle.cbor_notes.specs.Url.{is_url};
 
-/// A zero byte in front is a `1`, and the number that the bytes are follows without leading zeros.
+/// Each leading zero byte is a `1`. The digits of the number that the bytes encode follow, without
+/// leading zeros.
 pub(crate) fn base58_digits()
     ensures zeros { base58_of (replicate 16 0) ≡ codes "1111111111111111" }
     ensures two_digits { base58_of (replicate 15 0 ++ 58 ∷ []) ≡ codes "11111111111111121" }
 {}
 
-/// Seventeen zero bytes are two lines, and blanks fill the second one's digits.
+/// Seventeen zero bytes are two lines. Blanks fill up the digits of the second line.
 pub(crate) fn lines_of_decoded()
     ensures { decoded_lines (replicate 17 0)
         ≡ (codes "00000000000000000000000000000000 # \""
@@ -34,7 +35,7 @@ pub(crate) fn lines_of_decoded()
         ∷ codes "00                               # \"\\x00\"" ∷ [] }
 {}
 
-/// A text has the lines of what it encodes, and none in the other encoding.
+/// A text has the lines of the bytes that it encodes in one alphabet, and no lines in the other.
 pub(crate) fn lines_of_texts()
     ensures standard { base64_lines false (codes "+/8=")
         ≡ Some (codes "fbff # \"\\xfb\\xff\"" ∷ []) }
@@ -52,8 +53,8 @@ pub(crate) fn numbers_in_groups()
     ensures three_groups { grouped 1234567 true ≡ codes "-1,234,567" }
 {}
 
-/// Bytes between quotes, and characters that can be there: of U+0000, U+0085, U+00E9 and U+2028 the
-/// first two are control characters.
+/// Bytes between quotes, and escaped texts: of U+0000, U+0085, U+00E9 and U+2028, the first two are
+/// control characters.
 pub(crate) fn escapes()
     ensures bytes { quoted_bytes (0x00 ∷ 0x41 ∷ 0x22 ∷ 0x27 ∷ 0x5c ∷ 0x0a ∷ 0x7f ∷ [])
         ≡ codes "\"\\x00A\\\"\\'\\\\\\n\\x7f\"" }
@@ -61,9 +62,9 @@ pub(crate) fn escapes()
         ≡ codes "\\u{0}\\u{85}" ++ 0xc3 ∷ 0xa9 ∷ 0xe2 ∷ 0x80 ∷ 0xa8 ∷ [] }
 {}
 
-/// An IPv4 address of RFC 5737, a MAC address of RFC 7042, and IPv6 addresses as RFC 5952 has them:
-/// the longest run of zero groups is `::`, of two as long the first, and one zero group by itself
-/// stays.
+/// An IPv4 address of RFC 5737, a MAC address of RFC 7042, and IPv6 addresses in the form of RFC
+/// 5952. The longest run of zero groups is `::`, of two equally long runs the first, and a single
+/// zero group stays.
 pub(crate) fn addresses()
     ensures ipv4 { ipv4_text (192 ∷ 0 ∷ 2 ∷ 1 ∷ []) ≡ codes "192.0.2.1" }
     ensures mac { mac_text (0x00 ∷ 0x00 ∷ 0x5e ∷ 0x00 ∷ 0x53 ∷ 0x01 ∷ [])
@@ -101,7 +102,7 @@ pub(crate) fn identifiers()
         ∷ 0xc9 ∷ 0x1e ∷ 0x6b ∷ 0xf6 ∷ []) ≡ codes "base64(+B1Prn3sEdCnZQCgyR5r9g)" }
 {}
 
-/// A tag with a note, the lines of an empty string, and no lines: the width is that of the farthest
+/// A tag with a note, the lines of an empty string, and no lines. The width is that of the farthest
 /// digits, and a line without digits is as wide.
 pub(crate) fn laid_out()
     ensures reach { reach number ≡ 5 }
@@ -115,7 +116,7 @@ pub(crate) fn laid_out()
     ensures nothing { layout [] ≡ [] }
 {}
 
-/// What is left of a layout without its comments is the digits.
+/// A layout without its comments is the digits.
 pub(crate) fn without_comments()
     ensures text { uncommented (layout (head ∷ number ∷ bare ∷ [])) ≡ codes "d82001" }
     ensures digits { digits_of (head ∷ number ∷ bare ∷ []) ≡ codes "d82001" }
@@ -150,7 +151,7 @@ pub(crate) fn dates()
     ensures clock { clock_text 20 4 0 ≡ codes "20:04:00" }
 {}
 
-/// Offsets from UTC, of clocks ahead of it and behind it.
+/// Offsets from UTC: of clocks ahead of it, and behind it.
 pub(crate) fn zones()
     ensures utc { IsZone (codes "z") (pos 0) }
     ensures ahead { IsZone (codes "+01:30") (pos 5400) }
@@ -158,8 +159,8 @@ pub(crate) fn zones()
     ensures past { ¬ (IsZone (codes "+0130") (pos 5400)) }
 {}
 
-/// A fraction takes three, six or nine digits, is cut after the ninth, and is left out where it is
-/// zero.
+/// A fraction takes three, six or nine digits. It is truncated after the ninth, and left out if it
+/// is zero.
 pub(crate) fn fractions()
     ensures three { epoch_text (negsuc 0) (codes "5") ≡ codes "-1.500" }
     ensures six { fraction_text (codes "0001") ≡ codes ".000100" }

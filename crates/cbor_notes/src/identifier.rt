@@ -1,4 +1,4 @@
-//! The texts of a UUID.
+//! Writes the texts that describe a UUID.
 
 ghost use Rattle.std.specs.Prelude.{◌≡◌, map, IfOk};
 ghost use Rattle.std.specs.String.{string_bytes};
@@ -9,7 +9,7 @@ use base64::engine::general_purpose::STANDARD_NO_PAD;
 use std::alloc::{AllocError, Global};
 use uuid::{Uuid, Variant, Version};
 
-/// Returns four texts of the UUID of sixteen bytes, as in
+/// Returns four texts that describe the UUID of sixteen bytes, as in
 ///
 /// ```text
 /// uuid(variant(RFC4122), version(1, Mac))

@@ -1,5 +1,5 @@
-//! Laws of the definitions of comments and dates alone: what holds of all days and texts, whatever
-//! a call returns. Nothing calls these functions.
+//! Laws of the definitions in `specs/`, whatever the code does: what holds for all days, dates and
+//! texts. Nothing calls these functions.
 ghost use Rattle.std.specs.Prelude.{◌≡◌, ℕ, ◌<◌, ℤ, pos, List, IfSome};
 ghost use Rattle.std.specs.Prelude.{IsSome};
 ghost use Rattle.std.specs.Int.{int_div_euclid};
@@ -18,15 +18,15 @@ pub(crate) fn calendar_days()
         × (day_of date ≡ calendar_day n) }
 {}
 
-/// The text of a day is that of the date whose day has this number, and for a date's day
-/// there is a text.
+/// The text of a day is that of the date whose day has this number. The day of each date has a
+/// text.
 pub(crate) fn dates_of_days()
     ensures found { (number : ℤ) → IfSome (date_of_epoch number) (IsDayText number) }
     ensures some { (date : Date) → IsSome (date_of_epoch (epoch_day date)) }
 {}
 
-/// The number of a text is that of the day of a date with this text, and for the text of a
-/// date from the year 0 on there is a number.
+/// The number of a text is that of the day of a date with this text. The text of each date from the
+/// year 0 on has a number.
 pub(crate) fn days_of_dates()
     ensures found { (text : List ℕ) → IfSome (epoch_of_date text) (λ day. (date : Date)
         × IsDateText text date × (day ≡ grouped_signed (epoch_day date))) }
@@ -34,16 +34,16 @@ pub(crate) fn days_of_dates()
         → IsSome (epoch_of_date text) }
 {}
 
-/// The text of a number of seconds is that of the moment after them, and for seconds on the
-/// day of a date there is a text.
+/// The text of a number of seconds is that of the moment after them. Seconds on the day of a date
+/// have a text.
 pub(crate) fn moments_of_seconds()
     ensures found { (seconds : ℤ) → IfSome (datetime_of_epoch seconds) (IsMomentText seconds) }
     ensures some { (seconds : ℤ) → IsEpochDay (int_div_euclid seconds (pos 86400))
         → IsSome (datetime_of_epoch seconds) }
 {}
 
-/// The seconds and the fraction of a text are those of a moment with this text, and for the
-/// text of a moment there are some.
+/// The seconds and the fraction of a text are those of a moment with this text. The text of each
+/// moment has them.
 pub(crate) fn seconds_of_moments()
     ensures found { (text : List ℕ) → IfSome (epoch_of_datetime text) (λ answer. (seconds : ℤ)
         × (digits : List ℕ) × IsDateTimeText text seconds digits

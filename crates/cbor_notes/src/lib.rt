@@ -1,7 +1,7 @@
-//! Texts for comments beside CBOR data, which need no item: numbers in groups, escaped bytes and
-//! texts, base 58, addresses, UUIDs, dates, URLs, the elements of typed arrays and the names of
-//! tags; and the lines of dumps, in columns. The calls of `cbor_tokens` are here, too: base 32,
-//! base 64, hex digits, and the tokens of diagnostic notation.
+//! Writes the texts of comments on CBOR data: numbers in groups, escaped bytes and texts, base 58,
+//! addresses, UUIDs, dates, URLs, the elements of typed arrays and the names of tags. It also lays
+//! out the lines of dumps in columns. It exports the calls of `cbor_tokens`, too: base 32, base 64,
+//! hex digits, and the tokens of diagnostic notation.
 //!
 //! ```rust
 //! use cbor_notes::grouped;

@@ -1,4 +1,4 @@
-//! The lines of a dump, in two columns: hex digits on the left, comments on the right.
+//! Lays out the lines of a dump in two columns: hex digits on the left, comments on the right.
 
 ghost use Rattle.std.specs.Prelude.{◌≡◌, ◌≤◌, ◌<◌, ◌+◌, ◌*◌, ◌++◌, [], length, replicate, IfOk};
 ghost use Rattle.std.specs.Prelude.{OnOk, OnErr, IsTrue, ◌↔◌};
@@ -14,15 +14,15 @@ ghost use Rattle.cbor_notes.specs.declared.line.Line.{out-Line};
 
 use std::alloc::{AllocError, Global};
 
-/// The most levels that a tree of lines may have to be laid out.
+/// The most levels of a tree of lines that can be laid out.
 const MOST_LEVELS: usize = 140;
 
-/// The most bytes that the hex of a line may have.
+/// The most bytes of hex in one line.
 const MOST_HEX: usize = 64;
 
 const BLANKS: &str = "                                                                ";
 
-/// A gap with 44 blanks before its ` # ` and after it.
+/// A gap: ` # ` with 44 blanks before it and after it.
 const GAP: &str =
     "                                             #                                             ";
 
@@ -82,7 +82,7 @@ impl Line {
         depth < MOST_LEVELS && self.hex.len() <= MOST_HEX && self.hex.is_ascii()
     }
 
-    /// The same of a tree whose first line is at a depth.
+    /// Whether a tree whose first line is at this depth can be laid out.
     #[cycle(fits)]
     fn fits_at(&self, depth: usize) -> bool
         requires { depth ≤ most_levels }
@@ -103,7 +103,7 @@ impl Line {
         }
     }
 
-    /// The width of the left column, of a tree whose first line is at a depth.
+    /// The width of the left column of a tree whose first line is at a depth.
     #[cycle(width)]
     fn width_at(&self, depth: usize) -> usize
         requires { AllByRecursion IsFit (tree_lines self.now depth) }
@@ -113,7 +113,7 @@ impl Line {
             .max(greatest_width_at(&self.sublines, depth + 1))
     }
 
-    /// Appends a tree whose first line is at a depth.
+    /// Appends the lines of a tree whose first line is at a depth.
     #[cycle(put)]
     fn put_at(&self, out: &mut String, width: usize, depth: usize) -> Result<(), AllocError>
         requires fits { AllByRecursion IsFit (tree_lines self.now depth) }
@@ -172,8 +172,8 @@ fn put_all_at(
 }
 
 /// Returns the text of a tree of lines: each line and then its sublines, one level deeper, as
-/// [`put_line`] writes them. All comments are in one column. The width of the left column is the
-/// farthest that the digits of any line reach.
+/// [`put_line`] writes them. All comments are in one column. The left column is as wide as the
+/// farthest digits of any line reach.
 ///
 /// The tree has to fit, as [`Line::fits`] checks. The only error is out of memory.
 ///
@@ -202,7 +202,7 @@ pub fn merge(alloc: Global, line: &Line) -> Result<String, AllocError>
     Ok(text)
 }
 
-/// That many blanks.
+/// Returns `count` blanks.
 fn blanks(count: usize) -> &'static str
     requires { count ≤ 64 }
     ensures value { result.now ≡ replicate count 32 }
@@ -246,8 +246,8 @@ fn short_gap(before: usize, after: usize) -> &'static str
     &GAP[44 - before..47 + after]
 }
 
-/// Appends what stands in a line between its digits and its comment: `before` blanks, ` # `, and
-/// `after` blanks. The only error is out of memory, and after it `out` may have a part of this.
+/// Appends the gap between the digits and the comment of a line: `before` blanks, ` # `, and
+/// `after` blanks. The only error is out of memory, and after it `out` may have a part of the gap.
 ///
 /// ```rust
 /// use cbor_notes::push_gap;
@@ -270,7 +270,7 @@ pub fn push_gap(out: &mut String, before: usize, after: usize) -> Result<(), All
     }
 }
 
-/// The same, part by part.
+/// Appends a gap of any length, part by part.
 #[inline(never)]
 fn push_long_gap(out: &mut String, before: usize, after: usize) -> Result<(), AllocError>
     ensures bytes { OnOk result (string_bytes out.new ≡ string_bytes out.old ++ gap before after) }

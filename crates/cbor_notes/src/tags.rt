@@ -1,4 +1,4 @@
-//! The names of tags.
+//! The names of tags that comments show.
 
 ghost use Rattle.std.specs.Prelude.{◌≡◌, Some, None, MatchOption};
 ghost use Rattle.cbor_notes.specs.TagNames as spec;

@@ -1,4 +1,4 @@
-//! Bytes, text and numbers as a comment writes them.
+//! Writes bytes, texts and numbers in the form that comments use.
 
 ghost use Rattle.std.specs.Prelude.{◌≡◌, ◌≤◌, ◌<◌, ◌+◌, ◌*◌, [], ◌∷◌, ◌++◌, length, take, IfOk};
 ghost use Rattle.std.specs.Prelude.{OnOk, OnErr, flat_map};
@@ -76,8 +76,7 @@ pub(crate) fn cut_after_error(
     answer
 }
 
-/// The same as `push_quoted_bytes`, but after an error `text` may end with a part of what was to be
-/// appended.
+/// As `push_quoted_bytes`, but after an error `text` may end with a part of the output.
 fn write_quoted_bytes(text: &mut String, bytes: &[u8]) -> Result<(), AllocError>
     ensures { AppendsText result text.old text.new (spec.quoted_bytes bytes.now) }
 {
@@ -228,8 +227,8 @@ pub fn push_escaped_text(escaped: &mut String, text: &str) -> Result<(), AllocEr
     cut_after_error(escaped, len, answer)
 }
 
-/// Whether the text may have a character that is escaped. It is looked at to its end, so that the
-/// compiler takes many bytes at once.
+/// Whether the text may have a character that is escaped. The loop always runs to the end of the
+/// text, so that the compiler can test many bytes at once.
 fn may_have_escapes(text: &str) -> bool
     ensures { result ≡ list_any begins_escape text.now }
 {
@@ -247,8 +246,7 @@ fn may_begin_escape(byte: u8) -> bool
     byte < b' ' || byte == b'"' || byte == b'\\' || byte == 0x7f || byte == 0xc2
 }
 
-/// The same as `push_escaped_text`, but after an error `escaped` may end with a part of what was to
-/// be appended.
+/// As `push_escaped_text`, but after an error `escaped` may end with a part of the output.
 fn write_escaped_text(escaped: &mut String, text: &str) -> Result<(), AllocError>
     ensures { AppendsText result escaped.old escaped.new (spec.escaped_text text.now) }
 {

@@ -69,7 +69,7 @@ fn cut(alloc: Global, bytes: &[u8]) -> Result<Fault, Error>
         error: Error::CutShort,
         place: bytes.len(),
         path: String::from_str(alloc, around.path.as_str())?,
-        message: format!(in alloc; "cut short: {words}")?,
+        message: format!(in alloc; "truncated: {words}")?,
     })
 }
 

@@ -1,4 +1,4 @@
--- What breaks the rules is nothing exactly if they are kept, also where keys are one by what they say.
+-- The violation is nothing if and only if the rules are kept, also where keys are compared by value.
 use Rattle.std.proofs.Common.{◌≡◌, ◌↔◌, ℕ, true, false, List, Option, Some, None, refl, sym, ◌∙◌}
 use Rattle.cbor_rules.specs.declared.rules.Rules.{Rules}
 use Rattle.cbor_rules.specs.declared.kind.Violation.{Violation}

@@ -1,5 +1,5 @@
--- Rules of an encoding where keys are one by what they say, and not by their bytes alone: which bytes keep the rules, and
--- what breaks them.
+-- Rules of an encoding where keys are compared by value, and not by their bytes alone: which bytes keep the rules, and
+-- what violates them.
 use Rattle.std.specs.Prelude.{◌≡◌, ◌⊎◌, ℕ, IsTrue, List, Option, Some, None}
 use Rattle.cbor_rules.specs.declared.rules.Rules.{Rules}
 use Rattle.cbor_rules.specs.declared.kind.Violation.{Violation}
@@ -12,12 +12,12 @@ use Rattle.cbor_reencode.specs.Reencoded.{KeysOnce}
 abbrev pub KeepsWithKeys : Rules → List ℕ → Type 0
 KeepsWithKeys rules b = KeepsRules rules b × (IsTrue rules.distinct_keys → KeysOnce b)
 
--- It is said that a key is one with another, and two keys of a map are one.
+-- The violation says that a key is one with another, and two keys of a map are one.
 abbrev pub IsKeyAgain : List ℕ → Violation → Type 0
 IsKeyAgain b violation = (first : ℕ) × (violation.kind ≡ KeyTwice first) × ¬ (KeysOnce b)
 
--- What breaks the rules, or nothing: their first violation, where keys are their bytes; or where there is none, and the
--- rules ask for distinct keys, that two keys are one. Which two it names is not said here.
+-- The first violation of the rules, or nothing. First come the violations where keys are compared by their bytes. If
+-- there is none, and the rules ask for distinct keys, it is that two keys are one. Which two it names is not said here.
 abbrev pub IsViolation : Rules → List ℕ → Option Violation → Type 0
 IsViolation rules b None = (first_violation rules b ≡ None) × (IsTrue rules.distinct_keys → KeysOnce b)
 IsViolation rules b (Some violation) =

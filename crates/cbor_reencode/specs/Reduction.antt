@@ -1,5 +1,5 @@
--- Encoding again: numbers in the one form that rules leave them. Floats that are integers are integers, there is one
--- NaN, and big numbers are integers where they fit, else without zero bytes in front.
+-- Re-encoding numbers to the one form that rules leave them: a float with an integer value becomes that integer, there
+-- is one NaN, and a big number becomes an integer if it fits, and otherwise loses its leading zero bytes.
 use Rattle.std.specs.Prelude.{ℕ, ◌+◌, ◌-◌, ◌*◌, ◌^◌, Bool, ◌&&◌, ◌||◌, ◌==◌, nat_lt, if◌then◌else◌, is_nan, List}
 use Rattle.std.specs.Prelude.{[], ◌∷◌}
 use Rattle.std.specs.Prelude.{Option, Some, None}
@@ -48,7 +48,7 @@ abbrev pub without_zeros : List ℕ → List ℕ
 without_zeros [] = []
 without_zeros (digit ∷ digits) = if digit == 0 then without_zeros digits else digit ∷ digits
 
--- The content of a big number: a byte string, or its chunks one after the other.
+-- The content of a big number: a byte string, or its concatenated chunks.
 abbrev pub content_of : Item → Option (List ℕ)
 content_of (atom (string Bytes c)) = Some c.bytes
 content_of (atom (chunked_string Bytes cs)) = Some (flat_map (λ c. c.bytes) cs)

@@ -1,4 +1,4 @@
--- Which bytes are the same items as others, encoded again so that they keep rules.
+-- When bytes are a re-encoding of other bytes by some rules: they have the same items, and keep the rules.
 use Rattle.std.specs.Prelude.{◌≢◌, ℕ, IsTrue, List, [], false}
 use Rattle.cbor_grammar.specs.Item as spec
 use Rattle.cbor_grammar.specs.Item.{Item, atom, array, tagged, Items, no_items, item, Pairs, no_pairs, pair}
@@ -39,8 +39,8 @@ lasting rules = record {
 
 -- ---- keys that are one
 
--- Two keys are one: they are the same item but for widths, kinds of length, the order of pairs, and the forms of numbers
--- of which core deterministic encoding leaves one (RFC 8949 sections 4.2.1 and 5.6.1).
+-- Two keys are one: they are the same item but for widths, kinds of length, the order of pairs, and the forms of
+-- numbers where core deterministic encoding leaves only one (RFC 8949 sections 4.2.1 and 5.6.1).
 abbrev pub AreOne : Item → Item → Type 0
 AreOne k l = IsSameNumbered CORE k l
 
@@ -70,11 +70,11 @@ abbrev mutual
   MapsApartPairs no_pairs = Unit {0}
   MapsApartPairs (pair k v ps) = MapsApart k × MapsApart v × MapsApartPairs ps
 
--- The bytes are no items, one after the other, in which two keys of a map are one.
+-- The bytes are not a sequence of items in which two keys of a map are one.
 abbrev pub KeysOnce : List ℕ → Type 0
 KeysOnce b = (items : Items) → SpellsItems strict 1 b items [] → MapsApartItems items
 
--- Of keys that are one, these rules leave the same encoding, and by their order that is no encoding of two keys.
+-- These rules give keys that are one the same encoding, and their order of keys allows no two keys with that encoding.
 pub record FixesKeys (rules : Rules) : Type 0 where
   pub heads : IsTrue rules.shortest_heads
   pub floats : IsTrue rules.shortest_floats

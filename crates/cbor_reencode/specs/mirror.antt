@@ -1,4 +1,4 @@
--- Definitions for the checker alone, which follow the code that encodes items again.
+-- Definitions for the checker alone. They follow the code that re-encodes items.
 pub mod Chosen
 pub mod Numbers
 pub mod Rewritten

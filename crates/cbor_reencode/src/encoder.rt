@@ -1,5 +1,5 @@
-//! Encoding again: the choices that rules leave or take, which are widths of heads, widths of
-//! floats and kinds of length.
+//! Chooses the widths of heads, the widths of floats and the kinds of length for re-encoding, as
+//! the rules say.
 ghost use Rattle.std.specs.Prelude.{◌≡◌};
 ghost use Rattle.cbor_grammar.specs.Head.{FitsStated};
 ghost use Rattle.cbor_grammar.specs.WellFormed.{FitsCount};
@@ -12,8 +12,8 @@ use cbor_grammar::argument::Argument;
 use cbor_grammar::{Error, IntegerWidth};
 use cbor_rules::{Rules, Violation, ViolationKind};
 
-/// Bytes that are encoded again: the rules, how many bytes there are, and whether keys of a map
-/// that are the same once they are encoded are an error, where keys have an order.
+/// What re-encoding needs to know: the rules, the number of bytes of the input, and whether keys of
+/// a map that become equal are an error, where keys have an order.
 #[derive(Clone, Copy)]
 pub struct Encoder {
     pub rules: Rules,
@@ -22,12 +22,12 @@ pub struct Encoder {
 }
 
 impl Encoder {
-    /// How many bytes come before these last ones.
+    /// The byte offset of these last bytes of the input.
     pub fn place(self, bytes: &[u8]) -> usize {
         self.len.saturating_sub(bytes.len())
     }
 
-    /// The error that no item is at these bytes.
+    /// The error where no item is at these bytes.
     pub fn no_item(self, bytes: &[u8], error: Error) -> ReencodeError {
         match error {
             Error::Memory => ReencodeError::Memory,
@@ -38,7 +38,7 @@ impl Encoder {
         }
     }
 
-    /// The width of a number that has this width.
+    /// The width in which to write a number that had this width.
     pub fn width(self, number: u64, width: IntegerWidth) -> IntegerWidth
         requires { FitsStated width number }
         ensures is { result ≡ chosen_width self.rules number width }
@@ -51,7 +51,8 @@ impl Encoder {
         }
     }
 
-    /// The width of the count of a container that has this one; `None` for an indefinite length.
+    /// The width in which to write the count of a container that had this one, or `None` for an
+    /// indefinite length.
     pub fn count_width(self, count: Argument, held: usize) -> Option<IntegerWidth>
         requires { FitsHeld count held }
         ensures is { result ≡ chosen_count self.rules count held }
@@ -66,7 +67,7 @@ impl Encoder {
         }
     }
 
-    /// The float in the width that the rules want.
+    /// The float in the width that the rules require.
     pub fn float(self, float: EncodedFloat) -> EncodedFloat
         requires { FitsWidth float }
         ensures { IsChosen self.rules float result }

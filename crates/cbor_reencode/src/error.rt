@@ -1,25 +1,24 @@
-//! Why bytes are not encoded again.
+//! The errors of re-encoding.
 ghost use Rattle.std.specs.Prelude.{◌≡◌};
 ghost use Rattle.cbor_reencode.specs.declared.error.ReencodeError.TheVariants.{Memory};
 
 use cbor_rules::Violation;
 use std::alloc::{AllocError, AllocFailed};
 
-/// Why bytes are not encoded again.
+/// Why bytes cannot be re-encoded.
 #[derive(Clone, Copy, PartialEq, Eq, Debug)]
 pub enum ReencodeError {
     /// An allocation failed.
     Memory,
-    /// The bytes are no items of RFC 8949, one after the other, or they break a rule that no other
-    /// choice of widths, lengths, order and forms of numbers keeps: a tag, a level that is too
-    /// deep, a simple value other than the rules have, a text that is not in NFC, or, by its bytes,
-    /// a key that stands twice.
+    /// The bytes are not a sequence of RFC 8949 items, or they violate a rule that re-encoding
+    /// cannot repair: a tag or a simple value that the rules do not allow, a level that is too
+    /// deep, a text that is not in NFC, or a key that stands twice with the same bytes.
     Violation(Violation),
-    /// Two keys of a map are one, by `Rules::CORE`, or are the same bytes once they are encoded
-    /// again by the rules: how many bytes come before each of them.
+    /// Two keys of a map are equal: they are encoded to the same bytes, by `Rules::CORE` or by
+    /// these rules. The fields are the byte offsets of the two keys.
     KeyTwice { first: usize, second: usize },
-    /// What the items are encoded to breaks a rule, at this place of it: the chunks of a text are
-    /// each in NFC, and joined they are not, or keys become the same where keys have no order.
+    /// The re-encoded items violate a rule, at this place in the result. Either the chunks of a
+    /// text are in NFC and the joined text is not, or keys become equal where keys have no order.
     Written(Violation),
 }
 

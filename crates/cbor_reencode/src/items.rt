@@ -1,5 +1,5 @@
-//! Items, encoded again from the left to the right. A container is a call of
-//! [`Encoder::push_item`], at most 128 deep.
+//! Re-encodes items from left to right. Each container is a call of [`Encoder::push_item`], at most
+//! 128 deep.
 ghost use Rattle.std.specs.Prelude.{◌≡◌, ◌++◌, ◌+◌, ◌<◌, ◌≤◌, length, [], Ok, IfOk};
 ghost use Rattle.std.specs.Prelude.{MatchResult, Some, ◌⊎◌};
 ghost use Rattle.std.specs.List.Sorted.{IsPermutation};
@@ -28,7 +28,7 @@ use cbor_rules::{KeyOrder, Rules, violation_in};
 use std::alloc::{AllocError, Global};
 
 impl Encoder {
-    /// Writes an array of these members, `number` of them. It had that count.
+    /// Writes an array of these `number` members. Its count in the input was `count`.
     fn push_members(
         self,
         out: &mut Vec<u8>,
@@ -47,7 +47,7 @@ impl Encoder {
         push_close(out, width)
     }
 
-    /// Writes a map of these pairs, in the order of the rules. It had that count.
+    /// Writes a map of these pairs, in the order of the rules. Its count in the input was `count`.
     fn push_sorted(
         self,
         out: &mut Vec<u8>,
@@ -194,7 +194,7 @@ impl Encoder {
         Ok(rest)
     }
 
-    /// The items, encoded again one after the other. What they are encoded to is not looked at.
+    /// Re-encodes a sequence of items. The result is not checked.
     pub fn items(self, alloc: Global, bytes: &[u8]) -> Result<Vec<u8>, ReencodeError>
         ensures { IfOk result (λ out. Sequence self.rules bytes.now [] out.items) }
     {
@@ -207,7 +207,8 @@ impl Encoder {
     }
 }
 
-/// The rules among these that no choice of widths, lengths, order and forms of numbers keeps.
+/// Those of the rules that re-encoding cannot repair: no choice of widths, lengths, order and forms
+/// of numbers keeps them.
 pub fn lasting(rules: Rules) -> Rules
     ensures { result ≡ lasting rules }
 {
@@ -222,7 +223,7 @@ pub fn lasting(rules: Rules) -> Rules
     }
 }
 
-/// Whether what was written keeps the rules.
+/// Checks that what was written keeps the rules.
 fn check_written(alloc: Global, written: &[u8], rules: Rules) -> Result<(), ReencodeError>
     ensures { IfOk result (λ x. KeepsRules rules written.now) }
 {
@@ -232,7 +233,7 @@ fn check_written(alloc: Global, written: &[u8], rules: Rules) -> Result<(), Reen
     }
 }
 
-/// Encodes items again, where keys are compared only as the rules want them.
+/// Re-encodes items. Keys are compared only as far as the rules ask for it.
 pub fn encoded(alloc: Global, bytes: &[u8], rules: Rules) -> Result<Vec<u8>, ReencodeError>
     ensures is { IfOk result (λ out. IsReencoded rules bytes.now out.items) }
     ensures keeps { IfOk result (λ out. KeepsRules rules out.items) }

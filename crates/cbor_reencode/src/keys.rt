@@ -1,4 +1,4 @@
-//! Keys that are one by what they say: with them, what breaks rules, and encoding again.
+//! Finds violations of rules and re-encodes, with map keys compared by value.
 ghost use Rattle.std.specs.Prelude.{◌≡◌, ◌⊎◌, ◌↔◌, true, false, IfOk, IfErr, IfSome, MatchResult};
 ghost use Rattle.std.specs.Prelude.{Some, None};
 ghost use Rattle.cbor_rules.specs.declared.kind.Violation.{Violation};
@@ -14,7 +14,8 @@ use crate::items::{encoded, lasting};
 use cbor_rules::{KeyOrder, Rules, Violation, ViolationKind, violation_in};
 use std::alloc::{AllocError, Global};
 
-/// The rules of core deterministic encoding without an order of keys, which may be asked to differ.
+/// The rules of core deterministic encoding without an order of keys. The keys of a map have to
+/// differ if `distinct_keys` is set.
 fn unordered(distinct_keys: bool) -> Rules
     ensures { result ≡ unordered distinct_keys }
 {
@@ -25,7 +26,7 @@ fn unordered(distinct_keys: bool) -> Rules
     }
 }
 
-/// Whether items break the rules of core deterministic encoding, but for the order of keys, only
+/// Whether items violate the rules of core deterministic encoding, but for the order of keys, only
 /// because a key stands twice.
 fn are_keys_alone_wrong(alloc: Global, written: &[u8]) -> Result<bool, AllocError>
     ensures { IfOk result (λ twice. twice ≡ true → KeepsRules (unordered false) written.now
@@ -37,8 +38,8 @@ fn are_keys_alone_wrong(alloc: Global, written: &[u8]) -> Result<bool, AllocErro
     }
 }
 
-/// Whether two keys of a map are the same bytes by core deterministic encoding. All items are
-/// encoded so, but for an order of keys that are the same.
+/// Whether two keys of a map have the same core deterministic encoding. It encodes all items
+/// that way, without an error for equal keys.
 fn have_key_twice(alloc: Global, bytes: &[u8]) -> Result<bool, ReencodeError>
     ensures { IfOk result (λ twice. twice ≡ true → ¬ (KeysOnce bytes.now)) }
 {
@@ -52,8 +53,9 @@ fn have_key_twice(alloc: Global, bytes: &[u8]) -> Result<bool, ReencodeError>
     Ok(twice)
 }
 
-/// The places of two keys of a map that are one. What was encoded is looked at before that is said,
-/// and if neither is so, the error is that of memory: tests show that this never comes.
+/// The places of two equal keys of a map, if there are such keys. The core encoding is checked
+/// before they are returned. If the check finds no equal keys, the error is that of memory. Tests
+/// show that this never happens.
 fn keys_twice(alloc: Global, bytes: &[u8]) -> Result<Option<(usize, usize)>, AllocError>
     ensures none { IfOk result (λ found. found ≡ None → KeysOnce bytes.now) }
     ensures some { IfOk result (λ found. IfSome found (λ places. ¬ (KeysOnce bytes.now))) }
@@ -69,13 +71,14 @@ fn keys_twice(alloc: Global, bytes: &[u8]) -> Result<Option<(usize, usize)>, All
     }
 }
 
-/// What breaks the rules first, with its place; `None` if and only if the bytes are items that keep
-/// them, and where the rules ask for distinct keys, no two keys of a map are one.
+/// Returns the first violation of the rules, with its place. Returns `None` if and only if the
+/// bytes are items that keep the rules and, where the rules ask for distinct keys, no map has two
+/// equal keys.
 ///
-/// Two keys are one if [`Rules::CORE`] encodes both to the same bytes: 1 in one byte and in two,
-/// or maps that have their pairs in another order. [`violation_in`], which is asked first, compares
-/// keys by their bytes. Of several such pairs of keys, it is the one whose core encoding comes first
-/// in its map; the inner maps come before the outer ones.
+/// Two keys are equal if [`Rules::CORE`] encodes both to the same bytes: 1 in one byte and in two,
+/// or maps that have their pairs in another order. [`violation_in`] runs first, and compares keys
+/// by their bytes. If several pairs of keys are equal, the violation is the pair whose core
+/// encoding comes first in its map. Inner maps come before outer ones.
 #[tactic(auto, using(crate::proofs::Broken::broken_laws))]
 pub fn violation_of(
     alloc: Global,
@@ -100,7 +103,7 @@ pub fn violation_of(
     }))
 }
 
-/// Whether keys that are one have the same encoding by these rules, and two such keys none.
+/// Whether these rules encode equal keys to the same bytes, and allow no two such keys in a map.
 fn fixes_keys(rules: Rules) -> bool
     ensures { (result ≡ true) ↔ FixesKeys rules }
 {
@@ -111,7 +114,7 @@ fn fixes_keys(rules: Rules) -> bool
         && rules.key_order != KeyOrder::Any
 }
 
-/// Whether no two keys of a map are one, where the rules leave that open.
+/// Checks that no two keys of a map are equal, where the rules leave that open.
 fn check_keys(alloc: Global, bytes: &[u8], rules: Rules) -> Result<(), ReencodeError>
     ensures distinct { IfOk result (λ x. FixesKeys rules ⊎ KeysOnce bytes.now) }
     ensures lasts { (b : Violation) → first_violation (lasting rules) bytes.now ≡ Some b → IfErr result
@@ -131,16 +134,17 @@ fn check_keys(alloc: Global, bytes: &[u8], rules: Rules) -> Result<(), ReencodeE
     }
 }
 
-/// Encodes items again, one after the other, so that they keep the rules. The result is of the same
-/// items but for widths, kinds of length, the order of pairs and the forms of numbers. Bytes that
-/// keep the rules are returned as they are.
+/// Re-encodes a sequence of items so that they keep the rules. The result has the same items but
+/// for widths, kinds of length, the order of pairs and the forms of numbers. Bytes that already
+/// keep the rules are returned unchanged.
 ///
-/// Of numbers, those change of which the rules leave one form: by `reduced_floats`, as in dCBOR, a
-/// float that is an integer becomes that integer, and each NaN f97e00; by `big_numbers`, a big
-/// number becomes an integer where one can have it, and else has no zero byte in front.
+/// A number changes only if the rules leave it one form. With `reduced_floats`, as in dCBOR, a
+/// float with an integer value becomes that integer, and each NaN becomes f97e00. With
+/// `big_numbers`, a big number becomes an integer if it fits, and otherwise loses its leading zero
+/// bytes.
 ///
-/// Items in which two keys of a map are one are not encoded, whatever the rules: see
-/// [`violation_of`](crate::violation_of).
+/// If a map has two equal keys, the items are not re-encoded, whatever the rules are.
+/// [`violation_of`](crate::violation_of) defines when keys are equal.
 pub fn reencoded(alloc: Global, bytes: &[u8], rules: Rules) -> Result<Vec<u8>, ReencodeError>
     ensures is { IfOk result (λ out. IsReencoded rules bytes.now out.items) }
     ensures keeps { IfOk result (λ out. KeepsRules rules out.items) }

@@ -1,8 +1,9 @@
-//! Encodes CBOR again so that it keeps rules, such as those of deterministic encoding (RFC 8949
+//! Re-encodes CBOR so that it keeps rules, such as those of deterministic encoding (RFC 8949
 //! section 4.2).
 //!
-//! [`reencoded`] returns bytes of the same items that keep the rules of a [`Rules`]. [`violation_of`]
-//! finds the first place that breaks rules, where keys are one by what they say.
+//! [`reencoded`] returns the same items in an encoding that keeps the given [`Rules`].
+//! [`violation_of`] finds the first violation of rules, and compares keys by value: 1 in one byte
+//! and 1 in two bytes are equal keys.
 //!
 //! ```rust
 //! use cbor_reencode::reencoded;

@@ -1,4 +1,4 @@
-//! Encoding again: numbers in the form that rules leave them, floats that are integers, and big
+//! Re-encodes numbers to the one form that rules leave them: floats with an integer value, and big
 //! numbers.
 ghost use Rattle.std.specs.Prelude.{◌≡◌, ◌≤◌, ◌^◌, ◌++◌, IfOk, MatchOption, option_map};
 ghost use Rattle.cbor_grammar.specs.Head.{FitsStated, shortest};
@@ -28,13 +28,13 @@ use std::alloc::AllocError;
 pub enum Reduced {
     /// An integer.
     Unsigned(u64),
-    /// The integer -1 less this number.
+    /// The integer -1 minus this number.
     Negative(u64),
     /// A float in its width.
     Float(EncodedFloat),
 }
 
-/// The integer of this sign and this size; -0 is 0.
+/// The integer of this sign and magnitude. -0 is 0.
 fn sized(below: bool, size: u64) -> Reduced
     ensures is { plain result ≡ sized below size }
     ensures fits { FitsNumber result }
@@ -46,7 +46,7 @@ fn sized(below: bool, size: u64) -> Reduced
     }
 }
 
-/// The number that these bytes are, the most significant first, if it has at most 64 bits.
+/// The number of these big-endian bytes, if it fits 64 bits.
 fn number_of(digits: &[u8]) -> Option<u64>
     ensures { MatchOption result (2 ^ 64 ≤ big_endian 0 digits.now)
         (λ n. n ≡ big_endian 0 digits.now) }
@@ -58,7 +58,7 @@ fn number_of(digits: &[u8]) -> Option<u64>
     Some(number)
 }
 
-/// The bytes from the first on that is not zero.
+/// The bytes without the zero bytes at their front.
 fn without_zeros(digits: &[u8]) -> &[u8]
     ensures { result.now ≡ without_zeros digits.now }
 {
@@ -92,7 +92,7 @@ pub fn push_reduced(out: &mut Vec<u8>, number: Reduced) -> Result<(), AllocError
 }
 
 impl Encoder {
-    /// What the rules leave of a float: the integer that it is, the one NaN, or the float in its
+    /// What the rules make of a float: the integer that it equals, the one NaN, or the float in its
     /// width.
     pub fn reduced(self, float: EncodedFloat) -> Reduced
         requires { FitsWidth float }
@@ -111,8 +111,8 @@ impl Encoder {
         }
     }
 
-    /// The content of a big number of this tag, whose item is encoded again: of a byte string of
-    /// definite length.
+    /// The content of a big number with this tag, if its re-encoded item is a definite-length byte
+    /// string.
     fn big_content(self, tag: u64, item: &[u8]) -> Option<&[u8]>
         ensures { option_map (λ x. x.now) result ≡ big_content self.rules tag item.now }
     {
@@ -128,7 +128,7 @@ impl Encoder {
         }
     }
 
-    /// Writes a tag and its item, which is encoded again; or the integer that both are.
+    /// Writes a tag and its re-encoded item, or the integer that both stand for.
     pub fn push_tagged_item(
         self,
         out: &mut Vec<u8>,

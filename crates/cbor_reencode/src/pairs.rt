@@ -1,4 +1,4 @@
-//! The pairs of a map, as they are encoded again.
+//! Sorts, checks and writes the re-encoded pairs of a map.
 ghost use Rattle.std.specs.Prelude.{◌≡◌, ◌++◌, IfOk};
 ghost use Rattle.std.specs.List.Sorted.{IsPermutation};
 ghost use Rattle.cbor_reencode.specs.mirror.Rewritten.{pair_bytes};
@@ -8,7 +8,7 @@ use cbor_rules::KeyOrder;
 use std::alloc::AllocError;
 use std::cmp::Ordering;
 
-/// A pair of a map: its key and its value, encoded again, and how many bytes came before the key.
+/// A re-encoded pair of a map: its key and its value, and the byte offset of the key in the input.
 #[derive(Drop)]
 pub struct Pair {
     pub place: usize,
@@ -16,7 +16,7 @@ pub struct Pair {
     pub value: Vec<u8>,
 }
 
-/// Puts the pairs in the order of their keys. Keys that are the same stay as they came.
+/// Sorts the pairs by their keys. Equal keys stay in their order.
 pub fn sort_pairs(order: KeyOrder, pairs: &mut Vec<Pair>) -> Result<(), AllocError>
     ensures { IsPermutation pairs.old.items pairs.new.items }
 {
@@ -26,7 +26,7 @@ pub fn sort_pairs(order: KeyOrder, pairs: &mut Vec<Pair>) -> Result<(), AllocErr
     pairs.sort_by(|x, y| order.compare(&x.key, &y.key))
 }
 
-/// Whether no key of sorted pairs stands twice; else the error of the first two that are the same.
+/// Checks that no key of sorted pairs stands twice. The error names the first two equal keys.
 pub fn check_rising(order: KeyOrder, pairs: &[Pair]) -> Result<(), ReencodeError> {
     for i in 1..pairs.len() {
         let first = &pairs[i - 1];
@@ -41,7 +41,7 @@ pub fn check_rising(order: KeyOrder, pairs: &[Pair]) -> Result<(), ReencodeError
     Ok(())
 }
 
-/// Writes the pairs one after the other.
+/// Writes the pairs in their order.
 pub fn push_pairs(out: &mut Vec<u8>, pairs: &[Pair]) -> Result<(), AllocError>
     ensures { IfOk result (λ x. out.new.items ≡ out.old.items ++ pair_bytes pairs.now) }
 {

@@ -1,4 +1,4 @@
-//! Items that hold no item, as they are encoded again.
+//! Re-encodes items that hold no other item: numbers, strings and simple values.
 ghost use Rattle.std.specs.Prelude.{◌≡◌, ◌⊎◌, ◌<◌, ◌≤◌, ◌++◌, ◌∷◌, length, Ok, None, true};
 ghost use Rattle.std.specs.Prelude.{IfOk, MatchOption};
 ghost use Rattle.cbor_grammar.specs.Head.{FitsStated, break_byte};
@@ -54,7 +54,7 @@ pub fn push_encoded(out: &mut Vec<u8>, float: EncodedFloat) -> Result<(), AllocE
     }
 }
 
-/// Writes a string of definite length.
+/// Writes a definite-length string.
 pub fn push_content(
     out: &mut Vec<u8>,
     kind: StringKind,
@@ -70,7 +70,7 @@ pub fn push_content(
     Ok(())
 }
 
-/// A content of `count` bytes, and the bytes after it.
+/// The content of `count` bytes at the front, and the bytes after it.
 fn read_content(kind: StringKind, count: u64, bytes: &[u8]) -> Result<(&[u8], &[u8]), Error>
     ensures { IfOk result (λ x. ContentAt kind count bytes.now x.0.now x.1.now) }
 {
@@ -85,8 +85,8 @@ fn read_content(kind: StringKind, count: u64, bytes: &[u8]) -> Result<(&[u8], &[
     }
 }
 
-/// The next chunk of an indefinite string, with the width of its length, or `None` at its break;
-/// and the bytes after it.
+/// The next chunk of an indefinite-length string, with the width of its length, or `None` at its
+/// break. Also returns the bytes after it.
 fn read_chunk(
     kind: StringKind,
     bytes: &[u8],
@@ -103,7 +103,7 @@ fn read_chunk(
     Ok((Some((content, width)), after))
 }
 
-/// Appends the contents of the chunks of an indefinite string, and returns the bytes after its
+/// Appends the contents of the chunks of an indefinite-length string. Returns the bytes after its
 /// break.
 fn push_joined<'a>(
     kind: StringKind,
@@ -125,7 +125,7 @@ fn push_joined<'a>(
     }
 }
 
-/// Whether the simple value at the front takes two bytes, and is below 32.
+/// Whether the simple value at the front is below 32 and in two bytes (`f8 00` to `f8 1f`).
 fn is_long_simple(bytes: &[u8]) -> bool
     ensures { (result ≡ true) ⊎ (two_byte_violation bytes.now ≡ None) }
 {
@@ -135,7 +135,7 @@ fn is_long_simple(bytes: &[u8]) -> bool
     }
 }
 
-/// Writes a simple value, whose head is at `bytes`. One below 32 in two bytes is none.
+/// Writes a simple value, whose head is at `bytes`. One below 32 in two bytes is an error.
 fn push_strict(out: &mut Vec<u8>, bytes: &[u8], value: u8) -> Result<(), Error>
     ensures strict { IfOk result (λ x. two_byte_violation bytes.now ≡ None) }
     ensures writes { IfOk result (λ x. out.new.items ≡ out.old.items ++ encoded_simple value) }
@@ -148,7 +148,7 @@ fn push_strict(out: &mut Vec<u8>, bytes: &[u8], value: u8) -> Result<(), Error>
 }
 
 impl Encoder {
-    /// Writes the chunks of an indefinite string, and returns the bytes after its break.
+    /// Writes the chunks of an indefinite-length string. Returns the bytes after its break.
     fn push_chunks<'a>(
         self,
         kind: StringKind,
@@ -170,7 +170,7 @@ impl Encoder {
         }
     }
 
-    /// Writes a string that has this size in its head, and returns the bytes after it.
+    /// Writes a string with this length in its head. Returns the bytes after it.
     fn push_string<'a>(
         self,
         alloc: Global,
@@ -236,8 +236,8 @@ impl Encoder {
         self.push_number(out, Major::Tag, tag, width)
     }
 
-    /// Writes an item that holds no item, and returns the bytes after it. Its head is at `bytes`,
-    /// and `rest` comes after the head.
+    /// Writes an item that holds no other item, and returns the bytes after it. Its head is at
+    /// `bytes`, and `rest` comes after the head.
     pub fn push_atom<'a>(
         self,
         alloc: Global,

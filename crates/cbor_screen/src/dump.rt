@@ -13,6 +13,7 @@ mod walk;
 mod write;
 
 use beside::Beside;
+use cbor_dump::push_bytes_to_hex_partial;
 use cbor_grammar::Error;
 use cbor_names::{Names, Note, Type, notes};
 use measure::Measure;
@@ -40,6 +41,11 @@ impl DumpStyle<'_> {
         embedded: false,
         elide: None,
     };
+
+    /// Whether the dump is that of `cbor_dump`, but for simple values in a non-minimal encoding.
+    fn is_plain(&self) -> bool {
+        self.names.is_none() && !self.embedded && self.elide.is_none()
+    }
 }
 
 /// Appends the dump of the item at the front of the bytes, and returns the number of bytes that it
@@ -78,6 +84,9 @@ impl DumpStyle<'_> {
 /// [`push_bytes_to_hex`]: cbor_dump::push_bytes_to_hex
 pub fn push_dump(out: &mut String, bytes: &[u8], style: &DumpStyle<'_>) -> Result<usize, Error> {
     let alloc = *out.allocator();
+    if style.is_plain() && !may_hold_long_simple(bytes) {
+        return push_bytes_to_hex_partial(alloc, bytes, out)?.ok_or(Error::CutShort);
+    }
     let mut measure = Measure::new();
     let mut walk = Walk::new(alloc, bytes, style);
     walk.item(&mut measure)?;
@@ -93,6 +102,15 @@ pub fn push_dump(out: &mut String, bytes: &[u8], style: &DumpStyle<'_>) -> Resul
         None => push_lines(out, item, (style, width), &[])?,
     }
     Ok(used)
+}
+
+/// Whether the two bytes of a simple value in a non-minimal encoding (`f8 00`) stand anywhere, at a
+/// head or not. Most inputs have none; their plain dump is that of `cbor_dump`, which takes two
+/// thirds of the instructions of the walk.
+fn may_hold_long_simple(bytes: &[u8]) -> bool {
+    bytes
+        .windows(2)
+        .any(|pair| matches!(pair, [0xf8, value] if *value < 24))
 }
 
 /// Appends the lines of an item, whose digits are in a column of this width, with these notes.

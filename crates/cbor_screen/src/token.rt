@@ -143,8 +143,8 @@ fn edn_token(line: &[u8]) -> Token
 
 /// What the comment is with which a line begins: some say what is wrong with an item.
 fn comment_kind(line: &[u8]) -> Kind {
-    let is_fault = line.starts_with(b"/fault: ") || line.starts_with(b"# fault: ");
-    if is_fault || line.starts_with(b"/cut short/") || line.starts_with(b"# cut short") {
+    let is_fault = line.starts_with(b"/malformed: ") || line.starts_with(b"# malformed: ");
+    if is_fault || line.starts_with(b"/truncated/") || line.starts_with(b"# truncated") {
         Kind::Fault
     } else {
         Kind::Note

@@ -1,4 +1,4 @@
--- For all crates: what is in memory after a call that appends, also after an error.
+-- For all crates: what memory holds after a call that appends, also after an error.
 use Rattle.std.specs.Prelude.{◌≡◌, ℕ, List, ◌++◌, Result, MatchResult}
 use Rattle.std.specs.Io.{StartsWith}
 use Rattle.std.specs.String.{string_bytes}

@@ -1,4 +1,4 @@
--- For all crates: numbers that are bytes.
+-- For all crates: all numbers of a list are bytes, below 256.
 use Rattle.std.specs.Prelude.{List, ℕ}
 use Rattle.std.specs.Int.Digits.{AllBelowBase}
 

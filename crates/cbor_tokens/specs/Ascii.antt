@@ -1,4 +1,4 @@
--- For all crates: the characters of ASCII that texts give a meaning, by name.
+-- For all crates: names for the characters of ASCII that have a meaning in texts.
 use Rattle.std.specs.Prelude.{ℕ}
 
 abbrev pub tab : ℕ

@@ -1,4 +1,5 @@
--- Base 32 and base 32 with the extended hex alphabet: RFC 4648, sections 6 and 7.
+-- Which bytes the digits of base 32 encode, in the standard and the extended hex alphabet (RFC 4648, sections 6 and
+-- 7).
 use Rattle.std.specs.Prelude.{◌≡◌, ℕ, zero, suc, ◌+◌, ◌-◌, ◌*◌, ◌/◌, ◌%◌, ◌^◌, ◌<◌, ◌≤◌, List, [], ◌∷◌, ◌++◌, map, take}
 use Rattle.std.specs.Prelude.{replicate, length, slice_index, codes}
 use Rattle.std.specs.Int.Digits.{AllBelowBase, number_from_digits}
@@ -49,7 +50,7 @@ encode_group alphabet group =
 abbrev pub IsLastGroup : List ℕ → Type 0
 IsLastGroup group = AreBytes group × (0 < length group) × (length group ≤ 5)
 
--- the encoding of bytes: one group of five after the other, of which the last may be shorter
+-- the encoding of bytes: that of each group of five; the last group may be shorter
 unfoldable pub encode : Alphabet → List ℕ → List ℕ
 encode alphabet [] = []
 encode alphabet (a ∷ b ∷ c ∷ d ∷ e ∷ bytes) = encode_group alphabet (a ∷ b ∷ c ∷ d ∷ e ∷ []) ++ encode alphabet bytes

@@ -1,4 +1,4 @@
--- Base 64: RFC 4648, section 4, and section 5 without padding.
+-- The encoding of bytes in base 64: RFC 4648, section 4, and section 5 without padding.
 use Rattle.std.specs.Prelude.{ℕ, Bool, true, false, ◌==◌, ◌||◌, if◌then◌else◌, Option, List, codes}
 use Rattle.cbor_tokens.specs.Ascii.{plus, slash, equals_sign}
 use Rattle.base64.specs.Rfc4648.{encode}

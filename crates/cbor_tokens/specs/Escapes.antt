@@ -1,6 +1,6 @@
--- The content of a text as JSON and EDN write it between quotes, with escapes.
+-- The content of a text between quotes, with escapes, as JSON and EDN write it.
 use Rattle.std.specs.Prelude.{ℕ, ◌/◌, ◌%◌, ◌==◌, ◌&&◌, ◌||◌, nat_le, Bool, List, [], ◌∷◌, ◌++◌, if◌then◌else◌, codes}
-use Rattle.std.specs.Prelude.{flat_map, encode_utf8}
+use Rattle.std.specs.Prelude.{flat_map, encode_utf8, not}
 use Rattle.std.specs.Str.{chars}
 use Rattle.hex.specs.Hex.{encode_lower}
 
@@ -31,6 +31,16 @@ escaped_char c =
 -- a text, given as its bytes, with each of its characters escaped
 abbrev pub escaped_text : List ℕ → List ℕ
 escaped_text text = flat_map escaped_char (chars text)
+
+-- a character of lines: a hidden one, but for a line feed, as `\u{hhhh}`, any other as it is, in UTF-8
+abbrev pub shown_char : ℕ → List ℕ
+shown_char c =
+    if (c == 10) || not (is_hidden c) then encode_utf8 c
+    else codes "\\u{" ++ encode_lower (c / 256 ∷ c % 256 ∷ []) ++ codes "}"
+
+-- lines, given as their bytes, with each of their characters shown so
+abbrev pub shown_text : List ℕ → List ℕ
+shown_text text = flat_map shown_char (chars text)
 
 -- a character that is escaped begins with such a byte
 abbrev pub begins_escape : ℕ → Bool

@@ -1,4 +1,4 @@
--- The bytes of hex digits, without the reason where there are none; the values of digits that tables have.
+-- The bytes that hex digits encode, or none; and the values of digits, as tables have them.
 use Rattle.std.specs.Prelude.{ℕ, ◌+◌, ◌*◌, List, Option, Some, None, Result, Ok, Err}
 use Rattle.hex.specs.Hex.{decode_of, hex_digit_value}
 use Rattle.hex.specs.declared.error.FromHexError.{FromHexError}

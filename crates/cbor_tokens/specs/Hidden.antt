@@ -1,9 +1,9 @@
--- Characters that no terminal and no log is given as they are: control characters, those that end a line or turn the
--- direction of a text, and the byte order mark. A text is the list of its bytes in UTF-8.
+-- Hidden characters, which no terminal and no log should get as they are: control characters, those that end a line
+-- or change the direction of a text, and the byte order mark. A text is the list of its bytes in UTF-8.
 use Rattle.std.specs.Prelude.{◌≡◌, ◌≢◌, ◌⊎◌, ℕ, ◌+◌, ◌<◌, ◌≤◌, Bool, true, List, length, slice_index}
 
--- Three bytes, one after the other, begin with such a character: U+0000 to U+001F, but for a line feed where lines may
--- end; U+007F; U+0080 to U+009F; U+061C; U+200E and U+200F; U+2028 to U+202E; U+2066 to U+2069; U+FEFF.
+-- Three bytes in a row begin with such a character: U+0000 to U+001F, except a line feed where lines may end; U+007F;
+-- U+0080 to U+009F; U+061C; U+200E and U+200F; U+2028 to U+202E; U+2066 to U+2069; U+FEFF.
 abbrev pub Hides : Bool → ℕ → ℕ → ℕ → Type 0
 Hides lines a b c = ((a < 32) × ((lines ≡ true) → a ≢ 10)) ⊎ (a ≡ 127) ⊎ ((a ≡ 0xc2) × (b < 0xa0))
     ⊎ ((a ≡ 0xd8) × (b ≡ 0x9c))

@@ -1,5 +1,5 @@
--- The tokens of diagnostic notation: which texts they are, and what they mean. A text is the list
--- of its bytes in UTF-8.
+-- The tokens of diagnostic notation: which texts they are, and what they mean. A text is the list of its bytes in
+-- UTF-8.
 use Rattle.std.specs.Prelude.{◌≡◌, ◌≢◌, ◌⊎◌, ℕ, ◌+◌, ◌<◌, ◌≤◌, ◌^◌, min, Bool, not, ◌==◌, ◌&&◌, ◌||◌, if◌then◌else◌}
 use Rattle.std.specs.Prelude.{IsTrue, List, [], ◌∷◌, ◌++◌, length, flat_map, codes, Option, Some, None}
 use Rattle.std.specs.List.{AllByRecursion}

@@ -1,5 +1,5 @@
--- Functions that read tokens as the code does, between the code and the sets of texts in `Token`: of a
--- text each gives what it reads and the rest. The calls that read at the front cite them, and those that take a
+-- Functions that read tokens as the code does: each returns what it reads from a text, and the rest. They connect the
+-- code with the sets of texts in `Token`. Calls that read at the front cite these functions, and calls that take a
 -- place cite `Token`.
 use Rattle.std.specs.Prelude.{ℕ, ◌+◌, ◌*◌, Bool, true, false, not, ◌==◌, ◌&&◌, if◌then◌else◌, nat_lt, nat_le, List, []}
 use Rattle.std.specs.Prelude.{◌∷◌, ◌++◌, length, drop, Option, Some, None}

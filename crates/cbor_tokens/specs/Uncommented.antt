@@ -1,4 +1,4 @@
--- What hex digits are left without blanks and comments, for all who read hex.
+-- The text that is left of hex without its blanks and comments, for all calls that read hex.
 use Rattle.std.specs.Prelude.{◌≢◌, ℕ, ◌==◌, not, List, filter, flat_map}
 use Rattle.std.specs.List.{All, before_first}
 use Rattle.std.specs.Str.Lines.{lines}

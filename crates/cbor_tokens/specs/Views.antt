@@ -1,4 +1,4 @@
--- Which alphabet of base 32 and which base of numbers the code's own enums are.
+-- The alphabet of base 32, and the base of numbers, that each value of the code's enums stands for.
 use Rattle.cbor_tokens.specs.declared.base32.Alphabet.TheVariants as own_alphabet
 use Rattle.cbor_tokens.specs.declared.token.number.Base.TheVariants as own_base
 use Rattle.cbor_tokens.specs.declared.base32.Alphabet as declared_alphabet

@@ -1,4 +1,4 @@
-//! Base 32 and base 32 with the extended hex alphabet, decoded: RFC 4648, sections 6 and 7.
+//! Decodes base 32 and base 32 with the extended hex alphabet (RFC 4648, sections 6 and 7).
 
 ghost use Rattle.std.specs.Prelude.{◌≡◌, ◌≢◌, ◌-◌, ◌*◌, ◌<◌, ◌≤◌, ◌^◌, ℕ, List, drop, length};
 ghost use Rattle.std.specs.Prelude.{replicate, slice_index, Some, IfSome, IfNone, IfOk, IsSomeAnd};
@@ -10,7 +10,7 @@ ghost use Rattle.cbor_tokens.specs.Views.{alphabet_view};
 
 use std::alloc::{AllocError, Global};
 
-/// The characters of the 32 values of five bits.
+/// The alphabets of base 32: a character for each value of five bits.
 #[derive(Clone, Copy)]
 enum Alphabet {
     /// `A` to `Z`, and then `2` to `7`: RFC 4648, section 6.
@@ -23,8 +23,8 @@ enum Alphabet {
 ///
 /// Returns `None` unless `digits` are exactly the encoding of some bytes: if a character is not in
 /// the alphabet, if the length is not a multiple of eight, if padding is anywhere but at the end,
-/// or if a bit that no byte uses is set. Empty input decodes to no bytes. The only error is out of
-/// memory.
+/// or if a bit that no byte uses is set. Empty input decodes to no bytes. The only error is
+/// `AllocError`.
 ///
 /// ```rust
 /// use cbor_notes::base32_decode;
@@ -46,7 +46,7 @@ pub fn base32_decode(alloc: Global, digits: &[u8]) -> Result<Option<Vec<u8>>, Al
 }
 
 /// Decodes base 32 with the extended hex alphabet (RFC 4648, section 7), by the rules of
-/// [`base32_decode`]. The only error is out of memory.
+/// [`base32_decode`]. The only error is `AllocError`.
 ///
 /// ```rust
 /// use cbor_notes::base32hex_decode;
@@ -122,7 +122,7 @@ impl Alphabet {
         }
     }
 
-    /// The number that at most eight digits write, the first one highest.
+    /// The number that at most eight digits encode, the first digit highest.
     fn number(self, digits: &[u8]) -> Option<u64>
         requires { length digits.now ≤ 8 }
         ensures found { IfSome result (λ number. Writes (alphabet_view self) digits.now number) }
@@ -169,8 +169,8 @@ impl Alphabet {
     }
 }
 
-/// How many digits of a group come before its padding: the fewest, of 2, 4, 5, 7 and 8, after which
-/// all are `=`.
+/// How many digits of a group come before its padding: the smallest of 2, 4, 5, 7 and 8 after which
+/// all digits are `=`.
 fn unpadded_len(digits: &[u8]) -> usize
     requires { length digits.now ≡ 8 }
     ensures count { IsDigitCount result }

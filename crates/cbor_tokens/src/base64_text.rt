@@ -1,4 +1,4 @@
-//! Base 64, decoded: RFC 4648, sections 4 and 5.
+//! Decodes base 64 (RFC 4648, sections 4 and 5).
 
 ghost use Rattle.std.specs.Prelude.{◌≡◌, ◌≢◌, ◌⊎◌, ℕ, List, option_map};
 ghost use Rattle.std.specs.Prelude.{IfSome, IfNone, IfOk, IsSomeAnd};
@@ -17,7 +17,7 @@ use std::alloc::{AllocError, Global};
 /// Returns `None` unless `digits` are exactly an encoding of some bytes in one of them: if a
 /// character is in neither alphabet, if both are mixed, if the length or the padding is wrong, or
 /// if a bit that no byte uses is set. Digits that are an encoding in both decode to the same bytes.
-/// The only error is out of memory.
+/// The only error is `AllocError`.
 ///
 /// ```rust
 /// use cbor_notes::base64_any_decode;
@@ -41,8 +41,7 @@ pub fn base64_any_decode(alloc: Global, digits: &[u8]) -> Result<Option<Vec<u8>>
 }
 
 /// Whether one of the digits is `+`, `/` or `=`, which only the standard encoding has. Digits
-/// without them that are the standard encoding of some bytes are the other encoding of these bytes,
-/// too.
+/// without these that encode bytes in the standard encoding encode the same bytes in the other.
 fn is_standard_only(digits: &[u8]) -> bool
     ensures { result ≡ list_any is_standard_only digits.now }
 {

@@ -1,5 +1,5 @@
-//! Escapes in quoted texts, as JSON and EDN have them: of a quote, of a backslash, and of each
-//! character that no terminal and no log is given as it is. [`is_shown`] finds these in any text,
+//! Escapes quoted texts as JSON and EDN do: a quote, a backslash, and each hidden character, which
+//! no terminal and no log should get as it is. [`is_shown`] finds hidden characters in any text,
 //! and [`push_shown`] escapes them there.
 //!
 //! ```rust
@@ -23,7 +23,7 @@ use crate::hex_digits::push_hex;
 pub use hidden::{is_shown, push_shown};
 use std::alloc::AllocError;
 
-/// Writes a text, each of its characters escaped. Most have none that is.
+/// Appends a text in which each character that needs it is escaped. Most texts have none.
 pub fn push_escaped(out: &mut String, text: &str) -> Result<(), AllocError>
     ensures { AppendsText result out.old out.new (escaped_text text.now) }
 {
@@ -33,8 +33,8 @@ pub fn push_escaped(out: &mut String, text: &str) -> Result<(), AllocError>
     push_escaped_chars(out, text)
 }
 
-/// Whether the text may have a character that is escaped. It is looked at to its end, so that the
-/// compiler takes many bytes at once.
+/// Whether the text may have a character that needs an escape. It tests the text to its end, so
+/// that the compiler takes many bytes at once.
 fn may_have_escapes(text: &str) -> bool
     ensures { result ≡ list_any begins_escape text.now }
 {
@@ -59,7 +59,7 @@ fn may_begin_escape(byte: u8) -> bool
         || byte == 0xef
 }
 
-/// The same, character by character.
+/// The same as `push_escaped`, character by character.
 fn push_escaped_chars(out: &mut String, text: &str) -> Result<(), AllocError>
     ensures { AppendsText result out.old out.new (escaped_text text.now) }
 {
@@ -69,8 +69,8 @@ fn push_escaped_chars(out: &mut String, text: &str) -> Result<(), AllocError>
     Ok(())
 }
 
-/// Whether a character is not shown as it is: a control character, one that ends a line or turns
-/// the direction of a text, or the byte order mark.
+/// Whether a character is hidden: a control character, one that ends a line or changes the
+/// direction of a text, or the byte order mark.
 fn is_hidden(character: char) -> bool
     ensures { result ≡ hides character }
 {

@@ -1,5 +1,5 @@
-//! What the definitions of tokens and digits say of a few inputs: each is computed when the crate
-//! is checked, so that a wrong definition does not pass. Nothing calls these functions.
+//! Checks the definitions of tokens and digits on a few inputs. The checker computes each example,
+//! so a wrong definition does not pass. No code calls these functions.
 ghost use Rattle.std.specs.Prelude.{◌≡◌, [], ◌∷◌, map, codes, true, false, Some};
 ghost use Rattle.std.specs.Prelude.{None, ◌+◌, ◌^◌, List, ℕ};
 ghost use Rattle.cbor_tokens.specs.Base32.{base32, base32hex};
@@ -32,7 +32,7 @@ pub(crate) fn base64_vectors()
     ensures url_safe { url_safe (0xfb ∷ 0xff ∷ []) ≡ codes "-_8" }
 {}
 
-/// Blanks are whitespace and closed comments, comments only where they are allowed.
+/// Blanks are whitespace and closed comments. Comments count only where they are allowed.
 pub(crate) fn blanks()
     ensures pieces { Blank true (codes " /x 'y/\n//") }
     ensures empty { Blank false [] }
@@ -40,8 +40,8 @@ pub(crate) fn blanks()
     ensures no_comments { ¬ (Blank false (codes "//")) }
 {}
 
-/// Numbers in their bases, with leading zeros, with indicators of 0 to 3 alone, and the longest of
-/// a text.
+/// Numbers in each base, with leading zeros and with indicators. Only 0 to 3 are indicators, and
+/// the longest number at the front of a text is taken.
 pub(crate) fn numbers()
     ensures zeros { IsNumber (codes "007") 7 None }
     ensures hexadecimal { IsNumber (codes "0x1aF_1") 431 (Some 1) }
@@ -62,8 +62,8 @@ pub(crate) fn quoted()
     ensures double { in_quotes 34 (codes "it's \"\\") ≡ codes "it's \\\"\\\\" }
 {}
 
-/// Digits with blanks: a comment may hold a quote; blanks alone are no content, nor is a `/` that
-/// opens no comment; without comments a `/` is a digit.
+/// Digits with blanks. A comment may contain a quote. Blanks alone are not content, and neither is
+/// a `/` that opens no comment. Without comments, a `/` is a digit.
 pub(crate) fn spaced()
     ensures around { DigitsBetween true (codes " 0/'/1 ") (codes "01") }
     ensures empty { DigitsBetween true [] [] }

@@ -1,8 +1,9 @@
-//! Hex digits, two for each byte (RFC 4648, section 8): written in lower case, read in either.
+//! Writes and reads hex digits, two for each byte (RFC 4648, section 8): it writes lower case and
+//! reads either case.
 //!
-//! They take most of the time of a long byte string. A table has both digits of each byte, and two
-//! tables have the values of the digits, so that a byte takes few instructions and no branch. The
-//! definitions are those of the kit's crate `hex`.
+//! The digits take most of the time of a long byte string. One table has both digits of each byte,
+//! and two tables have the values of the digits, so a byte takes few instructions and no branch.
+//! The definitions are those of the kit's crate `hex`.
 ghost use Rattle.std.specs.Prelude.{◌≡◌, ◌≤◌, ◌<◌, ◌+◌, ◌*◌, ◌++◌, ℕ, List, length, Ok, option_map};
 ghost use Rattle.std.specs.Prelude.{IfOk, IsTrue, OnOk, OnErr};
 ghost use Rattle.std.specs.Bool.{IsFalse};
@@ -12,7 +13,7 @@ ghost use Rattle.cbor_tokens.specs.HexDigits.{base16_of, digits_value};
 
 use std::alloc::{AllocError, Global};
 
-/// The two digits of each byte, one byte after the other.
+/// The two digits of each byte, in the order of the bytes.
 const PAIRS: [u8; 512] = *b"000102030405060708090a0b0c0d0e0f101112131415161718191a1b1c1d1e1f\
     202122232425262728292a2b2c2d2e2f303132333435363738393a3b3c3d3e3f\
     404142434445464748494a4b4c4d4e4f505152535455565758595a5b5c5d5e5f\
@@ -22,7 +23,7 @@ const PAIRS: [u8; 512] = *b"000102030405060708090a0b0c0d0e0f10111213141516171819
     c0c1c2c3c4c5c6c7c8c9cacbcccdcecfd0d1d2d3d4d5d6d7d8d9dadbdcdddedf\
     e0e1e2e3e4e5e6e7e8e9eaebecedeeeff0f1f2f3f4f5f6f7f8f9fafbfcfdfeff";
 
-/// Writes the digits of `bytes`, in lower case, to `digits`, which has room for just these.
+/// Writes the digits of `bytes`, in lower case, to `digits`, which has exactly their length.
 fn write_hex(bytes: &[u8], digits: &mut [u8])
     requires { length digits.old ≡ 2 * length bytes.now }
     ensures { digits.new ≡ encode_lower bytes.now }
@@ -35,7 +36,7 @@ fn write_hex(bytes: &[u8], digits: &mut [u8])
 }
 
 /// Appends the hex digits of `bytes` to `text`: two for each byte, in lower case. The only error is
-/// out of memory, and after it `text` is unchanged.
+/// `AllocError`; `text` is unchanged after it.
 ///
 /// ```rust
 /// use cbor_notes::push_hex;
@@ -63,7 +64,7 @@ pub fn push_hex(text: &mut String, bytes: &[u8]) -> Result<(), AllocError>
     Ok(())
 }
 
-/// How many bytes are made hex digits at once.
+/// How many bytes are converted to hex digits at once.
 const PIECE: usize = 64;
 
 /// Appends the hex digits of a few bytes to `text`, all at once: byte by byte takes longer.
@@ -84,8 +85,8 @@ fn push_hex_piece(text: &mut String, piece: &[u8]) -> Result<(), AllocError>
     text.push_str(unsafe { str::from_utf8_unchecked(digits) })
 }
 
-/// The value of each digit of either case, 16 times, as the first of a byte's two has it; 256 for
-/// any other byte.
+/// The value of each digit of either case as the first of a byte's two: 16 times the digit. Any
+/// other byte has 256.
 const FIRST_VALUES: [u16; 256] = [
     256, 256, 256, 256, 256, 256, 256, 256, 256, 256, 256, 256, 256, 256, 256, 256, 256, 256, 256,
     256, 256, 256, 256, 256, 256, 256, 256, 256, 256, 256, 256, 256, 256, 256, 256, 256, 256, 256,
@@ -103,7 +104,7 @@ const FIRST_VALUES: [u16; 256] = [
     256, 256, 256, 256, 256, 256, 256, 256,
 ];
 
-/// The value of each digit of either case; 256 for any other byte.
+/// The value of each digit of either case as the second of a byte's two. Any other byte has 256.
 const SECOND_VALUES: [u16; 256] = [
     256, 256, 256, 256, 256, 256, 256, 256, 256, 256, 256, 256, 256, 256, 256, 256, 256, 256, 256,
     256, 256, 256, 256, 256, 256, 256, 256, 256, 256, 256, 256, 256, 256, 256, 256, 256, 256, 256,
@@ -121,7 +122,7 @@ const SECOND_VALUES: [u16; 256] = [
     256, 256, 256,
 ];
 
-/// The value of the byte with these two digits, or more than any byte if one of them is no digit.
+/// The byte with these two digits, or a number above 255 if one of them is not a digit.
 #[inline(always)]
 fn value_of(first: u8, second: u8) -> u16
     ensures value { result ≡ digits_value first second }
@@ -131,7 +132,7 @@ fn value_of(first: u8, second: u8) -> u16
 }
 
 /// Reads `digits` into `bytes`, which has room for just these, and returns whether each is a digit.
-/// Only at the end: without a branch in the loop, it takes fewer instructions.
+/// It decides only at the end: a loop without a branch takes fewer instructions.
 fn read_hex(digits: &[u8], bytes: &mut [u8]) -> bool
     requires { length digits.now ≡ 2 * length bytes.old }
     ensures read { IsTrue result → decode_pairs 0 digits.now ≡ Ok bytes.new }
@@ -146,8 +147,9 @@ fn read_hex(digits: &[u8], bytes: &mut [u8]) -> bool
     all < 256
 }
 
-/// Returns the bytes of hex digits, two digits of either case for each byte, or `None` if the
-/// number of digits is odd or a byte is not a digit. The only error is out of memory.
+/// Returns the bytes that hex digits encode, two digits of either case for each byte. Returns
+/// `None` if the number of digits is odd or if a byte is not a digit. The only error is
+/// `AllocError`.
 ///
 /// ```rust
 /// use cbor_notes::decode_hex;

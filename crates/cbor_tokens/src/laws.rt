@@ -1,4 +1,4 @@
-//! Laws of the definitions of tokens and digits alone. Nothing calls these functions.
+//! Laws of the definitions of tokens and digits alone. No code calls these functions.
 ghost use Rattle.std.specs.Prelude.{◌≡◌, ℕ, ◌++◌, Bool, true, List, Some};
 ghost use Rattle.std.specs.Prelude.{codes};
 ghost use Rattle.std.specs.List.{range_with_len};
@@ -25,7 +25,7 @@ pub(crate) fn base64_alphabets()
         → encode_of engines.url_safe_no_pad bytes ≡ url_safe bytes }
 {}
 
-/// Digits of base 64 decode to bytes exactly where they are the encoding of these bytes.
+/// Digits of base 64 decode to bytes if and only if they are the encoding of these bytes.
 pub(crate) fn base64_decoded()
     ensures found { (url : Bool) (digits bytes : List ℕ) → AreBytes digits
         → decoded url digits ≡ Some bytes → digits ≡ encoding url bytes }

@@ -1,5 +1,6 @@
-//! What needs no item and stands below all: the tokens of diagnostic notation, base 32, base 64 and
-//! hex digits; escapes and hidden characters. `cbor_notes` re-exports the calls of the bases.
+//! Reads the tokens of diagnostic notation, decodes base 32 and base 64, reads and writes hex
+//! digits, and escapes hidden characters. It knows no CBOR items. `cbor_notes` re-exports the calls
+//! of the bases.
 //!
 //! A call that allocates takes an allocator first and returns `AllocError` if an allocation fails.
 //! Every other result depends on its arguments alone. In the examples of this crate, `rt` is the

@@ -1,5 +1,6 @@
-//! The tokens of diagnostic notation, and its blanks. Each call returns the longest token at the
-//! front of a text, or the content up to its quote; the calls that take a place do so from there.
+//! Finds the tokens of diagnostic notation and the blanks between them. Each call returns the
+//! longest token at the front of a text, or the content up to its quote. A call that takes a place
+//! starts there.
 //!
 //! A text is given as bytes of UTF-8. The caller decides what a token means.
 
@@ -18,8 +19,8 @@ pub use number::{number_at, number_front};
 /// Returns the end of the longest blank from `at` on. `at` is at most the length of `text`.
 ///
 /// A blank is any run, possibly empty, of whitespace (space, tab, line feed, carriage return) and
-/// comments. A comment is `/`, any bytes but `/`, and `/`. A `/` with no other after it is not part
-/// of a blank.
+/// comments. A comment is `/`, any bytes but `/`, and `/`. A `/` that no other `/` follows is not
+/// part of a blank.
 ///
 /// ```rust
 /// use cbor_notes::blank_end;
@@ -50,7 +51,7 @@ pub fn blank_len(text: &[u8]) -> usize
     text.len() - after_blank(text, true).len()
 }
 
-/// The text after the longest blank at its front, with comments in it if they are allowed.
+/// The text after the longest blank at its front. Comments are blank if `comments` is set.
 pub(crate) fn after_blank(text: &[u8], comments: bool) -> &[u8]
     ensures gives { result.now ≡ after_blank comments text.now }
     ensures within { length result.now ≤ length text.now }
@@ -80,7 +81,7 @@ fn after_piece(text: &[u8], comments: bool) -> Option<&[u8]>
     }
 }
 
-/// How many bytes come before the `/` that closes a comment, if one does.
+/// How many bytes come before the `/` that closes a comment, or `None` if there is no such `/`.
 fn words_len(text: &[u8]) -> Option<usize>
     ensures { result ≡ position (λ b. b == slash) text.now }
 {

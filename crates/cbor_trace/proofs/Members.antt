@@ -13,9 +13,9 @@ use Rattle.cbor_grammar.proofs.bytes.FoundAgain.{item_again}
 use Rattle.cbor_trace.specs.Around.{AfterItems}
 use Rattle.cbor_trace.proofs.Insides.{one_before}
 
--- ---- items one after the other
+-- ---- items in sequence
 
--- keys and values are items, one after the other
+-- keys and values are items in sequence
 pub pair_parts : (level : ℕ) (b : List ℕ) (ps : Pairs) (end : List ℕ) → SpellsPairs any level b ps end
     → SpellsItems any level b (parts ps) end
 pair_parts level b no_pairs end h = h

@@ -1,4 +1,4 @@
--- The parts of a container, one after the other: each byte is in one of them, or in none.
+-- The parts of a container in order: each byte is in one of them, or in none.
 use Rattle.std.proofs.Common.{◌≡◌, ℕ, suc, ◌+◌, ◌*◌, ◌<◌, ◌≤◌, List, ◌∷◌, length, Some, None, Ok, Err, refl}
 use Rattle.std.proofs.Common.{sym, ap, subst, ◌∙◌, inl, inr, arith}
 use Rattle.cbor_grammar.specs.declared.argument.Argument.{Argument}

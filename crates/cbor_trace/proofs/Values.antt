@@ -1,4 +1,4 @@
--- Where parts begin and end: values that are read one after the other, and a byte that is in one of them at most.
+-- Where parts begin and end: values that are read in sequence, and a byte that is in one of them at most.
 use Rattle.std.proofs.Common.{◌≡◌, ℕ, zero, suc, ◌+◌, ◌<◌, ◌≤◌, List, length, Ok, Err, sym, ap, subst, ◌⊎◌, inl, inr}
 use Rattle.std.proofs.Common.{◌∙◌, arith}
 use Rattle.std.proofs.lemmas.Bool.{cases_lt}

@@ -1,4 +1,4 @@
--- Which containers are open at a byte, by reading from left to right.
+-- Which containers are open at a byte, found by reading from left to right.
 use Rattle.std.specs.Prelude.{◌≡◌, ℕ, zero, suc, ◌+◌, ◌*◌, ◌<◌, ◌≤◌, List, [], ◌∷◌, length, drop, None, Ok}
 use Rattle.cbor_grammar.specs.declared.argument.Argument.{Argument}
 use Rattle.cbor_grammar.specs.declared.argument.Argument.TheVariants.{Number, Indefinite}
@@ -47,7 +47,7 @@ GoesOn (Key count index) rest = MembersGoOn count index rest
 GoesOn (Value count index key) rest = PairGoesOn count index
 GoesOn (Tag number width) rest = Unit {0}
 
--- From these bytes this many values are read one after the other, and then the rest is left.
+-- From these bytes this many values are read in sequence, and then the rest is left.
 abbrev pub After : {X : Type 0} → (List ℕ → Read X) → ℕ → List ℕ → List ℕ → Type 0
 After read zero b rest = b ≡ rest
 After {X = X} read (suc k) b rest = (mid : List ℕ) × (x : X) × After read k b mid × (read mid ≡ Ok (x, rest))

@@ -1,11 +1,11 @@
-//! For messages and searches, heads, one after the other, as items one after the other have them.
-//! What is an item is told by `extent`.
+//! Steps over bytes from one head to the next, for messages and searches. It does not check that
+//! the bytes are an item; `extent` does.
 ghost use Rattle.std.specs.Prelude.{◌≤◌};
 
 use cbor_bytes::utf8_fault;
 use cbor_grammar::Error;
 
-/// How many bytes after the head at this place the next one is: strings are passed.
+/// The distance from the head at this place to the next one. The content of a string is skipped.
 pub fn step(bytes: &[u8], at: usize) -> usize
     ensures { 1 ≤ result }
 {
@@ -28,7 +28,7 @@ fn byte_at(bytes: &[u8], at: usize) -> u8 {
     }
 }
 
-/// How many bytes follow the first of a head.
+/// How many bytes of a head follow its first byte.
 fn argument_len(byte: u8) -> usize
     ensures { result ≤ 8 }
 {
@@ -56,9 +56,9 @@ fn argument_at(bytes: &[u8], at: usize) -> u64 {
     argument
 }
 
-/// The place of the byte that is at fault in bytes that are no item, of which the first `end` have
-/// this error: the last of these; of a text that is not UTF-8, the first with which no UTF-8 goes
-/// on.
+/// The place of the wrong byte in malformed bytes whose first `end` bytes have this error. It is
+/// the last of these bytes. In a text that is not UTF-8, it is the first byte that UTF-8 cannot
+/// have there.
 ///
 /// ```rust
 /// use cbor_grammar::Error;
@@ -82,8 +82,8 @@ pub fn place_of_fault(bytes: &[u8], error: Error, end: usize) -> usize {
     last
 }
 
-/// The place of the first byte with which no UTF-8 goes on, in the text whose head is at a place
-/// and whose end at another; that end, if there is none.
+/// The place of the first byte that UTF-8 cannot have there, in the text with its head at `at` and
+/// its end at `end`; `end` if there is no such byte.
 fn first_wrong(bytes: &[u8], at: usize, end: usize) -> usize {
     let Some(first) = bytes.get(at) else {
         return end;

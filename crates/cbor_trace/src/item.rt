@@ -1,4 +1,4 @@
-//! The head of an item, and where the item ends in the bytes.
+//! Finds the head of an item, and where the item ends.
 ghost use Rattle.std.specs.Prelude.{◌≡◌, ℕ, ◌≤◌, IfSome, Some};
 ghost use Rattle.cbor_grammar.specs.declared.head.ItemHead.{ItemHead};
 ghost use Rattle.cbor_trace.specs.Around.{EndsAt, IsHeadAt};
@@ -9,12 +9,13 @@ use cbor_bytes::skip::after_front;
 use cbor_grammar::head::ItemHead;
 use cbor_grammar::level::DEEPEST;
 
-/// The head of the item, or of the chunk, that begins at `start`, and the place after it; `None` if
-/// the head is cut or none that an item can have.
+/// The head of the item or chunk that begins at `start`, and the place after the head. Returns
+/// `None` if the head is truncated or invalid.
 ///
-/// Of a string that is cut, the head has the length, and the bytes from that place on are there.
+/// The head of a truncated string has the whole length. The bytes from the place after it are the
+/// part of the content that is there.
 pub fn head_at(bytes: &[u8], start: usize) -> Option<(ItemHead, usize)>
-    // The head, exactly if it is one.
+    // The result is a head if and only if it is the one at `start`.
     ensures head { IfSome result (λ h. IsHeadAt bytes.now start h.0 h.1) }
     ensures every_head { (head : ItemHead) (end : ℕ) → IsHeadAt bytes.now start head end
         → result ≡ Some (head, end) }
@@ -29,9 +30,9 @@ pub fn head_at(bytes: &[u8], start: usize) -> Option<(ItemHead, usize)>
     Some((head, bytes.len() - rest.len()))
 }
 
-/// The place after the item at this spot; `None` if it is cut or has a fault.
+/// The place after the item at this spot, or `None` if the item is truncated or malformed.
 pub fn end_at(bytes: &[u8], spot: Spot) -> Option<usize>
-    // The end, exactly if the item is whole.
+    // The result is a place if and only if the item ends there.
     ensures end { IfSome result (λ end. EndsAt bytes.now spot end) }
     ensures every_end { (end : ℕ) → 1 ≤ spot.level → EndsAt bytes.now spot end
         → result ≡ Some end }

@@ -1,8 +1,9 @@
-//! Which containers are open at a byte of an item, and where an item is cut or has a fault.
+//! Finds which containers are open at a byte of an item, and where an item is truncated or
+//! malformed.
 //!
-//! [`part_at`] goes one container inwards, and [`innermost`] all the way. [`head_at`] finds the
-//! head of an item, and [`end_at`] where an item ends. [`place_of_fault`] finds the byte that is at
-//! fault in bytes that are no item. None of them takes memory.
+//! [`part_at`] goes one container inwards, and [`innermost`] goes all the way. [`head_at`] finds
+//! the head of an item, and [`end_at`] finds where the item ends. [`place_of_fault`] finds the
+//! wrong byte in malformed bytes. None of them allocates memory.
 //!
 //! The containers around a byte, the outermost first:
 //!

@@ -1,4 +1,4 @@
-//! Containers that are open before one of their parts.
+//! `Open`: a container that is open before one of its parts.
 ghost use Rattle.std.specs.Prelude.{◌≡◌, ◌↔◌, ◌<◌, ◌^◌, IsTrue};
 ghost use Rattle.cbor_trace.specs.Around.{parts_before, GoesOn};
 ghost use Rattle.cbor_trace.specs.mirror.Steps.{opened_by, next_of};
@@ -7,27 +7,28 @@ use cbor_grammar::IntegerWidth;
 use cbor_grammar::argument::{Argument, after_break};
 use cbor_grammar::head::ItemHead;
 
-/// A container that is open before one of its parts. A map's parts are its keys and values in turn.
+/// A container that is open before one of its parts. The parts of a map are its keys and values in
+/// turn.
 #[derive(Clone, Copy)]
 pub enum Open {
-    /// An array of that count, before the member at this index.
+    /// An array with this count, before the member at this index.
     Array {
         count: Argument,
         index: usize,
     },
-    /// A map of that count, before the key of the pair at this index.
+    /// A map with this count, before the key of the pair at this index.
     Key {
         count: Argument,
         index: usize,
     },
-    /// A map of that count, before the value of the pair at this index. Its key begins at the place
-    /// `key`, and ends where the value begins.
+    /// A map with this count, before the value of the pair at this index. Its key begins at the
+    /// place `key`, and ends where the value begins.
     Value {
         count: Argument,
         index: usize,
         key: usize,
     },
-    /// A tag of that number, before its item.
+    /// A tag with this number, before its item.
     Tag {
         number: u64,
         width: IntegerWidth,
@@ -47,7 +48,7 @@ impl Open {
         }
     }
 
-    /// Whether the container goes on with a part at these bytes.
+    /// Whether the container has a further part at these bytes.
     pub(crate) fn goes_on(self, rest: &[u8]) -> bool
         ensures { IsTrue result ↔ GoesOn self rest.now }
     {
@@ -64,8 +65,8 @@ impl Open {
         }
     }
 
-    /// The container after a part that begins at `start`; `None` if it was a tag's, which has no
-    /// other.
+    /// The container after a part that begins at `start`; `None` after the item of a tag, which has
+    /// no further part.
     pub(crate) fn after_part(self, start: usize) -> Option<Open>
         requires { parts_before self < 2 ^ 63 }
         ensures { result ≡ next_of self start }

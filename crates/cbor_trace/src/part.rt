@@ -1,4 +1,4 @@
-//! The part of a container that a byte belongs to.
+//! Finds the child of a container that contains a byte.
 ghost use Rattle.std.specs.Prelude.{◌≡◌, ℕ, ◌+◌, ◌<◌, ◌≤◌, List, length, IfSome, IfNone, Ok, Some};
 ghost use Rattle.cbor_grammar.specs.Item.{Item};
 ghost use Rattle.cbor_grammar.specs.Reading.{read_head, read_item};
@@ -18,7 +18,7 @@ pub struct Spot {
     pub level: u8,
 }
 
-/// A container that is open at a byte, and where its part begins that the byte belongs to.
+/// A container that is open at a byte, and where its child begins that contains the byte.
 #[derive(Clone, Copy)]
 pub struct Part {
     pub open: Open,
@@ -26,14 +26,14 @@ pub struct Part {
 }
 
 impl Spot {
-    /// That of the item at the front.
+    /// The spot of the item at the front.
     pub fn outermost() -> Spot
         ensures { result ≡ outermost }
     {
         Spot { start: 0, level: 1 }
     }
 
-    /// That of a part of the item here.
+    /// The spot of a part of the item here.
     pub fn of_part(self, part: Part) -> Spot
         requires { self.level ≤ deepest }
         ensures { result ≡ spot_of self part }
@@ -45,8 +45,8 @@ impl Spot {
     }
 }
 
-/// The bytes after the item at the front, read from `level`, if it ends within the first `most`
-/// bytes. It reads no others.
+/// The bytes after the item at the front, read from `level`, or `None` if it does not end within
+/// the first `most` bytes. Later bytes are not read.
 fn after_within(bytes: &[u8], level: u8, most: usize) -> Option<&[u8]>
     requires from { 1 ≤ level }
     requires to { level ≤ deepest + 1 }
@@ -65,8 +65,8 @@ fn after_within(bytes: &[u8], level: u8, most: usize) -> Option<&[u8]>
     Some(rest)
 }
 
-/// The first part from `bytes` on that does not end at the byte `at` or before it. The bytes are
-/// the last of `total`, and `first` is what the head before them opens.
+/// The first part from `bytes` on that does not end at or before the byte `at`. `bytes` are the
+/// last of `total` bytes, and `first` is what the head before them opens.
 fn part_from(total: usize, level: u8, first: Open, bytes: &[u8], at: usize) -> Option<Part>
     requires level { level ≤ deepest }
     requires first { parts_before first ≡ 0 }
@@ -95,17 +95,16 @@ fn part_from(total: usize, level: u8, first: Open, bytes: &[u8], at: usize) -> O
     }
 }
 
-/// The part that the byte `at` belongs to, of the container that the item at this spot is. It is
-/// the first part that does not end before the byte. A part that is cut or has a fault ends
-/// nowhere, so a byte after a fault leads to the fault, and the length of cut bytes to where they
-/// are cut.
+/// The child of the container at this spot that contains the byte `at`: the first part that does
+/// not end before the byte. A truncated or malformed part has no end. So a byte after an error
+/// leads to the error, and the length of truncated bytes leads to where they end.
 ///
-/// Returns `None` if the byte belongs to no part: if the item is no container, if the byte is in
+/// Returns `None` if no part contains the byte: if the item is not a container, if the byte is in
 /// its head, or if the parts end before the byte.
 ///
 /// It reads the container up to the byte, once.
 pub fn part_at(bytes: &[u8], spot: Spot, at: usize) -> Option<Part>
-    // The part, exactly if it is one.
+    // The result is a part if and only if it is the one at the byte.
     ensures part { IfSome result (λ p. IsPartAt bytes.now spot at p) }
     ensures every_part { (p : Part) → IsPartAt bytes.now spot at p → result ≡ Some p }
 {

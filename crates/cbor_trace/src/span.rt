@@ -1,6 +1,6 @@
-//! A place: a span of the bytes of an input.
+//! `Span`: a range of the bytes of an input.
 
-/// A span of the bytes of an input: those from `start` on, before `end`.
+/// A range of the bytes of an input: those from `start` on, before `end`.
 #[derive(Clone, Copy, PartialEq, Eq, Debug)]
 pub struct Span {
     /// The offset of the first byte.
@@ -10,7 +10,8 @@ pub struct Span {
 }
 
 impl Span {
-    /// Returns the bytes of the input in this span; none if it is not within them.
+    /// Returns the bytes of the input in this span, or no bytes if the span is not within the
+    /// input.
     pub fn bytes(self, input: &[u8]) -> &[u8] {
         match input.get(self.start..self.end) {
             Some(bytes) => bytes,
@@ -18,7 +19,7 @@ impl Span {
         }
     }
 
-    /// Returns how many bytes it has.
+    /// Returns how many bytes the span has.
     pub fn len(self) -> usize {
         self.end.saturating_sub(self.start)
     }

@@ -1,4 +1,4 @@
-//! All the containers that are open at a byte.
+//! Finds the innermost item that contains a byte.
 ghost use Rattle.std.specs.Prelude.{◌≡◌, ℕ, ◌<◌, ◌≤◌, List, length, drop};
 ghost use Rattle.cbor_grammar.specs.Item.{Item};
 ghost use Rattle.cbor_grammar.specs.Facts.{BeginsWithItem, IsCut, HasFault};
@@ -10,13 +10,14 @@ ghost use Rattle.cbor_trace.specs.Around.{IsWay, IsWholeAt, outermost};
 
 use crate::part::{Spot, part_at};
 
-/// The innermost item that the byte `at` belongs to.
+/// The innermost item that contains the byte `at`.
 ///
-/// The length of cut bytes leads to the item that is cut. For a fault give it the bytes that have
-/// it, which [`extent`] counts, and their number: they lead to the item that has the fault.
+/// If `at` is the length of truncated bytes, this is the item that is truncated. To find the item
+/// with an error, pass the first bytes that have the error, which [`extent`] counts, and their
+/// number as `at`.
 ///
 /// It goes from container to container, as [`part_at`] does for one. So it reads the bytes before
-/// the byte once for each container that is open there, at most.
+/// `at` at most once for each container that is open there.
 ///
 /// [`extent`]: cbor_bytes::extent
 pub fn innermost(bytes: &[u8], at: usize) -> Spot
@@ -25,11 +26,11 @@ pub fn innermost(bytes: &[u8], at: usize) -> Spot
     ensures only { (parts : List Part) (spot : Spot) → IsWay bytes.now at outermost parts spot
         → spot ≡ result }
 
-    // In bytes that begin with an item, a byte of it is in the item there, which is whole.
+    // If the bytes begin with an item, each byte of it leads to an item there, which is whole.
     ensures whole { (i : Item) (n : ℕ) → BeginsWithItem bytes.now i n → at < n
         → IsWholeAt bytes.now result at }
 
-    // Of bytes that are cut or have a fault, their end leads to the item that is cut or has it.
+    // If the bytes are cut or have a fault, their end leads to the item that is cut or has it.
     ensures is_cut { length bytes.now ≤ at → IsCut bytes.now
         → Cut result.level (drop result.start bytes.now) }
     ensures has_fault { (e : Error) → length bytes.now ≤ at → HasFault bytes.now e

@@ -1,4 +1,4 @@
--- What a run of the filter writes of items one after the other.
+-- What a run of the filter writes for a sequence of items.
 use Rattle.std.proofs.Common.{◌≡◌, ℕ, ◌+◌, List, [], ◌∷◌, ◌++◌, Option, Some, None, IfSome, Result, Ok, Err}
 use Rattle.std.proofs.Common.{inl, inr, length, take, drop, refl, sym, ap, subst, ◌∙◌, arith, append-nil}
 use Rattle.std.proofs.Common.{length-append, take-append-drop}

@@ -1,4 +1,4 @@
--- What a `Counted` remembers of the calls on its reader or writer.
+-- What a `Counted` records of the calls on its reader or writer.
 use Rattle.std.specs.Prelude.{ℕ, ◌+◌, ◌-◌, ◌^◌, ◌==◌, min, nat_lt, Bool, false, ◌&&◌, Result, Ok, Err}
 use Rattle.cbor_view.specs.declared.counted.Counted.{Counted}
 

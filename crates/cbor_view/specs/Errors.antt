@@ -1,4 +1,4 @@
--- What each error of a run of the filter says.
+-- The text of each error of a run of the filter.
 use Rattle.std.specs.Prelude.{ℕ, List, codes}
 use Rattle.cbor_diag.specs.Refusals as refusals
 use Rattle.cbor_view.specs.declared.error.ViewError.{ViewError}

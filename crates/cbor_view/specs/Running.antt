@@ -1,4 +1,4 @@
--- How a run of the filter ends, and what it read and wrote.
+-- When a run of the filter succeeds or fails, and what it has then read and written.
 use Rattle.std.specs.Prelude.{◌≡◌, ◌≢◌, ℕ, ◌<◌, List, length, take, true, Option, IfSome, Result, Err, ⊤, ◌⊎◌}
 use Rattle.std.specs.Io.KnownBytes.{Appends, IsAtEnd}
 use Rattle.cbor_grammar.specs.declared.error.Error.{Error}

@@ -1,4 +1,4 @@
--- A sequence of items one after the other (RFC 8742), and what the filter writes of it.
+-- A sequence of items (RFC 8742), and what the filter writes for it.
 use Rattle.std.specs.Prelude.{◌≡◌, ◌≢◌, ◌⊎◌, ℕ, List, [], ◌∷◌, ◌++◌}
 use Rattle.std.specs.List.{flat_map}
 use Rattle.cbor_grammar.specs.declared.error.Error.{Error}

@@ -6,12 +6,12 @@ ghost use Rattle.cbor_diag.specs.Output.{IsOutput};
 use cbor_diag::{Error, Source, To, bytes_to_bytes, read_item, write_item};
 use std::alloc::Global;
 
-/// Returns the output for an input. The encoding of bytes is the input itself, in its memory. Of
-/// notation an item is built, and what is written of it is written in the memory of the input if it
-/// can be: that was used already, and fresh memory takes longer.
+/// Returns the output for an input. If both are bytes, the output is normally the input itself, in
+/// its memory. From notation, an item is built, and its output is written in the memory of the
+/// input if it can be: fresh memory takes longer.
 ///
-/// The item is not dropped. Only the writing of the output comes after it, and to free its many
-/// small blocks one by one takes long.
+/// The item is not dropped. Only the writing of the output follows, and freeing the item's many
+/// small blocks takes long.
 pub(crate) fn convert(alloc: Global, from: Source, to: To, input: Vec<u8>) -> Result<Vec<u8>, Error>
     ensures ok { IfOk result (λ output. IsOutput from to input.items (Ok output.items)) }
     ensures refused { RefusedSo result (λ e. IsOutput from to input.items (Err e)) }
@@ -23,7 +23,7 @@ pub(crate) fn convert(alloc: Global, from: Source, to: To, input: Vec<u8>) -> Re
     }
 }
 
-/// The same for an input in notation.
+/// Converts an input in notation.
 fn from_notation(alloc: Global, to: To, input: Vec<u8>) -> Result<Vec<u8>, Error>
     ensures ok { IfOk result (λ output. IsOutput Source.Diag to input.items (Ok output.items)) }
     ensures refused { RefusedSo result (λ e. IsOutput Source.Diag to input.items (Err e)) }

@@ -1,4 +1,4 @@
-//! A reader or a writer that remembers how its calls went.
+//! Wraps a reader or a writer, and counts its failed calls.
 ghost use Rattle.std.specs.Prelude.{◌≡◌, false, length};
 ghost use Rattle.std.specs.Io.{ReadsAtMost, WritesAtMost};
 ghost use Rattle.std.specs.Io.KnownBytes.{Keeps, ReadConsumes, WriteAppends};
@@ -7,9 +7,9 @@ ghost use Rattle.cbor_view.specs.Counting.{failures_after, moves_none};
 
 use std::io::{Read, Result, Write};
 
-/// A reader or a writer that counts its failed calls. For contracts it also keeps whether the last
-/// read or write was of at least one byte, did not fail and moved none. For a reader that is the
-/// end of its input; for a writer it means that it takes no more.
+/// A reader or a writer that counts its failed calls. For contracts it also records whether the
+/// last read or write asked for at least one byte, did not fail, and moved none. Then a reader is
+/// at the end of its input, and a writer takes no more bytes.
 #[derive(Drop)]
 pub struct Counted<T> {
     inner: T,

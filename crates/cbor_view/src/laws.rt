@@ -1,12 +1,12 @@
-//! Laws of the definitions of `specs/` alone: which output of the filter bytes have, without
-//! regard to the code. Nothing calls these functions.
+//! Laws of the definitions in `specs/`, whatever the code does: which output the filter has for
+//! given bytes. Nothing calls these functions.
 ghost use Rattle.std.specs.Prelude.{◌≡◌, ℕ, List, ◌++◌};
 ghost use Rattle.cbor_grammar.specs.declared.error.Error.{Error};
 ghost use Rattle.cbor_diag.specs.declared.conversion.form.To.{To};
 ghost use Rattle.cbor_view.specs.Sequence.{IsOutputOfFirst, IsOutputOfAll, IsOutputBefore};
 
-/// Bytes have one output as a sequence of items, and one error or none. The output of some first
-/// items is a beginning of it.
+/// As a sequence of items, bytes have one output, and one error or none. The output of the first
+/// items is a prefix of it.
 pub(crate) fn one_output()
     ensures of_all { (to : To) (input a b : List ℕ)
         → IsOutputOfAll to input a → IsOutputOfAll to input b → a ≡ b }

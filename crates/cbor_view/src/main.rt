@@ -6,11 +6,11 @@
 //! 32_0("https://example.com")
 //! ```
 //!
-//! FROM is `bytes`, the bytes of the item, `hex`, its bytes in hex with comments, or `diag`,
-//! diagnostic notation. TO is `bytes`, `hex`, `diag`, diagnostic notation without line breaks, or
-//! `pretty`, the same over several lines; both show a line feed in a text as it is. If FROM is
-//! `seq`, the input is the bytes of items one after the other (RFC 8742), and each is written in
-//! the form TO, in order. Their outputs are written in blocks.
+//! FROM is `bytes` (the bytes of the item), `hex` (its bytes in hex with comments) or `diag`
+//! (diagnostic notation). TO is `bytes`, `hex`, `diag` (diagnostic notation on one line) or
+//! `pretty` (the same over several lines). Both `diag` and `pretty` write a line feed in a text as
+//! it is. If FROM is `seq`, the input is a CBOR sequence (RFC 8742): each of its items is written
+//! in the form TO, in order. The outputs are written in blocks.
 //!
 //! The exit status is 0 if the output was written. It is 1 if the input is not valid or cannot be
 //! read, if the output cannot be written, or if memory runs out. Invalid input produces no output;

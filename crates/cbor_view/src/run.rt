@@ -1,4 +1,4 @@
-//! A run of the filter for one item, over any reader and writer.
+//! Runs the filter for one item, over any reader and writer.
 ghost use Rattle.std.specs.Prelude.{◌≡◌, ℕ, ◌+◌, ◌<◌, ◌≤◌, List, length, take, drop, vec_len};
 ghost use Rattle.std.specs.Prelude.{Ok, Err, IfOk, IfErr, OnOk, OnErr, ◌⊎◌};
 ghost use Rattle.std.specs.Io.KnownBytes.{Consumes};
@@ -16,11 +16,11 @@ use crate::words::{Source, To};
 use std::alloc::{AllocError, Global};
 use std::io::{Read, Write};
 
-/// The number of bytes that are made free for a read.
+/// How many bytes of room are added for reads.
 const BLOCK: usize = 64 * 1024;
 
 /// Reads the input to its end, converts it, and writes the output. Nothing is written before all of
-/// the input was read and converted. Any failed call ends the run, including an interrupted one.
+/// the input is read and converted. Any failed call ends the run, including an interrupted one.
 pub fn run<R: Read, W: Write>(
     alloc: Global,
     from: Source,
@@ -48,7 +48,7 @@ pub fn run<R: Read, W: Write>(
     ensures read_failed { OnReadFailed result
         (OneFailure input.old input.new × (output.new ≡ output.old)) }
 
-    // All of the input was read, and a write failed or took nothing. A beginning of the output was
+    // All of the input was read, and a write failed or took nothing. A prefix of the output was
     // written, and nothing else.
     ensures write_failed { OnWriteFailed result ((all bytes : List ℕ)
         × ReadsAll R.remaining input.old input.new all
@@ -85,7 +85,7 @@ pub(crate) fn read_to_end<R: Read>(
     Ok(bytes)
 }
 
-/// Makes the bytes longer than their filled part. What an earlier read left unfilled is used again.
+/// Makes room for a read: extends the bytes if an earlier read filled all of them.
 fn make_room(bytes: &mut Vec<u8>, filled: usize) -> Result<(), AllocError>
     requires { filled ≤ vec_len bytes.old }
     ensures filled { take filled bytes.new.items ≡ take filled bytes.old.items }
@@ -119,7 +119,7 @@ fn read_after<R: Read>(
     }
 }
 
-/// Writes all of the bytes, or a beginning of them.
+/// Writes all of the bytes. If a write fails, a prefix of them may have been written.
 pub(crate) fn write_whole<W: Write>(output: &mut Counted<W>, bytes: &[u8]) -> Result<(), ViewError>
     ensures done { OnOk result (Writes W.contents output.old output.new bytes.now) }
     ensures write_failed { OnErr result

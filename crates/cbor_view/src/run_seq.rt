@@ -1,4 +1,4 @@
-//! A run of the filter for a sequence of items, one after the other (RFC 8742).
+//! Runs the filter for a sequence of items (RFC 8742), over any reader and writer.
 ghost use Rattle.std.specs.Prelude.{◌≡◌, ℕ, ◌<◌, ◌≤◌, List, ◌++◌, length, drop, IfOk, OnOk, OnErr};
 ghost use Rattle.cbor_diag.specs.Answer.{RefusedSo};
 ghost use Rattle.cbor_view.specs.Running.{HadAll, NoFailure, OneFailure, ReadsAll};
@@ -15,16 +15,16 @@ use cbor_diag::{Error, push_front};
 use std::alloc::Global;
 use std::io::{Read, Write};
 
-/// Outputs are gathered until they are at least this long, and then written.
+/// Outputs are collected until they are at least this many bytes long, and then written.
 const BLOCK: usize = 64 * 1024;
 
-/// Reads the input to its end, converts one item after the other, from its front, and writes the
-/// outputs, in order and in blocks. Any failed call ends the run, including an interrupted one.
+/// Reads the input to its end, converts its items from the front, and writes their outputs, in
+/// order and in blocks. Any failed call ends the run, including an interrupted one.
 ///
 /// If what follows the items is not an item, the run ends with `ViewError::Item` and the reason:
-/// `CutShort` if it is cut, otherwise its fault. If memory runs out at an item, it ends with
-/// `Memory`. In both cases the output of all items before is written first, and if that write
-/// fails, the run ends with `ViewError::Write`.
+/// `CutShort` if the input is truncated, otherwise the first error from the left. If memory runs
+/// out at an item, the reason is `Memory`. In both cases the outputs of all items before are
+/// written first. If that write fails, the run ends with `ViewError::Write`.
 pub fn run_seq<R: Read, W: Write>(
     alloc: Global,
     to: To,
@@ -45,8 +45,8 @@ pub fn run_seq<R: Read, W: Write>(
         × IsOutputBefore to all e bytes
         × Writes W.contents output.old output.new bytes) }
 
-    // Memory ran out. No read failed, and what was written is the output of some first items, each
-    // whole.
+    // Memory ran out. No read failed, and the complete outputs of some first items were written.
+    // Nothing else was written.
     ensures out_of_memory { OnOutOfMemory result ((all bytes rest : List ℕ)
         × HadAll R.remaining input.old all × NoFailure input.old input.new
         × IsOutputOfFirst to all bytes rest
@@ -56,8 +56,8 @@ pub fn run_seq<R: Read, W: Write>(
     ensures read_failed { OnReadFailed result
         (OneFailure input.old input.new × (output.new ≡ output.old)) }
 
-    // All of the input was read, and a write failed or took nothing. A beginning of the output of
-    // some first items was written, and not all of it.
+    // All of the input was read, and a write failed or took nothing. A proper prefix of the
+    // output of some first items was written.
     ensures write_failed { OnWriteFailed result ((all bytes rest : List ℕ)
         × ReadsAll R.remaining input.old input.new all
         × IsOutputOfFirst to all bytes rest
@@ -67,7 +67,7 @@ pub fn run_seq<R: Read, W: Write>(
     write_items(alloc, to, &all, output)
 }
 
-/// Writes the output of one item after the other, from the front of the bytes to their end.
+/// Writes the outputs of the items, in order, from the front of the bytes to their end.
 fn write_items<W: Write>(
     alloc: Global,
     to: To,
@@ -97,9 +97,9 @@ fn write_items<W: Write>(
     Ok(())
 }
 
-/// Writes the output of one item after the other, from the front of the bytes, until a block is
-/// full or no item follows, in the memory of `block`. Returns how many bytes these items take, and
-/// why the sequence ends after them, if it does.
+/// Writes the outputs of items from the front of the bytes, until a block is full or no item
+/// follows. The block is built in the memory of `block`. Returns how many bytes these items take,
+/// and the error that ends the sequence after them, if any.
 fn write_block<W: Write>(
     alloc: Global,
     to: To,
@@ -125,9 +125,8 @@ fn write_block<W: Write>(
     (used, end)
 }
 
-/// Fills a block with the output of one item after the other, from the front of the bytes, until it
-/// is full or no item follows. Returns how many bytes these items take, and why no item follows
-/// them, if none does.
+/// Fills a block with the outputs of items from the front of the bytes, until it is full or no item
+/// follows. Returns how many bytes these items take, and why no item follows them, if none does.
 fn fill(alloc: Global, to: To, bytes: &[u8], block: &mut Vec<u8>) -> (usize, Result<(), Error>)
     requires { 0 < length bytes.now }
     ensures used { result.0 ≤ length bytes.now }
@@ -146,8 +145,8 @@ fn fill(alloc: Global, to: To, bytes: &[u8], block: &mut Vec<u8>) -> (usize, Res
     (used, Ok(()))
 }
 
-/// Appends the output of the item at the front of the bytes, and returns how many of them it takes.
-/// After an error the block is unchanged.
+/// Appends the output of the item at the front of the bytes, and returns how many bytes the item
+/// takes. After an error the block is unchanged.
 fn append_first(alloc: Global, to: To, bytes: &[u8], block: &mut Vec<u8>) -> Result<usize, Error>
     requires { 0 < length bytes.now }
     ensures used { IfOk result (λ used. (1 ≤ used) × (used ≤ length bytes.now)) }

@@ -214,7 +214,7 @@ fn report_cut(rt: &HostRuntime, place: &Place, left: Piece) -> Result<(), Error>
             rt,
             (place.name, place.text),
             at,
-            format_args!("cut short: {words}"),
+            format_args!("truncated: {words}"),
         ),
         None => {
             let within = match place.form {
@@ -223,7 +223,7 @@ fn report_cut(rt: &HostRuntime, place: &Place, left: Piece) -> Result<(), Error>
                 _ => "",
             };
             let _ = eprintln!(rt;
-                "cborcat: {}: cut short{within}: {words}",
+                "cborcat: {}: truncated{within}: {words}",
                 label(place.name)
             );
         }

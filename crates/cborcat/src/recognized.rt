@@ -110,7 +110,7 @@ fn taken(
     let is_whole = found.form != Input::Hex || skip_items(&found.bytes, false).end == End::Done;
     if !is_whole && is_named_bytes(name) {
         let _ = eprintln!(rt;
-            "cborcat: {}: read as bytes by its name; as hex it has a fault: -f hex",
+            "cborcat: {}: read as bytes by its name; as hex it is malformed: -f hex",
             label(name)
         );
         return data_in(rt, job, input, Input::Bytes);

@@ -16,7 +16,7 @@ Shows CBOR data (RFC 8949) as text, or converts it.
   $ cborcat -t json -x 'a1 61 61 f9 3e 00'
   {\"a\": 1.5}
   $ cborcat -c -f hex -x '82 01'
-  cborcat: -x:1:6: cut short: the array at 1:1 has 2 items, 1 is there
+  cborcat: -x:1:6: truncated: the array at 1:1 has 2 items, 1 is there
 
 Reads each FILE; without one, or for -, standard input. Writes each item.
 
@@ -80,7 +80,7 @@ Forms, i of an input and o of the output:
 
 Without -f, an input is bytes as soon as a byte comes that no text has, and is
 shown as it arrives. Text is read to its end. Pairs of hex digits are hex, also
-where they are cut short or wrong; other text is the first of diag and base64
+where they are truncated or wrong; other text is the first of diag and base64
 that reads all of it, and never bytes. A file .hex is hex, and one .edn, .diag
 or .json is diag; one .cbor, .cose or .cwt is bytes if no form of text reads
 all of it.

@@ -62,7 +62,7 @@ after_break c b (a_break {b = d} s) e = subst StrictHeads (cons_is break_byte br
 after_break c b (a_head {rest = r} {h = g} is short s) e =
     absurd (break_refused b r g (ap read_head (sym e) ∙ is))
 
--- a head that is not that of a simple value below 24 in two bytes is short
+-- a head that is not that of a simple value below 24 in a non-minimal encoding (`f8 00`) is short
 short_head : (b rest : List ℕ) (h : ItemHead) → IsBytes b → ¬ (LongSimple b) → read_head b ≡ Ok (h, rest)
     → IsShort h b
 unfolding read_head read_argument read_wide head_of

@@ -8,7 +8,7 @@ use Rattle.cbor_grammar.specs.Bytes.{SpellsItems}
 use Rattle.cbor_grammar.proofs.bytes.Resolved.{spells_well}
 use Rattle.cbor_grammar.proofs.bytes.Laws.{AllBytes, all_bytes-front, all_bytes-rest, bytes_at}
 
--- items that are spelled one after the other are well formed, and what follows them is bytes
+-- items that are spelled in sequence are well formed, and what follows them is bytes
 pub items_well : (level : ℕ) (is : Items) (b end : List ℕ) → AllBytes b → SpellsItems any level b is end
     → WellFormedItems level is × AllBytes end
 items_well level no_items b end all h = (tt, subst AllBytes h all)

@@ -1,4 +1,4 @@
--- The open containers in the arrays of `skip/packed.rt`. No public clause names it.
+-- The open containers, as the arrays of `skip/packed.rt` store them. No public clause names it.
 use Rattle.std.specs.Prelude.{ℕ, List, [], ◌∷◌, Some, None}
 use Rattle.cbor_bytes.specs.declared.skip.to_come.Kind.{Kind}
 use Rattle.cbor_bytes.specs.declared.skip.to_come.Kind.TheVariants as kind

@@ -1,4 +1,4 @@
--- What is still to be skipped after the bytes that came, as the code of `skip/progress.rt` keeps it. No public clause
+-- What is still to be skipped after the bytes so far, as the code of `skip/progress.rt` keeps it. No public clause
 -- names it.
 use Rattle.std.specs.Prelude.{◌≡◌, ℕ, ◌-◌, List, [], length, Option, Some, None, Result, Ok, Err}
 use Rattle.cbor_bytes.specs.declared.skip.answer.Extent.{Extent}

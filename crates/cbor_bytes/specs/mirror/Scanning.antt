@@ -1,5 +1,5 @@
--- Skipping over an item whose bytes come in pieces, as the code of `skip/scanner.rt` does, in the words of `Skipping`:
--- after some bytes, what is due. No public clause names it.
+-- Skipping over an item whose bytes come in pieces, as the code of `skip/scanner.rt` does, in the terms of
+-- `Skipping`: what is due after the bytes so far. No public clause names it.
 use Rattle.std.specs.Prelude.{◌≡◌, ℕ, ◌<◌, ◌≤◌, Bool, true, false, if◌then◌else◌, nat_lt, List, length, take, Err}
 use Rattle.std.specs.Prelude.{IsUtf8}
 use Rattle.cbor_grammar.specs.declared.width.IntegerWidth.TheVariants.{Zero}
@@ -46,7 +46,8 @@ pub record Waits (from to : List ℕ → Skip) (b rest : List ℕ) : Type 0 wher
   pub cut : to rest ≡ Err CutShort
   pub few : length rest ≤ 8
 
--- Why a string or an item is not whole. The first argument says how skipping goes on at what is due: with that alone,
+-- Why a string or an item is incomplete. The first argument says how skipping goes on at what is due: with that
+-- alone,
 -- or also with what is open round it.
 abbrev pub Pauses : (Due → List ℕ → Skip) → (List ℕ → Skip) → List ℕ → Pause → Type 0
 Pauses to from b (pause.Cut d rest) = Waits from (to d) b rest.now

@@ -1,5 +1,5 @@
--- Skipping over an item, as the code of `skip.rt` does, in the words of `specs/Reading.antt` of `cbor_grammar`: what
--- reading gives, its value forgotten, and what is still to come in containers that are open. No public clause names it.
+-- Skipping over an item, as the code of `skip.rt` does, in the terms of `specs/Reading.antt` of `cbor_grammar`: the
+-- result of reading without its value, and what is still to come in open containers. No public clause names it.
 use Rattle.std.specs.Prelude.{◌≡◌, ◌≢◌, ℕ, ◌-◌, List, [], ◌∷◌, ◌++◌, length, Option, Some, None, Result, Ok, Err}
 use Rattle.cbor_grammar.specs.declared.width.IntegerWidth.{IntegerWidth}
 use Rattle.cbor_grammar.specs.declared.width.IntegerWidth.TheVariants.{Zero}
@@ -95,7 +95,7 @@ abbrev pub any_width : Argument → Argument
 any_width (Number n w) = Number n Zero
 any_width Indefinite = Indefinite
 
--- a container of which as much is to come, and in which nothing was read but a key
+-- a container with as much to come, where nothing was read but a key
 abbrev pub emptied : Frame → Frame
 emptied (items_in is left) = items_in no_items (any_width left)
 emptied (pairs_in ps left) = pairs_in no_pairs (any_width left)

@@ -1,5 +1,5 @@
-//! Finds the places in hex with comments: where its digits are wrong, and where those of a byte
-//! stand. It walks over the bytes that are kept, one after the other, and keeps nothing.
+//! Finds places in hex with comments: where its digits are wrong, and where the digits of a byte
+//! are. It walks over the kept bytes in order, and stores nothing.
 ghost use Rattle.std.specs.Prelude.{◌≡◌, ◌≢◌, ◌<◌, ◌≤◌, ◌+◌, ◌*◌, [], ◌∷◌, length, take, drop};
 ghost use Rattle.std.specs.Prelude.{slice_index};
 ghost use Rattle.std.specs.Prelude.{false, None, IfSome, ◌↔◌};
@@ -12,7 +12,7 @@ ghost use Rattle.cbor_grammar.specs.mirror.HexPlaces.{Keeps};
 use super::after_line;
 use cbor_grammar::Error;
 
-/// What follows the line feed at the front, if there is one.
+/// The text after the line feed at the front, or `None` if there is none.
 fn after_feed(text: &[u8]) -> Option<&[u8]>
     ensures some { IfSome result (λ rest. text.now ≡ 10 ∷ rest.now) }
     ensures none { result ≡ None → slice_index text.now 0 ≢ 10 }
@@ -23,7 +23,7 @@ fn after_feed(text: &[u8]) -> Option<&[u8]>
     }
 }
 
-/// What follows a space, the end of a line or a comment at the front, or `None` if the first byte
+/// The text after a space, the end of a line or a comment at the front, or `None` if the first byte
 /// is kept.
 fn after_dropped(text: &[u8]) -> Option<&[u8]>
     ensures over { IfSome result (λ rest. Keeps text.now rest.now []) }
@@ -43,7 +43,7 @@ fn after_dropped(text: &[u8]) -> Option<&[u8]>
     }
 }
 
-/// What follows the bytes at the front that are not kept.
+/// The text after the bytes at the front that are not kept.
 #[tactic(auto, using(cbor_grammar::proofs::hex::Kept::kept_steps))]
 fn at_kept(text: &[u8]) -> &[u8]
     ensures over { Keeps text.now result.now [] }
@@ -87,7 +87,7 @@ fn kept_place(text: &[u8], n: usize) -> Option<usize>
     None
 }
 
-/// The place of the first kept byte that is no digit.
+/// The place of the first kept byte that is not a digit.
 fn bad_place(text: &[u8]) -> Option<usize>
     ensures kept { IfSome result (λ place. IsKeptAt text.now place) }
     ensures bad { IfSome result (λ place. is_hex_digit (slice_index text.now place) ≡ false) }
@@ -105,13 +105,14 @@ fn bad_place(text: &[u8]) -> Option<usize>
     None
 }
 
-/// Finds where the digits of hex with comments are wrong: the error that [`parse_hex`] returns for
-/// them, and a place, as the number of bytes before it. It allocates nothing.
+/// Finds where the digits of hex with comments are wrong. Returns the error that [`parse_hex`]
+/// returns for them, and the number of bytes before the wrong place. It allocates nothing.
 ///
-/// The error is `OddHex` if the number of kept bytes is odd, and otherwise `BadHex` if one of them
-/// is not a hex digit. The place is that of the first kept byte that is not a digit, or else that
-/// of the last digit. Returns `None` if the kept bytes are an even number of digits; their bytes
-/// may still be no item, and [`extent`] finds where.
+/// All bytes are kept except spaces, ends of lines and comments. The error is `OddHex` if the
+/// number of kept bytes is odd, and otherwise `BadHex` if one of them is not a hex digit. The place
+/// is that of the first kept byte that is not a digit, or else that of the last digit. Returns
+/// `None` if the kept bytes are an even number of digits. They may still not encode an item;
+/// [`extent`] finds where.
 ///
 /// ```rust
 /// use cbor_diag::{Error, hex_fault};
@@ -124,7 +125,7 @@ fn bad_place(text: &[u8]) -> Option<usize>
 /// [`extent`]: crate::extent
 /// [`parse_hex`]: cbor_diag::parse_hex
 pub fn hex_fault(hex: &str) -> Option<(Error, usize)>
-    // The error and its place, or none exactly where the kept bytes are digits of whole bytes.
+    // The error and its place, or none if and only if the kept bytes are digits of complete bytes.
     ensures fault { IfSome result (λ x. IsHexFault hex.now x.0 x.1) }
     ensures none { (result ≡ None) ↔ AreHexDigits hex.now }
 {
@@ -141,11 +142,11 @@ pub fn hex_fault(hex: &str) -> Option<(Error, usize)>
     }
 }
 
-/// Finds where the digits of byte `n` stand in hex with comments: the number of bytes of the text
+/// Finds where the digits of byte `n` are in hex with comments: the number of bytes of the text
 /// before its first digit. The first byte is number 0. It allocates nothing.
 ///
-/// Returns `None` if fewer than two kept bytes follow those of the bytes before. Together with
-/// [`extent`] it shows the place of a fault in the text.
+/// Returns `None` if fewer than two kept bytes follow those of the bytes before byte `n`. Together
+/// with [`extent`] it shows the place of an error in the text.
 ///
 /// ```rust
 /// use cbor_diag::hex_place;
@@ -157,7 +158,7 @@ pub fn hex_fault(hex: &str) -> Option<(Error, usize)>
 ///
 /// [`extent`]: crate::extent
 pub fn hex_place(hex: &str, n: usize) -> Option<usize>
-    // The place of the kept byte that is the first digit, or none exactly where the two are not
+    // The place of the kept byte that is the first digit, or none if and only if the two are not
     // there.
     ensures some { IfSome result (λ place. IsKeptByte hex.now (2 * n) place) }
     ensures none { (result ≡ None) ↔ (length (uncommented hex.now) < 2 * n + 2) }

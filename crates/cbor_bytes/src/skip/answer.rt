@@ -1,4 +1,4 @@
-//! How bytes begin, as `extent` and a `Scanner` report it.
+//! `Extent`: how bytes begin, as `extent` and a `Scanner` report it.
 use cbor_grammar::Error;
 
 /// How bytes begin, as [`extent`] reports it.
@@ -6,10 +6,10 @@ use cbor_grammar::Error;
 /// [`extent`]: crate::extent
 #[derive(Clone, Copy, PartialEq, Eq, Debug)]
 pub enum Extent {
-    /// An item comes first, and takes this number of bytes.
+    /// An item comes first, and has this many bytes.
     Item(usize),
     /// The bytes end before the item does, and before any error.
     Cut,
-    /// There is an error. The first `end` bytes have it, and fewer bytes are cut.
+    /// There is an error. The first `end` bytes have it, and any fewer are truncated.
     Fault { error: Error, end: usize },
 }

@@ -1,4 +1,4 @@
-//! In a `Scanner`, the open containers while the bytes of an item come in pieces.
+//! In a `Scanner`, the open containers of an item whose bytes come in pieces.
 ghost use Rattle.std.specs.Prelude.{◌≡◌, ◌<◌, ◌+◌, ◌*◌, [], length, Some, None, IfOk, IfErr};
 ghost use Rattle.cbor_bytes.specs.mirror.Scanning.{Pauses, skip_from};
 ghost use Rattle.cbor_grammar.specs.Item.{no_items};
@@ -19,7 +19,7 @@ pub(super) struct Containers {
 }
 
 impl Containers {
-    /// None is open, and one item is to come.
+    /// No container is open, and one item is to come.
     pub(super) fn new() -> Containers
         ensures outer { result.outer ≡ [] }
         ensures top { frame_of result.top ≡ items_in no_items (argument_of (Some 1)) }
@@ -58,7 +58,7 @@ impl Containers {
         after_atom_due(head, rest)
     }
 
-    /// The bytes after the item, of which the parts of the innermost container are due.
+    /// The bytes after the item, where the parts of the innermost container are due.
     pub(super) fn after_item<'a>(&mut self, bytes: &'a [u8]) -> Result<&'a [u8], Pause<'a>>
         ensures goes { IfOk result
             (λ rest. Goes (skip_open self.old.outer self.old.top) here bytes.now rest.now) }

@@ -1,6 +1,7 @@
-//! Strings whose bytes come in pieces: what is due next, and where the bytes end.
+//! Skips strings whose bytes come in pieces: what is due next, and where the bytes end.
 //!
-//! Each function takes the remaining bytes and returns those after what it skips, or why it pauses.
+//! Each function takes the remaining bytes. It returns the bytes after what it skips, or why it
+//! pauses.
 ghost use Rattle.std.specs.Prelude.{◌≡◌, ◌<◌, ◌≤◌, ℕ, ◌+◌, length, take, None, IfOk, IfErr, IsUtf8};
 ghost use Rattle.cbor_bytes.specs.mirror.Scanning.{Pauses};
 ghost use Rattle.cbor_grammar.specs.Reading.{opened};
@@ -22,24 +23,24 @@ use cbor_grammar::strings::StringKind;
 pub(super) enum Due {
     /// A part of the innermost container, or its end.
     Part,
-    /// A number of bytes of a string's content, and whether it is that of a chunk.
+    /// This many bytes of a string's content, and whether it is the content of a chunk.
     Content(StringKind, u64, bool),
     /// A chunk, or the break.
     Chunk(StringKind),
-    /// A number of bytes of a text that is not UTF-8, and its last byte.
+    /// This many bytes of a text that is not UTF-8, and then its last byte.
     BadText(u64),
 }
 
 /// Why the bytes were not enough.
 #[derive(Clone, Copy)]
 pub(super) enum Pause<'a> {
-    /// The bytes end: what is due, and the bytes from there on, which are few.
+    /// The bytes end: what is due, and the few bytes from there on.
     Cut(Due, &'a [u8]),
-    /// An error, and how many bytes follow the first ones that have it.
+    /// An error, and how many bytes follow the first bytes that have it.
     Fault { error: Error, after: usize },
 }
 
-/// What is due in a text of `left` bytes of which fewer are here.
+/// What is due in a text with `left` bytes to come, if fewer are here.
 fn unfinished_text(left: u64, chunked: bool, bytes: &[u8]) -> (Due, &[u8])
     requires { length bytes.now < left }
     ensures { Waits
@@ -57,7 +58,7 @@ fn unfinished_text(left: u64, chunked: bool, bytes: &[u8]) -> (Due, &[u8])
     }
 }
 
-/// What is due in a content of `left` bytes of which fewer are here.
+/// What is due in a content with `left` bytes to come, if fewer are here.
 fn unfinished(kind: StringKind, left: u64, chunked: bool, bytes: &[u8]) -> (Due, &[u8])
     requires { length bytes.now < left }
     ensures { Waits (λ c. then_chunks chunked kind (skip_content kind left Zero c))
@@ -72,7 +73,7 @@ fn unfinished(kind: StringKind, left: u64, chunked: bool, bytes: &[u8]) -> (Due,
     }
 }
 
-/// The bytes after a content of `left` bytes.
+/// The bytes after `left` bytes of content.
 fn after_rest(kind: StringKind, left: u64, chunked: bool, bytes: &[u8]) -> Result<&[u8], Pause>
     ensures goes { IfOk result (λ rest.
         Goes (skip_content kind left Zero) here bytes.now rest.now) }
@@ -90,7 +91,7 @@ fn after_rest(kind: StringKind, left: u64, chunked: bool, bytes: &[u8]) -> Resul
     }
 }
 
-/// The bytes after the break of an indefinite string.
+/// The bytes after the break of an indefinite-length string.
 fn after_break_due(kind: StringKind, bytes: &[u8]) -> Result<&[u8], Pause>
     ensures goes { IfOk result (λ rest. Goes (skip_chunks kind) here bytes.now rest.now) }
     ensures pauses { IfErr result (λ pause. Pauses skip_due (skip_chunks kind) bytes.now pause) }
@@ -111,7 +112,8 @@ fn after_break_due(kind: StringKind, bytes: &[u8]) -> Result<&[u8], Pause>
     }
 }
 
-/// The bytes after a content of `left` bytes, and after the chunks that follow if it is a chunk.
+/// The bytes after `left` bytes of content. If it is a chunk, they come after the chunks that
+/// follow.
 fn after_content_due(
     kind: StringKind,
     left: u64,
@@ -132,7 +134,7 @@ fn after_content_due(
     }
 }
 
-/// The bytes after a string of that length, or one in chunks; its head is read already.
+/// The bytes after a string of this length, or one in chunks. Its head is already read.
 fn after_string_due(kind: StringKind, len: Argument, bytes: &[u8]) -> Result<&[u8], Pause>
     ensures goes { (left : ℕ) → IfOk result (λ rest. Goes (skip_body left
         (ItemHead.String kind len)) here bytes.now rest.now) }
@@ -146,7 +148,7 @@ fn after_string_due(kind: StringKind, len: Argument, bytes: &[u8]) -> Result<&[u
     }
 }
 
-/// The bytes after an item without parts; its head is read already.
+/// The bytes after an item without parts. Its head is already read.
 pub(super) fn after_atom_due(head: ItemHead, bytes: &[u8]) -> Result<&[u8], Pause>
     requires { opened head ≡ None }
     ensures goes { (left : ℕ) → IfOk result
@@ -161,7 +163,7 @@ pub(super) fn after_atom_due(head: ItemHead, bytes: &[u8]) -> Result<&[u8], Paus
     }
 }
 
-/// Why there are no bytes after a text that is not UTF-8, with `more` bytes before its last.
+/// The pause in a text that is not UTF-8, with `more` bytes before its last byte.
 fn bad_text(more: u64, bytes: &[u8]) -> Pause
     ensures { Pauses skip_due (skip_bad more) bytes.now result }
 {
@@ -175,7 +177,7 @@ fn bad_text(more: u64, bytes: &[u8]) -> Pause
 }
 
 impl Due {
-    /// The bytes after what is due of a string; all of them if a part is due.
+    /// The bytes after the string that is due; all of the bytes if a part is due.
     pub(super) fn after(self, bytes: &[u8]) -> Result<&[u8], Pause>
         ensures goes { IfOk result (λ rest. Goes (skip_due self) here bytes.now rest.now) }
         ensures pauses { IfErr result (λ pause. Pauses skip_due (skip_due self) bytes.now pause) }

@@ -1,12 +1,12 @@
-//! The bytes that are kept from one piece to the next.
+//! `Held`: the bytes that a `Scanner` keeps from one piece to the next.
 ghost use Rattle.std.specs.Prelude.{◌≡◌, ◌<◌, ◌≤◌, [], ◌∷◌, ◌++◌, length};
 
 use std::marker::Model;
 
-/// How many bytes a head has at most.
+/// The length of the longest head.
 const LONGEST_HEAD: usize = 9;
 
-/// A few bytes: the front of a head or of a character that is not complete.
+/// A few bytes: the front of a head or a character that is not complete.
 #[derive(Drop)]
 pub(super) struct Held {
     bytes: [u8; LONGEST_HEAD],

@@ -1,4 +1,4 @@
-//! In `extent`, the open containers around the innermost one, on a stack of fixed size.
+//! In `extent`, the stack of the open containers around the innermost one. Its size is fixed.
 ghost use Rattle.std.specs.Prelude.{◌≡◌, ◌<◌, ◌≤◌, [], ◌∷◌, ◌++◌, length, replicate};
 ghost use Rattle.std.specs.Prelude.{IfSome, Some, None};
 ghost use Rattle.cbor_grammar.specs.WellFormed.{deepest};
@@ -8,7 +8,7 @@ use super::to_come::ToCome;
 use cbor_grammar::level::DEEPEST;
 use std::marker::Model;
 
-/// How many containers may be open around another.
+/// How many containers may be open around the innermost one.
 const CAPACITY: usize = DEEPEST as usize;
 
 /// The open containers around the innermost one, the outermost first.
@@ -30,7 +30,7 @@ impl Model for Outer {
 }
 
 impl Outer {
-    /// An item at `level` and those around it, each of which ends here.
+    /// An item at `level` and the containers around it. Each of them ends here.
     pub(super) fn ended(level: u8) -> Outer
         requires { level ≤ deepest }
         ensures { result ≡ replicate level ended }
@@ -41,7 +41,7 @@ impl Outer {
         }
     }
 
-    /// How many are open.
+    /// How many containers are open.
     pub(super) fn len(&self) -> usize
         ensures count { result ≡ length self.now }
         ensures most { result ≤ deepest }
@@ -49,7 +49,7 @@ impl Outer {
         self.len
     }
 
-    /// Opens one more, the innermost of them.
+    /// Opens one more container, which is then the innermost of them.
     pub(super) fn push(&mut self, parts: ToCome)
         requires { length self.old < deepest }
         ensures { self.new ≡ self.old ++ parts ∷ [] }
@@ -58,7 +58,7 @@ impl Outer {
         self.len += 1;
     }
 
-    /// Removes the innermost of them and returns it, if there is one.
+    /// Removes the innermost of them and returns it, or returns `None` if none is open.
     pub(super) fn pop(&mut self) -> Option<ToCome>
         ensures some { IfSome result (λ parts. self.old ≡ self.new ++ parts ∷ []) }
         ensures none { result ≡ None → self.old ≡ [] }

@@ -1,5 +1,5 @@
-//! In a `Scanner`, the open containers around the innermost one, on a stack of fixed size that
-//! takes little room: a third of that of [`Outer`], which is faster.
+//! In a `Scanner`, the stack of the open containers around the innermost one. Its size is fixed,
+//! and a third of that of [`Outer`], which is faster.
 //!
 //! [`Outer`]: super::outer::Outer
 ghost use Rattle.std.specs.Prelude.{◌≡◌, ◌<◌, ◌≤◌, [], ◌∷◌, ◌++◌, length, IfSome, Some, None};
@@ -9,7 +9,7 @@ use super::to_come::{Kind, ToCome};
 use cbor_grammar::level::DEEPEST;
 use std::marker::Model;
 
-/// How many containers may be open around another.
+/// How many containers may be open around the innermost one.
 const CAPACITY: usize = DEEPEST as usize;
 
 /// The open containers around the innermost one, the outermost first: their kinds and numbers.
@@ -33,7 +33,7 @@ impl Model for Packed {
 }
 
 impl Packed {
-    /// None is open.
+    /// No container is open.
     pub(super) fn new() -> Packed
         ensures { result ≡ [] }
     {
@@ -44,7 +44,7 @@ impl Packed {
         }
     }
 
-    /// How many are open.
+    /// How many containers are open.
     pub(super) fn len(&self) -> usize
         ensures count { result ≡ length self.now }
         ensures most { result ≤ deepest }
@@ -52,7 +52,7 @@ impl Packed {
         self.len
     }
 
-    /// Opens one more, the innermost of them.
+    /// Opens one more container, which is then the innermost of them.
     pub(super) fn push(&mut self, open: ToCome)
         requires { length self.old < deepest }
         ensures { self.new ≡ self.old ++ «open» ∷ [] }
@@ -63,7 +63,7 @@ impl Packed {
         self.len += 1;
     }
 
-    /// Removes the innermost of them and returns it, if there is one.
+    /// Removes the innermost of them and returns it, or returns `None` if none is open.
     pub(super) fn pop(&mut self) -> Option<ToCome>
         ensures some { IfSome result (λ parts. self.old ≡ self.new ++ parts ∷ []) }
         ensures none { result ≡ None → self.old ≡ [] }

@@ -1,4 +1,4 @@
-//! In a `Scanner`, how far the bytes of an item have come, in pieces.
+//! `Progress`: how far a `Scanner` has come in an item whose bytes come in pieces.
 ghost use Rattle.std.specs.Prelude.{◌≡◌, ◌≤◌, ℕ, List, [], ◌++◌, length, IfOk, IfErr};
 
 use super::Stop;
@@ -6,8 +6,8 @@ use super::containers::Containers;
 use super::due::{Due, Pause};
 use super::held::Held;
 
-/// What is open and what is due after the bytes that came, and the last of these, if a head or a
-/// character is not complete.
+/// What is open and what is due after the bytes so far. If a head or a character is not complete,
+/// its bytes are kept.
 #[derive(Drop)]
 pub(super) struct Progress {
     containers: Containers,
@@ -51,7 +51,7 @@ impl Progress {
         }
     }
 
-    /// How many bytes follow the item, which goes on with these bytes.
+    /// How many bytes follow the item, which continues with these bytes.
     fn after_bytes(&mut self, bytes: &[u8]) -> Result<usize, Stop>
         ensures whole { IfOk result (λ after. EndsBefore (skip_rest self.old) bytes.now after) }
         ensures stops { IfErr result
@@ -67,7 +67,7 @@ impl Progress {
         }
     }
 
-    /// How many bytes follow the item, with these bytes after those that came.
+    /// How many bytes follow the item, once these bytes come after the earlier ones.
     pub(super) fn after_more(&mut self, bytes: &[u8]) -> Result<usize, Stop>
         ensures whole { (fed : List ℕ)
             → Waits (skip_item deepest) (skip_rest self.old) fed self.old.held

@@ -1,4 +1,4 @@
-//! Reports how bytes begin that come in pieces.
+//! `Scanner`: reports how bytes begin that come in pieces, as from a socket.
 ghost use Rattle.std.specs.Prelude.{◌≡◌, ◌≢◌, ℕ, ◌+◌, ◌^◌, ◌<◌, List, [], ◌++◌, length};
 ghost use Rattle.std.specs.Prelude.{IfOk, IfErr};
 ghost use Rattle.cbor_grammar.specs.WellFormed.{deepest};
@@ -11,9 +11,9 @@ use super::answer::Extent;
 use super::progress::Progress;
 use super::{Stop, after_whole};
 
-/// Reports how bytes begin, as [`extent`] does, where they come in pieces, as from a socket. It
-/// allocates nothing. It looks again at no more than eight of the bytes before a piece: those of a
-/// head or a character that is cut.
+/// Reports how bytes begin, as [`extent`] does, when the bytes come in pieces, as from a socket. It
+/// allocates nothing. For each piece it looks again at no more than eight of the bytes before:
+/// those of a truncated head or character.
 ///
 /// ```rust
 /// use cbor_diag::{Extent, Scanner};
@@ -27,14 +27,14 @@ use super::{Stop, after_whole};
 /// [`extent`]: crate::extent
 #[derive(Drop)]
 pub struct Scanner {
-    /// How far an item has come that was not whole at once, or has parts.
+    /// How far an item has come that has parts, or was not complete at once.
     progress: Option<Progress>,
     fed: usize,
     answer: Extent,
 }
 
 impl Scanner {
-    /// Returns a scanner that was fed no bytes.
+    /// Returns a scanner that has been fed no bytes.
     pub fn new() -> Scanner
         ensures { HasScanned result [] }
     {
@@ -45,9 +45,9 @@ impl Scanner {
         }
     }
 
-    /// Feeds the bytes that come next, and reports how all bytes that were fed begin: what
-    /// [`extent`] returns for all of them, counts included. The time grows with the new bytes
-    /// alone, and is constant once the answer is an item or a fault, which then stays.
+    /// Feeds the next bytes, and reports how all the bytes fed so far begin: what [`extent`]
+    /// returns for all of them, counts included. The time grows with the new bytes alone. Once the
+    /// answer is an item or a fault, it stays, and a call takes constant time.
     ///
     /// A text is tested for UTF-8 across the pieces. The counts are right as long as fewer than
     /// 2^64 bytes were fed.
@@ -75,7 +75,7 @@ impl Scanner {
         }
     }
 
-    /// The same where the bytes that were fed are cut.
+    /// The same, if the bytes fed so far are truncated.
     fn feed_more(&mut self, bytes: &[u8]) -> Extent
         requires { self.old.answer ≡ Extent.Cut }
         ensures scanned { (fed : List ℕ) → HasScanned self.old fed
@@ -89,8 +89,8 @@ impl Scanner {
     }
 }
 
-/// How many bytes follow the item, with these bytes after those that came. An item without parts
-/// that is whole at once needs no [`Progress`], which takes longer to make than to use.
+/// How many bytes follow the item, once these bytes come after the earlier ones. An item without
+/// parts that is complete at once needs no [`Progress`], which takes longer to make than to use.
 fn after_more(progress: &mut Option<Progress>, bytes: &[u8]) -> Result<usize, Stop>
     ensures whole { (fed : List ℕ) → WaitsAfter progress.old fed
         → IfOk result (λ after. EndsBefore (skip_item deepest) (fed ++ bytes.now) after) }
@@ -109,7 +109,7 @@ fn after_more(progress: &mut Option<Progress>, bytes: &[u8]) -> Result<usize, St
     scanned
 }
 
-/// The answer for `fed` bytes, of how many follow the item or why there is none.
+/// The answer for `fed` bytes, given how many bytes follow the item or why there is no item.
 fn answer_of(fed: usize, scanned: Result<usize, Stop>) -> Extent
     ensures { result ≡ answer_of fed scanned }
 {

@@ -1,4 +1,4 @@
-//! In `extent` and a `Scanner`, what is still to come in an open container.
+//! What is still to come in an open container, for `extent` and `Scanner`.
 ghost use Rattle.std.specs.Prelude.{◌≡◌, Some, option_map};
 ghost use Rattle.cbor_grammar.specs.Item.{no_items};
 ghost use Rattle.cbor_grammar.specs.Reading.{items_in, put, after_members, after_end, one_less};
@@ -10,7 +10,7 @@ ghost use Rattle.cbor_bytes.specs.mirror.OpenStack.{to_come_of};
 use cbor_grammar::argument::{Argument, after_break};
 use cbor_grammar::head::ItemHead;
 
-/// How many parts are still to come, or `None` for all up to a break.
+/// How many parts are still to come; `None` for all parts up to a break.
 type Count = Option<u64>;
 
 /// What is still to come in an open container.
@@ -20,12 +20,12 @@ pub(super) enum ToCome {
     Items(Count),
     /// The pairs of a map.
     Pairs(Count),
-    /// The value of a key that was read, and then pairs.
+    /// The value of a key that is already read, and then pairs.
     Value(Count),
 }
 
-/// The kind of what is still to come, without a number. A stack of kinds and one of numbers take
-/// less room than one of [`ToCome`].
+/// The kind of what is still to come, without a number. A stack of kinds and a stack of numbers
+/// take less room than one of [`ToCome`].
 #[derive(Clone, Copy)]
 pub(super) enum Kind {
     Items,
@@ -36,7 +36,7 @@ pub(super) enum Kind {
     ValueToBreak,
 }
 
-/// The parts of a container of that length.
+/// The number of parts of a container of this length.
 fn parts_of(len: Argument) -> Count
     ensures { argument_of result ≡ any_width len }
 {
@@ -46,7 +46,7 @@ fn parts_of(len: Argument) -> Count
     }
 }
 
-/// The bytes after the parts, if none is to come.
+/// The bytes after a container's parts, if no part is still to come.
 fn after_parts(count: Count, bytes: &[u8]) -> Option<&[u8]>
     ensures { option_map (λ x. x.now) result ≡ after_members (argument_of count) bytes.now }
 {
@@ -57,7 +57,7 @@ fn after_parts(count: Count, bytes: &[u8]) -> Option<&[u8]>
     }
 }
 
-/// One part less.
+/// One part fewer.
 fn one_less(count: Count) -> Count
     ensures { argument_of result ≡ one_less (argument_of count) }
 {
@@ -75,7 +75,7 @@ impl ToCome {
         ToCome::Items(Some(1))
     }
 
-    /// What is to come of that kind, and as many; the number counts for nothing up to a break.
+    /// What is still to come, of this kind and number. Up to a break the number means nothing.
     pub(super) fn of(kind: Kind, count: u64) -> ToCome
         ensures { result ≡ to_come_of kind count }
     {
@@ -89,7 +89,7 @@ impl ToCome {
         }
     }
 
-    /// Its kind, and its number or 0.
+    /// The kind, and the number or 0.
     pub(super) fn split(self) -> (Kind, u64)
         ensures { to_come_of result.0 result.1 ≡ self }
     {
@@ -103,7 +103,7 @@ impl ToCome {
         }
     }
 
-    /// All of the container that a head opens, or `None` if it opens none.
+    /// All parts of the container that a head opens, or `None` if it opens none.
     pub(super) fn new(head: ItemHead) -> Option<ToCome>
         ensures { option_map frame_of result ≡ option_map emptied (opened head) }
     {
@@ -125,7 +125,7 @@ impl ToCome {
         }
     }
 
-    /// What is still to come after one part more: a member, a key or a value.
+    /// What is still to come after one more part: a member, a key or a value.
     pub(super) fn after_part(self) -> ToCome
         ensures { frame_of result ≡ emptied (put (frame_of self) some_item) }
     {

@@ -1,5 +1,4 @@
--- Reading notation part by part: the members of a list and the pieces of a string, one after the other, as a loop
--- does.
+-- Reading notation part by part, as a loop does: the members of a list and the pieces of a string, in order.
 use Rattle.std.proofs.Common.{◌≡◌, ℕ, zero, suc, ◌<◌, ◌≤◌, List, [], ◌∷◌, ◌++◌, length, Some, None, Ok, Err, refl, sym}
 use Rattle.std.proofs.Common.{ap, subst, ◌∙◌, append_assoc, arith}
 use Rattle.std.proofs.lemmas.List.{append-nil}

@@ -90,7 +90,7 @@ pub given : (text rest : List ℕ) (r : Result DataItem Error) → rest ≡ text
     → Gives view r (notation_of deepest text)
 given text rest r is h = subst (λ (t : List ℕ). Gives view r (notation_of deepest t)) is h
 
--- what an error says of a text that is no notation
+-- what an error says about a text that is not notation
 pub no_notation : (text rest : List ℕ) (e : Error) → rest ≡ text → e ≢ refusal.Memory
     → Fails e (notation_of deepest rest) → IsNoNotation text e
 no_notation text rest e is real fails =

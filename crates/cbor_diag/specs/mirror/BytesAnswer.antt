@@ -1,5 +1,5 @@
--- What the readers of bytes give: each field is the clause of that name of `parse_bytes`, `parse_bytes_partial` or
--- `parse_bytes_counted`. The functions that these call ensure all of them at once.
+-- The results of the readers of bytes. Each field is the clause of that name of `parse_bytes`, `parse_bytes_partial` or
+-- `parse_bytes_counted`. The functions that these call ensure all fields at once.
 use Rattle.std.specs.Prelude.{◌≡◌, ℕ, ◌+◌, ◌*◌, ◌<◌, ◌≤◌, List, ◌++◌, length, take, Option, None, Result, Ok}
 use Rattle.std.specs.Prelude.{◌↔◌, IfOk, IfSome, OnOk}
 use Rattle.cbor_grammar.specs.declared.error.Error.{Error}

@@ -1,4 +1,4 @@
--- The chunks of a string that is read from notation into a `DataItem`.
+-- The chunks of a string that is being read from notation into a `DataItem`.
 use Rattle.std.specs.Prelude.{List, map}
 use Rattle.cbor_diag.specs.declared.parse.notation.strings.Chunks.{Chunks}
 use Rattle.cbor_diag.specs.declared.parse.notation.strings.Chunks.TheVariants as chunks

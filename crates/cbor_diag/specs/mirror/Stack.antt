@@ -1,5 +1,5 @@
--- The open containers of a `DataItem` that is read: what a `Frame` and a `Stack` are, in the words of
--- `specs/Reading.antt` of `cbor_grammar`.
+-- The open containers while a `DataItem` is read: what a `Frame` and a `Stack` stand for in `specs/Reading.antt` of
+-- `cbor_grammar`.
 use Rattle.std.specs.Prelude.{ℕ, ◌+◌, ◌*◌, ◌≤◌, vec_capacity, List, length, map, Some, None}
 use Rattle.cbor_diag.specs.declared.parse.binary.frame.Frame as code
 use Rattle.cbor_diag.specs.declared.parse.binary.frame.Frame.TheVariants as code_frame

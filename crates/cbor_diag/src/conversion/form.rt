@@ -1,4 +1,4 @@
-//! The forms that are converted to one another: those that an item is read in and written in.
+//! The forms in which `convert` reads and writes an item.
 
 /// The form in which an item is read.
 #[derive(Clone, Copy, PartialEq, Eq, Debug)]
@@ -18,8 +18,8 @@ pub enum To {
     Bytes,
     /// The bytes of the item in hex, each line with a comment.
     Hex,
-    /// Diagnostic notation without line breaks, and a line feed. One in a text is kept.
+    /// Diagnostic notation on one line, ended by a line feed. A line feed in a text is kept.
     Diag,
-    /// Diagnostic notation over several lines where it is long, and a line feed.
+    /// Diagnostic notation, over several lines if it is long, ended by a line feed.
     Pretty,
 }

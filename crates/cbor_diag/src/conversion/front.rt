@@ -1,4 +1,4 @@
-//! Converts the item at the front of bytes to another form. More may follow it.
+//! Converts the item at the front of bytes to another form. More bytes may follow the item.
 ghost use Rattle.std.specs.Prelude.{◌≡◌, ◌≢◌, [], ◌∷◌, ◌++◌, Ok, None};
 ghost use Rattle.std.specs.Prelude.{IfOk, IfErr, IfSome, OnErr};
 ghost use Rattle.std.specs.String.{string_bytes};
@@ -15,11 +15,12 @@ use cbor_notation_writer::{push_bytes_to_diag_partial, push_bytes_to_diag_pretty
 use std::alloc::Global;
 
 /// Appends the item at the front of the bytes in the form `to`, and returns the number of bytes
-/// that it takes. More bytes may follow. No item is built, unless the output is bytes and the item
-/// has a simple value below 24 in two of them.
+/// that the item takes. More bytes may follow. No item is built, unless the output is bytes and the
+/// item has a simple value below 24 in a non-minimal encoding (`f8 00`).
 ///
-/// Returns `Ok(None)` if the bytes end before the item does and before any error, and otherwise the
-/// first error from the left. In both cases, and if an allocation fails, `out` is unchanged.
+/// If the bytes end before the item does and before any error, returns `Ok(None)`. If there is an
+/// error, returns the first one from the left. In both cases, and if an allocation fails, `out` is
+/// unchanged.
 ///
 /// ```rust
 /// use cbor_diag::{To, push_front};
@@ -36,7 +37,7 @@ pub fn push_front(
     bytes: &[u8],
     out: &mut Vec<u8>,
 ) -> Result<Option<usize>, Error>
-    // Each of the three results, only if it is true.
+    // Each of the three results, only if it holds for the input.
     ensures found { IfOk result (λ o. IfSome o (λ n. (i : Item) × BeginsWithItem bytes.now i n
         × (out.new.items ≡ out.old.items ++ output_of to i))) }
     ensures cut { result ≡ Ok None → IsCut bytes.now }
@@ -59,8 +60,8 @@ pub fn push_front(
     }
 }
 
-/// Appends the text of the item at the front of the bytes in that form, with its line feed, and
-/// returns the number of bytes that it takes, as [`push_front`] does.
+/// Appends the text of the item at the front of the bytes in that form, with its line feed. Returns
+/// the number of bytes that the item takes, as [`push_front`] does.
 fn push_text(alloc: Global, to: To, bytes: &[u8], text: &mut String) -> Result<Option<usize>, Error>
     requires { to ≢ To.Bytes }
     ensures found { IfOk result (λ o. IfSome o (λ n. (i : Item) × BeginsWithItem bytes.now i n
@@ -76,7 +77,7 @@ fn push_text(alloc: Global, to: To, bytes: &[u8], text: &mut String) -> Result<O
     }
 }
 
-/// Ends the line of an item that takes `used` bytes, if there is one.
+/// Ends the line of an item that takes `used` bytes, if there is such an item.
 fn end_line(used: Option<usize>, text: &mut String) -> Result<Option<usize>, Error>
     ensures used { IfOk result (λ o. o ≡ used) }
     ensures line { IfOk result (λ o. IfSome o (λ n.

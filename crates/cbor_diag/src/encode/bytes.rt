@@ -1,7 +1,7 @@
 //! Writes a `DataItem` as bytes (RFC 7049 section 2), each byte once, at the end of one vector.
 //!
-//! What writes strings and containers isn't inlined where the kinds of items are told apart: it
-//! keeps values over calls, and room for these would be made for each integer, too.
+//! The functions for strings and containers are not inlined where the kinds of items are told
+//! apart: they keep values across calls, and each integer would need space for these, too.
 #![tactic(auto, using(cbor_tokens::proofs::texts::Appending::appending_steps))]
 
 ghost use Rattle.std.specs.Prelude.{◌≡◌, ◌++◌, if◌then◌else◌, ℕ, List, ◌↔◌, length, map, OnOk};
@@ -160,7 +160,7 @@ fn push_tagged(
     push_item(out, value)
 }
 
-/// Writes items one after the other.
+/// Writes items in order.
 #[cycle(push)]
 pub fn push_items(out: &mut Vec<u8>, items: &Vec<DataItem>) -> Result<(), AllocError>
     requires { (level : ℕ) × WellFormedItems level (items_view items.now.items) }
@@ -205,13 +205,13 @@ impl DataItem {
     pub fn to_bytes(&self, alloc: Global) -> cbor_grammar::Result<Vec<u8>>
         requires { IsWellFormed (view self.now) }
         ensures bytes { IfOk result (λ v. v.items ≡ encoded (view self.now)) }
-        // What is written is the one strict spelling of the item with its unstated widths resolved.
+        // The output is the only strict encoding of the item with its unstated widths resolved.
         ensures strictly { IfOk result (λ v. IsStrictItem v.items (resolve (view self.now))) }
         ensures no_other { IfOk result (λ v.
             (b : List ℕ) → IsStrictItem b (resolve (view self.now)) → b ≡ v.items) }
         // So it is read back as that item.
         ensures read_back { IfOk result (λ v. IsItem v.items (resolve (view self.now))) }
-        // Two items are written alike exactly where they are the same but for unstated widths.
+        // Two items have the same bytes if and only if they are equal with all widths resolved.
         ensures alike { (other : Item) → IsWellFormed other
             → (encoded (view self.now) ≡ encoded other)
             ↔ (resolve (view self.now) ≡ resolve other) }

@@ -1,4 +1,4 @@
-//! Writes a `DataItem` as a dump, annotated hex: the dump of its bytes.
+//! Writes a `DataItem` as a dump (annotated hex): encodes it, and dumps the bytes.
 ghost use Rattle.std.specs.Prelude.{◌≡◌, ◌+◌, IfOk, IfErr};
 ghost use Rattle.std.specs.List.{AllByRecursion};
 ghost use Rattle.std.specs.String.{string_bytes};
@@ -48,8 +48,8 @@ impl DataItem {
         // The first `#` of every line is in one column.
         ensures one_column { IfOk result (λ t.
             IsColumn (width_of (spec.lines (view self.now)) + 1) (string_bytes t)) }
-        // What is dumped as embedded items is exactly what the bytes spell, and else the note says
-        // why not.
+        // What is dumped as embedded items is exactly what the bytes encode. Otherwise the note
+        // says why not.
         ensures embedded { EmbedsExactly }
         ensures not_embedded { RejectsExactly }
         ensures refused { IfErr result (λ e. e ≡ Error.Memory) }

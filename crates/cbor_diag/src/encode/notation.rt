@@ -1,7 +1,7 @@
 //! Writes a `DataItem` as diagnostic notation (RFC 7049 section 6), each part once, at the end of
 //! one text.
 //!
-//! Compact and pretty text are written by the same functions: they differ in their `Layout` alone.
+//! The same functions write compact and pretty text, which differ only in their `Layout`.
 #![tactic(auto, using(cbor_tokens::proofs::texts::Appending::appending_steps))]
 
 mod estimate;
@@ -46,8 +46,8 @@ use std::alloc::{AllocError, Global};
 
 /// Writes an item.
 ///
-/// What writes containers and tags isn't inlined here: it keeps values over calls, and space
-/// for these would be made for each number and text, too.
+/// The functions for containers and tags are not inlined here: they keep values across calls, and
+/// each number and text would need space for these, too.
 #[cycle(text)]
 fn push_item(out: &mut String, item: &DataItem, context: &NotationContext) -> Result<(), AllocError>
     requires well_formed { WellFormed context.now.level (view item.now) }
@@ -115,7 +115,7 @@ fn push_map(
     push_closing(out, style, '}')
 }
 
-/// Writes a tag, by its number and the width of that, and the item below it.
+/// Writes a tag, given its number and width, and the item below it.
 #[cycle(text)]
 #[inline(never)]
 fn push_tagged(
@@ -189,7 +189,7 @@ fn push_pairs(
     Ok(())
 }
 
-/// Writes an item at the outermost level. After an error the text is what it was.
+/// Writes an item as the outermost one. After an error the text is unchanged.
 fn push_outermost(out: &mut String, item: &DataItem, layout: Layout) -> Result<(), AllocError>
     requires well_formed { IsWellFormed (view item.now) }
     requires indent { indent_of layout ≤ 4 }
@@ -229,11 +229,11 @@ impl DataItem {
         // The text is that of the normal form, whose normal form is itself.
         ensures of_normal { diag_of (normal_of (view self.now)) ≡ diag_of (view self.now) }
         ensures normal_once { normal_of (normal_of (view self.now)) ≡ normal_of (view self.now) }
-        // Two items have the same text exactly where their normal forms are the same.
+        // Two items have the same text if and only if their normal forms are the same.
         ensures alike { (other : Item) → IsWellFormed other
             → (diag_of (view self.now) ≡ diag_of other)
             ↔ (normal_of (view self.now) ≡ normal_of other) }
-        // What is shown as embedded items is exactly what the bytes spell.
+        // What is shown as embedded items is exactly what the bytes encode.
         ensures embedded { EmbedsExactly }
         ensures refused { IfErr result (λ e. e ≡ Error.Memory) }
     {
@@ -276,7 +276,7 @@ impl DataItem {
         // It is read back as the normal form.
         ensures read_back { IfOk result (λ s.
             IsNotation (string_bytes s) (normal_of (view self.now))) }
-        // A container is on one line exactly where its whole estimate is below 60, at
+        // A container is on one line if and only if its whole estimate is below 60, at
         // any level and indent.
         ensures one_line { (level indent : ℕ) (e : Encoding) (i : Item) → level ≤ deepest
             → estimated_length i < one_line_limit
@@ -294,7 +294,7 @@ impl DataItem {
             → level < deepest → one_line_limit ≤ sequence_size (sequence (level + 2) b.bytes)
             → pretty e level indent (encoded_sequence w b)
             ≡ sequence_in_lines e level indent w b.bytes }
-        // What is shown as embedded items is exactly what the bytes spell.
+        // What is shown as embedded items is exactly what the bytes encode.
         ensures embedded { EmbedsExactly }
         ensures refused { IfErr result (λ e. e ≡ Error.Memory) }
     {

@@ -1,10 +1,10 @@
-//! Reads a `DataItem` from bytes (RFC 7049 section 2): a loop over turns with a stack of the open
+//! Reads a `DataItem` from bytes (RFC 7049 section 2), by a loop with a stack of the open
 //! containers.
 //!
 //! Each private function takes the remaining bytes and returns a value with the bytes after it, or
-//! the first error from the left, `CutShort` if the bytes end. No claimed length or count is
-//! trusted: memory is reserved for the bytes and members that are there, and for a few members at
-//! once.
+//! the first error from the left, which is `CutShort` if the bytes end. Claimed lengths and counts
+//! are not trusted: memory is reserved only for bytes and members that are there, and for a few
+//! members in advance.
 mod frame;
 mod stack;
 
@@ -39,7 +39,7 @@ use frame::Frame;
 use stack::Stack;
 use std::alloc::Global;
 
-/// The item without parts after its head. The heads of containers are handled by `Frame::new`
+/// An item that holds no other, after its head. `Frame::new` handles the heads of containers
 /// before.
 fn read_atom<'a>(
     alloc: Global,
@@ -81,10 +81,10 @@ fn read_atom<'a>(
     }
 }
 
-/// One turn: closes the innermost container if it ends here, and otherwise reads the next head,
-/// with the content of a string. Returns the item that this completes, if any, and the remaining
-/// bytes. The outermost item is at `level`. Each turn takes bytes or closes what an earlier one
-/// opened, so there are at most two for each byte.
+/// One turn of the loop. If the innermost container ends here, closes it. Otherwise reads the next
+/// head, with the content of a string. Returns the item that this completes, if any, and the
+/// remaining bytes. The outermost item is at `level`. Each turn takes bytes or closes what an
+/// earlier one opened, so there are at most two for each byte.
 fn turn<'a>(
     stack: &mut Stack,
     bytes: &'a [u8],
@@ -154,8 +154,8 @@ fn read_item<'a>(
     }
 }
 
-/// What the bytes begin with: an item and its length, or `None` if the bytes end before the item
-/// does.
+/// Reads an item from the front of the bytes, and returns it with its length, or `None` if the
+/// bytes end before the item does.
 fn read_front(alloc: Global, bytes: &[u8], turns: &mut Turns) -> Result<Option<(DataItem, usize)>>
     requires { turns.old ≤ 2 ^ 64 }
     ensures answer { FrontAnswer bytes.now result }
@@ -173,7 +173,7 @@ fn read_front(alloc: Global, bytes: &[u8], turns: &mut Turns) -> Result<Option<(
     }
 }
 
-/// The one item that the bytes are, all of them.
+/// The one item that the bytes encode, all of them.
 fn read_whole(alloc: Global, bytes: &[u8]) -> Result<DataItem>
     ensures answer { WholeAnswer bytes.now result }
     ensures memory { result ≡ Err Error.Memory → MayWantMemory bytes.now }
@@ -188,13 +188,13 @@ fn read_whole(alloc: Global, bytes: &[u8]) -> Result<DataItem>
 
 /// Reads one item from all of the bytes (RFC 7049 section 2), and keeps how it was encoded.
 ///
-/// Returns `CutShort` if the bytes end before the item does, `Remaining` if more bytes follow it,
-/// and otherwise the first error from the left: `Head`, `Utf8` or `TooDeep`. Returns `Memory` if an
-/// allocation fails.
+/// If the bytes end before the item does, returns `CutShort`. If more bytes follow the item,
+/// returns `Remaining`. Otherwise returns the first error from the left: `Head`, `Utf8` or
+/// `TooDeep`. Returns `Memory` if an allocation fails.
 ///
-/// No memory is allocated for a length that is only claimed, and for a claimed count only that of a
-/// few members, if as many bytes follow. If the input is empty or its first byte has major type 0,
-/// 1 or 7, nothing is allocated.
+/// A length that is only claimed allocates nothing. A claimed count allocates at most the memory of
+/// a few members, and only if as many bytes follow. If the input is empty or its first byte has
+/// major type 0, 1 or 7, nothing is allocated.
 ///
 /// ```rust
 /// use cbor_diag::parse_bytes;
@@ -203,15 +203,15 @@ fn read_whole(alloc: Global, bytes: &[u8]) -> Result<DataItem>
 /// assert_eq!(rt; item.to_diag(alloc)?.as_str(), "[1,2,3]");
 /// ```
 pub fn parse_bytes(alloc: Global, bytes: &[u8]) -> Result<DataItem>
-    // The item that the bytes are, exactly if they are one.
+    // The item that the bytes encode, if and only if they encode one.
     ensures ok { IfOk result (λ i. IsItem bytes.now (view i)) }
     ensures every_item { (i : Item) → IsItem bytes.now i → GaveItem result i }
 
-    // Each error, exactly if it is true.
+    // Each error, if and only if it holds for the input.
     ensures refused { RefusedSo result (IsNoItem bytes.now) }
     ensures every_refusal { (e : Error) → IsNoItem bytes.now e → GaveRefusal result e }
 
-    // `Memory`, only if the first byte opens what needs some.
+    // `Memory`, only if the first byte begins an item that needs memory.
     ensures memory { result ≡ Err Error.Memory → MayWantMemory bytes.now }
 
     // What else is known of an item that was read.
@@ -227,10 +227,10 @@ pub fn parse_bytes(alloc: Global, bytes: &[u8]) -> Result<DataItem>
 /// Reads one item from the front of the bytes, and returns it with the number of bytes that it
 /// takes. More bytes may follow.
 ///
-/// Returns `Ok(None)` if the bytes end before the item does and before any error: further bytes may
-/// complete the item or bring an error. Otherwise returns the first error from the left: `Head`,
-/// `Utf8` or `TooDeep`. Returns `Memory` if an allocation fails. It allocates no more than
-/// [`parse_bytes`].
+/// If the bytes end before the item does and before any error, returns `Ok(None)`: further bytes
+/// may complete the item or bring an error. If there is an error, returns the first one from the
+/// left: `Head`, `Utf8` or `TooDeep`. Returns `Memory` if an allocation fails. It allocates no more
+/// than [`parse_bytes`].
 ///
 /// ```rust
 /// use cbor_diag::parse_bytes_partial;
@@ -241,17 +241,17 @@ pub fn parse_bytes(alloc: Global, bytes: &[u8]) -> Result<DataItem>
 /// assert!(rt; parse_bytes_partial(alloc, b"\x19\x03")?.is_none());
 /// ```
 pub fn parse_bytes_partial(alloc: Global, bytes: &[u8]) -> Result<Option<(DataItem, usize)>>
-    // Each of the three results, only if it is true.
+    // Each of the three results, only if it holds for the input.
     ensures found { IfOk result (λ o. IfSome o (λ x.
         BeginsWithItem bytes.now (view x.0) x.1)) }
     ensures cut { result ≡ Ok None → IsCut bytes.now }
     ensures fault { RefusedSo result (HasFault bytes.now) }
 
-    // Bytes begin in exactly one of the three ways, and that one is returned.
+    // Bytes begin in exactly one of the three ways, and the result is that one.
     ensures exact { (o : Outcome) → BeginsSo bytes.now o → Gave result o }
     ensures one_of_three { BeginsInOneWay bytes.now }
 
-    // Bytes that come later change no item and no fault.
+    // Further bytes change no item and no error.
     ensures found_stays { IfOk result (λ o. IfSome o (λ x.
         (more : List ℕ) → BeginsSo (bytes.now ++ more) (spelled (view x.0) x.1))) }
     ensures fault_stays { RefusedSo result (λ e.
@@ -265,29 +265,29 @@ pub fn parse_bytes_partial(alloc: Global, bytes: &[u8]) -> Result<Option<(DataIt
 }
 
 /// Reads as [`parse_bytes_partial`] does, with the same results, and adds the number of its turns
-/// to `turns`, which may have counted up to 2^64 before.
+/// to `turns`, which may already have counted up to 2^64.
 ///
 /// A turn reads a head, with the content of a string, reads a chunk or a break, or closes a
-/// container that is complete. The turn that meets the end of the bytes or an error counts, too.
-/// There are at most two turns for each byte, and one more, so the work is bounded by the length of
-/// the input, whatever it claims.
+/// complete container. The turn that meets the end of the bytes or an error counts, too. There are
+/// at most two turns for each byte, and one more. So the length of the input bounds the work,
+/// whatever the input claims.
 pub fn parse_bytes_counted(
     alloc: Global,
     bytes: &[u8],
     turns: &mut Turns,
 ) -> Result<Option<(DataItem, usize)>>
     requires { turns.old ≤ 2 ^ 64 }
-    // Each of the three results, only if it is true.
+    // Each of the three results, only if it holds for the input.
     ensures found { IfOk result (λ o. IfSome o (λ x.
         BeginsWithItem bytes.now (view x.0) x.1)) }
     ensures cut { result ≡ Ok None → IsCut bytes.now }
     ensures fault { RefusedSo result (HasFault bytes.now) }
 
-    // Bytes begin in exactly one of the three ways, and that one is returned.
+    // Bytes begin in exactly one of the three ways, and the result is that one.
     ensures exact { (o : Outcome) → BeginsSo bytes.now o → Gave result o }
     ensures one_of_three { BeginsInOneWay bytes.now }
 
-    // Bytes that come later change no item and no fault.
+    // Further bytes change no item and no error.
     ensures found_stays { IfOk result (λ o. IfSome o (λ x.
         (more : List ℕ) → BeginsSo (bytes.now ++ more) (spelled (view x.0) x.1))) }
     ensures fault_stays { RefusedSo result (λ e.
@@ -302,17 +302,17 @@ pub fn parse_bytes_counted(
         turns.new ≡ turns.old + item_turns (view x.0))) }
     ensures twice_its_bytes { IfOk result (λ o. IfSome o (λ x. item_turns (view x.0) ≤ 2 * x.1)) }
 
-    // A cut or a fault takes the turns of what is complete before it, and the one that fails.
+    // Truncated or malformed bytes take the turns of what is complete before, and the failing one.
     ensures turns_of_cut { result ≡ Ok None
         → (c : IsCut bytes.now) → turns.new ≡ turns.old + (cut_spent c + 1) }
     ensures turns_of_fault { RefusedSo result (λ e.
         (f : HasFault bytes.now e) → turns.new ≡ turns.old + (fault_spent f + 1)) }
 
-    // Whatever is returned, at least one turn, and at most two for each byte, and one.
+    // Every call takes at least one turn, and at most two for each byte and one more.
     ensures rises { turns.old < turns.new }
     ensures turns_bounded { turns.new ≤ turns.old + 2 * length bytes.now + 1 }
 
-    // Also if memory runs out, no more turns than the item takes, the cut or the fault.
+    // If memory runs out, there are no more turns than the item or the error takes otherwise.
     ensures within_item { (i : Item) → (n : ℕ) →
         BeginsWithItem bytes.now i n → turns.new ≤ turns.old + item_turns i }
     ensures within_cut { (c : IsCut bytes.now) → turns.new ≤ turns.old + (cut_spent c + 1) }

@@ -18,10 +18,11 @@ use std::alloc::Global;
 /// Reads one item from hex with comments: two digits, of either case, for each byte of the item.
 ///
 /// A line ends at a line feed, and one carriage return right before it belongs to the end. In each
-/// line, the text before the first `#` is kept, without its spaces (U+0020); a tab is kept.
+/// line, the text before the first `#` is kept, without its spaces (U+0020). A tab is kept.
 ///
-/// Returns `OddHex` if the number of kept bytes is odd, otherwise `BadHex` if one of them is not a
-/// hex digit, otherwise the errors of [`parse_bytes`]. Returns `Memory` if an allocation fails.
+/// If the number of kept bytes is odd, returns `OddHex`. Otherwise, if one of them is not a hex
+/// digit, returns `BadHex`. Otherwise returns the errors of [`parse_bytes`]. Returns `Memory` if an
+/// allocation fails.
 ///
 /// ```rust
 /// use cbor_diag::{Error, parse_hex};
@@ -31,11 +32,11 @@ use std::alloc::Global;
 /// assert_eq!(rt; parse_hex(alloc, "8").err(), Some(Error::OddHex));
 /// ```
 pub fn parse_hex(alloc: Global, hex: &str) -> cbor_grammar::Result<DataItem>
-    // The item that the hex is, exactly if it is one.
+    // The item that the hex encodes, if and only if it encodes one.
     ensures ok { IfOk result (λ i. IsHexOf hex.now (view i)) }
     ensures every_item { (i : Item) → IsHexOf hex.now i → GaveItem result i }
 
-    // Each error, exactly if it is true.
+    // Each error, if and only if it holds for the input.
     ensures refused { RefusedSo result (IsHexRefused hex.now) }
     ensures every_refusal { (e : Error) → IsHexRefused hex.now e → GaveRefusal result e }
 

@@ -2,13 +2,14 @@
 //! of nesting.
 //!
 //! Each private function reads at a cursor over the text, as bytes of UTF-8. It returns a value and
-//! leaves the cursor behind it, or returns the first error from the left; then it leaves the cursor
-//! where `stop` says, which is the place of the error. The first byte decides what comes next,
-//! except for `''_` and `""_`, and for a list's last comma, after which whitespace and the closing
-//! byte are looked for. The text is read once, and a string's first piece once more if the fast
-//! path of `strings` does not apply.
-//! What is between `read_core` and the list that keeps its item is inlined, and a map's loop reads
-//! key and value itself, so that an item is not moved from one to the other.
+//! leaves the cursor behind it, or returns the first error from the left. After an error the cursor
+//! is where `stop` says, which is the place of the error. The first byte decides what comes next.
+//! There are two exceptions: `''_` and `""_`, and a list's last comma, after which the closing byte
+//! is looked for behind whitespace. The text is read once, except that the first piece of a string
+//! is read again if the fast path of `strings` does not apply.
+//!
+//! The functions between `read_core` and the list that keeps its item are inlined, and a map's loop
+//! reads key and value itself, so that no item is moved from one function to the next.
 mod fault;
 mod stop;
 mod strings;
@@ -46,8 +47,8 @@ use stop::{
 use strings::{read_byte_item, read_chunks, read_text_item};
 use word::read_word;
 
-/// The item at the front, which is at `level`, from 1 to 129, with the blanks around it. No item is
-/// allowed at level 129.
+/// The item at the front, which is at `level`, from 1 to 129, with the blanks around it. Level 129
+/// allows no item.
 #[cycle(diag)]
 #[inline(always)]
 fn read_item(alloc: Global, text: &mut Cursor<'_>, level: u8) -> Result<DataItem>
@@ -67,7 +68,7 @@ fn read_item(alloc: Global, text: &mut Cursor<'_>, level: u8) -> Result<DataItem
     Ok(item)
 }
 
-/// The item at the front, without the blanks around it; the items in it are at `inner`, from 2 to
+/// The item at the front, without the blanks around it. The items in it are at `inner`, from 2 to
 /// 129.
 #[cycle(diag)]
 #[inline(never)]
@@ -130,7 +131,7 @@ fn integer_or_tag(alloc: Global, text: &mut Cursor<'_>, inner: u8) -> Result<Dat
 }
 
 /// A tag of this number and width, after its opening parenthesis. It is not inlined, so that an
-/// integer clears no space for it.
+/// integer needs no space for it.
 #[cycle(diag)]
 #[inline(never)]
 fn read_tagged(
@@ -182,7 +183,7 @@ fn read_items(alloc: Global, close: u8, text: &mut Cursor<'_>, level: u8) -> Res
 }
 
 /// The items of a list from the first one on, up to its closing byte. Memory is reserved for two
-/// at first, since many lists are no longer.
+/// items at first, since many lists are no longer.
 #[cycle(diag)]
 #[inline(always)]
 #[tactic(auto, using(crate::proofs::shared::Views::items_push))]
@@ -228,8 +229,8 @@ fn read_pairs(alloc: Global, text: &mut Cursor<'_>, level: u8) -> Result<Vec<(Da
     }
 }
 
-/// The pairs of a map from the first one on, up to its closing byte. Memory is reserved for one at
-/// first.
+/// The pairs of a map from the first one on, up to its closing byte. Memory is reserved for one
+/// pair at first.
 #[cycle(diag)]
 #[inline(always)]
 #[tactic(auto, using(crate::proofs::shared::Views::pairs_push))]
@@ -254,7 +255,7 @@ fn some_pairs(alloc: Global, text: &mut Cursor<'_>, level: u8) -> Result<Vec<(Da
     }
 }
 
-/// The item that a text is, all of it.
+/// The item of a text, all of it.
 fn whole_text(alloc: Global, text: &mut Cursor<'_>) -> Result<DataItem>
     ensures gives { Gives view result (notation_of deepest text.old) }
     ensures well_formed { IfOk result (λ i. IsWellFormed (view i)) }
@@ -270,11 +271,11 @@ fn whole_text(alloc: Global, text: &mut Cursor<'_>) -> Result<DataItem>
 /// Reads one item from diagnostic notation (RFC 7049 section 6), from all of the text.
 /// docs/NOTATION.md has the rules.
 ///
-/// Returns `TooDeep` if the text would be an item without the limit of 128 levels, and `Notation`
-/// if it is not an item. For a text that is not an item under any limit, the error may also be
-/// `PastWidth` if a number does not fit the width that its indicator states, `Utf8` if a text
-/// string is not UTF-8, and `TooDeep` if 128 of `[`, `{`, `(` and `<` are in it. Returns `Memory`
-/// if an allocation fails.
+/// If the text would be an item without the limit of 128 levels, returns `TooDeep`. If it is not an
+/// item under any limit, returns `Notation` or one of three other errors: `PastWidth` only if a
+/// number does not fit the width that its indicator states, `Utf8` only if a text string is not
+/// UTF-8, and `TooDeep` only if the text has 128 of `[`, `{`, `(` and `<`. Returns `Memory` if an
+/// allocation fails.
 ///
 /// ```rust
 /// use cbor_diag::parse_diag;
@@ -287,7 +288,7 @@ fn whole_text(alloc: Global, text: &mut Cursor<'_>) -> Result<DataItem>
 /// );
 /// ```
 pub fn parse_diag(alloc: Global, text: &str) -> Result<DataItem>
-    // The item that the text is, exactly if it is one with no item below level 128.
+    // The item of the text, if and only if the text is an item with no item below level 128.
     ensures ok { IfOk result (λ i. IsNotation text.now (view i)) }
     ensures every_item { (i : Item) → IsNotation text.now i → GaveItem result i }
 
@@ -299,7 +300,7 @@ pub fn parse_diag(alloc: Global, text: &str) -> Result<DataItem>
     ensures one_item { IfOk result (λ i.
         (limit : ℕ) (other : Item) → ReadsUnder limit text.now other → other ≡ view i) }
 
-    // Otherwise it is not an item, and the error says this of it.
+    // Otherwise the text is not an item, and the error holds for it.
     ensures refused { RefusedSo result (IsNoNotation text.now) }
 
     // The item has an encoding.

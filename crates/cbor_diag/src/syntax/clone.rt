@@ -1,5 +1,5 @@
-//! Copies of items and strings, written out since a derived `clone` takes no allocator and says
-//! nothing of a type that holds itself.
+//! Copies items and strings. The functions are written out: a derived `clone` takes no allocator,
+//! and has no contract for a recursive type.
 ghost use Rattle.std.specs.Prelude.{◌≡◌, IfErr, IfOk, map};
 ghost use Rattle.cbor_diag.specs.View.{view, items_view, pairs_view};
 
@@ -21,8 +21,8 @@ fn clone_chunks<S: DefiniteString>(alloc: Global, chunks: &[S]) -> Result<Vec<S>
 }
 
 impl DataItem {
-    /// Returns a copy that is equal to the item, widths included. The item need not be well formed;
-    /// the call recurses as deep as the item is nested. The only error is `Memory`.
+    /// Returns a copy that is equal to the item, widths included. The item need not be well formed.
+    /// The call recurses as deep as the item is nested. The only error is `Memory`.
     #[cycle(copy)]
     pub fn clone(&self, alloc: Global) -> Result<DataItem>
         ensures equal { IfOk result (λ v. view v ≡ view self.now) }

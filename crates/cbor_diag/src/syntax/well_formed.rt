@@ -1,5 +1,5 @@
-//! Whether a `DataItem` has an encoding: each number fits its width, and no level is deeper than
-//! 128.
+//! Checks that a `DataItem` has an encoding: each number fits its width, and no item is deeper than
+//! level 128.
 ghost use Rattle.std.specs.Prelude.{◌↔◌, IsTrue, map};
 ghost use Rattle.std.specs.List.{AllByRecursion};
 ghost use Rattle.cbor_diag.specs.View.{view, items_view, pairs_view};
@@ -27,8 +27,7 @@ fn chunks_fit<S: DefiniteString>(chunks: &[S]) -> bool
     chunks.iter().all(length_fits)
 }
 
-/// Whether an item at this level is well formed; what is past the deepest level is
-/// not looked at.
+/// Whether an item at this level is well formed. Items past the deepest level are not looked at.
 #[cycle(well_formed)]
 fn well_formed_at_level(item: &DataItem, level: u8) -> bool
     ensures { IsTrue result ↔ WellFormed level (view item.now) }
@@ -91,9 +90,9 @@ fn pairs_well_formed(pairs: &Vec<(DataItem, DataItem)>, level: u8) -> bool
 }
 
 impl DataItem {
-    /// Returns whether the item is well formed, that is, has an encoding: each number, tag, length
-    /// and count fits the width stated for it, the bits of each float fit theirs, and no item is
-    /// deeper than level 128, where the outermost is at level 1.
+    /// Returns whether the item is well formed, that is, has an encoding. Each number, tag, length
+    /// and count has to fit the width stated for it, and the bits of each float theirs. No item may
+    /// be deeper than level 128, where the outermost is at level 1.
     ///
     /// It allocates nothing, and looks at nothing below level 129.
     pub fn is_well_formed(&self) -> bool

@@ -1,4 +1,4 @@
--- The note of an embedded item, and the dumps of a sequence one after the other.
+-- The note of an embedded item, and the dumps of a sequence of items.
 use Rattle.std.proofs.Common.{◌≡◌, ℕ, zero, suc, ◌<◌, ◌≤◌, List, [], ◌∷◌, ◌++◌, length}
 use Rattle.std.proofs.Common.{codes, Ok, Err, refl, ap, subst, ◌∙◌, arith}
 use Rattle.std.specs.List.{flat_map}

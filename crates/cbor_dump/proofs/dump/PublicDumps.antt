@@ -49,7 +49,7 @@ module _ (i : Item) (well : IsWellFormed i) where
 
 -- ---- the same of the item that bytes are
 
--- the text is the dump of the item that the bytes are
+-- the text is the dump of the item that the bytes encode
 abbrev pub IsDumpOf : List ℕ → List ℕ → Type 0
 IsDumpOf b text = (i : Item) × IsItem b i × (text ≡ dump i)
 

@@ -1,4 +1,4 @@
--- What is dumped from bytes, in one walk with their reading. No public clause names it.
+-- What is dumped from bytes in one walk, while they are read. No public clause names it.
 use Rattle.std.specs.Prelude.{◌≡◌, ℕ, ◌+◌, ◌<◌, ◌≤◌, List, [], ◌∷◌, ◌++◌, Option, Some, None, Ok, codes}
 use Rattle.std.specs.List.{flat_map}
 use Rattle.std.specs.Option.{option_to_list}
@@ -47,7 +47,7 @@ IsContext c = (c.depth < c.level) × (c.level ≤ deepest + 1)
 abbrev pub item_lines : DumpContext → ℕ → Item → List DumpLine
 item_lines c known i = parts_lines (lines_at_level (c.level + 1)) (context_view c) known i
 
--- items one after the other, with the notes on them
+-- the lines of items in order, with the notes on them
 abbrev pub items_there : DumpContext → ℕ → Items → List DumpLine
 items_there c known is = items_lines (lines_at_level c.level (context_view c)) known is
 

@@ -1,4 +1,4 @@
--- The notes of a dump, values, zones and address families of the code, as the definitions have them.
+-- What the code's own notes, values, zones and address families stand for in the definitions.
 use Rattle.std.specs.Prelude.{◌≡◌, ℕ, zero, suc, List, map, Option, Some, None, Ok, IsSome}
 use Rattle.std.specs.String.{string_bytes}
 use Rattle.cbor_dump.specs.declared.notes.Note as declared_note
@@ -28,7 +28,7 @@ zone_view code_zone.Invalid = not_zone
 
 -- ---- values
 
--- what notes do not look into: it has the notes of any other item of which none says what it is
+-- a value that notes do not look into: it has the notes of any other item that no note describes
 abbrev pub other : Item
 other = spec.map no_pairs None
 

@@ -1,4 +1,4 @@
--- The lines of a dump that the code writes. No public clause names them.
+-- The lines of a dump that the code writes, in the terms of the definitions. No public clause names them.
 use Rattle.std.specs.Prelude.{ℕ, List, [], Some, codes, unwrap_or}
 use Rattle.hex.specs.Hex.{encode_lower}
 use Rattle.cbor_notes.specs.Element.{element_text}

@@ -1,4 +1,4 @@
--- How far the digits of a dump reach, by the lengths of heads and pieces. No public clause names it.
+-- How far the digits of a dump reach, from the lengths of heads and pieces. No public clause names it.
 use Rattle.std.specs.Prelude.{◌≡◌, ℕ, zero, suc, ◌+◌, ◌*◌, ◌%◌, ◌==◌, ◌<◌, ◌≤◌, List, [], ◌∷◌, length, max, min, nat_le}
 use Rattle.std.specs.Prelude.{nat_lt, Option, Some, None, Ok, if◌then◌else◌}
 use Rattle.cbor_notes.specs.Element.{element_size}

@@ -17,13 +17,13 @@ use std::alloc::{AllocError, Global};
 /// The notes on the addresses of a family.
 #[derive(Clone, Copy)]
 struct AddressNotes {
-    /// What the notes are allocated by.
+    /// The allocator of the notes.
     alloc: Global,
     /// The family.
     family: Family,
 }
 
-/// What is in the place of a zone.
+/// What stands in the place of a zone.
 #[derive(Drop)]
 pub(crate) enum Zone {
     /// Nothing.
@@ -34,7 +34,7 @@ pub(crate) enum Zone {
     Invalid,
 }
 
-/// What is said of the value of the tag of a family.
+/// The note on the value of the tag of a family.
 pub(super) fn address_note(
     alloc: Global,
     family: Family,
@@ -52,7 +52,7 @@ pub(super) fn address_note(
 }
 
 impl AddressNotes {
-    /// What the family is called.
+    /// The name of the family.
     fn name(self) -> &'static str
         ensures { result.now ≡ spec.family_name self.family }
     {
@@ -92,7 +92,7 @@ impl AddressNotes {
         }
     }
 
-    /// The family's name, what is shown of it, and that between brackets.
+    /// The family's name and `what`, and then `text` between brackets.
     fn shown(self, what: &str, text: &str) -> Result<String, AllocError>
         ensures { IfOk result (λ note. string_bytes note
             ≡ spec.shown self.family what.now text.now) }
@@ -103,7 +103,7 @@ impl AddressNotes {
         in_brackets(self.alloc, &name, text)
     }
 
-    /// What is said of bytes that are too few or too many.
+    /// The note on too few or too many bytes.
     fn invalid_length(self) -> Result<String, AllocError>
         ensures { IfOk result (λ note. string_bytes note ≡ spec.invalid_length self.family) }
     {
@@ -113,7 +113,7 @@ impl AddressNotes {
         Ok(note)
     }
 
-    /// What is said of an address alone.
+    /// The note on an address alone.
     fn plain_address(self, bytes: &[u8]) -> Result<String, AllocError>
         ensures { IfOk result (λ note. string_bytes note
             ≡ spec.plain_address self.family bytes.now) }
@@ -124,8 +124,8 @@ impl AddressNotes {
         }
     }
 
-    /// What is said of members: a prefix by its length and its bytes, or an address by its bytes
-    /// and what follows them.
+    /// The note on members: a prefix by its length and its bytes, or an address by its bytes and
+    /// what follows them.
     fn members_note(self, members: Members<'_>) -> Result<String, AllocError>
         ensures { IfOk result (λ note. string_bytes note ≡ spec.members_note self.family
             (members_view members.entry)) }
@@ -142,7 +142,7 @@ impl AddressNotes {
         }
     }
 
-    /// What is said of a prefix: the first bytes of an address, without the zeros at its end.
+    /// The note on a prefix: the first bytes of an address, without the zeros at its end.
     fn prefix_note(self, len: u64, bytes: &[u8]) -> Result<String, AllocError>
         ensures { IfOk result (λ note. string_bytes note
             ≡ spec.prefix_note self.family len bytes.now) }
@@ -165,8 +165,8 @@ impl AddressNotes {
         }
     }
 
-    /// What is said of the address that is the first member, given as text, and of what follows it:
-    /// the length of its prefix or null, and perhaps a zone.
+    /// The note on an address, given as text, and the members after it: the length of its prefix or
+    /// null, and perhaps a zone.
     fn interface_note(self, address: String, members: Members<'_>) -> Result<String, AllocError>
         ensures { (bytes : List ℕ)
             → string_bytes address ≡ spec.address_text self.family bytes
@@ -180,7 +180,7 @@ impl AddressNotes {
         }
     }
 
-    /// What is said of an address and a zone.
+    /// The note on an address and a zone.
     fn with_zone(self, address: String, zone: Option<Atom<'_>>) -> Result<String, AllocError>
         ensures { (bytes : List ℕ)
             → string_bytes address ≡ spec.address_text self.family bytes
@@ -196,7 +196,7 @@ impl AddressNotes {
         self.shown("address-and-zone", &text)
     }
 
-    /// What is said of an address, the length of its prefix, and perhaps a zone.
+    /// The note on an address, the length of its prefix, and perhaps a zone.
     fn with_length(
         self,
         address: String,
@@ -225,7 +225,7 @@ impl AddressNotes {
     }
 }
 
-/// What is said of a value that is not an address.
+/// The note on a value that is not an address.
 fn invalid_address(alloc: Global) -> Result<String, AllocError>
     ensures { IfOk result (λ note. string_bytes note ≡ spec.invalid_address) }
 {
@@ -249,7 +249,7 @@ fn push_zone(text: &mut String, zone: &str) -> Result<(), AllocError>
     text.push_str(zone)
 }
 
-/// What is in the place of a zone, which has a number or a name.
+/// What stands in the place of a zone, which has a number or a name.
 fn zone_at(alloc: Global, zone: Option<Atom<'_>>) -> Result<Zone, AllocError>
     ensures { IfOk result (λ found. zone_view found
         ≡ spec.zone_at (then_view zone.entry no_items)) }
@@ -262,7 +262,7 @@ fn zone_at(alloc: Global, zone: Option<Atom<'_>>) -> Result<Zone, AllocError>
     }
 }
 
-/// What is said of the value of tag 260: an address; its length says of which kind.
+/// The note on the value of tag 260, an address. Its length decides its kind.
 pub(super) fn network_note(alloc: Global, value: Value<'_>) -> Result<String, AllocError>
     ensures { IfOk result (λ note. string_bytes note ≡ spec.network_note (value_view value.entry)) }
 {
@@ -272,7 +272,7 @@ pub(super) fn network_note(alloc: Global, value: Value<'_>) -> Result<String, Al
     }
 }
 
-/// What is said of the bytes of an address of any kind.
+/// The note on the bytes of an address of any kind.
 fn network_address(alloc: Global, bytes: &[u8]) -> Result<String, AllocError>
     ensures { IfOk result (λ note. string_bytes note ≡ spec.network_address bytes.now) }
 {

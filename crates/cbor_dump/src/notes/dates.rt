@@ -11,7 +11,7 @@ use super::value::{Atom, Value};
 use cbor_notes::{date_of_epoch, datetime_of_epoch, epoch_of_date, epoch_of_datetime};
 use std::alloc::{AllocError, Global};
 
-/// What is said of a date and time as text: the number of seconds from 1970 to it.
+/// The note on a date and time as text: the number of seconds from 1970 to it.
 pub(super) fn datetime_note(alloc: Global, value: Value<'_>) -> Result<String, AllocError>
     ensures { IfOk result (λ note. string_bytes note
         ≡ spec.datetime_note (value_view value.entry)) }
@@ -23,7 +23,7 @@ pub(super) fn datetime_note(alloc: Global, value: Value<'_>) -> Result<String, A
     word_or(alloc, "epoch", "error parsing datetime", seconds)
 }
 
-/// What is said of seconds since 1970: their date and time.
+/// The note on seconds since 1970: their date and time.
 pub(super) fn epoch_datetime_note(alloc: Global, value: Value<'_>) -> Result<String, AllocError>
     ensures { IfOk result (λ note. string_bytes note
         ≡ spec.epoch_datetime_note (value_view value.entry)) }
@@ -38,7 +38,7 @@ pub(super) fn epoch_datetime_note(alloc: Global, value: Value<'_>) -> Result<Str
     }
 }
 
-/// What is said of days since 1970-01-01: their date.
+/// The note on days since 1970-01-01: their date.
 pub(super) fn epoch_date_note(alloc: Global, value: Value<'_>) -> Result<String, AllocError>
     ensures { IfOk result (λ note. string_bytes note
         ≡ spec.epoch_date_note (value_view value.entry)) }
@@ -50,7 +50,7 @@ pub(super) fn epoch_date_note(alloc: Global, value: Value<'_>) -> Result<String,
     }
 }
 
-/// What is said of a date as text: the number of days from 1970-01-01 to it.
+/// The note on a date as text: the number of days from 1970-01-01 to it.
 pub(super) fn date_note(alloc: Global, value: Value<'_>) -> Result<String, AllocError>
     ensures { IfOk result (λ note. string_bytes note ≡ spec.date_note (value_view value.entry)) }
 {
@@ -61,7 +61,7 @@ pub(super) fn date_note(alloc: Global, value: Value<'_>) -> Result<String, Alloc
     word_or(alloc, "epoch", "error parsing date", days)
 }
 
-/// What is said of seconds since 1970, however many.
+/// The note on any number of seconds since 1970.
 fn moment_note(alloc: Global, seconds: i128) -> Result<String, AllocError>
     ensures { IfOk result (λ note. string_bytes note
         ≡ spec.word_or (codes "datetime") (codes "offset is too large")
@@ -82,7 +82,7 @@ fn moment_text(alloc: Global, seconds: i128) -> Result<Option<String>, AllocErro
     }
 }
 
-/// What is said of days since 1970-01-01, however many.
+/// The note on any number of days since 1970-01-01.
 fn day_note(alloc: Global, days: i128) -> Result<String, AllocError>
     ensures { IfOk result (λ note. string_bytes note
         ≡ spec.word_or (codes "date") (codes "date offset is too large for this tool")

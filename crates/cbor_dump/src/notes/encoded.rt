@@ -9,7 +9,7 @@ use super::value::{Atom, Value};
 use cbor_notes::{base64_lines, url_verdict, uuid_lines};
 use std::alloc::{AllocError, Global};
 
-/// What is said of a URI: whether it is a URL.
+/// The note on a URI: whether it is a URL.
 pub(super) fn url_note(alloc: Global, value: Value<'_>) -> Result<String, AllocError>
     ensures { IfOk result (λ note. string_bytes note ≡ spec.url_note (value_view value.entry)) }
 {
@@ -26,8 +26,8 @@ pub(super) fn url_note(alloc: Global, value: Value<'_>) -> Result<String, AllocE
     Ok(note)
 }
 
-/// What is said of a text in base 64, in the alphabet that is safe in URLs if `url` is set: what it
-/// encodes.
+/// The note on a text in base 64: what it encodes. If `url` is set, the alphabet is the one that is
+/// safe in URLs.
 pub(super) fn base64_note(alloc: Global, url: bool, value: Value<'_>) -> Result<Note, AllocError>
     ensures { IfOk result (λ note. note_view note ≡ spec.base64_note url (value_view value.entry)) }
 {
@@ -59,7 +59,7 @@ fn joined(alloc: Global, front: &str, back: &str) -> Result<String, AllocError>
     Ok(text)
 }
 
-/// What is said of a UUID: its fields, and below them its bytes in other bases.
+/// The note on a UUID: its fields, and below them its bytes in other bases.
 pub(super) fn uuid_note(alloc: Global, value: Value<'_>) -> Result<Note, AllocError>
     ensures { IfOk result (λ note. note_view note ≡ spec.uuid_note (value_view value.entry)) }
 {

@@ -10,7 +10,7 @@ use super::value::{Atom, Value};
 use cbor_notes::grouped;
 use std::alloc::{AllocError, Global};
 
-/// What is said of a value that is shared: its number, which is how many were shared before it.
+/// The note on a value that is shared: its number, which is how many were shared before it.
 pub(super) fn shareable_note(alloc: Global, number: u64) -> Result<String, AllocError>
     ensures { IfOk result (λ note. string_bytes note ≡ spec.shareable_note number) }
 {
@@ -18,7 +18,7 @@ pub(super) fn shareable_note(alloc: Global, number: u64) -> Result<String, Alloc
     in_brackets(alloc, "reference", &number)
 }
 
-/// What is said of a reference to a shared value: its number, and whether it is known.
+/// The note on a reference to a shared value: its number, and whether it is known.
 pub(super) fn reference_note(
     alloc: Global,
     known: u64,

@@ -1,4 +1,4 @@
-//! What notes see of the value of a tag. It is read from the bytes, and takes no memory.
+//! Reads what notes show of the value of a tag from its bytes, without allocating.
 ghost use Rattle.std.specs.Prelude.{◌≡◌, ◌+◌, ℕ, List, Ok};
 ghost use Rattle.cbor_grammar.specs.declared.width.IntegerWidth.{IntegerWidth};
 ghost use Rattle.cbor_grammar.specs.Item.{Chunk, string, Item, atom, Items};
@@ -43,7 +43,7 @@ pub(crate) struct Members<'a> {
     pub(super) third: Option<Atom<'a>>,
 }
 
-/// What notes see of a value.
+/// The part of a value that notes show.
 #[derive(Clone, Copy)]
 pub(crate) enum Value<'a> {
     Atom(Atom<'a>),
@@ -67,8 +67,8 @@ impl<'a> Atom<'a> {
         }
     }
 
-    /// The string of that kind and length after its head, and the bytes after it; none after one in
-    /// chunks.
+    /// The string of this kind and length after its head, and the bytes after it. After a string in
+    /// chunks there are none.
     fn string(kind: StringKind, length: Argument, bytes: &'a [u8]) -> (Atom<'a>, &'a [u8])
         ensures { (levels : ℕ) (i : Item) (rest : List ℕ)
             → body_read (ItemHead.String kind length) bytes.now levels ≡ Ok (i, rest)
@@ -83,7 +83,7 @@ impl<'a> Atom<'a> {
         }
     }
 
-    /// The value after its head, and the bytes after it; none after `Atom::Other`.
+    /// The value after its head, and the bytes after it. After `Atom::Other` there are none.
     fn behind(head: ItemHead, bytes: &'a [u8]) -> (Atom<'a>, &'a [u8])
         ensures { (levels : ℕ) (i : Item) (rest : List ℕ)
             → body_read head bytes.now levels ≡ Ok (i, rest) → Sees result.0 result.1.now i rest }
@@ -132,10 +132,10 @@ impl<'a> Members<'a> {
 }
 
 impl<'a> Value<'a> {
-    /// What notes see of the value at the front, which was read before.
+    /// The part of the value at the front that notes show. The value was read before.
     ///
-    /// Of a container it reads the head, and of an array three members at most. So what is deep in
-    /// it is not read once more at each tag around it.
+    /// Of a container it reads the head, and of an array at most three members. So deeply nested
+    /// items are not read again at each tag around them.
     pub(crate) fn read(bytes: &'a [u8]) -> Value<'a>
         ensures { (level : ℕ) (i : Item) (rest : List ℕ) → read_at level bytes.now ≡ Ok (i, rest)
             → (known t : ℕ) → value_note known t (value_view result) ≡ value_note known t i }

@@ -1,4 +1,4 @@
-//! Reads items of EDN: the pieces of a string, and the items between `<<` and `>>`.
+//! Reads the pieces of a string of EDN, and the items between `<<` and `>>`.
 ghost use Rattle.std.specs.Prelude.{◌≡◌, ◌-◌, ◌<◌, ◌≤◌, ◌++◌, ℕ, length, IfOk, OnOk};
 ghost use Rattle.cbor_diag.specs.View.{view, items_view};
 ghost use Rattle.cbor_grammar.specs.WellFormed.{levels_left, WellFormed, WellFormedItems};
@@ -22,7 +22,7 @@ use cbor_grammar::IntegerWidth;
 use cbor_grammar::strings::StringKind;
 use std::alloc::{AllocError, Global};
 
-/// Adds bytes to some content, of which there is often none before.
+/// Appends bytes to some content, which is often empty.
 fn append(content: &mut Vec<u8>, bytes: Vec<u8>) -> Result<(), AllocError>
     ensures { OnOk result (content.new.items ≡ content.old.items ++ bytes.items) }
 {
@@ -34,7 +34,7 @@ fn append(content: &mut Vec<u8>, bytes: Vec<u8>) -> Result<(), AllocError>
     Ok(())
 }
 
-/// The encodings of items, one after the other.
+/// The concatenated encodings of items.
 pub(super) fn encoded(alloc: Global, items: &Vec<DataItem>) -> Result<Vec<u8>, AllocError>
     requires { (level : ℕ) × (1 ≤ level) × WellFormedItems level (items_view items.now.items) }
     ensures { IfOk result (λ bytes. bytes.items ≡ encoded_items (items_view items.now.items)) }
@@ -48,7 +48,7 @@ pub(super) fn encoded(alloc: Global, items: &Vec<DataItem>) -> Result<Vec<u8>, A
     Ok(bytes)
 }
 
-/// The items after `<<`, up to `>>`, in bytes.
+/// Reads the items after `<<`, up to `>>`, and returns the bytes that encode them.
 #[cycle(edn)]
 fn read_embedded(alloc: Global, text: &mut Cursor<'_>, inner: u8) -> Result<Vec<u8>, Stop>
     requires low { 1 ≤ inner }
@@ -83,7 +83,7 @@ pub(super) fn read_piece(
     }
 }
 
-/// Adds the bytes of a piece; returns whether another one is joined to it.
+/// Adds the bytes of a piece. Returns whether another one is joined to it.
 #[cycle(edn)]
 fn piece_turn(
     alloc: Global,

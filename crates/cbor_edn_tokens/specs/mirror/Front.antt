@@ -1,4 +1,4 @@
--- In tokens of EDN, numbers in base 16 by the digits at their front.
+-- Hexadecimal numbers in EDN, represented by the digits at their front.
 use Rattle.std.specs.Prelude.{◌≡◌, ℕ, ◌+◌, ◌*◌, ◌^◌, ◌<◌, ◌≤◌, true, false, Option, Some, Result, Ok, Err}
 use Rattle.std.specs.Float.Ieee as ieee
 use Rattle.cbor_edn_grammar.specs.HexFloat.{Dyadic}

@@ -1,5 +1,4 @@
-//! Reads tokens of EDN: the float that is nearest to a number in base 16, by the digits at its
-//! front.
+//! Rounds a hexadecimal number to the nearest float, by the digits at its front.
 ghost use Rattle.std.specs.Prelude.{◌≡◌, ◌⊎◌, ℕ, ◌+◌, ◌*◌, ◌/◌, ◌^◌, ◌<◌, ◌≤◌, ◌||◌, nat_lt, false};
 ghost use Rattle.std.specs.Prelude.{from_bits};
 ghost use Rattle.std.specs.Float.Ieee.{round, units, prec, low, hid, ones};
@@ -26,7 +25,7 @@ impl Format {
         }
     }
 
-    /// The exponent of the least number above 0, without its minus.
+    /// The exponent of the least positive number, without its minus.
     fn least(self) -> u128
         ensures { result ≡ low (format_of self) }
     {
@@ -62,9 +61,9 @@ impl Format {
 pub(super) struct Front {
     /// The number of the digits at the front, below 2^60.
     pub(super) digits: u64,
-    /// How many digits of base 16 are behind them: none, if the front is below 2^56.
+    /// How many hex digits follow them: none, if the front is below 2^56.
     pub(super) behind: u64,
-    /// Whether one of those is not zero.
+    /// Whether any of the digits that follow is not zero.
     pub(super) more: bool,
 }
 
@@ -100,14 +99,14 @@ impl Front {
     }
 }
 
-/// Whether there is more than zeros, with one more digit.
+/// Whether `more` is set, or this digit is not zero.
 fn is_more(more: bool, digit: u32) -> bool
     ensures { result ≡ (more || nat_lt 0 digit) }
 {
     more || digit > 0
 }
 
-/// The whole number closest to the digits at the front and those behind, over 2^cut; at a tie the
+/// The integer nearest to the digits at the front and those behind, over 2^cut. At a tie it is the
 /// even one.
 fn rounded(front: Front, cut: u32) -> u64
     requires { (front.digits < 2 ^ 60) × (1 ≤ cut) × (cut ≤ 62) }
@@ -138,7 +137,7 @@ fn power_of_two(exponent: u32) -> u64
     1 << exponent
 }
 
-/// The bits of so many times 2^scale times the least float above 0; those of an infinity where that
+/// The bits of `kept` times 2^scale times the least positive float, or those of an infinity if that
 /// is too large.
 fn bits_of_units(kept: u64, scale: u128, format: Format) -> u64
     requires kept { kept ≤ 2 ^ prec (format_of format) }
@@ -152,8 +151,8 @@ fn bits_of_units(kept: u64, scale: u128, format: Format) -> u64
     bits.min(format.infinity()) as u64
 }
 
-/// The bits of the float that is nearest to a number with so many digits at its front that some are
-/// cut off.
+/// The bits of the float that is nearest to a number whose front has more digits than the float
+/// keeps.
 fn nearest_long(front: Front, up: u128, down: u128, format: Format) -> u64
     requires low { 2 ^ 56 ≤ front.digits }
     requires high { front.digits < 2 ^ 60 }

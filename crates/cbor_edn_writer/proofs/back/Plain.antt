@@ -1,4 +1,4 @@
--- In EDN, bytes that are heads of which none is of a simple value below 32 in two bytes: an item that they spell has no
+-- In EDN, bytes that are heads, but none of a simple value below 32 in two bytes: an item that they encode has no
 -- simple value from 24 to 31.
 use Rattle.std.proofs.Common.{◌≡◌, ◌⊎◌, ℕ, ◌+◌, ◌<◌, ◌≤◌, List, [], ◌∷◌, ◌++◌, length, drop, Option, Some, None, Ok}
 use Rattle.std.proofs.Common.{inl, inr, refl, sym, ap, subst, ◌∙◌, append_assoc, append-nil, arith}

@@ -142,7 +142,7 @@ spelled_same level b i spelled s = strict_only level b i (strictly_spelled level
 all_plain : (b : List ℕ) → is_strict b ≡ true → PlainHeads b
 all_plain b strict = subst PlainHeads (append-nil b) (heads_plain (length b) b [] strict no_head)
 
--- the item that the bytes are is encoded as these bytes
+-- the item that the bytes encode is encoded as these bytes
 pub item_same : (level left : ℕ) (b : List ℕ) (i : Item) → level + left ≡ 129 → AllByRecursion (λ b. b < 256) b
     → embedded_at left b ≡ Some i → is_strict b ≡ true → (encoded i ≡ b) × NoneReserved i
 item_same level left b i levels bytes is strict =

@@ -1,4 +1,4 @@
-//! The elements of typed arrays (RFC 8746, section 2), as a note has them.
+//! The elements of typed arrays (RFC 8746, section 2), as a note shows them.
 
 use cbor_floats::{EncodedFloat, push_number};
 use std::alloc::{AllocError, Global};
@@ -11,13 +11,13 @@ const MOST: usize = 8;
 enum Element {
     /// An unsigned integer.
     Unsigned,
-    /// An integer below zero from half of this number on, which is the number of its values.
+    /// A signed integer in two's complement, with this many values.
     Signed(u128),
     /// A float.
     Float,
 }
 
-/// How a typed array has its elements.
+/// The format of the elements of a typed array.
 #[derive(Clone, Copy)]
 struct Elements {
     element: Element,
@@ -25,7 +25,7 @@ struct Elements {
     is_little_endian: bool,
 }
 
-/// How the typed array of this tag has its elements. Floats of 128 bits are not shown.
+/// The element format of the typed array with this tag. Floats of 128 bits are not shown.
 fn elements_of(tag: u64) -> Option<Elements> {
     let (element, size) = match tag {
         64 | 68 => (Element::Unsigned, 1),
@@ -49,7 +49,7 @@ fn elements_of(tag: u64) -> Option<Elements> {
 }
 
 impl Elements {
-    /// The number that an element's bytes are.
+    /// The number that the bytes of an element encode.
     fn number(self, bytes: &[u8]) -> u64 {
         let mut number = 0u64;
         if self.is_little_endian {
@@ -64,7 +64,7 @@ impl Elements {
         number
     }
 
-    /// Appends an element, by the number that its bytes are.
+    /// Appends an element, from the number that its bytes encode.
     fn push(self, text: &mut String, number: u64) -> Result<(), AllocError> {
         match self.element {
             Element::Unsigned => write!(text, "{number}"),
@@ -87,8 +87,8 @@ impl Elements {
     }
 }
 
-/// The first elements of the typed array that bytes right below this tag are, `..` for further
-/// ones. Bytes that are not whole elements have no text, and neither have none.
+/// The first elements of the typed array with this tag and these bytes, and `..` for further ones.
+/// `None` for another tag, for no bytes, and for bytes that do not divide into elements.
 pub(super) fn elements_text(
     alloc: Global,
     tag: u64,

@@ -1,4 +1,4 @@
-//! Writes EDN: what holds no item, with notes.
+//! Writes items of EDN that hold no other item, with notes.
 #![tactic(auto, using(cbor_tokens::proofs::texts::Appending::appending_steps))]
 
 ghost use Rattle.std.specs.Prelude.{◌+◌, ◌++◌, codes};
@@ -51,7 +51,7 @@ fn push_integer(
     push_integer_note(out, value, false, place)
 }
 
-/// Writes a negative integer by its encoded number, which is one less than what is written.
+/// Writes a negative integer. Its encoded number is `value`, so the integer is -1 - `value`.
 #[inline(always)]
 fn push_negative(
     out: &mut String,
@@ -80,7 +80,7 @@ fn push_simple(
     push_simple_note(out, value, takes_two, place)
 }
 
-/// Writes a string of definite length.
+/// Writes a definite-length string.
 #[inline(always)]
 pub(super) fn push_string(
     out: &mut String,

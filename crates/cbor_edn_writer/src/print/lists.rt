@@ -1,4 +1,4 @@
-//! In EDN, what is written round the members of a list.
+//! Writes what is around the members of a list in EDN.
 #![tactic(auto, using(cbor_tokens::proofs::texts::Appending::appending_steps))]
 
 ghost use Rattle.std.specs.Prelude.{◌≡◌, ◌∷◌, [], ◌++◌, ◌<◌, codes};
@@ -39,7 +39,7 @@ fn push_gap(out: &mut String, style: ContainerStyle) -> Result<(), AllocError>
     }
 }
 
-/// Writes what states the length of a list, and a blank after it.
+/// Writes the indicator of a list's length, if it needs one, and a blank after it.
 #[inline(always)]
 fn push_count(out: &mut String, count: Argument, style: ContainerStyle) -> Result<(), AllocError>
     ensures { AppendsText result out.old out.new (with_gap style (count_mark count)) }
@@ -74,7 +74,7 @@ fn push_long_count(
     }
 }
 
-/// Writes a tag, and what is before the item below it.
+/// Writes a tag up to its content.
 pub(super) fn push_tag(out: &mut String, tag: u64, width: IntegerWidth) -> Result<(), AllocError>
     ensures { AppendsText result out.old out.new (number tag width ++ codes "(") }
 {

@@ -21,8 +21,8 @@ use cbor_notation_writer::dialect::Dialect;
 use cbor_notation_writer::parts::{Container, Leaf};
 use std::alloc::{AllocError, Global};
 
-/// EDN, in which a note is looked for at each item. It is apart from [`Edn`], since a place that
-/// may change takes instructions at each item.
+/// EDN where a note of the caller is looked for at each item. It is separate from [`Edn`], since a
+/// place that may change costs instructions at each item.
 pub(crate) struct NotedEdn<'a> {
     notes: &'a [Note<'a>],
 }

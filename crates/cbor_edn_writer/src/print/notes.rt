@@ -1,5 +1,5 @@
-//! Notes of EDN: comments after an item that say what date, address or number it is, and those that
-//! a caller has on an item, before and after it.
+//! Writes notes in EDN: comments that say what date, address or number an item is, and the comments
+//! of a caller before and after an item.
 #![tactic(auto, using(cbor_tokens::proofs::texts::Appending::appending_steps))]
 
 ghost use Rattle.std.specs.Prelude.{◌≡◌};
@@ -21,7 +21,7 @@ use cbor_notes::{
 };
 use std::alloc::{AllocError, Global};
 
-/// The most bytes whose characters are a note, so that the note fits on a line of its own.
+/// The longest byte string that a note shows as characters, so that the note fits on one line.
 const MOST_CHARACTERS: usize = 64;
 
 /// Writes the caller's note before an item.
@@ -62,7 +62,7 @@ pub(super) fn push_integer_note(
     }
 }
 
-/// Writes a note on a simple value below 32 that takes two bytes: RFC 8949 has no such value.
+/// Writes a note on a simple value below 32 in two bytes, which RFC 8949 does not allow.
 #[inline(always)]
 pub(super) fn push_simple_note(
     out: &mut String,
@@ -160,7 +160,7 @@ fn may_begin(note: &str) -> bool
     }
 }
 
-/// Whether a text has a character that no note has.
+/// Whether a text has a character that no note may have.
 fn has_other(note: &str) -> bool
     ensures { result ≡ list_any no_note_has note.now }
 {
@@ -171,14 +171,14 @@ fn has_other(note: &str) -> bool
     found > 0
 }
 
-/// Whether no note has this byte.
+/// Whether a note may not have this byte.
 fn ends_note(byte: u8) -> bool
     ensures { result ≡ no_note_has byte }
 {
     byte < 32 || byte > 126 || byte == b'/'
 }
 
-/// Writes the date that a number below a tag is.
+/// Writes the date that a tagged number stands for.
 #[inline(never)]
 fn push_time(
     out: &mut String,
@@ -198,13 +198,13 @@ fn push_time(
     }
 }
 
-/// The number that an integer is, by the one that is encoded.
+/// The value of an integer, from the number that encodes it.
 fn signed(value: u64, negative: bool) -> Option<i64> {
     let number = i64::try_from(value).ok()?;
     Some(if negative { -1 - number } else { number })
 }
 
-/// Writes the seconds or days from 1970 that a date below a tag is.
+/// Writes the seconds or days since 1970 that a tagged date stands for.
 #[inline(never)]
 fn push_text_note(out: &mut String, tag: u64, text: &str, alloc: Global) -> Result<(), AllocError>
     ensures { Writes result out.old out.new AnyNote }
@@ -216,7 +216,7 @@ fn push_text_note(out: &mut String, tag: u64, text: &str, alloc: Global) -> Resu
     }
 }
 
-/// Writes a number of seconds or days from 1970.
+/// Writes a number of seconds or days since 1970.
 fn push_epoch(out: &mut String, number: Option<String>, alloc: Global) -> Result<(), AllocError>
     ensures { Writes result out.old out.new AnyNote }
 {
@@ -228,7 +228,7 @@ fn push_epoch(out: &mut String, number: Option<String>, alloc: Global) -> Result
     push_note(out, &note)
 }
 
-/// Writes what bytes below a tag are: an address, a UUID, a big number or a typed array.
+/// Writes what tagged bytes stand for: an address, a UUID, a big number or a typed array.
 #[inline(never)]
 fn push_bytes_note(
     out: &mut String,
@@ -246,7 +246,7 @@ fn push_bytes_note(
     }
 }
 
-/// Writes the characters that bytes are, unless a note of the caller stands after the bytes.
+/// Writes bytes as characters, unless a note of the caller stands after them.
 fn push_characters(out: &mut String, bytes: &[u8], place: &EdnPlace<'_>) -> Result<(), AllocError>
     ensures { Writes result out.old out.new AnyNote }
 {
@@ -256,7 +256,7 @@ fn push_characters(out: &mut String, bytes: &[u8], place: &EdnPlace<'_>) -> Resu
     push_note(out, &quoted_characters(place.alloc, bytes)?)
 }
 
-/// Whether bytes are at least one character, and not more than a note shows, of ASCII that print.
+/// Whether bytes are printable ASCII, at least one and at most as many as a note shows.
 fn are_characters(bytes: &[u8]) -> bool {
     !bytes.is_empty()
         && bytes.len() <= MOST_CHARACTERS
@@ -268,7 +268,7 @@ fn is_noted_after(place: &EdnPlace<'_>) -> bool {
     matches!(place.found, Some(note) if is_note(note.after))
 }
 
-/// Characters between apostrophes, as EDN may have bytes.
+/// The characters between apostrophes, a form that byte strings may have in EDN.
 fn quoted_characters(alloc: Global, characters: &[u8]) -> Result<String, AllocError> {
     let mut note = String::with_capacity(alloc, characters.len() + 2)?;
     note.push('\'')?;
@@ -282,7 +282,7 @@ fn quoted_characters(alloc: Global, characters: &[u8]) -> Result<String, AllocEr
     Ok(note)
 }
 
-/// The address that bytes are.
+/// The text of the address in these bytes, if they have one.
 fn address(alloc: Global, tag: u64, bytes: &[u8]) -> Result<Option<String>, AllocError> {
     if tag != 54 {
         if let Some(octets) = bytes.as_array() {
@@ -317,7 +317,7 @@ fn uuid(alloc: Global, bytes: &[u8]) -> Result<Option<String>, AllocError> {
     Ok(Some(note))
 }
 
-/// The digits of a big number of at most 16 bytes; a negative one is one less than minus them.
+/// The digits of a big number of at most 16 bytes. A negative one is -1 minus the bytes' number.
 fn big_number(alloc: Global, negative: bool, bytes: &[u8]) -> Result<Option<String>, AllocError> {
     if bytes.len() > 16 {
         return Ok(None);

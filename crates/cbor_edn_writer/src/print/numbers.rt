@@ -1,4 +1,4 @@
-//! Writes EDN: widths beside numbers, and floats.
+//! Writes floats of EDN, and the width indicators beside numbers.
 #![tactic(auto, using(cbor_tokens::proofs::texts::Appending::appending_steps))]
 
 ghost use Rattle.std.specs.Prelude.{◌≡◌};
@@ -17,7 +17,7 @@ use cbor_notation_writer::scalars;
 use ryu::Buffer;
 use std::alloc::AllocError;
 
-/// The width of a number where it is longer than the number needs, and else `Unknown`.
+/// The width of a number if it is longer than the number needs, and otherwise `Unknown`.
 #[inline(always)]
 pub(super) fn longer(number: u64, width: IntegerWidth) -> IntegerWidth
     ensures { result ≡ longer_width number width }
@@ -36,8 +36,8 @@ pub(super) fn longer(number: u64, width: IntegerWidth) -> IntegerWidth
     }
 }
 
-/// The width that stands beside a number: each with `all`, and else one that is longer than the
-/// number needs.
+/// The width to show beside a number: any width if `all` is set, and otherwise one that is longer
+/// than the number needs.
 #[inline(always)]
 pub(super) fn shown_width(all: bool, number: u64, width: IntegerWidth) -> IntegerWidth
     ensures { result ≡ marked all number width }
@@ -58,7 +58,7 @@ pub(super) fn push_indicator(out: &mut String, width: IntegerWidth) -> Result<()
     }
 }
 
-/// Writes what is after a string of this length.
+/// Writes the width after a string of this length, if it is longer than the length needs.
 #[inline(always)]
 pub(super) fn push_length_mark(
     out: &mut String,
@@ -96,16 +96,17 @@ fn push_float_indicator(out: &mut String, width: FloatWidth) -> Result<(), Alloc
     }
 }
 
-/// Writes a number by its shortest digits, or by its word. Unlike the call of `cbor_floats`, it
-/// says what the text is after an error.
+/// Writes a number in its shortest digits, or as its word. Unlike the function of `cbor_floats`,
+/// its contract says what the text is after an error.
 fn push_number(out: &mut String, x: f64) -> Result<(), AllocError>
     ensures { Writes result out.old out.new (λ t. IsTextOf t x) }
 {
     out.push_str(number_text(&mut Buffer::new(), x))
 }
 
-/// Writes a float by its number, with its width where that is not the shortest that has the number,
-/// or with `all`; and one whose bits are not those of its number by its bits.
+/// Writes a float by its value, with its width if that is not the shortest for the value or if
+/// `all` is set. A float whose value does not determine its bits, such as a NaN with a payload, is
+/// written by its bits.
 #[inline(never)]
 pub(super) fn push_float(
     out: &mut String,

@@ -1,4 +1,4 @@
-//! Where an item is in a text of EDN: what decides how it is written, beside the item itself.
+//! Where an item is in a text of EDN. Its place decides how it is written, beside the item itself.
 ghost use Rattle.std.specs.Prelude.{◌≡◌, ◌≤◌, ◌||◌, unwrap_or};
 ghost use Rattle.cbor_grammar.specs.WellFormed.{deepest};
 ghost use Rattle.cbor_grammar.specs.NotationText.{indent_of};
@@ -28,22 +28,22 @@ pub(crate) struct EdnPlace<'a> {
     pub(crate) layout: Layout,
     /// What is shown.
     pub(crate) style: EdnStyle,
-    /// The tag right above the item.
+    /// The tag that directly encloses the item.
     pub(crate) tag: Option<u64>,
     /// The notes on items.
     pub(crate) notes: &'a [Note<'a>],
-    /// How many of the outermost bytes are behind those that items are read from.
+    /// How many of the outermost bytes follow those that items are read from.
     pub(crate) behind: u64,
-    /// How many of the outermost bytes there are from the item on.
+    /// How many of the outermost bytes there are from the start of the item on.
     pub(crate) here: u64,
-    /// How many of the notes are on items before the item, as far as it was looked for.
+    /// How many of the notes are known to be on items before this one.
     pub(crate) passed: usize,
     /// The note on the item.
     pub(crate) found: Option<&'a Note<'a>>,
 }
 
 impl<'a> EdnPlace<'a> {
-    /// The beginning of a text.
+    /// The place of the outermost item of a text.
     pub(crate) fn new(alloc: Global, style: EdnStyle, notes: &'a [Note<'a>]) -> EdnPlace<'a>
         ensures outermost { IsOutermost style notes.now result }
         ensures indent { indent_of result.layout ≡ 0 }
@@ -66,8 +66,8 @@ impl<'a> EdnPlace<'a> {
         }
     }
 
-    /// The same place with the note on the item, from which on this many bytes are read; nothing if
-    /// there are no notes.
+    /// The same place with the note on the item. `remaining` is the number of bytes from the start
+    /// of the item on. `None` if there are no notes.
     #[inline(always)]
     pub(crate) fn at(&self, remaining: usize) -> Option<EdnPlace<'a>>
         ensures { SameButNote self.now (unwrap_or result self.now) }
@@ -78,8 +78,8 @@ impl<'a> EdnPlace<'a> {
         Some(self.with_note(self.behind.saturating_add(remaining as u64)))
     }
 
-    /// The same place with the note on the item, from which on there are this many of the outermost
-    /// bytes.
+    /// The same place with the note on the item. `here` is the number of the outermost bytes from
+    /// the start of the item on.
     fn with_note(&self, here: u64) -> EdnPlace<'a>
         ensures { FoundAt self.now here result }
     {
@@ -106,7 +106,7 @@ impl<'a> EdnPlace<'a> {
         left.max(usize::from(EdnStyle::LEAST_COLUMNS))
     }
 
-    /// Whether a byte string is shown as the items in it, where it is not by its tag.
+    /// Whether a byte string is shown as the items in it, if its tag does not decide that.
     #[inline(always)]
     pub(crate) fn shows_items(&self) -> bool
         ensures { result ≡ (self.now.style.embedded || is_encoded self.now.found) }
@@ -114,7 +114,7 @@ impl<'a> EdnPlace<'a> {
         self.style.embedded || matches!(self.found, Some(note) if note.encoded)
     }
 
-    /// In a container, or embedded in a byte string.
+    /// The place of a member of this container.
     #[inline(always)]
     pub(crate) fn inside(self, container: Container, layout: Layout) -> EdnPlace<'a>
         requires { self.level ≤ deepest }
@@ -130,8 +130,7 @@ impl<'a> EdnPlace<'a> {
         }
     }
 
-    /// How many of the outermost bytes are behind those that the items in a container are read
-    /// from.
+    /// How many of the outermost bytes follow those that the items in a container are read from.
     #[inline(always)]
     fn behind_in(self, container: Container) -> u64
         ensures { result ≡ behind_members container self.entry }
@@ -142,7 +141,7 @@ impl<'a> EdnPlace<'a> {
         }
     }
 
-    /// Right below this tag.
+    /// The place of the content of this tag.
     #[inline(always)]
     pub(crate) fn below(self, tag: u64) -> EdnPlace<'a>
         requires { self.level ≤ deepest }
@@ -157,8 +156,8 @@ impl<'a> EdnPlace<'a> {
     }
 }
 
-/// How many bytes there are after a byte string with this length, from which on there are that
-/// many.
+/// The number of bytes after a byte string of this length. `here` is the number of bytes from the
+/// start of the byte string on.
 fn after_string(len: Argument, here: u64) -> u64
     ensures { result ≡ behind_string len here }
 {
@@ -184,7 +183,7 @@ fn argument_bytes(width: IntegerWidth) -> u64
     }
 }
 
-/// The note at this index, if it is on the item from which on there are this many bytes.
+/// The note at this index, if its item has `here` bytes from its start on.
 #[inline(always)]
 fn note_at<'a>(notes: &'a [Note<'a>], index: usize, here: u64) -> Option<&'a Note<'a>>
     ensures { IsGiven notes.now here result }
@@ -195,11 +194,11 @@ fn note_at<'a>(notes: &'a [Note<'a>], index: usize, here: u64) -> Option<&'a Not
     }
 }
 
-/// How many notes are looked at one after the other before the others are searched.
+/// How many notes are checked in turn before a binary search of the others.
 const NEAR: usize = 16;
 
-/// How many notes are on items before the one from which on there are this many bytes. The first
-/// `passed` notes are; the others come in the order of the items, so the wanted one is mostly near.
+/// How many notes are on items before the item with `here` bytes from its start on. The first
+/// `passed` notes are. The notes have the order of the items, so the wanted one is mostly near.
 #[inline(never)]
 fn notes_before(notes: &[Note<'_>], passed: usize, here: u64) -> usize {
     let behind = notes.get(passed..).unwrap_or(&[]);

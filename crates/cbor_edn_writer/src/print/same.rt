@@ -1,5 +1,5 @@
-//! In EDN, which byte strings are shown as the items in them: only where the same bytes are read
-//! back.
+//! Decides which byte strings EDN shows as the items in them: only those where the same bytes are
+//! read back.
 ghost use Rattle.std.specs.Prelude.{◌≡◌, ◌<◌, ◌≤◌, length, Option, IfSome, MatchOption, None, Some};
 ghost use Rattle.cbor_edn_writer.specs.EdnLeaves.{content_under as content_there};
 ghost use Rattle.cbor_edn_writer.specs.EdnLeaves.{content_below as content_right_below};
@@ -18,7 +18,7 @@ use cbor_grammar::head::ItemHead;
 use cbor_grammar::layout::Content;
 use cbor_grammar::level::DEEPEST;
 
-/// What the bytes of a byte string at this level are shown as, below the tag, if there is one.
+/// How a byte string at this level is shown. `tag` is the tag that directly encloses it.
 #[inline(always)]
 pub(super) fn content_under(embedded: bool, level: u8, tag: Option<u64>, bytes: &[u8]) -> Content
     ensures { result ≡ content_there embedded level tag bytes.now }
@@ -29,7 +29,7 @@ pub(super) fn content_under(embedded: bool, level: u8, tag: Option<u64>, bytes: 
     }
 }
 
-/// The same right below a tag.
+/// How a byte string directly below this tag is shown.
 fn content_below(embedded: bool, level: u8, tag: u64, bytes: &[u8]) -> Content
     ensures { result ≡ content_right_below embedded level tag bytes.now }
 {
@@ -46,14 +46,15 @@ fn content_below(embedded: bool, level: u8, tag: u64, bytes: &[u8]) -> Content
     }
 }
 
-/// An item, or else bytes.
+/// `Item` if `yes` is set, and otherwise `Bytes`.
 fn item_if(yes: bool) -> Content
     ensures { result ≡ shown_if yes }
 {
     if yes { Content::Item } else { Content::Bytes }
 }
 
-/// Whether a byte string right below this tag is an address, a UUID, a big number or a typed array.
+/// Whether a byte string directly below this tag is an address, a UUID, a big number or a typed
+/// array.
 pub(super) fn is_noted(tag: u64) -> bool
     ensures { result ≡ has_note tag }
 {
@@ -70,7 +71,7 @@ fn begins_container(bytes: &[u8]) -> bool
     }
 }
 
-/// Whether all of the bytes are items, one after the other, below a byte string at this level.
+/// Whether the bytes are a sequence of items, below a byte string at this level.
 fn is_sequence(level: u8, bytes: &[u8]) -> bool
     ensures { result ≡ all_items level bytes.now }
 {
@@ -86,8 +87,8 @@ fn is_sequence(level: u8, bytes: &[u8]) -> bool
     }
 }
 
-/// Whether the bytes are heads with the content of strings, and breaks, and no simple value below
-/// 32 takes two bytes: of items, the same bytes are read back then.
+/// Whether the bytes are heads, contents of strings and breaks, without a simple value below 32 in
+/// two bytes (`f8 00` to `f8 1f`). If such bytes are items, the same bytes are read back.
 fn is_strict(bytes: &[u8]) -> bool
     ensures { result ≡ has_same bytes.now }
 {
@@ -130,7 +131,7 @@ fn after_read(first: u8, bytes: &[u8]) -> Option<&[u8]>
     after_strict(first, head, rest)
 }
 
-/// The bytes after a head, which begins with this byte, and after the content of a string; none
+/// The bytes after a head, which begins with this byte, and after the content of a string. `None`
 /// after a simple value below 32 in two bytes.
 fn after_strict(first: u8, head: ItemHead, rest: &[u8]) -> Option<&[u8]>
     ensures next { MatchOption result (next_after first (head, rest.now) ≡ None)

@@ -1,4 +1,4 @@
-//! Writes EDN: strings between quotes.
+//! Writes strings of EDN between quotes.
 #![tactic(auto, using(cbor_tokens::proofs::texts::Appending::appending_steps))]
 
 ghost use Rattle.std.specs.Prelude.{◌≡◌, ◌++◌, codes};
@@ -16,8 +16,7 @@ use cbor_grammar::strings::{StringContent, StringKind};
 use cbor_tokens::push_escaped;
 use std::alloc::AllocError;
 
-/// Writes a string between quotes, and the width of its length where that is longer than it has to
-/// be.
+/// Writes a string between quotes, and the width of its length if that is longer than it has to be.
 pub(super) fn push_part(
     out: &mut String,
     content: StringContent<'_>,
@@ -32,7 +31,7 @@ pub(super) fn push_part(
     }
 }
 
-/// Writes an indefinite string that has no chunks.
+/// Writes an indefinite-length string that has no chunks.
 pub(super) fn push_no_parts(out: &mut String, kind: StringKind) -> Result<(), AllocError>
     ensures { AppendsText result out.old out.new (no_chunks kind) }
 {

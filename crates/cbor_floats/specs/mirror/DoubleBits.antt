@@ -1,5 +1,5 @@
--- A finite double whose sign is clear, by its bits: this many digits times 2 ^ -shift, in units of 2 ^ -24, where it
--- lies below 2 ^ 17.
+-- A finite double below 2 ^ 17 with a clear sign bit, by its bits: this many digits times 2 ^ -shift, in units of 2 ^
+-- -24.
 use Rattle.std.specs.Prelude.{ℕ, ◌+◌, ◌-◌, ◌/◌, ◌%◌, ◌^◌, min, max, nat_lt, if◌then◌else◌}
 
 abbrev pub digits_of_bits : ℕ → ℕ

@@ -1,4 +1,4 @@
--- Reading answers that the input is cut short exactly where it is cut.
+-- Reading returns `CutShort` if and only if the input is cut.
 use Rattle.std.proofs.Common.{◌≡◌, ℕ, ◌+◌, List, Err, refl, ap}
 use Rattle.cbor_grammar.specs.declared.error.Error.{Error}
 use Rattle.cbor_grammar.specs.declared.error.Error.TheVariants as refusal

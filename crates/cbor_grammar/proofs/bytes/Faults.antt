@@ -94,7 +94,7 @@ inside_append {b = b} {rest = rest} c (at_open_key k whole opens parts) =
 inside_append {b = b} {rest = rest} c (at_open_value k whole opens parts) =
     at_open_value k whole (behind b (opening 5 ∷ whole) rest c opens) parts
 
--- what has a fault is not empty: no bytes at all read as cut short
+-- what has a fault is not empty: empty bytes read as truncated
 fault_not_empty : (level : ℕ) (e : Error) → Fault level [] e → ⊥
 fault_not_empty level e f =
     let at = left_at level (fault_level f) in

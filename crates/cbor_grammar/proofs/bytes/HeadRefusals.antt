@@ -1,4 +1,4 @@
--- By the definitions, where a head is refused: its bytes are cut short, or no item can have it.
+-- By the definitions, where a head is refused: its bytes are truncated, or no item can have it.
 use Rattle.std.proofs.Common.{◌≡◌, ℕ, ◌+◌, ◌/◌, ◌%◌, ◌^◌, ◌<◌, ◌≤◌, ltb, eqb, List, [], ◌∷◌, length, Result}
 use Rattle.std.proofs.Common.{Ok, Err, ◌⊎◌, inl, inr, refl, sym, ap, subst, ◌∙◌, arith}
 use Rattle.std.specs.Int.{Width, byte_len, from_be_bytes}
@@ -20,7 +20,7 @@ err_is x d e p q = cc
 
 -- ---- five bits of info
 
--- the number after the info is cut short, or the info means nothing
+-- the number after the info is truncated, or the info means nothing
 pub data InfoRefusal : ℕ → List ℕ → Error → Type 0 where
   cut_info : {bits : ℕ} {b : List ℕ} (k : ℕ) → k ≤ 3 → bits ≡ 24 + k → length b < 2 ^ k
       → InfoRefusal bits b refusal.CutShort
@@ -88,7 +88,7 @@ info_opens bits b is = rw is refl
 
 -- ---- a head
 
--- no byte is there, or the head's number is cut short, or no item can have the head
+-- no byte is there, or the head's number is truncated, or no item can have the head
 pub data HeadRefusal : List ℕ → Error → Type 0 where
   no_head : HeadRefusal [] refusal.CutShort
   short_head : {b : List ℕ} → CutHead b → HeadRefusal b refusal.CutShort

@@ -185,7 +185,7 @@ unfolding counted_item read_head
 nothing_counted zero = refl
 nothing_counted (suc left) = refl
 
--- a break in an item's place is refused, and not as cut short
+-- a break in an item's place is refused, and not as truncated
 break_no_cut : (left : ℕ) (rest : List ℕ) → read_item left (break_byte ∷ rest) ≡ Err refusal.CutShort → ⊥
 unfolding counted_item
 break_no_cut zero rest h = cc

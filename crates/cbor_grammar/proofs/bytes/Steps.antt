@@ -1,4 +1,4 @@
--- By the definitions of turns, counted steps, one after the other, and the parts of an open container.
+-- By the definitions of turns, counted steps in sequence, and the parts of an open container.
 use Rattle.std.proofs.Common.{◌≡◌, ℕ, zero, suc, ◌+◌, ◌<◌, ◌≤◌, List, length, Option, Some, None, Ok, Err, refl, sym}
 use Rattle.std.proofs.Common.{ap, ◌∙◌, arith}
 use Rattle.cbor_grammar.specs.Item.{Item}

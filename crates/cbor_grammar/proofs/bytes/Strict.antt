@@ -1,5 +1,5 @@
--- The strict spelling of an item is its encoding, and the encoding of an item is the strict spelling of
--- what it reads as.
+-- The preferred encoding of an item (`Spells strict`) is the one that a writer gives. What a writer gives for an item
+-- is the preferred encoding of what it reads as.
 use Rattle.std.proofs.Common.{◌≡◌, ℕ, suc, ◌+◌, ◌^◌, ◌<◌, List, [], ◌∷◌, ◌++◌, length, map, Option, Some, None, inl}
 use Rattle.std.proofs.Common.{inr, refl, sym, ap, ◌∙◌, append_assoc, ◌≤◌, nat_lt}
 use Rattle.std.specs.List.{AllByRecursion, flat_map}
@@ -115,7 +115,7 @@ pub pair_count-resolve : (ps : Pairs) → pair_count (resolve_pairs ps) ≡ pair
 pair_count-resolve no_pairs = refl
 pair_count-resolve (pair k v ps) = ap suc (pair_count-resolve ps)
 
--- ---- a strict spelling is a spelling
+-- ---- a preferred encoding is an encoding
 
 atom_any : (b : List ℕ) (a : Atom) → SpellsAtom strict b a → SpellsAtom any b a
 atom_any b (simple n) (inl h) = inl h
@@ -249,7 +249,7 @@ mutual
     pairs_enc level ps end h.2,
   )
 
--- ---- a strict spelling is the encoding
+-- ---- a preferred encoding is the one that a writer gives
 
 joined : (b x x2 y y2 : List ℕ) → b ≡ x ++ y → x ≡ x2 → y ≡ y2 → b ≡ x2 ++ y2
 joined b x x2 y y2 e f g = e ∙ ap (λ (z : List ℕ). z ++ y) f ∙ ap (λ (z : List ℕ). x2 ++ z) g

@@ -1,4 +1,4 @@
--- By the definitions of hex with comments, which bytes of a text are kept, one after the other, and their places.
+-- By the definitions of hex with comments, which bytes of a text are kept, in order, and their places.
 use Rattle.std.proofs.Common.{◌≡◌, ◌≢◌, ℕ, zero, suc, ◌+◌, ◌-◌, ◌%◌, ◌<◌, ◌≤◌, inl, inr, List, [], ◌∷◌, ◌++◌, length}
 use Rattle.std.proofs.Common.{take, drop, get_or, Bool, true, false, refl, sym, ap, subst, ◌∙◌, ◌==◌, ◌||◌, not, arith}
 use Rattle.std.proofs.Common.{append_assoc, cond}
@@ -295,7 +295,7 @@ module _ (text : List ℕ) where
 
 -- ---- walks
 
--- From the text to its rest some bytes are kept, of which a fact holds, and the rest begins with the next of them.
+-- From the text to its rest some bytes are kept, and a fact holds for them. The rest begins with the next kept byte.
 pub record Walked (Fact : List ℕ → Type 0) (text rest : List ℕ) : Type 0 where
   pub bytes : List ℕ
   pub fact : Fact bytes

@@ -77,7 +77,7 @@ module _ (level left : ℕ) (levels : level + left ≡ 129) where
       }
   sequence_spells (suc n) b enough fits = sequence_step n b fits (sequence_spells n) enough (read_item left b) refl
 
-  -- Items that are spelled one after the other, and a rest that begins with no item, are read as such a sequence.
+  -- Items that are spelled in sequence, and a rest that begins with no item, are read as such a sequence.
   pub sequence_again : (n : ℕ) (is : Items) (b rest : List ℕ) (error : Error) → length b ≤ n
       → SpellsItems any level b is rest → read_item left rest ≡ Err error
       → sequence_of (read_item left) n b ≡ (is, rest)

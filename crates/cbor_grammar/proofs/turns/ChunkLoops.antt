@@ -1,4 +1,4 @@
--- By the definitions of turns, the chunks of an indefinite string are counted one after the other, as a loop does.
+-- By the definitions of turns, the chunks of an indefinite string are counted in order, as a loop does.
 use Rattle.std.proofs.Common.{◌≡◌, ℕ, zero, suc, ◌+◌, ◌<◌, ◌≤◌, List, [], ◌∷◌, ◌++◌, length, Some, None, Ok, Err, refl}
 use Rattle.std.proofs.Common.{sym, ap, subst, ◌∙◌, append_assoc, arith}
 use Rattle.std.proofs.lemmas.List.{append-nil}

@@ -1,4 +1,4 @@
--- What reading gives at a level. No public clause names it.
+-- What reading returns at a level. No public clause names it.
 use Rattle.std.specs.Prelude.{ℕ, ◌+◌, List}
 use Rattle.cbor_grammar.specs.Item.{Item}
 use Rattle.cbor_grammar.specs.declared.head.ItemHead.{ItemHead}

@@ -1,5 +1,5 @@
--- Walking over a text, as `hex_text/place.rt` of `cbor_bytes` does: what is kept from one byte to another. No public
--- clause names it.
+-- Walking over a text, as `hex_text/place.rt` of `cbor_bytes` does: which bytes are kept between two places. No
+-- public clause names it.
 use Rattle.std.specs.Prelude.{◌≡◌, ℕ, List, [], ◌++◌, slice_index}
 use Rattle.cbor_tokens.specs.Uncommented.{uncommented}
 

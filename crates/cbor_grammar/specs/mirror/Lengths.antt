@@ -1,4 +1,4 @@
--- The number in the argument of a head, and what is left of a length.
+-- The number in the argument of a head, and what remains of a length.
 use Rattle.std.specs.Prelude.{ℕ, ◌-◌, Option, Some, None}
 use Rattle.cbor_grammar.specs.declared.argument.Argument.{Argument}
 use Rattle.cbor_grammar.specs.declared.argument.Argument.TheVariants.{Number, Indefinite}

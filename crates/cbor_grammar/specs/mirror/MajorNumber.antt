@@ -1,4 +1,4 @@
--- The number that the code's own type of major types is.
+-- The number of each major type in the code's own type.
 use Rattle.std.specs.Prelude.{ℕ}
 use Rattle.cbor_grammar.specs.declared.major.Major.{Major}
 use Rattle.cbor_grammar.specs.declared.major.Major.TheVariants as major

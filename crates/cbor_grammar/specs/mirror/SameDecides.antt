@@ -1,5 +1,5 @@
--- The test of `specs/Same.antt` holds of two items exactly where they are equal. It is here, since `==` is to
--- have a proof that it is an equivalence.
+-- The test of `specs/Same.antt` holds for two items if and only if they are equal. It is here because `==` needs a
+-- proof that it is an equivalence.
 use Rattle.std.proofs.Common.{◌≡◌, Bool, true, ◌&&◌, nat_eq, Some, None, refl, ap, subst}
 use Rattle.std.specs.Bool.{Decides}
 use Rattle.std.specs.Cmp.{IsEquivalence, decided}

@@ -1,4 +1,4 @@
--- Heads one after the other, none of them of a simple value that takes a byte too many.
+-- Heads in sequence, none of them of a simple value in a non-minimal encoding (`f8 00`).
 use Rattle.std.specs.Prelude.{◌≡◌, ◌≢◌, ℕ, ◌-◌, ◌/◌, ◌%◌, ◌^◌, ◌≤◌, ◌<◌, ◌⊎◌, List, [], ◌∷◌, drop, Ok}
 use Rattle.cbor_grammar.specs.declared.argument.Argument.TheVariants.{Number}
 use Rattle.cbor_grammar.specs.Head.{break_byte}
@@ -6,7 +6,7 @@ use Rattle.cbor_grammar.specs.declared.head.ItemHead.TheVariants as item_head
 use Rattle.cbor_grammar.specs.declared.head.ItemHead.{ItemHead}
 use Rattle.cbor_grammar.specs.Reading.{read_head}
 
--- the bytes begin with a simple value below 24 in two bytes
+-- the bytes begin with a simple value below 24 in a non-minimal encoding (`f8 00`)
 abbrev pub LongSimple : List ℕ → Type 0
 LongSimple (first ∷ (n ∷ b)) = (first ≡ 0xf8) × (n < 24)
 LongSimple _ = ⊥

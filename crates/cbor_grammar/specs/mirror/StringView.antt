@@ -1,4 +1,4 @@
--- What the content of a string, and the chunks of one that is read, are as the readers and printers hand them on.
+-- The content of a string, and the chunks of one that is read, as readers and printers pass them on.
 use Rattle.std.specs.Prelude.{ℕ, List}
 use Rattle.cbor_grammar.specs.declared.width.IntegerWidth.{IntegerWidth}
 use Rattle.cbor_grammar.specs.declared.strings.StringKind.{StringKind}

@@ -234,7 +234,7 @@ module _ (level left : ℕ) (levels : level + left ≡ 129) (into : Item → Ite
 
 -- ---- one level
 
--- a tag below which bytes are one item, or items one after the other, or stay
+-- a tag below which bytes are one item, or a sequence of items, or stay bytes
 pub tag_kind : (t : ℕ) → (t ≡ 24) ⊎ ((t ≡ 63) ⊎ ((eqb t 24 ≡ false) × (eqb t 63 ≡ false)))
 tag_kind t =
     elim (cases_eq t 24) [

@@ -1,4 +1,4 @@
--- Notation, written straight from bytes: items that are embedded in bytes, one after the other.
+-- Notation, written straight from bytes: a sequence of items that is embedded in a byte string.
 use Rattle.std.proofs.Common.{◌≡◌, ◌≢◌, ℕ, zero, suc, ◌+◌, ◌<◌, ◌≤◌, List, [], ◌∷◌, ◌++◌, length, Option, Some}
 use Rattle.std.proofs.Common.{None, Result, Ok, Err, refl, sym, ap, subst, ◌∙◌, append_assoc, arith}
 use Rattle.std.specs.Io.{StartsWith}

@@ -1,4 +1,4 @@
--- A look at items one after the other finds how long those are that can be read.
+-- A look ahead at a sequence finds the length of the items that can be read.
 use Rattle.std.proofs.Common.{◌≡◌, ℕ, zero, suc, ◌+◌, ◌-◌, ◌≤◌, List, length, Some, None, Ok, Err, refl, ap, arith}
 use Rattle.cbor_grammar.specs.declared.error.Error.{Error}
 use Rattle.cbor_notation_writer.specs.declared.ahead.Ahead.{Ahead}

@@ -1,4 +1,4 @@
--- Notation, written straight from bytes: what calls that write one after the other wrote together.
+-- Notation, written straight from bytes: what several calls in a row have written together.
 use Rattle.std.proofs.Common.{◌≡◌, ℕ, true, List, ◌++◌, Result, Ok, Err, refl, ap, subst, sym, ◌∙◌, append_assoc}
 use Rattle.std.specs.Io.{StartsWith}
 use Rattle.cbor_grammar.specs.declared.layout.ContainerStyle.{ContainerStyle}

@@ -1,4 +1,4 @@
--- What a look at bytes that are still to be read finds.
+-- The result of a look ahead at bytes that are not read yet.
 use Rattle.std.specs.Prelude.{◌≡◌, ℕ, ◌+◌, ◌<◌, ◌≤◌, List, Option, Some, None, Ok}
 use Rattle.cbor_notation_writer.specs.declared.ahead.Ahead.{Ahead}
 use Rattle.cbor_grammar.specs.Estimate.{estimated_length}

@@ -1,5 +1,4 @@
--- Notation that is written: the context that the printer's own is, as the definitions have it, and the texts of what
--- is there.
+-- What the code's own context of an item stands for in the definitions, and the texts of an item in it.
 use Rattle.std.specs.Prelude.{ℕ, ◌+◌, ◌*◌, ◌≤◌, List, [], codes, Bool, if◌then◌else◌}
 use Rattle.cbor_notation_writer.specs.declared.context.NotationContext.{NotationContext}
 use Rattle.cbor_grammar.specs.declared.layout.Content.{Content}

@@ -1,4 +1,4 @@
--- The leaves that the printer hands to a dialect, as the definitions have them.
+-- What the leaves that the code hands to a dialect stand for in the definitions.
 use Rattle.cbor_grammar.specs.Item.{Atom, integer, negative, float, simple}
 use Rattle.cbor_grammar.specs.WellFormed.{FitsFloat}
 use Rattle.cbor_notation_writer.specs.declared.parts.Leaf.{Leaf}

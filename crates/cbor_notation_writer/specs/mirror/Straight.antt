@@ -1,4 +1,4 @@
--- What is printed from bytes, in one pass with their reading.
+-- The notation that is written from bytes in one pass, while they are read.
 use Rattle.std.specs.Prelude.{◌≡◌, ℕ, zero, suc, ◌+◌, ◌*◌, ◌≤◌, List, ◌++◌, true, false, Ok}
 use Rattle.cbor_grammar.specs.declared.layout.Layout.{Layout}
 use Rattle.cbor_grammar.specs.declared.encoding.Encoding.TheVariants.{Base16}

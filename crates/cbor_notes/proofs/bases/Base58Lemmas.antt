@@ -1,4 +1,4 @@
--- The digits of a number in base 58, one after the other.
+-- The digits of a number in base 58, in order.
 use Rattle.std.proofs.Common.{◌≡◌, ℕ, ◌<◌, ◌/◌, ◌%◌, List, [], ◌∷◌, ◌++◌, map, slice_index, length, subst, refl, ap}
 use Rattle.std.proofs.Common.{◌∙◌, sym, arith}
 use Rattle.std.proofs.lemmas.Int.Digits.{digits_of_step}

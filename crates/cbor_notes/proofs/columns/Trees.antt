@@ -1,4 +1,4 @@
--- In the columns of a dump, the lines of trees, one after the other.
+-- The lines of trees, in order, in the columns of a dump.
 use Rattle.std.proofs.Common.{◌≡◌, ℕ, ◌+◌, ◌≤◌, ◌<◌, List, [], ◌∷◌, ◌++◌, map, max, length, drop, get_or, refl, sym, ap}
 use Rattle.std.proofs.Common.{◌∙◌, arith, subst, append_assoc, ◌↔◌}
 use Rattle.std.proofs.lemmas.Bool.Decides.{nat_tests}

@@ -1,4 +1,4 @@
--- The days of the calendar, one after the other, are the dates of `jiff`.
+-- The days of the calendar, in order, are the dates of `jiff`.
 use Rattle.std.proofs.Common.{◌≡◌, ℕ, zero, suc, ◌+◌, ◌<◌, ◌≤◌, ℤ, pos, neg_ℤ, ◌+ℤ◌, ◌-ℤ◌, ◌<ℤ◌, unsigned_abs, nat_lt}
 use Rattle.std.proofs.Common.{refl, sym, ap, ◌∙◌, arith, rules}
 use Rattle.std.proofs.lemmas.Bool.{cond_both, ltb-true, ltb-false}

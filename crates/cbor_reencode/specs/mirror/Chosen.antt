@@ -1,4 +1,4 @@
--- Encoding again: what is chosen of widths and kinds of length.
+-- Re-encoding: which widths and which kinds of length are chosen.
 use Rattle.std.specs.Prelude.{◌≡◌, ℕ, if◌then◌else◌, Option, Some, None, IsTrue}
 use Rattle.cbor_grammar.specs.declared.width.IntegerWidth.{IntegerWidth}
 use Rattle.cbor_grammar.specs.declared.width.FloatWidth.{FloatWidth}

@@ -1,4 +1,4 @@
--- Encoding again: what is written for a float, and for a tag and its item.
+-- Re-encoding: what is written for a float, and for a tag and its item.
 use Rattle.std.specs.Prelude.{◌≡◌, ℕ, ◌<◌, ◌^◌, ◌++◌, ◌==◌, nat_lt, if◌then◌else◌, List, length, Option}
 use Rattle.std.specs.Prelude.{Some, None, Ok}
 use Rattle.cbor_grammar.specs.declared.width.IntegerWidth.{IntegerWidth}

@@ -1,4 +1,4 @@
--- Encoding again: what was read, and what was written for it.
+-- Re-encoding: what was read, and what was written for it.
 use Rattle.std.specs.Prelude.{◌≡◌, ℕ, List, [], ◌∷◌, ◌++◌, length}
 use Rattle.std.specs.List.{flat_map}
 use Rattle.cbor_grammar.specs.declared.width.IntegerWidth.{IntegerWidth}
@@ -125,7 +125,7 @@ pub record RewrittenPairs (rules : Rules) (level : ℕ) (a : Argument) (b rest :
     pub added : new ≡ old ++ kept
     pub are : PairsAre rules level pairs kept
 
--- the encoded pairs one after the other
+-- the concatenated encodings of the pairs
 abbrev pub pair_bytes : List Pair → List ℕ
 pair_bytes xs = flat_map (λ p. p.key.items ++ p.value.items) xs
 

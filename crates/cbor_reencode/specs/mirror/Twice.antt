@@ -1,10 +1,11 @@
--- Encoding again: keys that are the same bytes, where they have no order.
+-- Re-encoding: keys with the same bytes, where keys have no order.
 use Rattle.std.specs.Prelude.{Bool}
 use Rattle.cbor_rules.specs.declared.rules.Rules.{Rules}
 use Rattle.cbor_rules.specs.declared.rules.KeyOrder.TheVariants.{Any}
 use Rattle.cbor_rules.specs.declared.rules.TheConstants.Rules.{CORE}
 
--- the rules of core deterministic encoding without an order of keys, which may be asked to differ
+-- the rules of core deterministic encoding without an order of keys; the keys of a map have to differ if `distinct`
+-- holds
 abbrev pub unordered : Bool → Rules
 unordered distinct = record {
   shortest_heads = CORE.shortest_heads;

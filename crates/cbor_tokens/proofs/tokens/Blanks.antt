@@ -25,7 +25,7 @@ at_whitespace P space tab line_feed carriage_return byte is =
       | inr e ↦ subst P (sym (eqb-true byte 13 e)) carriage_return
     ]
 
--- blanks one after the other are a blank
+-- blanks in sequence are a blank
 pub Blank-append : {comments : Bool} {front rest : List ℕ} → Blank comments front → Blank comments rest
     → Blank comments (front ++ rest)
 Blank-append nothing after = after

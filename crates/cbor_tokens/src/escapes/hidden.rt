@@ -1,17 +1,18 @@
-//! Hidden characters, which are not shown as they are: whether a text has any, and a text with
-//! them escaped.
-#![tactic(auto)]
+//! Finds hidden characters in a text, such as control characters, and escapes them.
+#![tactic(auto, using(crate::proofs::texts::Appending::appending_steps))]
 
 ghost use Rattle.std.specs.Prelude.{◌≡◌, ◌↔◌, ℕ, ◌+◌, ◌<◌, ◌≤◌, true, IsTrue, slice_index, length};
 ghost use Rattle.cbor_tokens.specs.Hidden.{Hides, NeverHides, IsShown};
 ghost use Rattle.cbor_tokens.specs.Hidden.{HidesNone, ShownBetween};
+ghost use Rattle.cbor_tokens.specs.Appends.{AppendsText};
+ghost use Rattle.cbor_tokens.specs.Escapes.{shown_text, shown_char};
 
 use crate::escapes::is_hidden;
+use crate::hex_digits::push_hex;
 use std::alloc::AllocError;
 
-/// Whether three bytes of UTF-8 begin with a character that is not shown as it is: a control
-/// character, but for a line feed where `lines` are allowed; U+061C, U+200E, U+200F, U+2028 to
-/// U+202E, U+2066 to U+2069, or U+FEFF.
+/// Whether three bytes of UTF-8 begin with a hidden character: a control character (except a line
+/// feed, if `lines` is set), U+061C, U+200E, U+200F, U+2028 to U+202E, U+2066 to U+2069, or U+FEFF.
 fn hides(lines: bool, a: u8, b: u8, c: u8) -> bool
     ensures { IsTrue result ↔ Hides lines a b c }
 {
@@ -39,7 +40,7 @@ fn byte_at(text: &[u8], at: usize) -> u8
     }
 }
 
-/// Whether no such character begins with this byte, whatever follows. It has no branch, for
+/// Whether no hidden character begins with this byte, whatever follows. It has no branch, for
 /// `is_harmless`.
 fn never_hides(lines: bool, a: u8) -> bool
     ensures { IsTrue result → NeverHides lines a }
@@ -48,9 +49,9 @@ fn never_hides(lines: bool, a: u8) -> bool
     ((a >= 32) | (lines & (a == 10))) & plain
 }
 
-/// Whether no such character begins with a byte from one place of a text to another. The loop has
-/// one exit, so the compiler takes many bytes at once: a byte costs less than one instruction, and
-/// some twenty where each is looked at with the two that follow it.
+/// Whether no byte between these places of a text can begin a hidden character. The loop has one
+/// exit, so the compiler tests many bytes at once: a byte takes less than one instruction. Testing
+/// each byte with the two after it takes some twenty.
 fn is_harmless(lines: bool, text: &[u8], from: usize, to: usize) -> bool
     requires { to ≤ length text.now }
     ensures { IsTrue result → HidesNone lines text.now from to }
@@ -64,7 +65,7 @@ fn is_harmless(lines: bool, text: &[u8], from: usize, to: usize) -> bool
     harmless
 }
 
-/// Whether no character that is not shown as it is begins from one place of a text to another.
+/// Whether no hidden character begins between these places of a text.
 fn is_shown_between(lines: bool, text: &[u8], from: usize, to: usize) -> bool
     requires { to ≤ length text.now }
     ensures { IsTrue result ↔ ShownBetween lines text.now from to }
@@ -83,11 +84,11 @@ fn is_shown_between(lines: bool, text: &[u8], from: usize, to: usize) -> bool
     true
 }
 
-/// How many bytes of a text are looked at together.
+/// How many bytes of a text are tested together.
 const BLOCK: usize = 256;
 
-/// Whether all characters of a text may be shown as they are: none is a control character, ends a
-/// line or turns the direction of a text, or is a byte order mark. With `lines`, line feeds may.
+/// Whether a text has no hidden character: no control character, none that ends a line or changes
+/// the direction of the text, and no byte order mark. If `lines` is set, line feeds are allowed.
 ///
 /// ```rust
 /// use cbor_tokens::is_shown;
@@ -109,8 +110,7 @@ pub fn is_shown(lines: bool, text: &[u8]) -> bool
     true
 }
 
-/// Appends lines of text in which each character that is not shown as it is, but for line feeds, is
-/// escaped: as `\u{202e}`.
+/// Appends lines of text, and escapes each hidden character except line feeds, as in `\u{202e}`.
 ///
 /// ```rust
 /// use cbor_tokens::push_shown;
@@ -119,14 +119,23 @@ pub fn is_shown(lines: bool, text: &[u8]) -> bool
 /// push_shown(&mut out, "a\u{202e}b\n")?;
 /// assert_eq!(rt; out.as_str(), "a\\u{202e}b\n");
 /// ```
-pub fn push_shown(out: &mut String, text: &str) -> Result<(), AllocError> {
-    for c in text.chars() {
-        if c != '\n' && is_hidden(c) {
-            let code = u32::from(c);
-            write!(out, "\\u{{{code:x}}}")?;
-        } else {
-            out.push(c)?;
-        }
+pub fn push_shown(out: &mut String, text: &str) -> Result<(), AllocError>
+    ensures { AppendsText result out.old out.new (shown_text text.now) }
+{
+    for character in text.chars() {
+        push_shown_char(out, character)?;
     }
     Ok(())
+}
+
+fn push_shown_char(out: &mut String, character: char) -> Result<(), AllocError>
+    ensures { AppendsText result out.old out.new (shown_char character) }
+{
+    if character == '\n' || !is_hidden(character) {
+        return out.push(character);
+    }
+    let unit = u32::from(character) as u16;
+    out.push_str("\\u{")?;
+    push_hex(out, &unit.to_be_bytes())?;
+    out.push('}')
 }

@@ -1,4 +1,4 @@
-//! What is between quotes in diagnostic notation: text with escapes, and digits with blanks.
+//! Reads what is between quotes in diagnostic notation: text with escapes, and digits with blanks.
 
 ghost use Rattle.std.specs.Prelude.{◌≡◌, ◌≢◌, ◌⊎◌, ◌++◌, ◌∷◌, ◌<◌, ◌≤◌, List, [], ℕ, drop, length};
 ghost use Rattle.std.specs.Prelude.{true, false, not, IfNone, IfOk, IfSome, IsSomeAnd};
@@ -14,8 +14,8 @@ use std::alloc::{AllocError, Global};
 /// after that quote. `at` is at most the length of `text`.
 ///
 /// In the content, the quote and `\` have a `\` before them. Any other byte is itself, line ends
-/// included. So it returns `None` if the text ends before a closing quote, or if a `\` is before
-/// any other byte. The only error is out of memory.
+/// included. Returns `None` if the text ends before a closing quote, or if a `\` is before any
+/// other byte. The only error is `AllocError`.
 ///
 /// ```rust
 /// use cbor_notes::quoted_at;
@@ -50,8 +50,8 @@ pub fn quoted_at(
     }
 }
 
-/// Returns the content at the front up to the closing `quote`, as [`quoted_at`] does, and the
-/// length of both as they are written.
+/// Returns the content at the front up to the closing `quote`, as [`quoted_at`] does, and how many
+/// bytes of the text both take.
 ///
 /// ```rust
 /// use cbor_notes::quoted_front;
@@ -90,15 +90,15 @@ pub fn quoted_front(
     Ok(None)
 }
 
-/// Returns the digits from `at` up to the closing `'`, without the blanks before, between and after
-/// them, and the place after that quote. `at` is at most the length of `text`.
+/// Returns the digits from `at` up to the closing `'`, without the blanks around and between them,
+/// and the place after that quote. `at` is at most the length of `text`.
 ///
-/// Blanks are those of `blank_end` if `comments` are allowed, and only whitespace otherwise. A `'`
-/// in a comment closes nothing. Any byte except whitespace and `'` counts as a digit, but if
-/// comments are allowed, `/` always opens one. The caller checks which digits a notation has.
+/// Blanks are those of `blank_end` if `comments` is set, and only whitespace otherwise. A `'` in a
+/// comment closes nothing. Any byte except whitespace and `'` counts as a digit; but if `comments`
+/// is set, `/` always opens a comment. The caller checks which digits a notation has.
 ///
 /// Returns `None` if there is no closing quote, if a comment is not closed, or if there are blanks
-/// and no digits. The only error is out of memory.
+/// but no digits. The only error is `AllocError`.
 ///
 /// ```rust
 /// use cbor_notes::digits_at;
@@ -133,8 +133,8 @@ pub fn digits_at(
     }
 }
 
-/// Returns the digits at the front up to the closing `'`, as [`digits_at`] does, and the length of
-/// both as they are written.
+/// Returns the digits at the front up to the closing `'`, as [`digits_at`] does, and how many bytes
+/// of the text both take.
 ///
 /// ```rust
 /// use cbor_notes::digits_front;
@@ -173,7 +173,8 @@ pub fn digits_front(
     Ok(Some((digits, text.len() - after.len())))
 }
 
-/// The bytes before the first quote or `\`, that byte and the text after it, if there is one.
+/// The bytes before the first quote or `\`, that byte, and the text after it; `None` if neither is
+/// there.
 fn split_plain(text: &[u8], quote: u8) -> Option<(&[u8], u8, &[u8])>
     ensures found { IfSome result (λ x. unquoted quote false text.now
         ≡ with_front x.0.now (unquoted quote false (x.1 ∷ x.2.now))) }

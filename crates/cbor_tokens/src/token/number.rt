@@ -1,4 +1,5 @@
-//! Numbers of diagnostic notation, in four bases, with an indicator of their width or without.
+//! Reads the numbers of diagnostic notation: in four bases, with or without an indicator of their
+//! width.
 
 ghost use Rattle.std.specs.Prelude.{◌≡◌, ◌++◌, ◌<◌, ◌≤◌, List, ℕ, Option, drop, length, option_map};
 ghost use Rattle.std.specs.Prelude.{slice_range, IfNone, IfSome, None, Some};
@@ -10,7 +11,7 @@ ghost use Rattle.cbor_tokens.specs.Views.{base_view};
 /// The value that is returned for all values past 2^64.
 const CAP: u128 = (1 << 64) + 1;
 
-/// A number below this fits 64 bits with one more digit of any base.
+/// A number below this fits in 64 bits with one more digit of any base.
 const FITS_ONE_MORE: u64 = 1 << 60;
 
 /// The bases that a number may be written in.
@@ -89,8 +90,8 @@ pub fn number_front(text: &[u8]) -> Option<(u128, Option<u8>, usize)>
 }
 
 impl Base {
-    /// The base of a number at the front: that of its prefix if a digit of that base follows, else
-    /// decimal.
+    /// The base of a number at the front: that of its prefix if a digit of that base follows it,
+    /// otherwise decimal.
     fn of(text: &[u8]) -> Base
         ensures { base_view result ≡ base_of text.now }
     {
@@ -120,7 +121,7 @@ impl Base {
         }
     }
 
-    /// How many digits there are.
+    /// How many digits the base has.
     fn radix(self) -> u32
         ensures { result ≡ radix (base_view self) }
     {
@@ -133,7 +134,7 @@ impl Base {
     }
 }
 
-/// The number that the digits at the front write, past 2^64 as 2^64 + 1, and how many they are.
+/// The value of the digits at the front, and how many they are. A value past 2^64 is 2^64 + 1.
 fn read_digits(text: &[u8], radix: u32) -> (u128, usize)
     requires { (2 ≤ radix) × (radix ≤ 16) }
     ensures run { (value : ℕ) × (result.0 ≡ capped value)
@@ -148,8 +149,8 @@ fn read_digits(text: &[u8], radix: u32) -> (u128, usize)
     }
 }
 
-/// The same, inlined for the radix that is given. As far as a further digit is sure to fit 64 bits,
-/// the number is computed in these.
+/// The same, inlined for one radix. It computes in 64 bits as long as a further digit is sure to
+/// fit.
 #[inline(always)]
 fn read_digits_of(text: &[u8], radix: u32) -> (u128, usize)
     requires { (2 ≤ radix) × (radix ≤ 16) }
@@ -169,8 +170,8 @@ fn read_digits_of(text: &[u8], radix: u32) -> (u128, usize)
     read_further(text, radix, value, len)
 }
 
-/// The number whose first `start` digits write `value`, past 2^64 as 2^64 + 1, and how many digits
-/// it has.
+/// The value of a number and how many digits it has; its first `start` digits have the value
+/// `value`. A value past 2^64 is 2^64 + 1.
 #[inline(never)]
 fn read_further(text: &[u8], radix: u32, value: u64, start: usize) -> (u128, usize)
     requires radix { (2 ≤ radix) × (radix ≤ 16) }
@@ -191,7 +192,7 @@ fn read_further(text: &[u8], radix: u32, value: u64, start: usize) -> (u128, usi
     (number, len)
 }
 
-/// The longest indicator at the front, which begins with `_`, and its length.
+/// The longest indicator at the front, and its length. An indicator begins with `_`.
 fn read_indicator(text: &[u8]) -> Option<(u8, usize)>
     ensures gives { option_map (λ x. (x.0, drop x.1 text.now)) result ≡ indicator_of text.now }
     ensures within { IfSome result (λ x. x.1 ≤ length text.now) }
@@ -207,8 +208,8 @@ fn read_indicator(text: &[u8]) -> Option<(u8, usize)>
     }
 }
 
-/// The number that the decimal digits at the front write as far as it is at most 3, and how many
-/// these are.
+/// Reads decimal digits at the front as long as their value is at most 3. Returns the value, and
+/// how many digits were read.
 fn read_small(text: &[u8]) -> (u8, usize)
     ensures run { small_run 0 text.now ≡ (result.0, drop result.1 text.now) }
     ensures within { result.1 ≤ length text.now }

@@ -1,4 +1,4 @@
--- Containers open at a byte: what a head opens, and what is open after one part more.
+-- Containers open at a byte: what a head opens, and what is open after one more part.
 use Rattle.std.specs.Prelude.{ℕ, ◌+◌, Option, Some, None}
 use Rattle.cbor_grammar.specs.declared.head.ItemHead.{ItemHead}
 use Rattle.cbor_grammar.specs.declared.head.ItemHead.TheVariants as item_head

@@ -131,9 +131,9 @@ impl Conversion<'_> {
             End::Fault { error, end } => {
                 let around = Around::of_end(alloc, self.left().first(end))?;
                 let words = around.fault_words(self.place, error)?;
-                format!(in alloc; "fault: {words}")?
+                format!(in alloc; "malformed: {words}")?
             }
-            End::Cut => String::from_str(alloc, "cut short")?,
+            End::Cut => String::from_str(alloc, "truncated")?,
             _ => return Ok(Written::Whole),
         };
         let style = self.job.show.style;

@@ -1,4 +1,4 @@
--- How the bytes begin, in the words of the grammar: exactly if it is so, and whatever follows.
+-- How the bytes begin, in the words of the grammar: the answer if and only if it is so, whatever follows.
 use Rattle.std.proofs.Common.{arith}
 use Rattle.cbor_grammar.proofs.bytes.ExactlyOne.{one_outcome}
 use Rattle.cbor_bytes.proofs.skipping.Extents.{item_is, every_item, cut_exactly, fault_is, every_fault, fault_shown}

@@ -1,4 +1,4 @@
--- The encoding of each item that the bytes are, and each error that they have, is returned.
+-- The encoding of each item that the bytes encode, and each error that they have, is returned.
 use Rattle.std.proofs.Common.{◌≡◌, refl}
 use Rattle.cbor_grammar.specs.Written.{encoded}
 use Rattle.cbor_grammar.proofs.bytes.ExactlyOne.{one_outcome}

@@ -1,9 +1,9 @@
-//! How long a container of a `DataItem` would be on one line, roughly: pretty text gives each
-//! member of a long one a line of its own.
+//! Estimates how long a container of a `DataItem` would be on one line. Pretty text gives each
+//! member of a long container its own line.
 //!
-//! Each function takes a budget of characters and returns what its part leaves of it: 0 where
-//! the part takes all of it or more. Nothing after that is looked at, so an item is looked at
-//! in steps that the budget bounds, however large it is.
+//! Each function takes a budget of characters and returns what its part leaves of it: 0 if the part
+//! takes all of it or more. Nothing after that is looked at. So the budget bounds the work, however
+//! large the item is.
 ghost use Rattle.std.specs.Prelude.{◌≡◌, ◌+◌, ◌-◌, ◌*◌, map};
 ghost use Rattle.cbor_diag.specs.View.{view, items_view, pairs_view};
 ghost use Rattle.cbor_grammar.specs.NotationText.{container_style};

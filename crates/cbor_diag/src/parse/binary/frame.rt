@@ -1,4 +1,4 @@
-//! Open containers of a `DataItem` that is read: what was read of them, and what they still need.
+//! The open containers while a `DataItem` is read: their parts so far, and what they still need.
 ghost use Rattle.std.specs.Prelude.{◌≡◌, ◌≤◌, ℕ, Some, IsSome, IfSome, IfOk, IfErr, OnOk};
 ghost use Rattle.std.specs.Prelude.{option_map};
 ghost use Rattle.cbor_diag.specs.View.{view};
@@ -12,7 +12,7 @@ use cbor_grammar::head::ItemHead;
 use cbor_grammar::{Error, IntegerWidth, Result, Tag};
 use std::alloc::Global;
 
-/// The most members that memory is reserved for before they are read.
+/// The most members that memory is reserved for in advance.
 const MOST_RESERVED: usize = 32;
 
 /// An array, a map or a tag that is not complete yet.
@@ -22,13 +22,13 @@ pub(super) enum Frame {
         content: Vec<DataItem>,
         len: Argument,
     },
-    /// A map, with a key whose value is not read yet.
+    /// A map, with a key whose value is not read yet, if any.
     Map {
         content: Vec<(DataItem, DataItem)>,
         key: Option<DataItem>,
         len: Argument,
     },
-    /// A tag, with its item once that is read.
+    /// A tag, with its item, once that is read.
     Tag {
         tag: Tag,
         bitwidth: IntegerWidth,
@@ -36,8 +36,8 @@ pub(super) enum Frame {
     },
 }
 
-/// How many members memory is reserved for: at most those claimed, those that can follow, and a
-/// few.
+/// How many members memory is reserved for: at most the claimed count, at most `following`, and at
+/// most `MOST_RESERVED`.
 fn reserved(count: Argument, following: usize) -> usize
     ensures claimed { (n : ℕ) (width : IntegerWidth)
         → count ≡ Argument.Number n width → result ≤ n }
@@ -53,7 +53,7 @@ fn reserved(count: Argument, following: usize) -> usize
 }
 
 impl Frame {
-    /// The container that a head opens, still empty, with `following` bytes after the head; `None`
+    /// The container that a head opens, still empty, with `following` bytes after the head. `None`
     /// if the head opens no container. Memory is reserved for few members.
     pub(super) fn new(alloc: Global, head: ItemHead, following: usize) -> Result<Option<Frame>>
         ensures opens { IfOk result (λ o. option_map frame o ≡ opened head) }
@@ -83,7 +83,7 @@ impl Frame {
         Ok(Some(frame))
     }
 
-    /// The bytes after the container, if it ends here.
+    /// The bytes after the container, if it ends here, otherwise `None`.
     pub(super) fn after_end<'a>(&self, bytes: &'a [u8]) -> Option<&'a [u8]>
         ensures { option_map (λ x. x.now) result ≡ after_end (frame self.now) bytes.now }
     {
@@ -115,7 +115,7 @@ impl Frame {
         Ok(())
     }
 
-    /// The item that the complete container is.
+    /// Returns the item of the complete container.
     pub(super) fn close(self, alloc: Global) -> Result<DataItem>
         requires { IsSome (closed (frame self)) }
         ensures item { IfOk result (λ i. closed (frame self) ≡ Some (view i)) }

@@ -1,4 +1,4 @@
-//! The containers that are open while a `DataItem` is read from bytes.
+//! A stack of the containers that are open while a `DataItem` is read from bytes.
 ghost use Rattle.std.specs.Prelude.{◌≡◌, [], length, Some, IsSome, IfOk, IfErr, OnOk};
 ghost use Rattle.std.specs.Prelude.{◌∷◌, ◌<◌, drop, option_map};
 ghost use Rattle.cbor_diag.specs.View.{view};
@@ -34,7 +34,7 @@ impl Model for Stack {
 }
 
 impl Stack {
-    /// No container is open; that takes no memory.
+    /// A stack without containers. It takes no memory.
     pub(super) fn new(alloc: Global) -> Stack
         ensures { result ≡ [] }
     {
@@ -49,14 +49,14 @@ impl Stack {
         self.alloc
     }
 
-    /// How many containers are open.
+    /// The number of open containers.
     pub(super) fn depth(&self) -> usize
         ensures { result ≡ length self.now }
     {
         self.open.len()
     }
 
-    /// The bytes after the innermost container, if it ends here.
+    /// The bytes after the innermost container, if it ends here, otherwise `None`.
     pub(super) fn after_end<'a>(&self, bytes: &'a [u8]) -> Option<&'a [u8]>
         ensures { option_map (λ x. x.now) result ≡ after_innermost (frames self.now) bytes.now }
     {

@@ -1,4 +1,4 @@
-//! Finds where diagnostic notation is wrong, by where the reading of it stops.
+//! Finds the first error in diagnostic notation, and its place.
 ghost use Rattle.std.specs.Prelude.{◌≡◌, ◌≤◌, length, None, IfOk, IfErr, IfSome, IfNone};
 ghost use Rattle.cbor_grammar.specs.Item.{Item};
 ghost use Rattle.cbor_grammar.specs.Notation.{IsNotation};
@@ -10,14 +10,15 @@ use cbor_notation::cursor::Cursor;
 use std::alloc::Global;
 
 /// Finds where diagnostic notation is wrong: the error that [`parse_diag`] returns, and its place.
-/// Returns `None` if `parse_diag` reads the text.
+/// If `parse_diag` reads the text, returns `None`.
 ///
-/// The place is how many bytes come before the first byte with which the text cannot go on. It is
-/// the length of the text if more was wanted, as in `[1, 2` or `"abc`. A fault in digits shows at
-/// their closing quote, and one in a number at its last byte or behind it: `300_0` is past its
-/// width, but `300_03` is a number. docs/NOTATION.md has the rules.
+/// The place is the number of bytes before the first byte with which the text cannot go on. If more
+/// text is expected, as in `[1, 2` or `"abc`, it is the length of the text. An error in digits is
+/// at their closing quote. An error in a number is at its last byte or behind it: `300_0` does not
+/// fit its width, but `300_03` is a number. docs/NOTATION.md has the rules.
 ///
-/// It reads the text once, and allocates what it reads. Returns `Memory` if an allocation fails.
+/// The call reads the text once, and allocates what it reads. Returns `Memory` if an allocation
+/// fails.
 ///
 /// ```rust
 /// use cbor_diag::{Error, diag_fault};
@@ -31,13 +32,13 @@ use std::alloc::Global;
 ///
 /// [`parse_diag`]: crate::parse_diag
 pub fn diag_fault(alloc: Global, text: &str) -> Result<Option<(Error, usize)>>
-    // None, exactly if the text is an item with no item below level 128.
+    // `None`, if and only if the text is an item with no item below level 128.
     ensures none { IfOk result (λ found. IfNone found ((i : Item) × IsNotation text.now i)) }
     ensures every_item { (i : Item) → IsNotation text.now i
         → IfOk result (λ found. found ≡ None) }
 
-    // Otherwise it is not an item, the error says this of it, and the place is in the text or at
-    // its end.
+    // Otherwise the text is not an item, the error holds for it, and the place is in the text or
+    // at its end.
     ensures fault { IfOk result (λ found. IfSome found (λ x. IsNoNotation text.now x.0
         × (x.1 ≤ length text.now))) }
     ensures refused { IfErr result (λ e. e ≡ Error.Memory) }

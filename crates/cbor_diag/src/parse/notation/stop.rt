@@ -1,7 +1,6 @@
-//! Where the cursor stands after an error: before the first byte with which the text cannot go on,
-//! or at the end of the text, if more text may make it notation. That is the place which
-//! `diag_fault` gives. No clause says so; tests do. After an allocation that failed the cursor may
-//! stand anywhere.
+//! Leaves the cursor at the place of an error. That is before the first byte with which the text
+//! cannot go on, or at the end of the text if more text may make it notation. `diag_fault` returns
+//! this place. No clause states it; tests do. After a failed allocation the cursor may be anywhere.
 ghost use Rattle.std.specs.Prelude.{◌≡◌, ◌≢◌, ◌<◌, ◌⊎◌, false, length, Err, IfOk};
 ghost use Rattle.cbor_grammar.specs.Head.{FitsWidth};
 ghost use Rattle.cbor_grammar.specs.Reading.{Gives};
@@ -28,7 +27,7 @@ pub(super) fn stop_after_blank(text: &mut Cursor<'_>) {
     }
 }
 
-/// The text after a byte that a number may go on with, as in `1_0` and `0x1`, or all of it.
+/// The text after a byte that a number may go on with, as in `1_0` and `0x1`, or all of the text.
 fn after_letter(text: &[u8]) -> &[u8] {
     match text {
         [b'_' | b'b' | b'o' | b'x', rest @ ..] => rest,
@@ -53,7 +52,7 @@ pub(super) fn stop_in_list<'a>(first: &'a [u8], text: &mut Cursor<'a>) {
     }
 }
 
-/// Stops before the last byte of what was read of `front`.
+/// Stops before the last byte that was read of `front`.
 #[cold]
 pub(super) fn stop_before_last<'a>(front: &'a [u8], text: &mut Cursor<'a>) {
     let read = front.len().saturating_sub(text.rest().len());
@@ -61,8 +60,8 @@ pub(super) fn stop_before_last<'a>(front: &'a [u8], text: &mut Cursor<'a>) {
     *text = Cursor::new(front.get(last..).unwrap_or(&[]));
 }
 
-/// Stops at a number that is refused: behind it, if more digits make it right, as those of `-0` and
-/// `300_0`, or else before its last byte.
+/// Stops at a refused number. If more digits would make it valid, as for `-0` and `300_0`, stops
+/// behind it, otherwise before its last byte.
 #[cold]
 fn stop_at_number<'a>(front: &'a [u8], text: &mut Cursor<'a>) {
     *text = Cursor::new(front);
@@ -74,7 +73,7 @@ fn stop_at_number<'a>(front: &'a [u8], text: &mut Cursor<'a>) {
     }
 }
 
-/// The text after the longest front of one of these words.
+/// The text after the longest prefix that one of these words shares with it.
 fn after_front<'a>(text: &'a [u8], words: &[&[u8]]) -> &'a [u8] {
     let mut rest = text;
     'words: for word in words {
@@ -173,7 +172,7 @@ pub(super) fn unsigned_number(text: &mut Cursor<'_>) -> Result<(u64, IntegerWidt
     }
 }
 
-/// The number that is encoded for a negative integer, after its `-`.
+/// The encoded number of a negative integer, after its `-`.
 #[inline(always)]
 pub(super) fn negative_number(text: &mut Cursor<'_>) -> Result<(u64, IntegerWidth)>
     ensures gives { Gives (λ x. ((x.0, x.1), text.new)) result (read_negative_number text.old) }

@@ -1,7 +1,8 @@
-//! Reads strings of notation into a `DataItem`: in pieces, and the chunks of indefinite ones.
+//! Reads strings of notation into a `DataItem`: strings in pieces, and the chunks of indefinite
+//! strings.
 //!
-//! Most strings are one piece, a text without escapes or hex digits without blanks, and right after
-//! it a list goes on or closes. A fast path reads these straight into the item; all others are read
+//! Most strings are one piece, a text without escapes or hex digits without blanks, and a list goes
+//! on or closes right after it. A fast path reads these straight into the item. All others are read
 //! piece by piece.
 ghost use Rattle.std.specs.Prelude.{◌≡◌, ◌-◌, ◌++◌, ◌<◌, ◌≤◌, ℕ, List, [], Some, suc, length};
 ghost use Rattle.std.specs.Prelude.{IfOk, IfSome, Ok, OnOk, true, false};
@@ -47,7 +48,7 @@ fn unstated<S: DefiniteString>(content: Vec<u8>) -> cbor_grammar::Result<S>
     S::new(content, IntegerWidth::Unknown)
 }
 
-/// The chunks of an indefinite string.
+/// The chunks of an indefinite string that is being read.
 #[derive(Drop)]
 enum Chunks {
     Bytes(Vec<ByteString>),
@@ -55,7 +56,7 @@ enum Chunks {
 }
 
 impl Chunks {
-    /// No chunks yet, of a string of this kind.
+    /// A string of this kind, with no chunks yet.
     fn new(alloc: Global, kind: StringKind) -> Chunks
         ensures none { chunk_list result ≡ [] }
         ensures kind { list_kind result ≡ kind }
@@ -82,7 +83,7 @@ impl Chunks {
         Ok(())
     }
 
-    /// The string of these chunks.
+    /// Returns the string of these chunks.
     fn into_item(self) -> DataItem
         ensures { view result ≡ atom (chunked_string (list_kind self) (chunk_list self)) }
     {
@@ -93,7 +94,7 @@ impl Chunks {
     }
 }
 
-/// Adds bytes to some content, of which there is often none before.
+/// Appends bytes to a content, which is often empty before.
 fn append(content: &mut Vec<u8>, bytes: Vec<u8>) -> Result<(), AllocError>
     ensures { OnOk result (content.new.items ≡ content.old.items ++ bytes.items) }
 {
@@ -105,7 +106,7 @@ fn append(content: &mut Vec<u8>, bytes: Vec<u8>) -> Result<(), AllocError>
     Ok(())
 }
 
-/// The encodings of items, one after the other.
+/// The encodings of items, in order.
 fn encoded(alloc: Global, items: &Vec<DataItem>) -> Result<Vec<u8>, AllocError>
     requires { (level : ℕ) × WellFormedItems level (items_view items.now.items) }
     ensures { IfOk result (λ bytes. bytes.items ≡ encoded_items (items_view items.now.items)) }
@@ -129,7 +130,7 @@ fn read_embedded(alloc: Global, text: &mut Cursor<'_>, inner: u8) -> cbor_gramma
     Ok(encoded(alloc, &items)?)
 }
 
-/// A piece of a string: a text, or a notation of bytes, whose items are at `inner`.
+/// A piece of a string: a text, or a notation of bytes. The items in it are at `inner`.
 #[cycle(diag)]
 #[tactic(auto, using(crate::proofs::notation::Cores::piece_by))]
 fn read_piece(alloc: Global, text: &mut Cursor<'_>, inner: u8) -> cbor_grammar::Result<Vec<u8>>
@@ -211,15 +212,16 @@ fn checked_text(content: Vec<u8>, text: &mut Cursor<'_>) -> cbor_grammar::Result
 }
 
 /// Whether a string ends before this text: a list goes on or closes here. Neither a blank nor a
-/// piece of a string begins so.
+/// piece of a string begins like that.
 fn ends_string(text: &[u8]) -> bool
     ensures { result ≡ ends_string text.now }
 {
     matches!(text, [b',' | b':' | b']' | b'}', ..])
 }
 
-/// What is between the quotes of an `h'..'`, up to its first apostrophe, and the text after it, if
-/// a string ends there. If that is hex digits, it is the whole string. `None` otherwise.
+/// The text between the quotes of an `h'..'`, up to its first apostrophe, and the text after it, if
+/// a string ends there, otherwise `None`. If the text between is hex digits, it is the whole
+/// string.
 fn read_plain_hex(text: &[u8]) -> Option<(&[u8], &[u8])>
     ensures gives { IfSome result (λ x. (read : List ℕ → Read Item) (bytes : List ℕ)
         → base16_of x.0.now ≡ Some bytes
@@ -237,7 +239,7 @@ fn read_plain_hex(text: &[u8]) -> Option<(&[u8], &[u8])>
     }
 }
 
-/// A byte string, or `''_`, an indefinite one of no chunks.
+/// A byte string, or `''_`, an indefinite byte string without chunks.
 #[cycle(diag)]
 #[tactic(auto, unfolding(cbor_notation::specs::mirror::NotationReading::read_string))]
 pub(super) fn read_byte_item(
@@ -267,7 +269,7 @@ pub(super) fn read_byte_item(
 }
 
 /// The content of a text of one piece without escapes, and the text after it, if a string ends
-/// there. `None` otherwise.
+/// there, otherwise `None`.
 fn read_plain_text(text: &[u8]) -> Option<(&[u8], &[u8])>
     ensures gives { IfSome result (λ x. (read : List ℕ → Read Item)
         → read_string_item read StringKind.Text text.now
@@ -283,7 +285,7 @@ fn read_plain_text(text: &[u8]) -> Option<(&[u8], &[u8])>
     }
 }
 
-/// A text string, or `""_`, an indefinite one of no chunks.
+/// A text string, or `""_`, an indefinite text string without chunks.
 #[cycle(diag)]
 #[tactic(auto, unfolding(cbor_notation::specs::mirror::NotationReading::read_string))]
 pub(super) fn read_text_item(
@@ -378,8 +380,8 @@ fn some_chunks(
     }
 }
 
-/// An indefinite string after its `(`. Its first chunk decides its kind; without chunks it is one
-/// of bytes.
+/// An indefinite string after its `(`. Its first chunk decides its kind. Without chunks it is a
+/// byte string.
 #[cycle(diag)]
 pub(super) fn read_chunks(
     alloc: Global,

@@ -25,7 +25,7 @@ const WORDS: [&[u8]; 6] = [
     b"float'",
 ];
 
-/// Whether all of them are decimal digits.
+/// Whether all of the bytes are decimal digits.
 fn are_decimal(digits: &[u8]) -> bool
     ensures { result ≡ list_all (λ c. nat_lt (digit_value c) 10) digits.now }
 {
@@ -63,7 +63,7 @@ fn float_width(count: usize) -> Result<FloatWidth>
     }
 }
 
-/// The number that at most sixteen hex digits write, of either case.
+/// The number that at most sixteen hex digits, of either case, encode.
 fn hex_number(digits: &[u8]) -> Result<u64>
     requires { length digits.now ≤ 16 }
     ensures gives { Gives (λ n. n) result (or_refused (numeral 16 digits.now)) }

@@ -1,4 +1,4 @@
--- What is appended is a text of each item that the bytes are, and each error that they have is returned.
+-- What is appended is a text of each item that the bytes encode, and each error that they have is returned.
 use Rattle.std.proofs.Common.{refl, arith}
 use Rattle.std.specs.String.{string_bytes}
 use Rattle.cbor_grammar.proofs.bytes.ExactlyOne.{one_outcome}

@@ -1,4 +1,4 @@
--- The bytes begin with an item, are cut or have a fault, and that one of the three is returned.
+-- The bytes begin with an item, are truncated or are malformed, and that one of the three is returned.
 use Rattle.std.proofs.Common.{refl, subst, arith}
 use Rattle.std.specs.String.{string_bytes}
 use Rattle.cbor_grammar.specs.Answer.{cut}

@@ -167,7 +167,7 @@ module _ (left : ℕ) (R : List ℕ → Item → Type 0) (read : List ℕ → Re
 
   -- ---- pieces
 
-  -- some pieces with blanks between them, the first of which begins with this byte, and a blank
+  -- some pieces with blanks between them, and a blank; the first piece begins with this byte
   abbrev SomePieces : StringKind → ℕ → List ℕ → List ℕ → Type 0
   SomePieces kind b front content = (core blank tail : List ℕ) × (front ≡ core ++ blank)
       × Joined (PieceOf kind R) core content × IsBlank blank × (core ≡ b ∷ tail)

@@ -1,4 +1,4 @@
--- What is appended is the text of each item that the bytes are, and each error that they have is returned.
+-- What is appended is the text of each item that the bytes encode, and each error that they have is returned.
 use Rattle.std.proofs.Common.{◌≡◌, ◌++◌, refl, arith}
 use Rattle.std.specs.String.{string_bytes}
 use Rattle.cbor_notation_writer.specs.mirror.Straight.{text_in}

@@ -1,4 +1,4 @@
--- What is promised of the encoding: it is the one strict spelling, is read back, and tells items apart.
+-- The contract of the encoding: it is the only strict one, is read back, and tells items apart.
 use Rattle.std.proofs.Common.{◌++◌, ap, sym, subst, ◌∙◌}
 use Rattle.cbor_diag.specs.View.{view}
 use Rattle.cbor_grammar.specs.Written.{encoded, resolve}

@@ -1,4 +1,4 @@
--- The line of a head has its bytes, of which there are few, and its comment.
+-- The line of a head has its few bytes, and its comment.
 use Rattle.std.proofs.Common.{[], ◌∷◌, List, ℕ, OnOk, ap, subst, ◌∙◌}
 use Rattle.cbor_dump.specs.Dump.{head_line}
 use Rattle.cbor_dump.specs.mirror.Dumped.{Wrote, head_bytes}
