@@ -18,83 +18,86 @@ Shows CBOR data (RFC 8949) as text, or converts it.
   $ cborcat -c -f hex -x '82 01'
   cborcat: -x:1:6: truncated: the array at 1:1 has 2 items, 1 is there
 
-Reads each FILE; without one, or for -, standard input. Writes each item.
+Reads each FILE and writes its items. Without a FILE, or for -, reads standard
+input.
 
 Input:
-  -f, --from=FORM    the form of the input, one of those below that has an i
+  -f, --from=FORM    the form of the input: a form below that is marked i
                      (default: recognized)
   -x, --text=TEXT    read TEXT instead of files
-  -1, --one          exactly one item in each input, not a sequence
-      --offset=N     begin at byte N of the data; N may be as 91 or 0x5b
+  -1, --one          each input has to be exactly one item, not a sequence
+      --offset=N     begin at byte N of the data; N may be written 91 or 0x5b
       --limit=BYTES  refuse a longer item (default: 268435456)
 
 Output:
-  -t, --to=FORM      the form of the output, one of those below that has an o
+  -t, --to=FORM      the form of the output: a form below that is marked o
                      (default: pretty)
-  -p, --path=PATH    only the part that PATH leads to, or each part
-  -e, --embedded     show byte strings that hold an array, a map or a
-                     tagged item as <<..>>, in a dump as its lines
+  -p, --path=PATH    show only the part that PATH leads to, or each such part
+  -e, --embedded     show byte strings that hold an array, a map or a tagged
+                     item as <<..>>; in a dump, show the lines of that item
       --no-notes     no comments in notation, and no names
-      --as=TYPE      the type of what is shown, such as COSE_Key, where no tag
-                     says it: its keys and values have their names
-      --names=FILE   the names of FILE beside those of COSE, CWT, EAT, SenML
-                     and CTAP2: tables in TOML
-      --no-names     no names, but the other comments
+      --as=TYPE      take what is shown for a TYPE such as COSE_Key where no
+                     tag says it; its keys and values then have their names
+      --names=FILE   show also the names of FILE: tables in TOML, beside those
+                     of COSE, CWT, EAT, SenML and CTAP2
+      --no-names     no names; other comments stay
       --names-as-keys
-                     the names of keys in place of them (-t json)
-      --widths       the width of each float and number above 23
-      --no-widths    no widths (_0 to _3) in notation, which then is not to be
-                     read back
-      --width=N      lines of N columns, 20 to 1000, where pretty notation takes
-                     several (default: 80)
-      --strict       what JSON does not keep is an error (-t json)
+                     write keys as their names (-t json)
+      --widths       write the width of each float and of each number above 23
+      --no-widths    write no widths (_0 to _3) in notation; such text is not
+                     to be read back
+      --width=N      break pretty notation into lines of N columns, 20 to 1000
+                     (default: 80)
+      --strict       report what JSON does not keep as an error (-t json)
       --elide[=N]    cut strings of more than N bytes (default: 32) in notation
-                     and dumps, which then are not to be read back
-      --color=WHEN   auto, always or never (default: auto, in a terminal and
-                     if NO_COLOR is not set)
+                     and dumps; such text is not to be read back
+      --color=WHEN   auto, always or never (default: auto, which is in a
+                     terminal and if NO_COLOR is not set)
   -o, --output=FILE  write FILE, once all input is converted
-      --partial      show also what is there of an item that is not whole
-      --places       the place of each item before its path (-t paths)
-      --at=N         the path, the head and the place of the item that byte N
-                     of the data belongs to
+      --partial      show also the part of a truncated or malformed item that
+                     is there
+      --places       show the place of each item before its path (-t paths)
+      --at=N         show the path, head and place of the innermost item that
+                     contains byte N of the data
   -c, --check[=RULES]
-                     write nothing; report the first fault of each input
-                     (by default of RFC 8949's grammar), or the first place
-                     that breaks RULES
-      --encode=RULES encode each item again, so that it keeps RULES
+                     write nothing; report the first error of each input, or
+                     its first violation of RULES (default: the grammar of
+                     RFC 8949)
+      --encode=RULES re-encode each item so that it keeps RULES
 
   -h, --help         show this text
   -V, --version      show the version
 
-Forms, i of an input and o of the output:
-  pretty       o  notation over several lines where it is long, with comments
-  diag, edn   io  diagnostic notation (EDN), as which JSON is read, too
+Forms (i: input, o: output):
+  pretty       o  notation with comments, over several lines where it is long
+  diag, edn   io  diagnostic notation (EDN); JSON is read as EDN
   hex         io  input: pairs of digits, also with blanks , : 0x \\x, and
                   comments after #; output: a dump with comments
   digits       o  hex on one line
   bytes, cbor io  CBOR
   base64      i   either alphabet, with padding or without
-  json        io  JSON, a line an item; an input is read as diag
+  json        io  output: JSON, one line for each item; input: the same as diag
   raw          o  the content of a byte or text string
   paths        o  a line for each item that holds no other: its path, and EDN
 
-Without -f, an input is bytes as soon as a byte comes that no text has, and is
-shown as it arrives. Text is read to its end. Pairs of hex digits are hex, also
-where they are truncated or wrong; other text is the first of diag and base64
-that reads all of it, and never bytes. A file .hex is hex, and one .edn, .diag
-or .json is diag; one .cbor, .cose or .cwt is bytes if no form of text reads
-all of it.
+Without -f the form is recognized. A byte that no text has makes the input
+bytes, which are shown as they arrive. Text is read to its end first. A text of
+pairs of hex digits is hex, even if its item is truncated or malformed. Other
+text is diag or base64: the first of the two that reads all of it. The name of
+a file may say more: .hex is hex; .edn, .diag and .json are diag. Text is never
+taken for bytes, except a file .cbor, .cose or .cwt that no form of text reads
+to its end.
 
-RULES are those of RFC 8949 for preferred, core (deterministic) or length-first
-encoding; ctap2; dcbor; or valid: no key twice in a map, where 1 and 1_0 are
-one. They include rfc8949, the grammar, which -c alone checks. --encode takes
-them but for valid.
+RULES are preferred, core (deterministic) or length-first: encodings of RFC
+8949; ctap2; dcbor; valid: no map has a key twice, where 1 and 1_0 are the same
+key; or rfc8949: the grammar alone. All include the grammar. --encode takes
+preferred, core, length-first, ctap2 and dcbor.
 
-A PATH has steps joined by /: an index of an array, a key of a map in
-notation or as a plain word, or a name that is shown; @ for the item that a
-byte string is, @N for the item at byte N of one, or * for each member. Tags
-need no step, and nor do byte strings that are shown as <<..>>. N: before a
-path is the item N of a sequence, the first is 0; N: alone is all of it.
+A PATH is steps joined by /. A step is an index of an array, a key of a map (in
+notation or as a plain word), a name that is shown, * for each member, @ for
+the item that a byte string encodes, or @N for the item at byte N of a byte
+string. Tags need no step. Byte strings that are shown as <<..>> need no @.
+N: before a path selects item N of a sequence, from 0; N: alone is all of it.
 
 Exit status: 0 all input is CBOR; 1 some is not, or PATH leads nowhere;
 2 wrong arguments, out of memory, or a file cannot be read or written.
