@@ -1,6 +1,6 @@
 /*
- * cbor_diag.h - CBOR data items (RFC 8949, which replaced RFC 7049) in bytes, in hex with comments, in diagnostic
- * notation, in EDN, the notation that people write, and as JSON.
+ * cbor_diag.h - converts CBOR data items (RFC 8949, which replaced RFC 7049) between bytes, hex with comments,
+ * diagnostic notation, EDN (the notation that people write) and JSON.
  *
  *     static const char notation[] = "[1, {\"a\": h'00ff'}]";
  *     unsigned char bytes[64];
@@ -10,10 +10,10 @@
  * Link with -lcbor_diag. The library needs malloc, realloc, free, memcpy, memmove and memset, and nothing else
  * of the system.
  *
- * The library keeps nothing between calls: any number of threads may call it at once. Nobody may change an input, or
- * use an output, during a call. It frees all memory that it takes before a call returns. Do not call it from a signal
- * handler, nor in the forked child of a process that has threads, since it calls malloc. CBOR_DIAG_STACK_SIZE bytes of
- * stack are enough for each call. A scanner is the caller's: one thread at a time may use it.
+ * The library keeps nothing between calls, so any number of threads may call it at once. During a call nobody may
+ * change its input or use its output. A call frees all memory that it takes. It calls malloc, so do not call it from a
+ * signal handler, nor in the forked child of a process that has threads. CBOR_DIAG_STACK_SIZE bytes of stack are enough
+ * for each call. A scanner belongs to the caller: one thread at a time may use it.
  */
 #ifndef CBOR_DIAG_H
 #define CBOR_DIAG_H
@@ -28,72 +28,74 @@ extern "C" {
 /* The version of this header: 10000 * major + 100 * minor + patch. */
 #define CBOR_DIAG_VERSION 100
 
-/* How many bytes of stack are enough for each call, as measured. */
+/* Bytes of stack that are enough for each call, as measured. */
 #define CBOR_DIAG_STACK_SIZE 262144
 
-/* The form of an input or of an output. Each can be either. */
+/* The form of an input or of an output. Each form can be both. */
 enum cbor_diag_form {
     CBOR_DIAG_FORM_BYTES = 0, /* the bytes of an item */
     CBOR_DIAG_FORM_HEX = 1,   /* hex with comments from # to the end of the line; the output is a dump */
-    CBOR_DIAG_FORM_DIAG = 2,  /* diagnostic notation; the output has no line breaks of its own; a line feed ends it */
-    CBOR_DIAG_FORM_PRETTY = 3, /* diagnostic notation; the output may have several lines; a line feed ends it */
-    CBOR_DIAG_FORM_EDN = 4,    /* one item in EDN, as which JSON text is read, too; the output is one line */
-    CBOR_DIAG_FORM_EDN_PRETTY = 5, /* one item in EDN; the output may have several lines, and has notes as comments */
-    CBOR_DIAG_FORM_JSON = 6,       /* JSON on one line, which a line feed ends; an input is read as EDN */
-    CBOR_DIAG_FORM_JSON_STRICT = 7 /* the same, but an output that JSON does not keep is an error */
+    CBOR_DIAG_FORM_DIAG = 2,  /* diagnostic notation; the output is one line, but for line feeds in its texts */
+    CBOR_DIAG_FORM_PRETTY = 3, /* diagnostic notation; the output may have several lines */
+    CBOR_DIAG_FORM_EDN = 4,    /* one item in EDN; an input may be JSON; the output is one line */
+    CBOR_DIAG_FORM_EDN_PRETTY = 5, /* one item in EDN; the output may have several lines, and comments */
+    CBOR_DIAG_FORM_JSON = 6,       /* JSON on one line; an input is read as EDN */
+    CBOR_DIAG_FORM_JSON_STRICT = 7 /* the same, but what JSON does not keep is an error */
 };
 
 /*
- * EDN is what people write. There a float is decimal, texts have the escapes of JSON, and a width is stated where it is
- * not the shortest. What is written for an item is read back as the same bytes, but for a simple value below 32 in two
- * bytes, which RFC 8949 does not have. An output in EDN has no control characters but line feeds, which are outside of
- * texts.
+ * A line feed ends each output in notation, EDN and JSON.
  *
- * JSON is written by RFC 8949, section 6.1, but for big numbers of at most 1,024 bytes, which are their digits: tags are
- * left out, NaN, the infinities and undefined are null, byte strings are base64url, and a key that is no text is a
- * string of its EDN, so 1 is "1". Two keys of a map that become the same are an error. CBOR_DIAG_FORM_JSON_STRICT also refuses what JSON does not keep: a tag, NaN, an infinity, a
- * simple value but false, true and null, a byte string, and a key that is no text. JSON has no control characters but
- * the line feed at its end.
+ * EDN has decimal floats, texts with the escapes of JSON, and a width where it is not the shortest. An output in EDN is
+ * read back as the same bytes, except a simple value below 32 in two bytes, which RFC 8949 forbids. It has no control
+ * characters but line feeds, and these only outside of texts.
  *
- * In both outputs in diagnostic notation a text string is shown as it is, with its line feeds and control characters:
- * of hostile input, a line is not one item, and a terminal obeys what it is sent. A dump, EDN and JSON escape them.
+ * JSON follows RFC 8949, section 6.1: tags are left out; NaN, the infinities and undefined become null; byte strings
+ * become base64url; a key that is no text becomes a string of its EDN, so 1 becomes "1". Other than there, big numbers
+ * of at most 1,024 bytes become their digits. Two keys of a map that become the same are an error.
+ * CBOR_DIAG_FORM_JSON_STRICT also refuses what JSON does not keep: a tag, NaN, an infinity, a simple value other than
+ * false, true and null, a byte string, and a key that is no text. JSON has no control characters but the line feed at
+ * its end.
+ *
+ * Diagnostic notation shows a text string as it is, with its line feeds and control characters. So hostile input can
+ * forge lines, and send escape sequences to a terminal. A dump, EDN and JSON escape them.
  */
 
 /* Errors. A call returns minus one of these. */
 enum cbor_diag_error {
-    CBOR_DIAG_ERROR_MEMORY = 1,      /* out of memory; it says nothing of the input */
-    CBOR_DIAG_ERROR_CUT_SHORT = 2,   /* the item is cut short: more bytes are needed */
+    CBOR_DIAG_ERROR_MEMORY = 1,      /* out of memory; it says nothing about the input */
+    CBOR_DIAG_ERROR_CUT_SHORT = 2,   /* the item is truncated: more bytes are needed */
     CBOR_DIAG_ERROR_HEAD = 3,        /* no item can have this head */
     CBOR_DIAG_ERROR_UTF8 = 4,        /* a text is not UTF-8, or the hex, notation or EDN of the input is not */
     CBOR_DIAG_ERROR_TOO_DEEP = 5,    /* nested deeper than 128 levels */
     CBOR_DIAG_ERROR_REMAINING = 6,   /* bytes remain after the item */
-    CBOR_DIAG_ERROR_ODD_HEX = 7,     /* an odd number of bytes in hex, whatever they are, not counting comments, spaces
-                                        and line ends */
-    CBOR_DIAG_ERROR_BAD_HEX = 8,     /* an even number of them, and one is no hex digit */
-    CBOR_DIAG_ERROR_NOTATION = 9,    /* not diagnostic notation; or not one item in EDN, whatever is wrong */
+    CBOR_DIAG_ERROR_ODD_HEX = 7,     /* without comments, spaces and line ends, the hex has an odd number of bytes,
+                                        whatever they are */
+    CBOR_DIAG_ERROR_BAD_HEX = 8,     /* that number is even, and one of the bytes is not a hex digit */
+    CBOR_DIAG_ERROR_NOTATION = 9,    /* not diagnostic notation, or not one item in EDN */
     CBOR_DIAG_ERROR_PAST_WIDTH = 10, /* a number does not fit its width */
     CBOR_DIAG_ERROR_NO_FORM = 11,    /* no such form: `from` or `to` is not an enum cbor_diag_form */
     CBOR_DIAG_ERROR_NO_RULES = 12,   /* no such rules: `rules` is not an enum cbor_diag_rules */
-    CBOR_DIAG_ERROR_NOT_ENCODABLE = 13, /* no encoding of the items keeps the rules, or the bytes are no items */
+    CBOR_DIAG_ERROR_NOT_ENCODABLE = 13, /* no encoding of the items keeps the rules, or the bytes are not items */
     CBOR_DIAG_ERROR_SAME_KEYS = 14,  /* two keys of a map become the same in JSON */
     CBOR_DIAG_ERROR_NOT_KEPT = 15,   /* JSON does not keep all of the item: only for CBOR_DIAG_FORM_JSON_STRICT */
     CBOR_DIAG_ERROR_NO_PART = 16,    /* the path leads to no part of the item */
-    CBOR_DIAG_ERROR_NO_TYPE = 17     /* no such type: the tables of names have none of this name */
+    CBOR_DIAG_ERROR_NO_TYPE = 17     /* no type of the tables of names has this name */
 };
 
 /* What JSON does not keep. */
 enum cbor_diag_loss {
     CBOR_DIAG_LOSS_TAG = 1,        /* a tag */
     CBOR_DIAG_LOSS_NOT_FINITE = 2, /* NaN or an infinity */
-    CBOR_DIAG_LOSS_SIMPLE = 3,     /* undefined, or another simple value that is none of false, true and null */
+    CBOR_DIAG_LOSS_SIMPLE = 3,     /* a simple value other than false, true and null */
     CBOR_DIAG_LOSS_BYTES = 4,      /* a byte string */
-    CBOR_DIAG_LOSS_KEY = 5         /* a key that is no text */
+    CBOR_DIAG_LOSS_KEY = 5         /* a key that is not a text string */
 };
 
-/* Sets of rules for an encoding. Each has the rules of the first one. */
+/* Sets of rules for an encoding. Each includes the rules of the first. */
 enum cbor_diag_rules {
     CBOR_DIAG_RULES_RFC8949 = 0,      /* well formed: no f8 before a byte below 32 */
-    CBOR_DIAG_RULES_VALID = 1,        /* no two keys of a map are one (RFC 8949, section 5.6.1); takes memory */
+    CBOR_DIAG_RULES_VALID = 1,        /* no map has a key twice (RFC 8949, section 5.6.1); takes memory */
     CBOR_DIAG_RULES_PREFERRED = 2,    /* preferred serialization (RFC 8949, section 4.1) */
     CBOR_DIAG_RULES_CORE = 3,         /* core deterministic encoding (RFC 8949, section 4.2.1) */
     CBOR_DIAG_RULES_LENGTH_FIRST = 4, /* length-first deterministic encoding (RFC 8949, section 4.2.3) */
@@ -101,13 +103,13 @@ enum cbor_diag_rules {
     CBOR_DIAG_RULES_DCBOR = 6         /* dCBOR; takes memory */
 };
 
-/* What is wrong with a head, or with a key, that breaks a rule. */
+/* How a head or a key violates a rule. */
 enum cbor_diag_violation_kind {
-    CBOR_DIAG_VIOLATION_NO_ITEM = 1,          /* no item begins there, or it is cut, or its content is not UTF-8 */
+    CBOR_DIAG_VIOLATION_NO_ITEM = 1,          /* no item begins there, or it is truncated, or not UTF-8 */
     CBOR_DIAG_VIOLATION_LONG_SIMPLE = 2,      /* f8 before a byte below 32 */
-    CBOR_DIAG_VIOLATION_LONG_HEAD = 3,        /* a shorter width has the number: a value, a length, a count or a tag */
+    CBOR_DIAG_VIOLATION_LONG_HEAD = 3,        /* a number in a non-minimal width: a value, length, count or tag */
     CBOR_DIAG_VIOLATION_NOT_NFC = 4,          /* a text, or a chunk of one, that is not in NFC */
-    CBOR_DIAG_VIOLATION_LONG_FLOAT = 5,       /* a shorter width has the float */
+    CBOR_DIAG_VIOLATION_LONG_FLOAT = 5,       /* a float in a non-minimal width */
     CBOR_DIAG_VIOLATION_INTEGER_FLOAT = 6,    /* a float that is an integer */
     CBOR_DIAG_VIOLATION_OTHER_NAN = 7,        /* a NaN other than f97e00 */
     CBOR_DIAG_VIOLATION_OTHER_SIMPLE = 8,     /* a simple value other than false, true and null */
@@ -117,16 +119,16 @@ enum cbor_diag_violation_kind {
     CBOR_DIAG_VIOLATION_SMALL_BIG_NUMBER = 12, /* a big number that fits an integer */
     CBOR_DIAG_VIOLATION_TOO_DEEP = 13,        /* an array or a map at a level that is too deep */
     CBOR_DIAG_VIOLATION_KEY_ORDER = 14,       /* a key that comes before the one before it, in the order of keys */
-    CBOR_DIAG_VIOLATION_KEY_TWICE = 15        /* a key that stands twice */
+    CBOR_DIAG_VIOLATION_KEY_TWICE = 15        /* a key that the map has already */
 };
 
-/* Enough for the text of each error, and the zero byte that ends it. */
+/* Enough for the text of each error with the zero byte that ends it. */
 #define CBOR_DIAG_ERROR_TEXT_SIZE 64
 
 /*
- * What a scanner keeps of the bytes that it was fed. The caller has this memory, on the stack or anywhere else, and
- * cbor_diag_scanner_init makes a scanner of it; nothing has to be freed. What is in it is the library's alone. It holds
- * no pointers, so a copy of it is a scanner that was fed the same bytes.
+ * The state of a scanner. The caller provides this memory, on the stack or anywhere else, and cbor_diag_scanner_init
+ * initializes it. Nothing has to be freed. Only the library looks inside. It holds no pointers, so a copy of it is a
+ * scanner that was fed the same bytes.
  */
 #define CBOR_DIAG_SCANNER_SIZE 2048
 struct cbor_diag_scanner {
@@ -142,9 +144,9 @@ _Static_assert(_Alignof(struct cbor_diag_scanner) == 8, "the alignment that the 
 #endif
 
 /*
- * The functions of the library, as it exports them. No pointer is null, a length is at most PTRDIFF_MAX, and the
- * output does not overlap the input. The memory at a scanner overlaps nothing else. In C and C++, call the functions of
- * the same names below, which allow null pointers; other languages call these.
+ * The functions that the library exports. No pointer may be null, each length is at most PTRDIFF_MAX, and the output
+ * does not overlap the input. The memory of a scanner overlaps nothing else. In C and C++, call the functions of the
+ * same names below, which allow null pointers. Other languages call these.
  */
 int64_t cbor_diag_convert(uint32_t from, uint32_t to, const uint8_t *input, size_t input_len, uint8_t *output,
                           size_t output_len);
@@ -168,7 +170,7 @@ int64_t cbor_diag_name_at(const uint8_t *input, size_t input_len, const uint8_t 
 int64_t cbor_diag_error_text(uint32_t error, uint8_t *output, size_t output_len);
 uint32_t cbor_diag_version(void);
 
-/* A pointer to no bytes, in place of a null pointer. */
+/* A pointer to no bytes, used instead of a null pointer. */
 static inline uint8_t *cbor_diag_no_bytes(void)
 {
     static uint8_t none;
@@ -178,9 +180,9 @@ static inline uint8_t *cbor_diag_no_bytes(void)
 /*
  * Converts an item from one form to another.
  *
- * Returns the length of the whole output, of which as much is written as fits `output`; the bytes of `output` after
- * that are unchanged. If the length is above `output_len`, the output was cut. With an `output_len` of 0 the call
- * only finds the length. No zero byte is added.
+ * Returns the length of the whole output, and writes as much of it as fits into `output`; the bytes after it are
+ * unchanged. If the length is above `output_len`, not all was written. With an `output_len` of 0 the call only finds
+ * the length. No zero byte is added.
  *
  * On an error, returns minus a number of enum cbor_diag_error, and `output` is unchanged.
  *
@@ -202,19 +204,19 @@ static inline int64_t cbor_diag_convert_checked(uint32_t from, uint32_t to, cons
 #define cbor_diag_convert cbor_diag_convert_checked
 
 /*
- * Reports how bytes begin, without memory: to read items one after the other, for example from a socket.
+ * Finds the length of the item at the front of the input, without memory: to read items one after the other.
  *
- * Returns how many bytes the item at the front takes, which is at least 1; more bytes may follow it. Otherwise returns
+ * Returns that length, which is at least 1. More bytes may follow the item. Otherwise returns
  *
- * - minus CBOR_DIAG_ERROR_CUT_SHORT, if the bytes end before the item does: with more bytes, call again;
+ * - minus CBOR_DIAG_ERROR_CUT_SHORT, if the bytes end before the item does: call again with more bytes;
  * - minus CBOR_DIAG_ERROR_HEAD, _UTF8 or _TOO_DEEP, if no item begins with these bytes, whatever follows them.
  *
- * As in RFC 7049, `f8` before a byte below 32 is a simple value, which RFC 8949 forbids: cbor_diag_violation by
+ * `f8` before a byte below 32 is a simple value here, as in RFC 7049. RFC 8949 forbids it, and cbor_diag_violation with
  * CBOR_DIAG_RULES_RFC8949 reports it.
  *
- * `*end` is set to the number of bytes that decide this: the length of the item, that of the input if it is cut, or the
- * first bytes that have the error; the last of these is the byte at fault, or ends the text that is not UTF-8. `end`
- * may be null.
+ * `*end` is set to the number of bytes that decide the result: the length of the item; the length of a truncated input;
+ * or the number of first bytes that show the error. The last of these is the malformed byte, or the last byte of the
+ * text that is not UTF-8. `end` may be null.
  */
 static inline int64_t cbor_diag_extent_checked(const void *input, size_t input_len, size_t *end)
 {
@@ -231,22 +233,22 @@ static inline int64_t cbor_diag_extent_checked(const void *input, size_t input_l
 #define CBOR_DIAG_NO_PLACE SIZE_MAX
 
 /*
- * Reports why and where an input is no item in the form `from`: an error that is true of it, with the place. Call it
- * after a conversion has failed. In bytes, hex and EDN it is the error that cbor_diag_convert has. Notation may have
- * several errors: of 18446744073709551616_0 both CBOR_DIAG_ERROR_NOTATION and _PAST_WIDTH are true, and either call may
- * tell either.
+ * Finds why an input is not an item in the form `from`, and where. Call it after a conversion has failed.
  *
- * Returns 0 if the input is an item, and otherwise minus a number of enum cbor_diag_error. `*place` is set to how many
- * bytes of the input come before the fault, or to CBOR_DIAG_NO_PLACE if there is no error, out of memory, and for no
- * form.
+ * Returns 0 if the input is an item, and otherwise minus a number of enum cbor_diag_error. `*place` is set to the error
+ * position: how many bytes of the input come before it. It is CBOR_DIAG_NO_PLACE without an error, out of memory, and
+ * if there is no such form. The error position is
  *
- * - In bytes the fault is the byte at fault, or the last byte of a text that is not UTF-8: `*end` - 1 of
- *   cbor_diag_extent. It is the end of bytes that are cut, and the first byte after an item that is not the last.
- * - In hex it is the first digit of that byte; or the digit that is wrong, which is the last of an odd number; or the
- *   end of a text whose bytes are cut.
- * - In notation and EDN it is where the reader stops: before the first byte with which the text cannot go on, or at
- *   the end of a text that is only truncated. It is proved to be in the text or at its end; the rest is tested.
- * - In hex, notation or EDN that is not UTF-8 it is the first byte that is not.
+ * - in bytes: the malformed byte, or the last byte of the text that is not UTF-8, so `*end` - 1 of cbor_diag_extent;
+ *   the end of truncated bytes; or the first byte that follows the item;
+ * - in hex: the first digit of that byte; the digit that is wrong, which is the last of an odd number; or the end of a
+ *   text whose bytes are truncated;
+ * - in notation and EDN: the first byte with which the text cannot go on, or the end of a text that is only truncated.
+ *   It is proved to be in the text or at its end; the rest is tested;
+ * - in hex, notation or EDN that is not UTF-8: the first byte that is not.
+ *
+ * In bytes, hex and EDN the error is that of cbor_diag_convert. Notation may have several errors: both
+ * CBOR_DIAG_ERROR_NOTATION and _PAST_WIDTH hold for 18446744073709551616_0, and either call may return either.
  *
  * `input` may be null if its length is 0, and `place` may be null.
  */
@@ -267,11 +269,11 @@ static inline int64_t cbor_diag_fault_checked(uint32_t from, const void *input, 
 #define CBOR_DIAG_FAULT_TEXT_SIZE 256
 
 /*
- * Says in words why an input is no item in the form `from`, in ASCII and without a full stop: for EDN what has to be at
- * the place of cbor_diag_fault, and in other forms the text of the error.
+ * Says in words why an input is not an item in the form `from`. For EDN the text says what has to be at the place of
+ * cbor_diag_fault; in other forms it is the text of the error. It is ASCII, without a full stop.
  *
- * Returns the length of the whole text, of which as much is written as fits `text`, or 0 if the input is an item. No
- * zero byte is added. CBOR_DIAG_FAULT_TEXT_SIZE is enough for each text. A pointer may be null if its length is 0.
+ * Returns the length of the whole text, and writes as much of it as fits into `text`. Returns 0 for an item.
+ * No zero byte is added. CBOR_DIAG_FAULT_TEXT_SIZE is enough for each text. A pointer may be null if its length is 0.
  */
 static inline int64_t cbor_diag_fault_text_checked(uint32_t from, const void *input, size_t input_len, char *text,
                                                    size_t text_len)
@@ -289,12 +291,12 @@ static inline int64_t cbor_diag_fault_text_checked(uint32_t from, const void *in
 #define cbor_diag_fault_text cbor_diag_fault_text_checked
 
 /*
- * Writes the path to the item that is cut or has the fault, in an input in bytes or hex that is no item: steps joined by
- * `/`, as `cborcat -p` reads them, in UTF-8. `/` is the outermost item.
+ * Writes the path to the truncated or malformed item in an input in bytes or hex: steps joined by `/`, as `cborcat -p`
+ * reads them, in UTF-8. `/` is the outermost item.
  *
- * Returns the length of the whole path, of which as much is written as fits `path`. It is 0 where there is none: if the
- * input is an item, if more bytes follow an item, and for notation, EDN and hex whose digits are wrong. On an error,
- * returns minus CBOR_DIAG_ERROR_MEMORY or minus CBOR_DIAG_ERROR_NO_FORM, and `path` is unchanged.
+ * Returns the length of the whole path, and writes as much of it as fits into `path`. Returns 0 where there is no path:
+ * if the input is an item, if more bytes follow an item, and for notation, EDN and hex whose digits are wrong. On an
+ * error, returns minus CBOR_DIAG_ERROR_MEMORY or minus CBOR_DIAG_ERROR_NO_FORM, and `path` is unchanged.
  *
  *     char path[64];
  *     cbor_diag_fault_path(CBOR_DIAG_FORM_BYTES, "\xa1\x61k\x82\x01\x1f", 6, path, sizeof path);  // 3, "k/1"
@@ -317,12 +319,12 @@ static inline int64_t cbor_diag_fault_path_checked(uint32_t from, const void *in
 #define cbor_diag_fault_path cbor_diag_fault_path_checked
 
 /*
- * Says what is wrong with an input that is no item, and where in the item that is: in bytes and hex as `cborcat` says it,
- * in one line of UTF-8, where bytes are named by their numbers in the item. In notation, in EDN and in hex whose digits
- * are wrong it is what cbor_diag_fault_text says.
+ * Says what is wrong with an input that is not an item, and where in the item. In bytes and hex it is the message of
+ * `cborcat` in one line of UTF-8, which counts bytes from the beginning of the item. In notation, in EDN and in hex
+ * whose digits are wrong it is the text of cbor_diag_fault_text.
  *
- * Returns the length of the whole message, of which as much is written as fits `message`; 0 for an item. On an error,
- * returns minus CBOR_DIAG_ERROR_MEMORY or minus CBOR_DIAG_ERROR_NO_FORM, and `message` is unchanged.
+ * Returns the length of the whole message, and writes as much of it as fits into `message`. Returns 0 for an item.
+ * On an error, returns minus CBOR_DIAG_ERROR_MEMORY or minus CBOR_DIAG_ERROR_NO_FORM, and `message` is unchanged.
  *
  *     cbor_diag_fault_message(CBOR_DIAG_FORM_BYTES, "\x82\x01", 2, message, sizeof message);
  *     // "truncated: the array at byte 0 has 2 items, 1 is there"
@@ -345,19 +347,18 @@ static inline int64_t cbor_diag_fault_message_checked(uint32_t from, const void 
 #define cbor_diag_fault_message cbor_diag_fault_message_checked
 
 /*
- * Reports why an item has no JSON, and where in its bytes. Call it after a conversion to CBOR_DIAG_FORM_JSON or
- * CBOR_DIAG_FORM_JSON_STRICT has failed. Where an input is no item, cbor_diag_fault has the place.
+ * Finds why an item has no JSON, and where in its bytes. Call it after a conversion to CBOR_DIAG_FORM_JSON or
+ * CBOR_DIAG_FORM_JSON_STRICT has failed. If the input is not an item, cbor_diag_fault finds the place.
  *
  * Returns 0 if cbor_diag_convert has an output for the two forms, and otherwise minus the number of its error.
  *
  * - For CBOR_DIAG_ERROR_SAME_KEYS, sets `*place` to how many bytes of the item come before the second of the two keys,
  *   and `*detail` to how many come before the first.
- * - For CBOR_DIAG_ERROR_NOT_KEPT, sets `*place` to how many bytes of the item come before the first thing, from the
- *   left, that JSON does not keep, and `*detail` to what it is, an enum cbor_diag_loss.
+ * - For CBOR_DIAG_ERROR_NOT_KEPT, sets `*place` to how many bytes of the item come before the first thing that JSON
+ *   does not keep, and `*detail` to what it is, an enum cbor_diag_loss.
  * - Otherwise both are set to CBOR_DIAG_NO_PLACE.
  *
- * The bytes of the item are those of an input in bytes, those that the digits of one in hex are, and for one in
- * notation, EDN or JSON those that a conversion to CBOR_DIAG_FORM_BYTES has.
+ * The bytes of the item are the output of a conversion to CBOR_DIAG_FORM_BYTES.
  *
  *     size_t second, first;
  *     cbor_diag_output_fault(CBOR_DIAG_FORM_BYTES, CBOR_DIAG_FORM_JSON, "\xa2\x01\x00\x61\x31\x00", 6,
@@ -382,15 +383,14 @@ static inline int64_t cbor_diag_output_fault_checked(uint32_t from, uint32_t to,
 #define cbor_diag_output_fault cbor_diag_output_fault_checked
 
 /*
- * Reports how bytes begin that come in pieces, without memory: feed each piece as it comes, for example from a socket.
- * The time grows with the new bytes alone: of those before, at most eight are looked at again, which are those of a
- * head or a character that is cut.
+ * Finds the length of an item that comes in pieces, without memory: feed each piece as it comes, for example from a
+ * socket. The time grows with the new bytes alone. At most eight of the bytes before them are read again: those of a
+ * truncated head or character.
  *
- * Returns, and sets `*end` to, what cbor_diag_extent does for all bytes that the scanner was fed since
- * cbor_diag_scanner_init, counts included: minus CBOR_DIAG_ERROR_CUT_SHORT as long as more are needed. Once it returns
- * the length of the item or another error, that stays, whatever is fed. Bytes of the last piece after the item are not
- * looked at: the next item begins with them, in a new scanner. The counts are right as long as fewer than 2^63 bytes
- * were fed.
+ * Returns what cbor_diag_extent does for all bytes that the scanner was fed since cbor_diag_scanner_init, and sets
+ * `*end` so: minus CBOR_DIAG_ERROR_CUT_SHORT as long as more bytes are needed. Once it returns the length of the item
+ * or another error, that stays, whatever is fed. It does not read the bytes after the item: feed them to a new scanner,
+ * for the next item. The counts are right as long as fewer than 2^63 bytes were fed.
  *
  *     struct cbor_diag_scanner scanner;
  *     cbor_diag_scanner_init(&scanner);
@@ -412,14 +412,15 @@ static inline int64_t cbor_diag_scanner_feed_checked(struct cbor_diag_scanner *s
 #define cbor_diag_scanner_feed cbor_diag_scanner_feed_checked
 
 /*
- * Reports where bytes first break a set of rules, as who signs CBOR or compares it byte by byte wants to know.
+ * Finds the first violation of a set of rules, for those who sign CBOR or compare it byte by byte.
  *
- * Returns 0 if the bytes are items, none or more, one after the other, that keep the rules; and otherwise the number of
- * what is wrong first, an enum cbor_diag_violation_kind. `*place` is set to how many bytes come before the head, or before
- * the key, that breaks the rule. `*detail` is set to
+ * Returns 0 if the bytes are a sequence of items, or none, that keep the rules; and otherwise the number of the first
+ * violation, an enum cbor_diag_violation_kind. `*place` is set to how many bytes come before the head or the key that
+ * violates the rule. `*detail` is set to
  *
- * - the place of the key before, for CBOR_DIAG_VIOLATION_KEY_ORDER, and of the first of the two, for _KEY_TWICE: by
- *   CBOR_DIAG_RULES_VALID the two may differ in the input, as 01 and 18 01, whose core encoding is the same;
+ * - the place of the key before, for CBOR_DIAG_VIOLATION_KEY_ORDER;
+ * - the place of the first of the two keys, for _KEY_TWICE; by CBOR_DIAG_RULES_VALID their bytes may differ, as 01 and
+ *   18 01, which have the same core encoding;
  * - the number of the error, an enum cbor_diag_error, for CBOR_DIAG_VIOLATION_NO_ITEM;
  * - CBOR_DIAG_NO_PLACE for each other kind.
  *
@@ -449,18 +450,17 @@ static inline int64_t cbor_diag_violation_checked(uint32_t rules, const void *in
 #define cbor_diag_violation cbor_diag_violation_checked
 
 /*
- * Encodes items, none or more, one after the other, again, so that they keep a set of rules. The output is of the same
- * items but for widths, kinds of length, the order of pairs and the forms of numbers: a big number that an integer can
- * have becomes that integer, and by CBOR_DIAG_RULES_DCBOR a float that is an integer does. An input that keeps the rules
- * is the output as it is.
+ * Re-encodes a sequence of items, or none, so that they keep a set of rules. The output has the same items but for
+ * widths, kinds of length, the order of pairs and the forms of numbers: a big number that fits an integer becomes that
+ * integer, and by CBOR_DIAG_RULES_DCBOR a float that is an integer does. An input that keeps the rules stays as it is.
  *
- * Returns the length of the whole output, of which as much is written as fits `output`, as cbor_diag_convert does.
+ * Returns the length of the whole output, and writes as much of it as fits into `output`, as cbor_diag_convert does.
  *
  * On an error, returns minus a number of enum cbor_diag_error, and `output` is unchanged:
  *
- * - CBOR_DIAG_ERROR_NOT_ENCODABLE, if the input is no items or breaks a rule that no choice of widths, lengths and
- *   order keeps, such as a tag for CBOR_DIAG_RULES_CTAP2; if two keys of a map are one, by their core encodings or once
- *   they are encoded again; or if the joined chunks of a text break a rule;
+ * - CBOR_DIAG_ERROR_NOT_ENCODABLE, if the input is not a sequence of items; if it has a violation that re-encoding
+ *   cannot repair, such as a tag by CBOR_DIAG_RULES_CTAP2; if two keys of a map have the same core encoding or become
+ *   the same; or if the joined chunks of a text violate a rule;
  * - CBOR_DIAG_ERROR_NO_RULES and CBOR_DIAG_ERROR_MEMORY.
  *
  * cbor_diag_reencode_fault says what is wrong, and where.
@@ -483,19 +483,19 @@ static inline int64_t cbor_diag_reencode_checked(uint32_t rules, const void *inp
 #define cbor_diag_reencode cbor_diag_reencode_checked
 
 /*
- * Reports why no encoding of the items keeps the rules, and where. Call it after cbor_diag_reencode has returned minus
+ * Finds why no encoding of the items keeps the rules, and where. Call it after cbor_diag_reencode has returned minus
  * CBOR_DIAG_ERROR_NOT_ENCODABLE.
  *
- * Returns 0 if there is an encoding, and otherwise the number of what is wrong, an enum cbor_diag_violation_kind. `*place`
- * is set to how many bytes of the input come before the head, or before the key, that is wrong. `*detail` is set to
+ * Returns 0 if there is an encoding, and otherwise the number of what is wrong, an enum cbor_diag_violation_kind.
+ * `*place` is set to how many bytes of the input come before the head or the key that is wrong. `*detail` is set to
  *
- * - the place of the first of the two keys, for CBOR_DIAG_VIOLATION_KEY_TWICE: `*place` is that of the second. The two may
- *   differ in the input, as 01 and 18 01, and are one by their core encodings, or once they are encoded again;
+ * - the place of the first of the two keys, for CBOR_DIAG_VIOLATION_KEY_TWICE; `*place` is that of the second. Their
+ *   bytes may differ, as 01 and 18 01: they have the same core encoding, or become the same;
  * - the number of the error, an enum cbor_diag_error, for CBOR_DIAG_VIOLATION_NO_ITEM;
  * - CBOR_DIAG_NO_PLACE for each other kind.
  *
- * If what is wrong is not in the input but in what it is encoded to, such as a text whose joined chunks are not in NFC,
- * both are set to CBOR_DIAG_NO_PLACE.
+ * If only the re-encoded items have the violation, as a text whose joined chunks are not in NFC, both are set to
+ * CBOR_DIAG_NO_PLACE.
  *
  * On an error, returns minus CBOR_DIAG_ERROR_NO_RULES or minus CBOR_DIAG_ERROR_MEMORY. Then, and if there is an
  * encoding, both are set to CBOR_DIAG_NO_PLACE.
@@ -523,23 +523,24 @@ static inline int64_t cbor_diag_reencode_fault_checked(uint32_t rules, const voi
 #define cbor_diag_reencode_fault cbor_diag_reencode_fault_checked
 
 /*
- * Says what a part of an item is called, by the names of COSE, CWT, EAT, SenML and CTAP2: the name of its key in a map,
- * of a member of an array, of the tag before it, or of the type of the outermost item.
+ * Finds the name of a part of an item in COSE, CWT, EAT, SenML or CTAP2: that of its key in a map, of the member of an
+ * array, of the tag before it, or of the type of the outermost item.
  *
- * `path` leads to the part, in steps joined by /, as cborcat -p reads them; the empty path is the item itself, and one
- * with a * has no name. `type` is the type of the outermost item where no tag says it, such as COSE_Key; or empty.
+ * `path` leads to the part: steps joined by /, as cborcat -p reads them. The empty path leads to the item itself. The
+ * answer for a path with a * is that there is no name. `type` is the type of the outermost item where no tag says it,
+ * such as COSE_Key; or empty.
  *
- * Returns the length of the name, which is ASCII, and of which as much is written as fits `output`; 0 if the part has
- * no name. On an error, returns minus a number of enum cbor_diag_error, and `output` is unchanged:
+ * Returns the length of the name, which is ASCII, and writes as much of it as fits into `output`. Returns 0 if the part
+ * has no name. On an error, returns minus a number of enum cbor_diag_error, and `output` is unchanged:
  *
- * - the error for which the bytes are no item; CBOR_DIAG_ERROR_UTF8 also for a path that is not UTF-8;
+ * - the error of bytes that are not an item; CBOR_DIAG_ERROR_UTF8 also for a path that is not UTF-8;
  * - CBOR_DIAG_ERROR_NO_PART, CBOR_DIAG_ERROR_NO_TYPE and CBOR_DIAG_ERROR_MEMORY.
  *
  *     char name[64];
  *     cbor_diag_name_at("\xd2\x84\x43\xa1\x01\x26\xa0\x40\x40", 9, "0/@/1", 5, NULL, 0, name, sizeof name);
  *     // 3: the key 1 in the protected header is called alg
  *
- * The tables are made at each call. A pointer may be null if its length is 0. The output must not overlap the others.
+ * Each call makes the tables anew. A pointer may be null if its length is 0. The output must not overlap the others.
  */
 static inline int64_t cbor_diag_name_at_checked(const void *input, size_t input_len, const void *path, size_t path_len,
                                                 const void *type, size_t type_len, void *output, size_t output_len)
@@ -560,8 +561,8 @@ static inline int64_t cbor_diag_name_at_checked(const void *input, size_t input_
 
 /*
  * Writes the text of an error into `text`, with a zero byte at its end, and returns `text`. `answer` is the negative
- * result of a call. A text that is longer than `size` is cut; CBOR_DIAG_ERROR_TEXT_SIZE is enough for each. `size`
- * is at least 1.
+ * result of a call. A text that does not fit into `size` bytes is truncated; CBOR_DIAG_ERROR_TEXT_SIZE is enough for
+ * each. `size` is at least 1.
  */
 static inline const char *cbor_diag_strerror(int64_t answer, char *text, size_t size)
 {
@@ -576,9 +577,9 @@ static inline const char *cbor_diag_strerror(int64_t answer, char *text, size_t 
 #define CBOR_DIAG_VIOLATION_TEXT_SIZE 64
 
 /*
- * Writes in words what is wrong into `text`, with a zero byte at its end, and returns `text`. `kind` is the positive
- * result of cbor_diag_violation. A text that is longer than `size` is cut; CBOR_DIAG_VIOLATION_TEXT_SIZE is enough for each.
- * `size` is at least 1.
+ * Writes the text of a violation into `text`, with a zero byte at its end, and returns `text`. `kind` is the positive
+ * result of cbor_diag_violation. A text that does not fit into `size` bytes is truncated; CBOR_DIAG_VIOLATION_TEXT_SIZE
+ * is enough for each. `size` is at least 1.
  */
 static inline const char *cbor_diag_strviolation(int64_t kind, char *text, size_t size)
 {
