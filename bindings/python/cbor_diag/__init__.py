@@ -1,5 +1,5 @@
-"""CBOR data items (RFC 8949) in bytes, in hex with comments, in diagnostic notation, in EDN, the notation that people
-write, and as JSON.
+"""Converts CBOR data items (RFC 8949) between bytes, hex with comments, diagnostic notation, EDN (the notation that
+people write) and JSON.
 
     >>> edn_to_bytes('[1.5, {"a": 2}]').hex()
     '82f93e00a1616102'
@@ -8,12 +8,12 @@ write, and as JSON.
     >>> bytes_to_json(bytes.fromhex("a201f97e000243010203"))
     '{"1": null, "2": "AQID"}'
 
-The library libcbor_diag does the work. It is searched for at the path in the environment variable CBOR_DIAG_LIBRARY,
-then beside this module, then in this repository's dist/lib, then where the system looks for libraries.
+The library libcbor_diag does the work. The module looks for it at the path in the environment variable
+CBOR_DIAG_LIBRARY, then beside itself, then in this repository's dist/lib, then where the system looks for libraries.
 
-Data is read where it is, without a copy. Calls may be made from any number of threads. A call on `str`, `bytes` or a
-part of `bytes` releases the interpreter's lock. A call on other data holds it, so that no thread changes the data, and
-so does a call of a `Scanner`.
+Data is read where it is, without a copy. Any number of threads may make calls. A call on `str`, `bytes` or a part of
+`bytes` releases the interpreter's lock. A call on other data holds it, so that no thread changes the data. So does a
+call of a `Scanner`.
 """
 from __future__ import annotations
 
@@ -65,7 +65,7 @@ Bytes = Union[bytes, bytearray, memoryview]
 """The bytes of items."""
 
 Data = Union[Bytes, str]
-"""The bytes of items or the text of one: a `str` is taken as its UTF-8."""
+"""The bytes of items, or the text of an item: a `str` is read as its UTF-8."""
 
 _Result = TypeVar("_Result")
 
@@ -78,24 +78,24 @@ class Form(enum.IntEnum):
     HEX = 1
     """Hex with comments from # to the end of the line. As an output it is a dump."""
     DIAG = 2
-    """Diagnostic notation. As an output it has no line feed but those in its texts, and one that ends it."""
+    """Diagnostic notation. As an output it has only line feeds of its texts, and one at its end."""
     PRETTY = 3
-    """Diagnostic notation. As an output it may have several lines, and a line feed ends it."""
+    """Diagnostic notation. As an output it may have several lines, and ends with a line feed."""
     EDN = 4
-    """One item in EDN, as which JSON text is read, too. As an output it is one line, and a line feed ends it."""
+    """One item in EDN. An input may be JSON. As an output it is one line, and ends with a line feed."""
     EDN_PRETTY = 5
-    """One item in EDN. As an output it may have several lines, with notes as comments, and a line feed ends it."""
+    """One item in EDN. As an output it may have several lines and comments, and ends with a line feed."""
     JSON = 6
-    """JSON on one line, and a line feed ends it. An input is read as EDN."""
+    """JSON on one line, with a line feed at its end. An input is read as EDN."""
     JSON_STRICT = 7
-    """The same, but an output that JSON does not keep is an error."""
+    """The same, but what JSON does not keep is an error."""
 
 
 class Error(enum.IntEnum):
     """Errors."""
 
     MEMORY = 1
-    """Out of memory. It says nothing of the input."""
+    """Out of memory. It says nothing about the input."""
     CUT_SHORT = 2
     """The item is truncated: more bytes are needed."""
     HEAD = 3
@@ -109,9 +109,9 @@ class Error(enum.IntEnum):
     ODD_HEX = 7
     """Without comments, spaces and line ends, the hex has an odd number of bytes, whatever they are."""
     BAD_HEX = 8
-    """The number is even, and one of them is no hex digit."""
+    """That number is even, and one of the bytes is not a hex digit."""
     NOTATION = 9
-    """Not diagnostic notation; or not one item in EDN, whatever is wrong."""
+    """Not diagnostic notation, or not one item in EDN."""
     PAST_WIDTH = 10
     """A number does not fit its width."""
     NO_FORM = 11
@@ -119,7 +119,7 @@ class Error(enum.IntEnum):
     NO_RULES = 12
     """No such rules."""
     NOT_ENCODABLE = 13
-    """No encoding of the items keeps the rules, or the bytes are no items."""
+    """No encoding of the items keeps the rules, or the bytes are not items."""
     SAME_KEYS = 14
     """Two keys of a map become the same in JSON."""
     NOT_KEPT = 15
@@ -127,16 +127,16 @@ class Error(enum.IntEnum):
     NO_PART = 16
     """The path leads to no part of the item."""
     NO_TYPE = 17
-    """No such type: the tables of names have none of this name."""
+    """No type of the tables of names has this name."""
 
 
 class Rules(enum.IntEnum):
-    """Sets of rules for an encoding. Each has the rules of the first one."""
+    """Sets of rules for an encoding. Each includes the rules of the first."""
 
     RFC8949 = 0
     """Well formed: no f8 before a byte below 32."""
     VALID = 1
-    """No two keys of a map are one: their core encodings differ (RFC 8949, sections 5.3.1 and 5.6.1)."""
+    """No map has a key twice: the core encodings of its keys differ (RFC 8949, sections 5.3.1 and 5.6.1)."""
     PREFERRED = 2
     """Preferred serialization (RFC 8949, section 4.1)."""
     CORE = 3
@@ -150,18 +150,18 @@ class Rules(enum.IntEnum):
 
 
 class ViolationKind(enum.IntEnum):
-    """What is wrong with a head, or with a key, that breaks a rule."""
+    """How a head or a key violates a rule."""
 
     NO_ITEM = 1
-    """No item begins there, or it is cut, or its content is not UTF-8."""
+    """No item begins there, or it is truncated, or its content is not UTF-8."""
     LONG_SIMPLE = 2
     """f8 before a byte below 32."""
     LONG_HEAD = 3
-    """A shorter width has the number: a value, a length, a count or a tag."""
+    """A number in a non-minimal width: a value, a length, a count or a tag."""
     NOT_NFC = 4
     """A text, or a chunk of one, that is not in NFC."""
     LONG_FLOAT = 5
-    """A shorter width has the float."""
+    """A float in a non-minimal width."""
     INTEGER_FLOAT = 6
     """A float that is an integer."""
     OTHER_NAN = 7
@@ -181,7 +181,7 @@ class ViolationKind(enum.IntEnum):
     KEY_ORDER = 14
     """A key that comes before the one before it, in the order of keys."""
     KEY_TWICE = 15
-    """A key that stands twice."""
+    """A key that the map has already."""
 
 
 class LossKind(enum.IntEnum):
@@ -192,15 +192,15 @@ class LossKind(enum.IntEnum):
     NOT_FINITE = 2
     """NaN or an infinity."""
     SIMPLE = 3
-    """Undefined, or another simple value that is none of false, true and null."""
+    """A simple value other than false, true and null."""
     BYTES = 4
     """A byte string."""
     KEY = 5
-    """A key that is no text."""
+    """A key that is not a text string."""
 
 
 class Loss(NamedTuple):
-    """The first thing from the left that JSON does not keep."""
+    """The first thing in an item that JSON does not keep."""
 
     kind: LossKind
     """What it is."""
@@ -212,16 +212,16 @@ class _Violation(NamedTuple):
     kind: ViolationKind
     """What is wrong."""
     place: int
-    """How many bytes come before the head, or before the key, that breaks the rule."""
+    """How many bytes come before the head or the key that violates the rule."""
     other: Optional[int] = None
-    """The place of the key before, for `KEY_ORDER`, and of the first of the two, for `KEY_TWICE`."""
+    """The place of the key before, for `KEY_ORDER`, or of the first of the two keys, for `KEY_TWICE`."""
     error: Optional[Error] = None
     """The error, for `NO_ITEM`."""
 
 
 class Violation(_Violation):
-    """The first place where bytes break a rule. Its `str` says in words what is wrong and where, and of a violation that a
-    call found also of which value: `a key that stands twice: 1 at byte 3, first at byte 1`."""
+    """The first violation of a rule. Its `str` says what is wrong and where. If a call found it, the `str` also has the
+    value: `a key that stands twice: 1 at byte 3, first at byte 1`."""
 
     _words: Optional[str] = None
 
@@ -230,32 +230,31 @@ class Violation(_Violation):
 
 
 class CborDiagError(ValueError):
-    """The input is not an item, or memory ran out. The text says what is wrong: in bytes and hex it also says where in
-    the item, and of EDN what has to be there.
+    """The input is not an item, or memory ran out. The text says what is wrong. For bytes and hex it also says where in
+    the item, and for EDN what has to be there.
 
-    `error` says which error it is. `offset` says where: how many bytes of the input come before the fault, or how many
-    characters if `convert` was given a `str`. It is `None` where there is no place: out of memory, and for no form.
+    `error` is the kind of the error. `offset` is the error position: how many bytes of the input come before it, or how
+    many characters if `convert` was given a `str`. It is `None` out of memory, and if there is no such form.
 
-    The fault is the byte that no item can have there; the last byte of a text that is not UTF-8; the end of what is cut
-    short; or the first byte after the item. In hex it is the first digit of that byte, or the digit that is wrong,
-    which is the last of an odd number. In notation and EDN it is where the reader stops: before the first byte with
-    which the text cannot go on, or at the end of a text that is only truncated. In hex, notation or EDN that is not
-    UTF-8 it is the first byte that is not.
+    In bytes the error position is the malformed byte; the last byte of a text that is not UTF-8; the end of truncated
+    bytes; or the first byte after the item. In hex it is the first digit of that byte, or the digit that is wrong,
+    which is the last of an odd number. In notation and EDN it is the first byte with which the text cannot go on, or
+    the end of a text that is only truncated. In hex, notation or EDN that is not UTF-8 it is the first byte that is
+    not.
 
-    `path` leads to the item that is cut or has the fault, in steps joined by `/`, as `cborcat -p` reads them; `/` is the
-    outermost item. It is `None` where there is none: in notation, EDN and hex whose digits are wrong, where more bytes
-    follow an item, out of memory, and if `extent` or `Scanner.feed` raised the error.
+    `path` leads to the truncated or malformed item: steps joined by `/`, as `cborcat -p` reads them; `/` is the
+    outermost item. It is `None` in notation, in EDN, in hex whose digits are wrong, if more bytes follow an item, out
+    of memory, and if `extent` or `Scanner.feed` raised the error.
 
-    If `extent`, `Scanner.feed` or `items` raised it, `end` is the number of first bytes that have the error.
+    If `extent`, `Scanner.feed` or `items` raised it, `end` is the number of first bytes that show the error.
 
-    Where an item has no JSON, `keys` is for `SAME_KEYS` how many bytes of the item come before the first and the second
-    of the two keys, and `loss` is for `NOT_KEPT` what JSON does not keep. The bytes of the item are those of data in
-    bytes, those that the digits of hex are, and of notation and EDN those that it is converted to. Of data in bytes
-    `offset` is the place of the second key, or of the loss; in other forms it is `None`.
+    If an item has no JSON, `keys` or `loss` says why. For `SAME_KEYS`, `keys` is how many bytes of the item come before
+    the first and the second of the two keys. For `NOT_KEPT`, `loss` is what JSON does not keep. The bytes of the item
+    are those of its conversion to the form `BYTES`. For data in bytes, `offset` is the place of the second key or of
+    the loss; in other forms it is `None`.
 
-    If `reencode` raised `NOT_ENCODABLE`, `violation` says what is wrong and where: if a key stands twice, its `place` is
-    that of the second, and its `other` that of the first. It is `None` if what is wrong is not in the data but in what
-    it is encoded to.
+    If `reencode` raised `NOT_ENCODABLE`, `violation` is the violation. For `KEY_TWICE`, its `place` is that of the
+    second key, and its `other` that of the first. It is `None` if only the re-encoded items have a violation.
     """
 
     def __init__(
@@ -297,7 +296,7 @@ def _library_path() -> str:
 
 
 class _Library:
-    """The calls of the library. `kind` says if one of them holds the interpreter's lock."""
+    """The calls of the library. `kind` says whether they hold the interpreter's lock."""
 
     def __init__(self, kind: Any) -> None:
         try:
@@ -378,7 +377,7 @@ def _violation_text(kind: ViolationKind) -> str:
 
 
 def _violation_words(found: Violation, value: str = "", before: str = "") -> str:
-    """What is said of a violation: of the value at its place, and of the key before it, in EDN."""
+    """The text of a violation, with the value at its place and the key before it in EDN."""
     text = _violation_text(found.kind) if found.error is None else _error_text(found.error)
     words = f"{text}: {value} at byte {found.place}" if value else f"{text} at byte {found.place}"
     if found.kind is ViolationKind.KEY_ORDER:
@@ -414,11 +413,10 @@ _release_buffer.argtypes = [ctypes.POINTER(_View)]
 
 
 def _on_bytes(data: Bytes, call: Callable[..., _Result], *arguments: Any) -> _Result:
-    """Returns what `call` does of the library, of where the bytes of the data are, of how many they are, and of the
-    other arguments.
+    """Makes `call` with the library, the address and the number of the bytes of the data, and the other arguments.
 
-    Raises `TypeError` for a `str`, and for data that has no bytes, such as an `int`. Data whose bytes are not one after
-    the other is copied.
+    Raises `TypeError` for a `str`, and for data that has no bytes, such as an `int`. Copies data whose bytes are not
+    one after the other.
     """
     if isinstance(data, str):
         raise TypeError("a str has no bytes of CBOR: bytes.fromhex(text) gives those of hex digits")
@@ -441,7 +439,7 @@ _BYTES, _HEX, _DIAG, _PRETTY, _EDN, _EDN_PRETTY, _JSON, _JSON_STRICT = map(int, 
 
 
 def _form_number(form: Form) -> int:
-    """The number of a form. Raises `CborDiagError` for a number that the library cannot be given."""
+    """The number of a form. Raises `CborDiagError` for a number that does not fit the library's argument."""
     number = operator.index(form)
     if not 0 <= number < 2**32:
         raise CborDiagError(Error.NO_FORM)
@@ -449,7 +447,7 @@ def _form_number(form: Form) -> int:
 
 
 def _place(library: _Library, given: Any, length: int, source: int) -> Optional[int]:
-    """How many bytes come before the fault of an input, if it has a place."""
+    """The error position of an input, if it has one."""
     place = ctypes.c_size_t()
     library.fault(source, given, length, ctypes.byref(place))
     return None if place.value == _NO_PLACE else place.value
@@ -459,7 +457,7 @@ _NO_PLACE = ctypes.c_size_t(-1).value
 
 
 def _words(call: Callable[..., int], given: Any, length: int, source: int) -> Optional[str]:
-    """What a call of the library says of a fault; `None` for nothing, and if memory ran out."""
+    """The text that a call of the library writes for an error; `None` for an empty one, and if memory ran out."""
     text = ctypes.create_string_buffer(256)
     wanted = call(source, given, length, text, len(text))
     if wanted > len(text):
@@ -517,8 +515,8 @@ class _Room:
         self.view = memoryview(buffer)
 
 
-# The rooms that no call uses. A call takes one away for as long as it needs it, so that neither another thread nor a
-# signal's handler writes to it.
+# The rooms that no call uses. A call removes one while it needs it, so that neither another thread nor a signal handler
+# writes to it.
 _rooms: list[_Room] = []
 
 
@@ -541,7 +539,7 @@ def _dump(output: memoryview) -> str:
 def _converted(
     library: _Library, given: Any, length: int, source: int, target: int, kept: Callable[[memoryview], _Result]
 ) -> _Result:
-    """What `kept` makes of the output for the bytes that are given."""
+    """The result of `kept` on the output for the given bytes."""
     room = _room()
     try:
         wanted = library.convert(source, target, given, length, room.address, room.SIZE)
@@ -558,7 +556,7 @@ def _converted(
 
 
 def _convert(source: int, target: int, data: Data, kept: Callable[[memoryview], _Result]) -> _Result:
-    """The same for data of any kind. An error's place in a `str` counts its characters."""
+    """The same for data of any kind. The error position in a `str` counts characters."""
     if type(data) is bytes:
         return _converted(_releasing, data, len(data), source, target, kept)
     if source == _BYTES or not isinstance(data, str):
@@ -575,9 +573,10 @@ def _convert(source: int, target: int, data: Data, kept: Callable[[memoryview], 
 def convert(source: Form, target: Form, data: Data) -> bytes:
     """Converts an item from the form `source` to the form `target`.
 
-    A `str` is taken as its UTF-8; for the form `BYTES` it is a `TypeError`, and so is data that has no bytes. An output
-    in notation, EDN or JSON ends with a line feed. Raises `CborDiagError` if the input is not an item in its form or
-    the item has no output in the other.
+    A `str` is read as its UTF-8. An output in notation, EDN or JSON ends with a line feed.
+
+    Raises `CborDiagError` if the input is not an item in the form `source`, or the item has no output in the form
+    `target`. Raises `TypeError` for a `str` in the form `BYTES`, and for data that has no bytes.
     """
     return _convert(_form_number(source), _form_number(target), data, bytes)
 
@@ -591,7 +590,7 @@ def _beginning(found: int, end: int) -> int:
 
 
 def _no_item(found: int, begun: bytes, end: int, before: int) -> CborDiagError:
-    """The error of these bytes of a stream, with `before` bytes before them: what `convert` says of them."""
+    """The error of these bytes of a stream, with the text of `convert`. `before` bytes come before them."""
     error = Error(-found)
     given = begun[:end]
     text = _words(_releasing.fault_message, given, end, _BYTES)
@@ -605,10 +604,10 @@ def _found(library: _Library, given: Any, length: int, end: ctypes.c_size_t) -> 
 
 
 def extent(data: Bytes) -> int:
-    """Returns how many bytes the item at the front of `data` takes, which is at least 1; more may follow it.
+    """Returns the length of the item at the front of `data`, which is at least 1. More bytes may follow it.
 
-    Raises `CborDiagError` if there is none. The error is `CUT_SHORT` if the bytes end before the item does; more bytes
-    may complete it. With any other error, no item begins with these bytes, whatever follows them.
+    Raises `CborDiagError` if there is no item. The error is `CUT_SHORT` if the bytes end before the item does; more
+    bytes may complete it. With any other error, no item begins with these bytes, whatever follows them.
     """
     end = ctypes.c_size_t()
     found = _on_bytes(data, _found, end)
@@ -616,7 +615,7 @@ def extent(data: Bytes) -> int:
 
 
 def _rules_number(rules: Rules) -> int:
-    """The number of a set of rules. Raises `CborDiagError` for a number that the library cannot be given."""
+    """The number of a set of rules. Raises `CborDiagError` for a number that does not fit the library's argument."""
     number = operator.index(rules)
     if not 0 <= number < 2**32:
         raise CborDiagError(Error.NO_RULES)
@@ -636,7 +635,7 @@ def _value_at(library: _Library, given: Any, length: int, place: int) -> str:
 
 
 def _told_violation(library: _Library, given: Any, length: int, found: int, place: int, detail: int) -> Optional[Violation]:
-    """The violation of this kind in the bytes, if it has a place."""
+    """The violation that the library found in the bytes, if it has a place."""
     if place == _NO_PLACE:
         return None
     kind = ViolationKind(found)
@@ -659,25 +658,25 @@ def _violation(library: _Library, given: Any, length: int, rules: int) -> Option
 
 
 def violation(data: Bytes, rules: Rules) -> Optional[Violation]:
-    """Returns where `data` first breaks the rules; `None` if it is items, none or more, one after the other, that keep
-    them all.
+    """Returns the first violation of the rules in `data`; `None` if it is a sequence of items, or none, that keep the
+    rules.
 
     >>> violation(bytes.fromhex("82011802"), Rules.CORE).place
     2
 
-    Of a key that stands twice, `place` is that of the second, and `other` that of the first. Under `VALID` keys are one
-    if their core encodings are the same, whatever their bytes.
+    For `KEY_TWICE`, `place` is that of the second key, and `other` that of the first. By `VALID` two keys are the same
+    if their core encodings are, even if their bytes differ.
 
     >>> violation(edn_to_bytes("{1: -7, 1_0: -8}"), Rules.VALID).place
     3
 
-    Raises `CborDiagError` for no such rules, and if memory runs out, which only `VALID` and `DCBOR` take.
+    Raises `CborDiagError` if there are no such rules, and out of memory, which only `VALID` and `DCBOR` take.
     """
     return _on_bytes(data, _violation, _rules_number(rules))
 
 
 def _no_encoding(library: _Library, given: Any, length: int, rules: int, error: Error) -> CborDiagError:
-    """The error of data that is not encoded again."""
+    """The error of data that has no such encoding."""
     if error is not Error.NOT_ENCODABLE:
         return CborDiagError(error)
     place, detail = ctypes.c_size_t(), ctypes.c_size_t()
@@ -701,23 +700,23 @@ def _reencoded(library: _Library, given: Any, length: int, rules: int) -> bytes:
 
 
 def reencode(data: Bytes, rules: Rules) -> bytes:
-    """Encodes items, none or more, one after the other, again, so that they keep the rules. The result is of the same
-    items but for widths, kinds of length, the order of pairs, and numbers of which the rules leave one form: big numbers
-    that fit an integer, and under `DCBOR` floats that are integers. Data that keeps the rules is returned as it is.
+    """Re-encodes a sequence of items, or none, so that they keep the rules. The result has the same items but for
+    widths, kinds of length, the order of pairs and the forms of numbers: a big number that fits an integer becomes that
+    integer, and by `DCBOR` a float that is an integer does. Data that keeps the rules is returned as it is.
 
     >>> reencode(bytes.fromhex("a21802800180"), Rules.CORE).hex()
     'a201800280'
 
-    Raises `CborDiagError` with the error `NOT_ENCODABLE` if the data is no items; if it breaks a rule that no choice of
-    widths, lengths and order keeps; if two keys of a map are one, by their core encodings or once they are encoded
-    again; or if the joined chunks of a text break a rule. The `violation` of the error says which of these, and where.
-    Raises it also for no such rules, and if memory runs out.
+    Raises `CborDiagError` with the error `NOT_ENCODABLE` if the data is not a sequence of items; if it has a violation
+    that re-encoding cannot repair; if two keys of a map have the same core encoding or become the same; or if the
+    joined chunks of a text violate a rule. The `violation` of the error says which of these, and where. Raises it also
+    if there are no such rules, and out of memory.
     """
     return _on_bytes(data, _reencoded, _rules_number(rules))
 
 
 def _no_name(library: _Library, given: Any, length: int, error: Error) -> CborDiagError:
-    """The error of a part that has no answer: what `convert` says of data that is no item."""
+    """The error of `name_at`. For data that is not an item it is that of `convert`."""
     if error in (Error.NO_PART, Error.NO_TYPE):
         return CborDiagError(error)
     return _failure(library, given, length, _BYTES, _BYTES, error)
@@ -736,34 +735,34 @@ def _name(library: _Library, given: Any, length: int, path: bytes, kind: bytes) 
 
 
 def name_at(data: Bytes, path: str, type: Optional[str] = None) -> Optional[str]:
-    """Returns what the part of an item is called that `path` leads to, by the names of COSE, CWT, EAT, SenML and CTAP2;
-    `None` if it has no name.
+    """Returns the name of the part of an item that `path` leads to, in COSE, CWT, EAT, SenML or CTAP2; `None` if it has
+    no name.
 
     >>> name_at(bytes.fromhex("d28443a10126a04040"), "0/@/1")
     'alg'
     >>> name_at(bytes.fromhex("a10104"), "1", type="COSE_Key")
     'kty'
 
-    A path has steps joined by `/`, as `cborcat -p` reads them; the empty path is the item itself, and one with a `*`
-    has no name. `type` is the type of the outermost item where no tag says it.
+    A path has steps joined by `/`, as `cborcat -p` reads them. The empty path leads to the item itself. The result for
+    a path with a `*` is `None`. `type` is the type of the outermost item where no tag says it.
 
-    Raises `CborDiagError` if the data is no item, with `NO_PART` if the path leads to no part of it, with `NO_TYPE` if
-    there is no such type, and if memory runs out.
+    Raises `CborDiagError` if the data is not an item, if the path leads to no part of it (`NO_PART`), if there is no
+    such type (`NO_TYPE`), and out of memory.
     """
     steps, kind = (given.encode("utf-8", "surrogatepass") for given in (path, type or ""))
     return _on_bytes(data, _name, steps, kind)
 
 
 class Scanner:
-    """Reports how bytes begin that come in pieces, as `extent` does for all of them at once.
+    """Finds the length of an item that comes in pieces, as `extent` does for all bytes at once.
 
     >>> scanner = Scanner()
     >>> scanner.feed(b"\x82\x19\x03")
     >>> scanner.feed(b"\xe8\x02\xff")
     5
 
-    The time of `feed` grows with the new bytes alone: of those before, at most eight are looked at again. It takes two
-    kilobytes.
+    The time of `feed` grows with the new bytes alone: at most eight of the bytes before are read again. A scanner takes
+    two kilobytes.
     """
 
     __slots__ = ("_end", "_room")
@@ -774,16 +773,16 @@ class Scanner:
         self._renew()
 
     def _renew(self) -> None:
-        """Makes it a scanner that was fed no bytes."""
+        """Resets it to a scanner that was fed no bytes."""
         _holding.scanner_init(self._room)
 
     def _feed(self, given: Any, length: int) -> int:
-        """Feeds bytes, and returns what the library does."""
+        """Feeds bytes, and returns the library's result."""
         return _holding.scanner_feed(self._room, given, length, self._end)
 
     def feed(self, data: Bytes) -> Optional[int]:
-        """Feeds the bytes that come next, and returns how many bytes the item at the front of all of them takes; or
-        `None` if they end before the item does, so that more are needed.
+        """Feeds the next bytes. Returns the length of the item at the front of all bytes that were fed, or `None` if
+        more bytes are needed.
 
         Raises `CborDiagError` if no item begins with these bytes, whatever follows them. Its `end` and `offset` count
         from the first byte that was fed. Once there is a length or an error, it stays.
@@ -795,7 +794,7 @@ class Scanner:
 
 
 def _reader(stream: BinaryIO) -> Callable[[], bytes]:
-    """A function that reads what has come of a stream: no bytes at its end."""
+    """A function that reads the bytes of a stream that have come. It returns no bytes at the end."""
     size = 65536
     read = getattr(stream, "read1", None) or getattr(stream, "read", None)
     if read is None:
@@ -817,15 +816,15 @@ def _reader(stream: BinaryIO) -> Callable[[], bytes]:
 
 
 def items(stream: BinaryIO) -> Iterator[bytes]:
-    """Yields the bytes of each item of a binary stream, as soon as it is complete: of a file, a pipe or the file of a
-    socket.
+    """Yields the bytes of each item of a binary stream as soon as the item is complete. The stream is a file, a pipe or
+    the file of a socket.
 
-    It calls `read1`, `read` or `readinto` of the stream, the first that it has. The time grows with the bytes that
-    come, as that of `Scanner.feed` does. It keeps the bytes of one item, and of one read.
+    It calls `read1`, `read` or `readinto` of the stream, the first that the stream has. The time grows with the number
+    of bytes, as that of `Scanner.feed` does. It keeps the bytes of one item and of one read.
 
-    Raises `CborDiagError` after the last whole item if the stream goes on with bytes that are no item, or if it ends
-    inside of an item (`CUT_SHORT`). Its `end` and `offset` count from where the stream was; its `path` leads from that
-    item on, and so do the places in its text.
+    Raises `CborDiagError` after the last whole item if the next bytes are not an item, or if the stream ends inside of
+    an item (`CUT_SHORT`). Its `end` and `offset` count from where the stream was. Its `path` and the places in its text
+    count from the item with the error.
     """
     read = _reader(stream)
     scanner = Scanner()
@@ -861,7 +860,7 @@ def bytes_to_hex(data: Bytes) -> str:
 
 
 def bytes_to_diag(data: Bytes) -> str:
-    """An item in diagnostic notation, without a line feed but those in its texts."""
+    """An item in diagnostic notation, with no line feeds but those in its texts."""
     return _convert(_BYTES, _DIAG, data, _text)
 
 
@@ -876,7 +875,7 @@ def hex_to_bytes(text: Data) -> bytes:
 
 
 def hex_to_diag(text: Data) -> str:
-    """An item in hex in diagnostic notation, without a line feed but those in its texts."""
+    """An item in hex in diagnostic notation, with no line feeds but those in its texts."""
     return _convert(_HEX, _DIAG, text, _text)
 
 
@@ -896,7 +895,7 @@ def diag_to_hex(text: Data) -> str:
 
 
 def bytes_to_edn(data: Bytes) -> str:
-    """An item in EDN on one line, which is read back as the same bytes."""
+    """An item in EDN on one line. It is read back as the same bytes."""
     return _convert(_BYTES, _EDN, data, _text)
 
 
@@ -916,7 +915,7 @@ def hex_to_edn_pretty(text: Data) -> str:
 
 
 def edn_to_bytes(text: Data) -> bytes:
-    """The bytes of one item in EDN, as which JSON text is read, too."""
+    """The bytes of one item in EDN. The text may also be JSON."""
     return _convert(_EDN, _BYTES, text, bytes)
 
 
@@ -926,10 +925,10 @@ def edn_to_hex(text: Data) -> str:
 
 
 def bytes_to_json(data: Bytes, strict: bool = False) -> str:
-    """An item as JSON on one line, without a line feed at the end (RFC 8949, section 6.1). With `strict`, what JSON
-    does not keep is an error.
+    """An item as JSON on one line, without a line feed at the end (RFC 8949, section 6.1).
 
-    Raises `CborDiagError` also for an item of which two keys of a map become the same, as `1` and `"1"`.
+    Raises `CborDiagError` if two keys of a map become the same, as `1` and `"1"`, and with `strict` for what JSON does
+    not keep.
     """
     return _convert(_BYTES, _JSON_STRICT if strict else _JSON, data, _text)
 
