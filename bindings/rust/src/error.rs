@@ -7,7 +7,7 @@ use std::fmt;
 #[derive(Clone, Copy, PartialEq, Eq, Hash, Debug)]
 #[non_exhaustive]
 pub enum Error {
-    /// Out of memory. It says nothing of the input.
+    /// Out of memory. It says nothing about the input.
     Memory,
     /// The input ends before the item does.
     CutShort,
@@ -21,13 +21,13 @@ pub enum Error {
     Remaining,
     /// Without comments, spaces and line ends, the hex has an odd number of bytes, whatever they are.
     OddHex,
-    /// The number is even, and one of them is no hex digit.
+    /// That number is even, and one of the bytes is not a hex digit.
     BadHex,
-    /// The text is not diagnostic notation; or not one item in EDN, whatever is wrong.
+    /// The text is not diagnostic notation, or not one item in EDN.
     Notation,
     /// A number is too large for the width written after it.
     PastWidth,
-    /// No encoding of the items keeps the rules, or the bytes are no items.
+    /// No encoding of the items keeps the rules, or the bytes are not items.
     NotEncodable,
     /// Two keys of a map become the same in JSON.
     SameKeys,
@@ -35,7 +35,7 @@ pub enum Error {
     NotKept,
     /// The path leads to no part of the item.
     NoPart,
-    /// No such type: the tables of names have none of this name.
+    /// No type of the tables of names has this name.
     NoType,
 }
 
@@ -56,10 +56,10 @@ const ERRORS: [Error; 10] = [
     Error::PastWidth,
 ];
 
-/// A call of the library that says something of an input: a form, the input, and room for the words.
+/// A call of the library that writes a text about an input: a form, the input, and room for the text.
 type Call = unsafe extern "C" fn(u32, *const u8, usize, *mut u8, usize) -> i64;
 
-/// The number of `NotEncodable`. Those between are of arguments that no call of this crate makes.
+/// The number of `NotEncodable`. The numbers before it are errors of arguments that this crate never passes.
 const NOT_ENCODABLE: i64 = 13;
 
 /// The numbers of `SameKeys` and `NotKept`.
@@ -86,16 +86,16 @@ impl Error {
         }
     }
 
-    /// Finds the place of this error in the input of a conversion that failed: how many bytes of the input come before
-    /// the fault.
+    /// Finds the position of this error in the input of a failed conversion: how many bytes of the input come before
+    /// it.
     ///
-    /// In bytes the fault is the byte that no item can have there, or the last byte of a text that is not UTF-8; the
-    /// end of truncated bytes; or the first byte after an item that is not the last. In hex it is the first
-    /// digit of that byte; or the digit that is wrong, which is the last of an odd number. In notation and EDN it is
-    /// where the reader stops: before the first byte with which the text cannot go on, or at the end of a text that is
-    /// only truncated. In hex, notation or EDN that is not UTF-8 it is the first byte that is not.
+    /// In bytes the error position is the malformed byte; the last byte of a text that is not UTF-8; the end of
+    /// truncated bytes; or the first byte after the item. In hex it is the first digit of that byte, or the digit that
+    /// is wrong, which is the last of an odd number. In notation and EDN it is the first byte with which the text cannot
+    /// go on, or the end of a text that is only truncated. In hex, notation or EDN that is not UTF-8 it is the first
+    /// byte that is not.
     ///
-    /// Returns `None` if the input does not have this error, and if memory runs out.
+    /// Returns `None` if the input does not have this error, and out of memory.
     ///
     /// ```rust
     /// use semphluk::{convert, Form};
@@ -114,11 +114,11 @@ impl Error {
         found.then_some(place)
     }
 
-    /// Returns the path to the item that is cut or has this error, in the input of a conversion that failed: steps
-    /// joined by `/`, as `cborcat -p` reads them; `/` is the outermost item.
+    /// Returns the path to the truncated or malformed item in the input of a failed conversion: steps joined by `/`, as
+    /// `cborcat -p` reads them. `/` is the outermost item.
     ///
-    /// Returns `None` if the input does not have this error; in notation, EDN and hex whose digits are wrong; where more
-    /// bytes follow an item; and if memory runs out.
+    /// Returns `None` if the input does not have this error; in notation, EDN and hex whose digits are wrong; if more
+    /// bytes follow an item; and out of memory.
     ///
     /// ```rust
     /// use semphluk::{bytes_to_edn, Form};
@@ -131,7 +131,7 @@ impl Error {
         self.words(library::cbor_diag_fault_path, from, input)
     }
 
-    /// What a call of the library says of the input, if the input has this error.
+    /// The text of a call of the library about the input, if the input has this error.
     fn words(self, call: Call, from: Form, input: &[u8]) -> Option<String> {
         self.place(from, input)?;
         let mut text = vec![0; 256];
@@ -155,9 +155,9 @@ impl Error {
         }
     }
 
-    /// Returns in words why the input of a conversion failed with this error: in bytes and hex what is wrong and where
-    /// in the item, for EDN what has to be at the place, and in notation the text of the error. It is the text of the
-    /// error if the input does not have it, and if memory runs out.
+    /// Returns in words why a conversion of the input failed with this error. For bytes and hex the words say what is
+    /// wrong and where in the item, and for EDN what has to be at the error position. For notation, out of memory, and
+    /// if the input does not have this error, they are the text of the error.
     ///
     /// ```rust
     /// use semphluk::{edn_to_bytes, Form};

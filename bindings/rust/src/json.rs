@@ -3,8 +3,8 @@
 use crate::{library, notation, Error, Form, Result};
 use std::fmt;
 
-/// An item as JSON on one line, without a line feed at the end (RFC 8949, section 6.1). Tags are left out, NaN, the
-/// infinities and undefined are null, byte strings are base64url, and a key that is no text is a string of its EDN.
+/// An item as JSON on one line, without a line feed at the end (RFC 8949, section 6.1). Tags are left out. NaN, the
+/// infinities and undefined become null, byte strings base64url, and a key that is no text a string of its EDN.
 ///
 /// The errors are those of [`convert`](crate::convert), and [`Error::SameKeys`] if two keys of a map become the same.
 ///
@@ -41,11 +41,11 @@ pub enum LossKind {
     Tag,
     /// NaN or an infinity.
     NotFinite,
-    /// Undefined, or another simple value that is none of false, true and null.
+    /// A simple value other than false, true and null.
     Simple,
     /// A byte string.
     Bytes,
-    /// A key that is no text.
+    /// A key that is not a text string.
     Key,
 }
 
@@ -75,7 +75,7 @@ impl fmt::Display for LossKind {
     }
 }
 
-/// Why an item has no JSON. Each place is how many bytes of the item come before.
+/// Why an item has no JSON. A place is how many bytes of the item come before it.
 #[derive(Clone, Copy, PartialEq, Eq, Hash, Debug)]
 pub enum JsonFault {
     /// Two keys of a map become the same.
@@ -87,7 +87,7 @@ pub enum JsonFault {
     },
     /// JSON does not keep this: only for [`Form::JsonStrict`].
     NotKept {
-        /// The place of the first of it, from the left.
+        /// The first place of it.
         place: usize,
         /// What it is.
         kind: LossKind,
@@ -97,10 +97,9 @@ pub enum JsonFault {
 /// Finds why an item has no JSON, after [`convert`](crate::convert) of the two forms has failed with
 /// [`Error::SameKeys`] or [`Error::NotKept`].
 ///
-/// The bytes of the item are those of an input in bytes, those that the digits of one in hex are, and for one in
-/// notation, EDN or JSON those that it is converted to.
+/// The bytes of the item are those of a conversion to [`Form::Bytes`].
 ///
-/// Returns `None` if the conversion has an output or another error, and if memory runs out.
+/// Returns `None` if the conversion has an output or another error, and out of memory.
 ///
 /// ```rust
 /// use semphluk::{json_fault, Form, JsonFault};

@@ -21,17 +21,17 @@ pub enum Form {
     Bytes,
     /// Hex with comments from `#` to the end of the line. As an output it is a dump.
     Hex,
-    /// Diagnostic notation. As an output it has no line feed but those in its texts, and one that ends it.
+    /// Diagnostic notation. As an output it has only line feeds of its texts, and one at its end.
     Diag,
-    /// Diagnostic notation. As an output it may have several lines, and a line feed ends it.
+    /// Diagnostic notation. As an output it may have several lines, and ends with a line feed.
     Pretty,
-    /// One item in EDN, as which JSON text is read, too. As an output it is one line, and a line feed ends it.
+    /// One item in EDN. An input may be JSON. As an output it is one line, and ends with a line feed.
     Edn,
-    /// One item in EDN. As an output it may have several lines, with notes as comments, and a line feed ends it.
+    /// One item in EDN. As an output it may have several lines and comments, and ends with a line feed.
     EdnPretty,
-    /// JSON on one line, and a line feed ends it. An input is read as EDN.
+    /// JSON on one line, with a line feed at its end. An input is read as EDN.
     Json,
-    /// The same, but an output that JSON does not keep is an error.
+    /// The same, but what JSON does not keep is an error.
     JsonStrict,
 }
 
@@ -51,14 +51,14 @@ impl Form {
 }
 
 mod library {
-    /// The memory of a scanner, in which only the library looks. It holds no pointers.
+    /// The memory of a scanner. Only the library looks inside. It holds no pointers.
     #[repr(C)]
     #[derive(Clone)]
     pub struct ScannerRoom(pub [u64; 256]);
 
     extern "C" {
-        /// Returns the length of the whole output, of which as much is written as fits, or minus the number of an
-        /// error. It reads no byte of the output.
+        /// Returns the length of the whole output, or minus the number of an error, and writes as much of the output as
+        /// fits. It reads no byte of the output.
         pub fn cbor_diag_convert(
             from: u32,
             to: u32,
@@ -70,15 +70,15 @@ mod library {
         /// Returns how many bytes the item takes, or minus the number of an error, and writes to `end` how many first
         /// bytes decide that.
         pub fn cbor_diag_extent(input: *const u8, input_len: usize, end: *mut usize) -> i64;
-        /// Returns minus the number of the error for which the input is no item, or 0, and writes to `place` how many
-        /// bytes come before the fault, or `usize::MAX`.
+        /// Returns minus the number of the error of an input that is not an item, or 0, and writes the error position to
+        /// `place`, or `usize::MAX`.
         pub fn cbor_diag_fault(
             from: u32,
             input: *const u8,
             input_len: usize,
             place: *mut usize,
         ) -> i64;
-        /// Returns the length of the path to where the input is no item, or 0, or minus the number of an error, and
+        /// Returns the length of the path to the truncated or malformed item, or 0, or minus the number of an error, and
         /// writes as much of it as fits.
         pub fn cbor_diag_fault_path(
             from: u32,
@@ -87,7 +87,7 @@ mod library {
             path: *mut u8,
             path_len: usize,
         ) -> i64;
-        /// The same of what is said of that.
+        /// The same for the message of that.
         pub fn cbor_diag_fault_message(
             from: u32,
             input: *const u8,
@@ -95,8 +95,8 @@ mod library {
             message: *mut u8,
             message_len: usize,
         ) -> i64;
-        /// Returns minus the number of the error for which there is no output, or 0, and writes to `place` and `detail`
-        /// where in the bytes of the item that is, and what else is told of it, or `usize::MAX`.
+        /// Returns minus the number of the error of a conversion without an output, or 0, and writes to `place` and
+        /// `detail` where in the bytes of the item it is, and its detail, or `usize::MAX`.
         pub fn cbor_diag_output_fault(
             from: u32,
             to: u32,
@@ -105,7 +105,7 @@ mod library {
             place: *mut usize,
             detail: *mut usize,
         ) -> i64;
-        /// Makes a scanner of the memory.
+        /// Initializes a scanner.
         pub fn cbor_diag_scanner_init(scanner: *mut ScannerRoom);
         /// Does what `cbor_diag_extent` does for all bytes that the scanner was fed.
         pub fn cbor_diag_scanner_feed(
@@ -115,7 +115,7 @@ mod library {
             end: *mut usize,
         ) -> i64;
         /// Returns the number of the kind of the first violation, or 0, or minus the number of an error, and writes to
-        /// `place` and `detail` where it is, and what else is told of it.
+        /// `place` and `detail` where it is, and its detail.
         pub fn cbor_diag_violation(
             rules: u32,
             input: *const u8,
@@ -123,8 +123,8 @@ mod library {
             place: *mut usize,
             detail: *mut usize,
         ) -> i64;
-        /// Returns the length of the items encoded again, of which as much is written as fits, or minus the number of an
-        /// error. It reads no byte of the output.
+        /// Returns the length of the re-encoded items, or minus the number of an error, and writes as much of them as
+        /// fits. It reads no byte of the output.
         pub fn cbor_diag_reencode(
             rules: u32,
             input: *const u8,
@@ -132,8 +132,8 @@ mod library {
             output: *mut u8,
             output_len: usize,
         ) -> i64;
-        /// Returns the number of the kind of what no encoding avoids, or 0, or minus the number of an error, and writes
-        /// to `place` and `detail` where it is, and what else is told of it, or `usize::MAX`.
+        /// Returns the number of the kind of violation that re-encoding cannot repair, or 0, or minus the number of an
+        /// error, and writes to `place` and `detail` where it is, and its detail, or `usize::MAX`.
         pub fn cbor_diag_reencode_fault(
             rules: u32,
             input: *const u8,
@@ -141,8 +141,8 @@ mod library {
             place: *mut usize,
             detail: *mut usize,
         ) -> i64;
-        /// Returns the length of the name of a part, of which as much is written as fits, or minus the number of an
-        /// error. It reads no byte of the output.
+        /// Returns the length of the name of a part, or minus the number of an error, and writes as much of the name as
+        /// fits. It reads no byte of the output.
         pub fn cbor_diag_name_at(
             input: *const u8,
             input_len: usize,
@@ -165,7 +165,7 @@ fn likely_room(to: Form, input: &[u8]) -> usize {
     input.len().saturating_mul(factor).saturating_add(64)
 }
 
-/// Converts an item from one form to another. [`Error::place`] finds the place of an error in the input, and
+/// Converts an item from one form to another. [`Error::place`] finds the position of an error in the input, and
 /// [`json_fault`] says why an item has no JSON.
 pub fn convert(from: Form, to: Form, input: &[u8]) -> Result<Vec<u8>> {
     let mut output = Vec::new();
@@ -212,21 +212,21 @@ pub(crate) fn notation(from: Form, to: Form, input: &[u8]) -> Result<String> {
 /// How bytes begin.
 #[derive(Clone, Copy, PartialEq, Eq, Hash, Debug)]
 pub enum Extent {
-    /// An item comes first, and takes this number of bytes; more bytes may follow it.
+    /// The length of the item that comes first. More bytes may follow it.
     Item(usize),
-    /// The bytes end before the item does; more bytes may complete it.
+    /// The bytes end before the item does. More bytes may complete it.
     Cut,
     /// No item begins with these bytes, whatever follows them.
     Fault {
         /// The error.
         error: Error,
-        /// The first `end` bytes have it, and fewer bytes are cut.
+        /// The first `end` bytes show it; fewer bytes are only truncated.
         end: usize,
     },
 }
 
 impl Extent {
-    /// The beginning for an answer of the library, and for how many bytes decide it.
+    /// The beginning, by the result of the library and how many bytes decide it.
     fn of(answer: i64, end: usize) -> Extent {
         match usize::try_from(answer).map_err(|_| Error::of(answer)) {
             Ok(length) => Extent::Item(length),
@@ -249,7 +249,7 @@ pub fn bytes_to_hex(bytes: &[u8]) -> Result<String> {
     text(Form::Bytes, Form::Hex, bytes)
 }
 
-/// An item in diagnostic notation, without a line feed but those in its texts.
+/// An item in diagnostic notation, with no line feeds but those in its texts.
 pub fn bytes_to_diag(bytes: &[u8]) -> Result<String> {
     notation(Form::Bytes, Form::Diag, bytes)
 }
@@ -264,7 +264,7 @@ pub fn hex_to_bytes(hex: &str) -> Result<Vec<u8>> {
     convert(Form::Hex, Form::Bytes, hex.as_bytes())
 }
 
-/// An item in hex in diagnostic notation, without a line feed but those in its texts.
+/// An item in hex in diagnostic notation, with no line feeds but those in its texts.
 pub fn hex_to_diag(hex: &str) -> Result<String> {
     notation(Form::Hex, Form::Diag, hex.as_bytes())
 }
@@ -284,7 +284,7 @@ pub fn diag_to_hex(diag: &str) -> Result<String> {
     text(Form::Diag, Form::Hex, diag.as_bytes())
 }
 
-/// An item in EDN on one line, which is read back as the same bytes.
+/// An item in EDN on one line. It is read back as the same bytes.
 pub fn bytes_to_edn(bytes: &[u8]) -> Result<String> {
     notation(Form::Bytes, Form::Edn, bytes)
 }
@@ -304,7 +304,7 @@ pub fn hex_to_edn_pretty(hex: &str) -> Result<String> {
     notation(Form::Hex, Form::EdnPretty, hex.as_bytes())
 }
 
-/// The bytes of one item in EDN, as which JSON text is read, too.
+/// The bytes of one item in EDN. The text may also be JSON.
 pub fn edn_to_bytes(edn: &str) -> Result<Vec<u8>> {
     convert(Form::Edn, Form::Bytes, edn.as_bytes())
 }

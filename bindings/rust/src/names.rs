@@ -2,13 +2,13 @@
 
 use crate::{library, Error, Result};
 
-/// Returns what the part of an item is called that a path leads to, by the names of COSE, CWT, EAT, SenML and CTAP2;
-/// `None` if it has no name.
+/// Returns the name of the part of an item that a path leads to, in COSE, CWT, EAT, SenML or CTAP2; `None` if it has no
+/// name.
 ///
-/// A path has steps joined by `/`, as `cborcat -p` reads them; the empty path is the item itself, and one with a `*` has
-/// no name. `kind` is the type of the outermost item where no tag says it, such as `COSE_Key`.
+/// A path has steps joined by `/`, as `cborcat -p` reads them. The empty path leads to the item itself. The result for a
+/// path with a `*` is `None`. `kind` is the type of the outermost item where no tag says it, such as `COSE_Key`.
 ///
-/// The error is that for which the bytes are no item; [`Error::NoPart`] if the path leads to no part of it;
+/// The error is that of bytes that are not an item; [`Error::NoPart`] if the path leads to no part of the item;
 /// [`Error::NoType`] if there is no such type; or [`Error::Memory`].
 ///
 /// ```rust

@@ -1,15 +1,15 @@
-//! Rules that an encoding keeps: where bytes break them, and items encoded again so that they keep them.
+//! Rules of an encoding: the first violation, and items re-encoded so that they keep the rules.
 
 use crate::{library, Error, Result};
 use std::fmt;
 
-/// A set of rules for an encoding. Each has the rules of the first one.
+/// A set of rules for an encoding. Each includes the rules of the first.
 #[derive(Clone, Copy, PartialEq, Eq, Hash, Debug)]
 #[non_exhaustive]
 pub enum Rules {
     /// Well formed by RFC 8949: no `f8` before a byte below 32.
     Rfc8949,
-    /// No two keys of a map are one: their core encodings differ (RFC 8949, sections 5.3.1 and 5.6.1). Checking this
+    /// No map has a key twice: the core encodings of its keys differ (RFC 8949, sections 5.3.1 and 5.6.1). Checking this
     /// takes memory.
     Valid,
     /// Preferred serialization (RFC 8949, section 4.1).
@@ -24,28 +24,28 @@ pub enum Rules {
     Dcbor,
 }
 
-/// The first place where bytes break a rule. Its `Display` says in words what is wrong.
+/// The first violation of a rule. Its `Display` says what is wrong.
 #[derive(Clone, Copy, PartialEq, Eq, Hash, Debug)]
 pub struct Violation {
-    /// How many bytes come before the head, or before the key, that breaks the rule.
+    /// How many bytes come before the head or the key that violates the rule.
     pub place: usize,
     /// What is wrong there.
     pub kind: ViolationKind,
 }
 
-/// What is wrong with a head or with a key.
+/// How a head or a key violates a rule.
 #[derive(Clone, Copy, PartialEq, Eq, Hash, Debug)]
 #[non_exhaustive]
 pub enum ViolationKind {
-    /// No item begins there, or it is cut, or its content is not UTF-8.
+    /// No item begins there, or it is truncated, or its content is not UTF-8.
     NoItem(Error),
     /// `f8` before a byte below 32.
     LongSimple,
-    /// A shorter width has the number: a value, a length, a count or a tag.
+    /// A number in a non-minimal width: a value, a length, a count or a tag.
     LongHead,
     /// A text, or a chunk of one, that is not in NFC.
     NotNfc,
-    /// A shorter width has the float.
+    /// A float in a non-minimal width.
     LongFloat,
     /// A float that is an integer.
     IntegerFloat,
@@ -68,7 +68,7 @@ pub enum ViolationKind {
         /// The place of the key before.
         previous: usize,
     },
-    /// The key is the one at this place again.
+    /// The map has the key already, at this place.
     KeyTwice {
         /// The place of the first of the two.
         first: usize,
@@ -76,7 +76,7 @@ pub enum ViolationKind {
 }
 
 impl ViolationKind {
-    /// The kind with this number, and what else the library told of it.
+    /// The kind with this number and this detail.
     fn of(number: u32, detail: usize) -> ViolationKind {
         match number {
             1 => ViolationKind::NoItem(Error::of(-(detail as i64))),
@@ -139,9 +139,9 @@ impl fmt::Display for Violation {
     }
 }
 
-/// Returns where bytes first break the rules; `None` if they are items, none or more, one after the other, that keep
-/// them all. The only error is [`Error::Memory`], which only [`Rules::Valid`] and [`Rules::Dcbor`] can have. By
-/// [`Rules::Valid`] keys are one if their core encodings are the same, whatever their bytes.
+/// Returns the first violation of the rules; `None` if the bytes are a sequence of items, or none, that keep the rules.
+/// The only error is [`Error::Memory`], which only [`Rules::Valid`] and [`Rules::Dcbor`] can have. By [`Rules::Valid`]
+/// two keys are the same if their core encodings are, even if their bytes differ.
 ///
 /// ```rust
 /// use semphluk::{violation, Violation, ViolationKind, Rules};
@@ -172,14 +172,14 @@ pub fn violation(bytes: &[u8], rules: Rules) -> Result<Option<Violation>> {
     }
 }
 
-/// Encodes items, none or more, one after the other, again, so that they keep the rules. The result is of the same items
-/// but for widths, kinds of length, the order of pairs and the forms of numbers: a big number that an integer can have
-/// becomes that integer, and by [`Rules::Dcbor`] a float that is an integer does. Bytes that keep the rules are returned
-/// as they are.
+/// Re-encodes a sequence of items, or none, so that they keep the rules. The result has the same items but for widths,
+/// kinds of length, the order of pairs and the forms of numbers: a big number that fits an integer becomes that integer,
+/// and by [`Rules::Dcbor`] a float that is an integer does. Bytes that keep the rules are returned as they are.
 ///
-/// The error is [`Error::NotEncodable`] if the bytes are no items; if they break a rule that no choice of widths, lengths
-/// and order keeps; if two keys of a map are one, by their core encodings or once they are encoded again; or if the joined
-/// chunks of a text break a rule: [`reencode_fault`] says which of these, and where. Otherwise it is [`Error::Memory`].
+/// The error is [`Error::NotEncodable`] if the bytes are not a sequence of items; if they have a violation that
+/// re-encoding cannot repair; if two keys of a map have the same core encoding or become the same; or if the joined chunks
+/// of a text violate a rule. [`reencode_fault`] says which of these, and where. The only other error is
+/// [`Error::Memory`].
 ///
 /// ```rust
 /// use semphluk::{reencode, Rules};
@@ -217,10 +217,10 @@ pub fn reencode(bytes: &[u8], rules: Rules) -> Result<Vec<u8>> {
 /// Why items have no encoding that keeps the rules.
 #[derive(Clone, Copy, PartialEq, Eq, Hash, Debug)]
 pub enum ReencodeFault {
-    /// This is wrong in the bytes, and no encoding avoids it. A key that stands twice may differ in the bytes from the
-    /// first of the two, as `01` and `18 01`: they are one by their core encodings, or once they are encoded again.
+    /// A violation in the bytes that re-encoding cannot repair. The bytes of two keys that are the same may differ, as
+    /// `01` and `18 01`: they have the same core encoding, or become the same.
     Violation(Violation),
-    /// What the items are encoded to breaks a rule, such as a text whose joined chunks are not in NFC.
+    /// A violation in the re-encoded items, such as a text whose joined chunks are not in NFC.
     Written,
 }
 

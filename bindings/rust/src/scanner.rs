@@ -4,9 +4,9 @@ use crate::library::{cbor_diag_scanner_feed, cbor_diag_scanner_init, ScannerRoom
 use crate::Extent;
 use std::fmt;
 
-/// Reports how bytes begin that come in pieces, as [`extent`](crate::extent) does for all of them at once. The time of
-/// [`feed`](Scanner::feed) grows with the new bytes alone: of those before, at most eight are looked at again. It takes
-/// two kilobytes, and allocates nothing.
+/// Reports how bytes begin that come in pieces, as [`extent`](crate::extent) does for all bytes at once. The time of
+/// [`feed`](Scanner::feed) grows with the new bytes alone: at most eight of the bytes before are read again. A scanner
+/// takes two kilobytes, and allocates nothing.
 ///
 /// ```rust
 /// use semphluk::{Extent, Scanner};
@@ -30,8 +30,8 @@ impl Scanner {
         Scanner { room }
     }
 
-    /// Feeds the bytes that come next, and reports how all bytes that were fed begin, counts included. An item or a
-    /// fault stays, whatever is fed.
+    /// Feeds the next bytes, and reports how all bytes that were fed begin. Once there is an item or an error, it stays,
+    /// whatever is fed.
     pub fn feed(&mut self, bytes: &[u8]) -> Extent {
         let mut end = 0;
         // SAFETY: a scanner is in the memory at the first pointer. The others are those of the slice, with its length,
