@@ -91,9 +91,9 @@ impl Error {
     ///
     /// In bytes the error position is the malformed byte; the last byte of a text that is not UTF-8; the end of
     /// truncated bytes; or the first byte after the item. In hex it is the first digit of that byte, or the digit that
-    /// is wrong, which is the last of an odd number. In notation and EDN it is the first byte with which the text cannot
-    /// go on, or the end of a text that is only truncated. In hex, notation or EDN that is not UTF-8 it is the first
-    /// byte that is not.
+    /// is wrong, which is the last of an odd number. In notation and EDN it is the first byte with which the text
+    /// cannot go on, or the end of a text that is only truncated. In hex, notation or EDN that is not UTF-8 it is the
+    /// first byte that is not.
     ///
     /// Returns `None` if the input does not have this error, and out of memory.
     ///

@@ -70,16 +70,16 @@ mod library {
         /// Returns how many bytes the item takes, or minus the number of an error, and writes to `end` how many first
         /// bytes decide that.
         pub fn cbor_diag_extent(input: *const u8, input_len: usize, end: *mut usize) -> i64;
-        /// Returns minus the number of the error of an input that is not an item, or 0, and writes the error position to
-        /// `place`, or `usize::MAX`.
+        /// Returns minus the number of the error of an input that is not an item, or 0, and writes the error position
+        /// to `place`, or `usize::MAX`.
         pub fn cbor_diag_fault(
             from: u32,
             input: *const u8,
             input_len: usize,
             place: *mut usize,
         ) -> i64;
-        /// Returns the length of the path to the truncated or malformed item, or 0, or minus the number of an error, and
-        /// writes as much of it as fits.
+        /// Returns the length of the path to the truncated or malformed item, or 0, or minus the number of an error,
+        /// and writes as much of it as fits.
         pub fn cbor_diag_fault_path(
             from: u32,
             input: *const u8,

@@ -5,8 +5,8 @@ use crate::{library, Error, Result};
 /// Returns the name of the part of an item that a path leads to, in COSE, CWT, EAT, SenML or CTAP2; `None` if it has no
 /// name.
 ///
-/// A path has steps joined by `/`, as `cborcat -p` reads them. The empty path leads to the item itself. The result for a
-/// path with a `*` is `None`. `kind` is the type of the outermost item where no tag says it, such as `COSE_Key`.
+/// A path has steps joined by `/`, as `cborcat -p` reads them. The empty path leads to the item itself. The result for
+/// a path with a `*` is `None`. `kind` is the type of the outermost item where no tag says it, such as `COSE_Key`.
 ///
 /// The error is that of bytes that are not an item; [`Error::NoPart`] if the path leads to no part of the item;
 /// [`Error::NoType`] if there is no such type; or [`Error::Memory`].

@@ -9,8 +9,8 @@ use std::fmt;
 pub enum Rules {
     /// Well formed by RFC 8949: no `f8` before a byte below 32.
     Rfc8949,
-    /// No map has a key twice: the core encodings of its keys differ (RFC 8949, sections 5.3.1 and 5.6.1). Checking this
-    /// takes memory.
+    /// No map has a key twice: the core encodings of its keys differ (RFC 8949, sections 5.3.1 and 5.6.1). Checking
+    /// this takes memory.
     Valid,
     /// Preferred serialization (RFC 8949, section 4.1).
     Preferred,
@@ -173,12 +173,13 @@ pub fn violation(bytes: &[u8], rules: Rules) -> Result<Option<Violation>> {
 }
 
 /// Re-encodes a sequence of items, or none, so that they keep the rules. The result has the same items but for widths,
-/// kinds of length, the order of pairs and the forms of numbers: a big number that fits an integer becomes that integer,
-/// and by [`Rules::Dcbor`] a float that is an integer does. Bytes that keep the rules are returned as they are.
+/// kinds of length, the order of pairs and the forms of numbers: a big number that fits an integer becomes that
+/// integer, and by [`Rules::Dcbor`] a float that is an integer does. Bytes that keep the rules are returned as they
+/// are.
 ///
 /// The error is [`Error::NotEncodable`] if the bytes are not a sequence of items; if they have a violation that
-/// re-encoding cannot repair; if two keys of a map have the same core encoding or become the same; or if the joined chunks
-/// of a text violate a rule. [`reencode_fault`] says which of these, and where. The only other error is
+/// re-encoding cannot repair; if two keys of a map have the same core encoding or become the same; or if the joined
+/// chunks of a text violate a rule. [`reencode_fault`] says which of these, and where. The only other error is
 /// [`Error::Memory`].
 ///
 /// ```rust

@@ -30,8 +30,8 @@ impl Scanner {
         Scanner { room }
     }
 
-    /// Feeds the next bytes, and reports how all bytes that were fed begin. Once there is an item or an error, it stays,
-    /// whatever is fed.
+    /// Feeds the next bytes, and reports how all bytes that were fed begin. Once there is an item or an error, it
+    /// stays, whatever is fed.
     pub fn feed(&mut self, bytes: &[u8]) -> Extent {
         let mut end = 0;
         // SAFETY: a scanner is in the memory at the first pointer. The others are those of the slice, with its length,
