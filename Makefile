@@ -152,12 +152,13 @@ check: check-pages
 	    echo "note: files of the crates are newer than dist/: make builds it again"
 	@$(MAKE) --no-print-directory AS_BUILT=1 check-commands check-cat check-allocations check-bindings check-packages
 
-# The links, names and Rust examples of all pages, and the examples of doc comments, which the tests run; the second
-# implementation, alone.
+# The links, names, words and Rust examples of all pages, and the examples of doc comments, which the tests run; the
+# second implementation, alone.
 check-pages:
 	checks/vectors
 	checks/links
 	checks/names
+	checks/words
 	checks/examples
 	packages/version
 	checks/compare/run --self-test
