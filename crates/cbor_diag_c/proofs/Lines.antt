@@ -1,4 +1,4 @@
--- What C is told: what is read of bytes is written as it is.
+-- Results for C: what is read from bytes is written as it is.
 use Rattle.std.proofs.Common.{ℕ, List, subst, sym}
 use Rattle.cbor_grammar.specs.Item.{Item}
 use Rattle.cbor_grammar.specs.Written.{resolve}

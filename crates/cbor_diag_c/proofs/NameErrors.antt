@@ -1,4 +1,4 @@
--- What C is told where an item has no name at a path.
+-- Results for C: why there is no name of the part at a path.
 use Rattle.std.proofs.Common.{ℕ, List, refl, inl, inr}
 use Rattle.cbor_grammar.specs.declared.error.Error.TheVariants as refusal
 use Rattle.cbor_inspect.specs.Named.{HasNoName}

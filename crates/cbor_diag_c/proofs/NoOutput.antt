@@ -1,4 +1,4 @@
--- What C is told: why an item has no text is why an input has no output.
+-- Results for C: if an item has no text, the input has no output for the same reason.
 use Rattle.std.proofs.Common.{◌≡◌, ◌≢◌, ℕ, List, Bool, Ok, refl, inr, IsUtf8}
 use Rattle.hex.specs.Hex.{decode_of}
 use Rattle.cbor_tokens.specs.Uncommented.{uncommented}

@@ -1,4 +1,4 @@
--- What C is told: an error of an input is one that refuses it.
+-- Results for C: an error of an input is one that refuses it.
 use Rattle.std.proofs.Common.{◌≡◌, ◌+◌, ◌-◌, ◌<◌, ◌≤◌, ℕ, List, take, Ok, subst, sym, arith}
 use Rattle.hex.specs.Hex.{decode_of}
 use Rattle.cbor_tokens.specs.Uncommented.{uncommented}

@@ -1,4 +1,4 @@
--- What C is told of the first violation.
+-- Results for C: the first violation.
 use Rattle.std.proofs.Common.{◌≡◌, ◌≢◌, ◌↔◌, ◌⊎◌, ℕ, List, Bool, true, false, Option, Some, None, inl, inr, refl, sym}
 use Rattle.std.proofs.Common.{subst, ◌∙◌, arith, ℤ, pos, negsuc}
 use Rattle.cbor_diag_c.specs.Answers.{IfLength}

@@ -1,4 +1,4 @@
--- What C is told of how bytes begin.
+-- Results for C: how bytes begin.
 use Rattle.std.specs.Prelude.{◌≡◌, ◌⊎◌, ℕ, ℤ, List, length}
 use Rattle.cbor_grammar.specs.declared.error.Error.{Error}
 use Rattle.cbor_grammar.specs.declared.error.Error.TheVariants.{CutShort}

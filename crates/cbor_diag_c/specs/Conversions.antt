@@ -1,4 +1,4 @@
--- What C is told of a conversion between forms that are given by their numbers.
+-- Results for C: a conversion between forms that are given by their numbers.
 use Rattle.std.specs.Prelude.{◌≡◌, ◌⊎◌, ℕ, List, length}
 use Rattle.cbor_json.specs.declared.error.JsonError.{JsonError}
 use Rattle.cbor_diag_c.specs.declared.form.Form.{Form}

@@ -1,4 +1,4 @@
--- What C is told of where in an item an input is none.
+-- Results for C: where in the item an input is truncated or malformed.
 use Rattle.std.specs.Prelude.{◌≡◌, ◌⊎◌, ℕ, List, []}
 use Rattle.cbor_grammar.specs.declared.error.Error.{Error}
 use Rattle.cbor_diag_c.specs.declared.form.Form.{Form}

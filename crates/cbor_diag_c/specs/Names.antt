@@ -1,4 +1,4 @@
--- Why C is told nothing of the name of a part of an item.
+-- Results for C: why a part of an item has no name.
 use Rattle.std.specs.Prelude.{◌≡◌, ◌≢◌, ◌⊎◌, ℕ, List, [], IsUtf8}
 use Rattle.cbor_grammar.specs.declared.error.Error.{Error}
 use Rattle.cbor_grammar.specs.declared.error.Error.TheVariants as refusal

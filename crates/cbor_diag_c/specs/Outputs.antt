@@ -1,4 +1,4 @@
--- What C is told of why an item has no output, and in which of its bytes that is.
+-- Results for C: why an item has no output, and at which of its bytes.
 use Rattle.std.specs.Prelude.{◌≡◌, ◌≢◌, ℕ, List, Result, Ok, IfErr, IsUtf8}
 use Rattle.hex.specs.Hex.{decode_of}
 use Rattle.cbor_tokens.specs.Uncommented.{uncommented}

@@ -1,4 +1,4 @@
--- What C is told of where an input is no item: how many of its bytes come before the fault.
+-- Results for C: where an input is not an item, as the number of bytes before the error position.
 use Rattle.std.specs.Prelude.{◌≡◌, ◌≢◌, ◌⊎◌, ℕ, ◌+◌, ◌-◌, ◌*◌, ◌^◌, ◌<◌, ◌≤◌, List, length, take, Ok, IsUtf8}
 use Rattle.std.specs.Str.{IsValidUpTo}
 use Rattle.hex.specs.Hex.{decode_of}

@@ -1,4 +1,4 @@
--- What C is told of items that are encoded again so that they keep a set of rules.
+-- Results for C: items re-encoded so that they keep a set of rules.
 use Rattle.std.specs.Prelude.{◌≡◌, ◌⊎◌, ℕ, List, Some, None, length}
 use Rattle.cbor_rules.specs.declared.rules.Rules.{Rules}
 use Rattle.cbor_rules.specs.declared.kind.Violation.{Violation}

@@ -1,4 +1,4 @@
--- What C is told of where bytes first break a set of rules.
+-- Results for C: the first violation of a set of rules.
 use Rattle.std.specs.Prelude.{◌≡◌, ◌⊎◌, ℕ, List, Option, Some, None, IsTrue}
 use Rattle.std.specs.Prelude.{◌==◌, if◌then◌else◌}
 use Rattle.cbor_grammar.specs.Refusals.{number_of}

@@ -1,4 +1,4 @@
--- What C is told in words of an input that is no item.
+-- Results for C: the text for an input that is not an item.
 use Rattle.std.specs.Prelude.{◌≡◌, ◌⊎◌, ℕ, List, [], codes, IsUtf8, None}
 use Rattle.cbor_grammar.specs.declared.error.Error.{Error}
 use Rattle.cbor_grammar.specs.declared.error.Error.TheVariants as refusal

@@ -97,7 +97,7 @@ fn no_output(error: JsonError) -> i64
 
 /// Converts an input from one form to another.
 ///
-/// Returns the length of the whole output, of which as much is written as fits `output`; or minus
+/// Returns the length of the whole output, and writes as much of it as fits into `output`; or minus
 /// the number of the error, and then nothing is written.
 #[unsafe(no_mangle)]
 #[tactic(auto, using(crate::proofs::FormNumbers::known))]

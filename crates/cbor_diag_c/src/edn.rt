@@ -41,7 +41,7 @@ pub(crate) fn edn_error(alloc: Global, text: &str) -> Option<EdnError>
     }
 }
 
-/// Returns the item that the bytes are in EDN, and a line feed.
+/// Returns the item that the bytes encode in EDN, and a line feed.
 #[tactic(auto, using(crate::proofs::Lines::edn_as_read))]
 pub(crate) fn edn_line(alloc: Global, bytes: &[u8], pretty: bool) -> Result<Vec<u8>, Error>
     ensures ok { IfOk result (λ line. (i : Item) × IsItem bytes.now i

@@ -46,7 +46,7 @@ fn text(number: u32) -> &'static str
 
 /// Writes the text of the error with this number, in ASCII and without a full stop.
 ///
-/// Returns the length of the text, of which as much is written as fits `output`.
+/// Returns the length of the text, and writes as much of it as fits into `output`.
 #[unsafe(no_mangle)]
 pub extern "C" fn cbor_diag_error_text(number: u32, output: &mut [u8]) -> i64
     ensures text { IfLength result (λ n. (text : List ℕ) × IsTextOf number text

@@ -9,7 +9,7 @@ use crate::answer::refused;
 use cbor_bytes::{Extent, extent};
 use cbor_grammar::Error;
 
-/// Returns what C is told of a beginning of `len` bytes, and sets `end` to how many decide it. An
+/// Returns the result for a beginning of `len` bytes, and sets `end` to how many decide it. An
 /// item is shorter than 2^63 bytes.
 pub(crate) fn answer(beginning: Extent, len: usize, end: &mut usize) -> i64
     ensures returned { IfItem beginning (λ n. n < 2 ^ 63)

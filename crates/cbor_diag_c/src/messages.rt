@@ -46,7 +46,7 @@ fn fault_in(alloc: Global, from: Form, input: &[u8]) -> Result<Option<Fault>, Er
 /// Writes the path to the item that is cut or has the fault, in an input that is no item: steps
 /// joined by `/`, as `cborcat -p` reads them, in UTF-8; `/` for the outermost item.
 ///
-/// Returns the length of the path, of which as much is written as fits `output`; 0 where there is
+/// Returns the length of the path, and writes as much of it as fits into `output`; 0 if there is
 /// none: for an item, for bytes after an item, and for notation and hex that is not right.
 /// Otherwise minus the number of the error: `Memory`, or 11 for no form.
 #[unsafe(no_mangle)]
@@ -76,7 +76,7 @@ pub extern "C" fn cbor_diag_fault_path(
 /// in UTF-8. Bytes are named by their numbers in the item. For notation, and for hex that is not
 /// right, it is the text of `cbor_diag_fault_text`.
 ///
-/// Returns the length of the message, of which as much is written as fits `output`; 0 for an item.
+/// Returns the length of the message, and writes as much of it as fits; 0 for an item.
 /// Otherwise minus the number of the error: `Memory`, or 11 for no form.
 #[unsafe(no_mangle)]
 pub extern "C" fn cbor_diag_fault_message(

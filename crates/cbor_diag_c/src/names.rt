@@ -51,10 +51,10 @@ fn name_of<'n>(
 /// library, in ASCII. `kind` is the name of the type of the outermost item, or empty if that is not
 /// known.
 ///
-/// Returns the length of the name, of which as much is written as fits `output`; 0 if the part has
-/// none. Otherwise minus the number of the error, and then nothing is written: that for which the
-/// input is no item; `Utf8` also for a path that is not UTF-8; `Memory`; 16 for a path that leads
-/// to no part; or 17 for a name of no type.
+/// Returns the length of the name, and writes as much of it as fits into `output`; 0 if the part
+/// has none. Otherwise minus the number of the error, and then nothing is written: that for which
+/// the input is no item; `Utf8` also for a path that is not UTF-8; `Memory`; 16 for a path that
+/// leads to no part; or 17 for a name of no type.
 #[unsafe(no_mangle)]
 pub extern "C" fn cbor_diag_name_at(
     alloc: Global,

@@ -41,7 +41,7 @@ fn encode(alloc: Global, rules: Rules, input: &[u8], output: &mut [u8]) -> i64
 
 /// Encodes items, none or more, one after the other, again, so that they keep a set of rules.
 ///
-/// Returns the length of the whole output, of which as much is written as fits `output`; or minus
+/// Returns the length of the whole output, and writes as much of it as fits into `output`; or minus
 /// the number of the error, and then nothing is written: `Memory`, 12 for no set of rules, or 13
 /// for an input that has no encoding by the rules. An input that keeps them, and in which no two
 /// keys of a map are one, is returned as it is.
@@ -115,8 +115,8 @@ fn why_not(alloc: Global, rules: Rules, input: &[u8], place: &mut usize, detail:
 /// avoids, or minus the number of an error: `Memory`, or 12 for no set of rules. Sets `place` to
 /// how many bytes of the input come before what is wrong; and `detail` to the place of the other
 /// key, if a key stands twice once the items are encoded again, or to the number of the error, if
-/// there is no item. Both are 2^64 - 1 where there is nothing to be told, and if what breaks the
-/// rules is not in the input but in what it is encoded to.
+/// there is no item. Both are 2^64 - 1 if there is an encoding, and if the violation is not in the
+/// input but in the re-encoded items.
 #[unsafe(no_mangle)]
 #[tactic(auto, using(crate::proofs::Told::of_rules))]
 pub extern "C" fn cbor_diag_reencode_fault(

@@ -27,7 +27,7 @@ fn line_of(text: String) -> Result<Vec<u8>, Error>
     Ok(line)
 }
 
-/// Returns the item that the bytes are as JSON, and a line feed.
+/// Returns the item that the bytes encode as JSON, and a line feed.
 #[tactic(auto, using(crate::proofs::Lines::json_as_read))]
 fn json_line(alloc: Global, bytes: &[u8], strict: bool) -> Result<Vec<u8>, JsonError>
     ensures ok { IfOk result (λ line. (i : Item) × IsItem bytes.now i
@@ -40,7 +40,7 @@ fn json_line(alloc: Global, bytes: &[u8], strict: bool) -> Result<Vec<u8>, JsonE
     Ok(line_of(text)?)
 }
 
-/// Returns the item that the bytes are in EDN or JSON, and a line feed.
+/// Returns the item that the bytes encode in EDN or JSON, and a line feed.
 #[tactic(auto, using(crate::proofs::NoOutput::text_laws))]
 pub(crate) fn text_line(alloc: Global, bytes: &[u8], text: Text) -> Result<Vec<u8>, JsonError>
     ensures ok { IfOk result (λ line. (i : Item) × IsItem bytes.now i

@@ -35,7 +35,7 @@ pub(crate) fn rules_of(number: u32) -> Option<Rules>
     }
 }
 
-/// What else is told of a kind: the number of the error, or the place of the other key.
+/// The detail of a kind: the number of the error, or the place of the other key.
 fn detail_of(kind: ViolationKind) -> usize
     ensures { result ≡ detail_of kind }
 {
@@ -61,7 +61,7 @@ fn first(alloc: Global, bytes: &[u8], rules: Rules) -> Result<Option<Violation>,
     }
 }
 
-/// Returns what C is told of the first violation, if there is one, and sets its place and detail.
+/// Returns the number of the first violation, or 0, and sets its place and detail.
 pub(crate) fn told(found: Option<Violation>, place: &mut usize, detail: &mut usize) -> i64
     ensures told { IfLength result (λ n. IsTold found n place.new detail.new) }
     ensures no_error { IfError result (λ n. ⊥) }
@@ -83,11 +83,11 @@ pub(crate) fn told(found: Option<Violation>, place: &mut usize, detail: &mut usi
 /// Reports where bytes first break a set of rules.
 ///
 /// Returns 0 if they are items, none or more, that keep the rules; otherwise the number of the kind
-/// of the first violation, or minus the number of an error: `Memory`, which only `VALID` and `DCBOR`
-/// can have, or 12 for no set of rules. Sets `place` to how many bytes come before the head or the
-/// key that breaks the rule; and `detail` to the place of the other key, if a key is out of order
-/// or stands twice, or to the number of the error, if there is no item. Both are 2^64 - 1 where
-/// there is nothing to be told. By `VALID` keys are one if their core encodings are the same.
+/// of the first violation, or minus the number of an error: `Memory`, which only `VALID` and
+/// `DCBOR` can have, or 12 for no set of rules. Sets `place` to how many bytes come before the head
+/// or the key that breaks the rule; and `detail` to the place of the other key, if a key is out of
+/// order or stands twice, or to the number of the error, if there is no item. Both are 2^64 - 1
+/// where there is no violation. By `VALID` two keys are the same if their core encodings are.
 #[unsafe(no_mangle)]
 #[tactic(auto, using(crate::proofs::Told::violation_laws))]
 pub extern "C" fn cbor_diag_violation(
@@ -117,7 +117,7 @@ pub extern "C" fn cbor_diag_violation(
 
 /// Writes in words what is wrong by the number of a kind, in ASCII and without a full stop.
 ///
-/// Returns the length of the text, of which as much is written as fits `output`.
+/// Returns the length of the text, and writes as much of it as fits into `output`.
 #[unsafe(no_mangle)]
 pub extern "C" fn cbor_diag_violation_text(kind: u32, output: &mut [u8]) -> i64
     ensures text { IfLength result (λ n. (n ≡ length (kind_text kind))

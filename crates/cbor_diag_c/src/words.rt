@@ -41,8 +41,8 @@ pub(crate) fn words(alloc: Global, from: Form, input: &[u8]) -> &'static str
 /// Writes in words why an input is no item in this form, in ASCII and without a full stop: for EDN
 /// what has to be at the place, and in other forms the text of the error.
 ///
-/// Returns the length of the text, of which as much is written as fits `output`; 0 if the input is
-/// an item.
+/// Returns the length of the text, and writes as much of it as fits into `output`; 0 if the input
+/// is an item.
 #[unsafe(no_mangle)]
 pub extern "C" fn cbor_diag_fault_text(
     alloc: Global,

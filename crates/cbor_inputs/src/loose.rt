@@ -152,9 +152,8 @@ fn first_wrong(digits: &[u8]) -> usize {
     at
 }
 
-/// Why a text is not hex of which this many characters, and no more, are digits of the first that
-/// are kept. A digit has no other beside it if the text ends there, or what may be between bytes
-/// follows it.
+/// Why a text is not hex, if only this many of its first kept characters are digits. A digit has no
+/// other beside it if the text ends there, or if what may stand between bytes follows it.
 fn fault_of(text: &[u8], count: usize) -> HexFault {
     let at = place_of_digit(text, count);
     let ends = match text.get(at) {

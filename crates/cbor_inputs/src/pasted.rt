@@ -50,7 +50,7 @@ pub fn looks_like(text: &[u8]) -> Option<Pasted> {
     }
 }
 
-/// How many bytes a text in UTF-16 without a byte order mark is told by: four characters of ASCII.
+/// How many bytes show a text in UTF-16 without a byte order mark: four characters of ASCII.
 const UTF16: usize = 8;
 
 /// Whether bytes are a text in UTF-16.

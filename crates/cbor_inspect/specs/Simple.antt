@@ -1,5 +1,5 @@
--- For viewers, simple values in two bytes. RFC 8949 section 3.3 forbids the byte 0xf8 before a byte below 32, which
--- RFC 7049 allows.
+-- For viewers, simple values below 32 in two bytes. RFC 8949 section 3.3 forbids the byte 0xf8 before a byte below 32,
+-- which RFC 7049 allows.
 use Rattle.std.specs.Prelude.{◌≡◌, ◌⊎◌, ℕ, ◌+◌, ◌<◌, ◌≤◌, List, [], ◌∷◌, ◌++◌, length, take, slice_index}
 use Rattle.cbor_grammar.specs.Item as spec
 use Rattle.cbor_grammar.specs.Item.{Atom, integer, negative, string, chunked_string, float, simple, Item, atom, array}

@@ -212,8 +212,8 @@ pub(crate) fn push_text(text: &mut String, out: &mut Vec<u8>) -> Result<(), Allo
     Ok(())
 }
 
-/// Appends the encoding of the item at the front, of which an item is built only if a simple value
-/// takes more bytes than it has to.
+/// Appends the encoding of the item at the front. An item is built only if a simple value takes
+/// more bytes than it has to.
 fn push_encoding(bytes: &[u8], known: Option<usize>, out: &mut Vec<u8>) -> Result<usize, End>
     requires { IfSome known (λ n. (i : Item) × BeginsWithItem bytes.now i n) }
     ensures written { IfOk result (λ used. (written : List ℕ)
@@ -232,7 +232,7 @@ fn push_encoding(bytes: &[u8], known: Option<usize>, out: &mut Vec<u8>) -> Resul
     }
 }
 
-/// Appends the encoding of the item that the bytes are.
+/// Appends the encoding of the item that the bytes encode.
 fn push_encoded(bytes: &[u8], out: &mut Vec<u8>) -> Result<(), Error>
     requires { (i : Item) × IsItem bytes.now i }
     ensures encoding { OnOk result ((i : Item) × IsItem bytes.now i
@@ -266,7 +266,7 @@ fn push_digits(bytes: &[u8], known: Option<usize>, text: &mut String) -> Result<
     }
 }
 
-/// Appends the encoding of the item that the bytes are in hex, and a line feed.
+/// Appends the encoding of the item that the bytes encode in hex, and a line feed.
 fn push_line_of_hex(bytes: &[u8], text: &mut String) -> Result<(), Error>
     requires { (i : Item) × IsItem bytes.now i }
     ensures { OnOk result ((i : Item) × IsItem bytes.now i × (string_bytes text.new
@@ -277,7 +277,7 @@ fn push_line_of_hex(bytes: &[u8], text: &mut String) -> Result<(), Error>
     Ok(())
 }
 
-/// Appends the encoding of the item that the bytes are in hex.
+/// Appends the encoding of the item that the bytes encode in hex.
 fn push_encoded_hex(bytes: &[u8], text: &mut String) -> Result<(), Error>
     requires { (i : Item) × IsItem bytes.now i }
     ensures { OnOk result ((i : Item) × IsItem bytes.now i × (string_bytes text.new

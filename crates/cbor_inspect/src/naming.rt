@@ -23,7 +23,7 @@ use std::alloc::{AllocError, Global};
 pub struct Naming<'a> {
     names: &'a Names,
     outer: Option<Type>,
-    /// The tags by which there are notes.
+    /// The tags that give notes.
     marks: Marks,
 }
 
@@ -65,7 +65,7 @@ fn word_of(bytes: &[u8]) -> u64 {
 fn tag_bits(word: u64) -> u64 {
     // Nothing remains of a byte whose highest three bits are those of tags.
     let other = (word ^ 0xc0c0_c0c0_c0c0_c0c0) & 0xe0e0_e0e0_e0e0_e0e0;
-    // In the sum a byte of which something remains has its highest bit.
+    // In the sum, each byte that is not zero has its highest bit.
     let sum = (other & 0x7f7f_7f7f_7f7f_7f7f).wrapping_add(0x7f7f_7f7f_7f7f_7f7f);
     !(sum | other) & 0x8080_8080_8080_8080
 }
@@ -81,18 +81,18 @@ impl<'a> Naming<'a> {
         }
     }
 
-    /// Whether items of these bytes may have names: their type is known, or a tag may be in them by
-    /// which there are some.
+    /// Whether items of these bytes may have names: their type is known, or they may have a tag
+    /// that gives some.
     pub fn may_name(self, bytes: &[u8]) -> bool {
         self.outer.is_some() || self.names.knows(bytes) || self.is_marked(bytes)
     }
 
-    /// Whether the tag at the front is one by which there are notes.
+    /// Whether the tag at the front gives notes.
     fn is_mark(&self, bytes: &[u8]) -> bool {
         self.marks.may_begin(bytes) && self.names.says(bytes)
     }
 
-    /// The place of the first mark among the first bytes, of which `chunk` are those from `begins`
+    /// The place of the first mark among the first bytes. `chunk` is the part of them from `begins`
     /// on.
     fn mark_in(&self, bytes: &[u8], begins: usize, chunk: &[u8]) -> Option<usize> {
         let mut at = begins;

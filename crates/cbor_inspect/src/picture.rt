@@ -24,7 +24,7 @@ pub fn marks_of<'n>(
 }
 
 /// Whether a path may lead farther with the names of an item: it leads nowhere without them, or
-/// `*` leads to items of which some may.
+/// `*` leads to several items, and it may lead farther from some.
 fn may_need_names(steps: &[Step], found: &[Found]) -> bool {
     if found.is_empty() {
         return true;
@@ -38,7 +38,8 @@ fn may_need_names(steps: &[Step], found: &[Found]) -> bool {
 }
 
 /// Returns the parts of an item that a path leads to, in order. A step goes into byte strings that
-/// are shown as the item in them, and leads to a name that is shown where it is no key and no index.
+/// are shown as the item in them, and leads to a name that is shown where it is no key and no
+/// index.
 pub fn parts_of(alloc: Global, show: &Show, item: &[u8]) -> Result<Vec<Found>, AllocError> {
     let picture = show.picture();
     let found = follow(alloc, item, &show.steps, picture)?;

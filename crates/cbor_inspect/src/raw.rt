@@ -93,7 +93,7 @@ fn content(alloc: Global, item: &DataItem) -> Result<Option<Vec<u8>>, AllocError
 /// assert!(rt; raw_content(alloc, b"\xa0").is_err());
 /// ```
 pub fn raw_content(alloc: Global, bytes: &[u8]) -> Result<Vec<u8>, RawError>
-    // The content of the item that the bytes are, if it is a string.
+    // The content of the item that the bytes encode, if it is a string.
     ensures ok { IfOk result (λ v. (i : Item) × IsItem bytes.now i
         × (content_of i ≡ Some v.items)) }
 

@@ -126,7 +126,7 @@ pub fn two_byte_simple(bytes: &[u8]) -> Option<usize>
     None
 }
 
-/// The place of such a value in the item that the bytes are, unless that is an item by RFC 8949,
+/// The place of such a value in the item that the bytes encode, unless that is an item by RFC 8949,
 /// too. Memory is taken only if a byte below 32 follows `f8` somewhere.
 pub(crate) fn fault_8949(alloc: Global, bytes: &[u8]) -> Result<Option<usize>, Error>
     requires { (i : Item) × IsItem bytes.now i }
@@ -146,7 +146,7 @@ pub(crate) fn fault_8949(alloc: Global, bytes: &[u8]) -> Result<Option<usize>, E
     }
 }
 
-/// Whether the item that the bytes are is one by RFC 8949, too.
+/// Whether the item that the bytes encode is one by RFC 8949, too.
 fn is_8949(alloc: Global, bytes: &[u8]) -> Result<bool, Error>
     requires { (i : Item) × IsItem bytes.now i }
     ensures { IfOk result (λ yes. IsTrue yes ↔ Is8949 bytes.now) }

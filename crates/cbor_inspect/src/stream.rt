@@ -150,7 +150,7 @@ impl Stream {
         ensures items { (items : List Item) × ItemsThen self.old items self.new }
 
         // So of all bytes that came, those are items that all calls passed, and these bytes are
-        // items alone exactly if none remain at the end.
+        // items alone if and only if none remain at the end.
         ensures joined { (came : List ℕ) (before : List Item) → ItemsThen came before self.old
             → (more : List Item) × ItemsThen came (before ++ more) self.new
             × ((one ≡ false) → (result ≡ End.Done) ↔ IsSequence came) }
@@ -158,7 +158,7 @@ impl Stream {
         // Why none of the bytes that are kept are.
         ensures ends { EndsSo self.new result }
 
-        // The bytes are items alone exactly if none remain at the end.
+        // The bytes are items alone if and only if none remain at the end.
         ensures clean { (one ≡ false) → (result ≡ End.Done) ↔ IsSequence self.old }
 
         // It stops without a look at what remains only after the one item that it was to pass.
@@ -181,7 +181,7 @@ impl Stream {
         // Why none of the bytes that are kept are.
         ensures ends { EndsSo self.new result }
 
-        // The bytes are items alone exactly if none remain at the end.
+        // The bytes are items alone if and only if none remain at the end.
         ensures clean { (one ≡ false) → (result ≡ End.Done) ↔ IsSequence self.old }
         ensures full { result ≡ End.Full → IsTrue one × (length self.new < length self.old) }
         ensures one { IsTrue one → OneAtMost self.old self.new }
@@ -216,7 +216,7 @@ impl Stream {
         ensures items { (items : List Item) × ItemsThen8949 self.old items self.new }
 
         // So of all bytes that came, those are such items that all calls passed, and these bytes
-        // are such items alone exactly if none remain at the end, unless memory ran out.
+        // are such items alone if and only if none remain at the end, unless memory ran out.
         ensures joined { (came : List ℕ) (before : List Item) → ItemsThen8949 came before self.old
             → (more : List Item) × ItemsThen8949 came (before ++ more) self.new
             × ((one ≡ false) → (result ≡ End.Done → IsSequence8949 came)
@@ -225,7 +225,7 @@ impl Stream {
         // Why none of the bytes that are kept are.
         ensures ends { ChecksSo self.new result }
 
-        // The bytes are such items alone exactly if none remain at the end, unless memory ran out.
+        // The bytes are only such items if and only if none remain, unless memory ran out.
         ensures clean { (one ≡ false) → result ≡ End.Done → IsSequence8949 self.old }
         ensures refused { (one ≡ false) → IsSequence8949 self.old
             → (result ≡ End.Done) ⊎ (result ≡ End.Memory) }
@@ -376,7 +376,7 @@ impl Stream {
         }
     }
 
-    /// Appends what is written of items of which nothing was scanned.
+    /// Appends what is written for items that were not scanned.
     fn show_others(&mut self, show: &Show, out: &mut Vec<u8>) -> End
         ensures written { (written : List ℕ) × (out.new.items ≡ out.old.items ++ written)
             × IsShownOfFirst (Shows show.now) self.old written self.new }

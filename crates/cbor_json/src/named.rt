@@ -239,7 +239,7 @@ impl<'a> Pass<'a> {
         }
     }
 
-    /// The bytes after a byte string, of which the length and what follows the head are given.
+    /// The bytes after a byte string, by its length and the bytes after its head.
     #[cycle(item)]
     fn byte_string<'b>(
         &mut self,

@@ -30,13 +30,13 @@ use std::alloc::Global;
 /// assert_eq!(rt; text.as_str(), "{\"1\": [1, 1.5]}");
 /// ```
 pub fn bytes_to_json(alloc: Global, bytes: &[u8], style: JsonStyle) -> Result<String, JsonError>
-    // The text of the item that the bytes are.
+    // The text of the item that the bytes encode.
     ensures ok { IfOk result (λ s. (i : Item) × IsItem bytes.now i
         × IsJsonText style i (string_bytes s)) }
     ensures every_item { (i : Item) → IsItem bytes.now i → MatchResult result
         (λ s. IsJsonText style i (string_bytes s)) (IsErrorOf style i) }
 
-    // Each error, exactly if it is true.
+    // Each error, if and only if it holds for the item.
     ensures refused { IfErr result (IsNoJson style bytes.now) }
     ensures every_refusal { (e : Error) → IsNoItem bytes.now e → MatchResult result (λ _. ⊥)
         (IsErrorOr e) }
@@ -56,14 +56,14 @@ pub fn push_bytes_to_json(
     style: JsonStyle,
     out: &mut String,
 ) -> Result<(), JsonError>
-    // The text of the item that the bytes are.
+    // The text of the item that the bytes encode.
     ensures ok { OnOk result ((i : Item) × IsItem bytes.now i
         × AppendsJson style i (string_bytes out.old) (string_bytes out.new)) }
     ensures every_item { (i : Item) → IsItem bytes.now i → MatchResult result
         (λ _. AppendsJson style i (string_bytes out.old) (string_bytes out.new))
         (IsErrorOf style i) }
 
-    // Each error, exactly if it is true.
+    // Each error, if and only if it holds for the item.
     ensures refused { IfErr result (IsNoJson style bytes.now) }
     ensures every_refusal { (e : Error) → IsNoItem bytes.now e → MatchResult result (λ _. ⊥)
         (IsErrorOr e) }

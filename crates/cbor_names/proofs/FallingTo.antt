@@ -1,4 +1,4 @@
--- Notes with names, in the order of their places, of which one more may come.
+-- Notes with names, in the order of their places; one more may come.
 use Rattle.std.proofs.Common.{ℕ, ◌<◌, List, [], ◌∷◌, ◌++◌, arith}
 use Rattle.cbor_names.specs.declared.note.Note.{Note}
 use Rattle.cbor_names.specs.Falling.{Falls, FallsTo}

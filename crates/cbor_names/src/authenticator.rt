@@ -37,7 +37,7 @@ const NAMES: &[(u8, &str)] = &[
     (EXTENDED, " ED"),
 ];
 
-/// The number in these bytes, of which the highest comes first.
+/// The number in these bytes, the highest first.
 fn number_of(bytes: &[u8]) -> u64 {
     let mut number = 0u64;
     for byte in bytes {

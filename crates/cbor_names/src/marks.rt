@@ -1,11 +1,11 @@
-//! A quick look at bytes, before the exact one, for the tags by which there are notes.
+//! A quick look at bytes, before the exact one, for the tags that give notes.
 
 use crate::table::{Inside, Names};
 
 /// The tags below 64 of values that have a meaning, whatever the tables are: 1, 4 and 5.
 const VALUES: u64 = 0x32;
 
-/// The tags by which tables give notes.
+/// The tags for which tables have notes.
 #[derive(Clone, Copy)]
 pub struct Marks {
     /// Bit n of word m is set if 64 m + n is such a tag.
@@ -17,7 +17,7 @@ pub struct Marks {
 }
 
 impl Names {
-    /// The tags by which there are notes.
+    /// The tags that give notes.
     pub fn marks(&self) -> Marks {
         let mut marks = Marks {
             short: [VALUES, 0, 0, 0],

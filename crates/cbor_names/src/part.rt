@@ -19,7 +19,7 @@ pub enum Shape<'a> {
     Array,
     /// Maps; each part is a key.
     Map,
-    /// Maps; each part is a key, of which some depend on the value of this one.
+    /// Maps; each part is a key, and some keys depend on the value of this one.
     MapBy(Key<'a>),
     /// Maps of any keys, whose values are all this.
     MapTo(What<'a>),
@@ -86,7 +86,7 @@ pub enum Kind {
 }
 
 impl<'a> Part<'a> {
-    /// A part of this name of which nothing else is known.
+    /// A part of this name; nothing else is known about it.
     pub fn new(key: Key<'a>, name: &'a str) -> Part<'a> {
         Part {
             key,

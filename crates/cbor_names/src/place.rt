@@ -33,7 +33,7 @@ pub(crate) struct Keys<'a, 'b> {
 }
 
 impl Names {
-    /// The keys of a map of which this is known, and whose head is read already.
+    /// The keys of a map, if this is known about it and its head is read already.
     pub(crate) fn keys<'a, 'b>(
         &'a self,
         what: WhatRow,
@@ -88,7 +88,7 @@ impl Names {
 }
 
 impl<'a> Place<'a> {
-    /// That of an item in this one, of which nothing is known.
+    /// That of an item in this one, if nothing is known about it.
     pub(crate) fn unknown(&self) -> Place<'a>
         requires { 0 < self.now.left }
         ensures left { result.left + 1 ≡ self.now.left }
@@ -142,7 +142,7 @@ impl<'a> Place<'a> {
         }
     }
 
-    /// That of the value of a key, of which else this is known.
+    /// That of the value of a key; without a part, this is known about it.
     pub(crate) fn value(&self, part: Option<&PartRow>, otherwise: WhatRow) -> Place<'a>
         requires { 0 < self.now.left }
         ensures left { result.left + 1 ≡ self.now.left }

@@ -112,7 +112,7 @@ impl Names {
         Fit::Members
     }
 
-    /// Whether a member of which this is known may have this head. Null and undefined stand for
+    /// Whether a member may have this head, if this is known about it. Null and undefined stand for
     /// any.
     fn may_be(&self, what: WhatRow, head: ItemHead) -> bool {
         if matches!(head, ItemHead::Simple(22 | 23)) {
@@ -177,7 +177,7 @@ fn after_head<'b>(head: ItemHead, inner: &'b [u8], bytes: &'b [u8]) -> Option<&'
     }
 }
 
-/// Whether a member of which this is known has a type of its own.
+/// Whether a member has a type of its own, if this is known about it.
 fn has_type(what: WhatRow) -> bool {
     !matches!(what, WhatRow::Any | WhatRow::Date)
 }

@@ -219,7 +219,7 @@ impl Names {
         false
     }
 
-    /// What is known of the items in an item of which this is known.
+    /// What is known about the items in an item, if this is known about the item.
     pub(crate) fn inside(&self, what: WhatRow) -> Inside<'_> {
         match what {
             WhatRow::Of(index) | WhatRow::Nested(index) => match self.types.get(index) {

@@ -25,7 +25,7 @@ fn content(bytes: &[u8], below: Below) -> Option<&[u8]> {
     bytes.get(below.inner..below.inner.saturating_add(len))
 }
 
-/// The item that a byte string is, or the first of those in it below tag 63.
+/// The item that a byte string encodes, or the first of them below tag 63.
 fn inside(bytes: &[u8], below: Below) -> Option<At> {
     let content = content(bytes, below)?;
     match extent(content) {

@@ -36,7 +36,7 @@ pub fn skip_items(bytes: &[u8], one: bool) -> Shown
     // Why none of the bytes after them are.
     ensures ends { EndsSo (drop result.used bytes.now) result.end }
 
-    // The bytes are items alone exactly if none remain at the end.
+    // The bytes are items alone if and only if none remain at the end.
     ensures clean { (one ≡ false) → (result.end ≡ End.Done) ↔ IsSequence bytes.now }
 
     // It stops without a look at what remains only after the one item that it was asked to pass.

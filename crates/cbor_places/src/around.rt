@@ -19,7 +19,7 @@ pub(crate) const LONGEST: usize = 40;
 pub(crate) struct Named {
     /// Where it begins in the data.
     pub(crate) start: usize,
-    /// How long the path to it is; if it is in a key, to the outermost map of which it is.
+    /// The length of the path to it; in a key, of that to the outermost map with such a key.
     pub(crate) path_len: usize,
     /// Whether it is in a key.
     pub(crate) in_key: bool,
@@ -37,7 +37,7 @@ pub(crate) struct Inside {
 pub struct Around<'a> {
     /// The bytes that are looked at, which begin with the item, or with one in a byte string of it.
     pub(crate) piece: Piece<'a>,
-    /// The path to the innermost item; if that is in a key, to the outermost map of which it is.
+    /// The path to the innermost item; in a key, to the outermost map with such a key.
     pub path: Path,
     /// The innermost item.
     pub spot: Spot,

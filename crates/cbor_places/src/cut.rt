@@ -50,7 +50,7 @@ impl Around<'_> {
         out.push_str(if named { ") has " } else { " has " })
     }
 
-    /// Appends what is there of the container in which the next part is not there.
+    /// Appends the part of the container that is there. Its next child is missing.
     fn push_cut_container<P: Places>(
         &self,
         out: &mut String,
@@ -78,7 +78,7 @@ impl Around<'_> {
         push_there(out, inside.open)
     }
 
-    /// Appends what is there of the innermost item, which is cut in its head or its content.
+    /// Appends the part of the innermost item that is there: its head or content is truncated.
     fn push_cut_item<P: Places>(&self, out: &mut String, places: &P) -> Result<(), AllocError> {
         let start = self.spot.start;
         match head_at(self.piece.bytes, start) {
@@ -95,8 +95,8 @@ impl Around<'_> {
         }
     }
 
-    /// Appends what is there of the innermost item, which is a string: its kind, its length, and
-    /// where its content begins.
+    /// Appends the part of the innermost item that is there, for a string: its kind, its length,
+    /// and where its content begins.
     fn push_cut_string<P: Places>(
         &self,
         out: &mut String,
@@ -121,7 +121,7 @@ impl Around<'_> {
     }
 }
 
-/// How many chunks of a string are whole, of which the first begins at a place, and which is cut.
+/// How many chunks of a truncated string are whole. The first begins at this place.
 fn whole_chunks(bytes: &[u8], first: usize) -> usize {
     let mut at = first;
     let mut count = 0usize;

@@ -40,7 +40,7 @@ pub struct Fault {
 /// }
 /// ```
 pub fn fault_of(alloc: Global, bytes: &[u8]) -> Result<Option<Fault>, Error>
-    // None exactly for an item, and otherwise an error that is true of the bytes.
+    // `None` only for an item, and otherwise an error that holds for the bytes.
     ensures none { IfOk result (λ f. f ≡ None → (i : Item) × IsItem bytes.now i) }
     ensures refused { IfOk result (λ f. IfSome f (λ x. IsNoItem bytes.now x.error)) }
     ensures memory { IfErr result (λ e. e ≡ Error.Memory) }
@@ -73,7 +73,7 @@ fn cut(alloc: Global, bytes: &[u8]) -> Result<Fault, Error>
     })
 }
 
-/// What is said of bytes of which the first `end` have this error, and fewer are cut.
+/// The message for bytes whose first `end` show this error, and fewer are truncated.
 fn wrong(alloc: Global, bytes: &[u8], error: Error, end: usize) -> Result<Fault, Error>
     ensures error { IfOk result (λ x. x.error ≡ error) }
     ensures memory { IfErr result (λ e. e ≡ Error.Memory) }

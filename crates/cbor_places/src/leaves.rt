@@ -55,7 +55,7 @@ struct Next {
     level: u8,
 }
 
-/// Whole items, of which lines are written.
+/// Whole items, as lines.
 #[derive(Drop)]
 pub struct Leaves<'a> {
     items: Piece<'a>,

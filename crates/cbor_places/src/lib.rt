@@ -1,5 +1,5 @@
-//! Where something is in CBOR data, in words: paths, open containers, and what is there of an item
-//! that is not whole.
+//! Where something is in CBOR data, in words: paths, open containers, and the part of a truncated
+//! or malformed item that is there.
 //!
 //! [`Around`] has what is around a byte, and says it: the path that `cborcat -p` reads, the
 //! container, and what an item that is cut lacks. [`lines_at`] says which item has a byte,

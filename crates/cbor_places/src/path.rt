@@ -79,8 +79,8 @@ impl Path {
         write!(self.text, "{index}")
     }
 
-    /// Appends the step to the item that a byte string is, or of several to the one at that byte of
-    /// the string.
+    /// Appends the step to the item that a byte string encodes, or to the one of several at that
+    /// byte of the string.
     pub(crate) fn push_inside(&mut self, byte: Option<usize>) -> Result<(), AllocError> {
         self.push_slash()?;
         match byte {

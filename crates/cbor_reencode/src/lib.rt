@@ -2,8 +2,8 @@
 //! section 4.2).
 //!
 //! [`reencoded`] returns the same items in an encoding that keeps the given [`Rules`].
-//! [`violation_of`] finds the first violation of rules, and compares keys by value: 1 in one byte
-//! and 1 in two bytes are equal keys.
+//! [`violation_of`] finds the first violation of rules, and compares keys by value: 1 and 1_0 are
+//! equal keys.
 //!
 //! ```rust
 //! use cbor_reencode::reencoded;

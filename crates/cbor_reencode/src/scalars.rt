@@ -125,7 +125,7 @@ fn push_joined<'a>(
     }
 }
 
-/// Whether the simple value at the front is below 32 and in two bytes (`f8 00` to `f8 1f`).
+/// Whether the simple value at the front is below 32 in two bytes (`f8 00` to `f8 1f`).
 fn is_long_simple(bytes: &[u8]) -> bool
     ensures { (result ≡ true) ⊎ (two_byte_violation bytes.now ≡ None) }
 {

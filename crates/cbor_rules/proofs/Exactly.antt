@@ -1,4 +1,4 @@
--- There is no first violation exactly if the rules are kept.
+-- There is no first violation if and only if the rules are kept.
 use Rattle.std.proofs.Common.{◌≡◌, List, ℕ, Option, None, Result, Ok, Err, sym, ◌∙◌}
 use Rattle.std.specs.Prelude.{IfOk, ◌↔◌}
 use Rattle.cbor_grammar.proofs.bytes.Heads.{IsBytes}

@@ -1,4 +1,4 @@
--- A float breaks no rule exactly if it keeps it, and its bits fit its width.
+-- A float violates no rule if and only if it keeps it, and its bits fit its width.
 use Rattle.std.proofs.Common.{◌≡◌, ℕ, Bool, true, false, cond, not, ◌&&◌, List, Option, Some, None, Ok, refl, ap, ◌∙◌}
 use Rattle.std.proofs.lemmas.Bool.{eqb-true}
 use Rattle.std.specs.Prelude.{is_nan}

@@ -1,4 +1,4 @@
--- A head breaks no rule exactly if what it says keeps the rules.
+-- A head violates no rule if and only if what it says keeps the rules.
 use Rattle.std.proofs.Common.{◌≡◌, ℕ, ◌<◌, ◌≤◌, ◌⊎◌, Bool, true, false, cond, ◌&&◌, ◌||◌, ltb, leb, List, ◌∷◌, ◌++◌}
 use Rattle.std.proofs.Common.{Option, Some, None, Result, Ok, Err, inl, inr, refl, ap, ◌∙◌, arith}
 use Rattle.std.proofs.lemmas.Bool.{le-ltb, ltb-false, le-leb, leb-true}

@@ -1,4 +1,4 @@
--- Finding a violation: no key that was seen stands again exactly if the keys differ.
+-- Finding a violation: no key is there again if and only if the keys differ.
 use Rattle.std.proofs.Common.{◌≡◌, ◌≢◌, ℕ, Bool, true, false, cond, List, Option, Some, None, refl, sym, ap, subst, ◌∙◌}
 use Rattle.std.proofs.Common.{true≢false}
 use Rattle.std.proofs.lemmas.Bool.{false_from_ne_true}

@@ -1,4 +1,4 @@
--- Finding a violation: the head of a container of which the bytes are known.
+-- Finding a violation: the head of a container whose bytes are known.
 use Rattle.std.proofs.Common.{◌≡◌, ℕ, List, ◌++◌, Option, Some, None, Ok, refl, ap}
 use Rattle.cbor_grammar.specs.declared.width.IntegerWidth.{IntegerWidth}
 use Rattle.cbor_grammar.specs.declared.argument.Argument.{Argument}

@@ -1,4 +1,4 @@
--- A content breaks no rule exactly if it keeps it.
+-- A content violates no rule if and only if it keeps it.
 use Rattle.std.proofs.Common.{◌≡◌, ℕ, Bool, true, false, cond, List, take, Some, None, Ok, refl, ap, ◌∙◌}
 use Rattle.std.specs.Cmp.Lexicographic.{bytes_decides}
 use Rattle.std.specs.Prelude.{chars}

@@ -421,8 +421,8 @@ impl Check {
     }
 }
 
-/// The first place at which the bytes are not items one after the other that keep the rules, and
-/// what is wrong there; `None` exactly if they keep them. No bytes are no items, which keep all
+/// The first violation of the rules, with its place; `None` if and only if the bytes are a sequence
+/// of items that keep them. No bytes are a sequence of no items, which keeps all
 /// rules.
 ///
 /// The bytes are read once, from left to right. A head is looked at before what it opens, and a key
@@ -449,8 +449,8 @@ pub fn violation(bytes: &[u8], rules: Rules) -> Option<Violation>
 
 /// As [`violation`], with all the rules.
 ///
-/// A map whose keys are not to stand twice takes memory for the places of its keys, and a text that
-/// is to be in NFC takes some where it cannot be told from its characters one by one.
+/// A map that may have no key twice takes memory for the places of its keys, and a text that has to
+/// be in NFC takes some if its characters do not decide that one by one.
 pub fn violation_in(
     alloc: Global,
     bytes: &[u8],

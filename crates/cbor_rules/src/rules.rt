@@ -21,8 +21,8 @@ pub enum KeyOrder {
     MajorType,
 }
 
-/// Rules that an encoding may keep. All of them include that the bytes are items of RFC 8949, one
-/// after the other, of which none is below level 128.
+/// Rules that an encoding may keep. All of them include that the bytes are a sequence of items of
+/// RFC 8949, none deeper than level 128.
 #[derive(Clone, Copy, PartialEq, Eq, Debug)]
 pub struct Rules {
     /// The number of each head is in the shortest width that it fits: values, lengths, also those
@@ -46,8 +46,8 @@ pub struct Rules {
     pub nfc: bool,
     /// The order of the keys in each map.
     pub key_order: KeyOrder,
-    /// No key stands twice in a map, by its bytes; for `violation_of` of `cbor_reencode`, by its core
-    /// encoding. Checking this takes memory; where keys have an order, none stands twice.
+    /// No key stands twice in a map, by its bytes; for `violation_of` of `cbor_reencode`, by its
+    /// core encoding. Checking this takes memory; where keys have an order, none stands twice.
     pub distinct_keys: bool,
     /// There may be tags.
     pub tags: bool,

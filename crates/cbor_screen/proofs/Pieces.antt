@@ -1,4 +1,4 @@
--- Texts in colours, and texts of which tokens are shown in another way, one after the other.
+-- Texts in colours, and texts with tokens that are shown in another way, one after the other.
 use Rattle.std.proofs.Common.{◌≡◌, ◌≢◌, ◌⊎◌, ℕ, ◌+◌, ◌<◌, ◌≤◌, List, [], ◌∷◌, ◌++◌, length, take, drop, get_or, false}
 use Rattle.std.proofs.Common.{refl, sym, ap, ◌∙◌, subst, inl, inr, append_assoc, length-append, arith}
 use Rattle.std.proofs.Common.{eqb, suc, zero, codes}

@@ -1,4 +1,4 @@
--- Texts in tokens, of which each may be shown in another way.
+-- Texts in tokens. Each may be shown in another way.
 use Rattle.std.specs.Prelude.{◌≡◌, ℕ, List, [], ◌∷◌, ◌++◌}
 
 -- A token, and what is shown of it.

@@ -1,4 +1,4 @@
--- What a text is of which indicators of widths are left out.
+-- A text with encoding indicators left out.
 use Rattle.std.specs.Prelude.{◌≡◌, ◌⊎◌, ℕ, ◌≤◌, List, [], ◌++◌, length, slice_index, codes}
 use Rattle.cbor_screen.specs.Tokens.{InTokens}
 

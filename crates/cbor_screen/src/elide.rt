@@ -100,7 +100,7 @@ fn escape(content: &[u8]) -> (usize, usize)
     }
 }
 
-/// Appends a token of which a part is left out.
+/// Appends a token with a part left out.
 fn push_cut(out: &mut Vec<u8>, token: &[u8], cut: Cut) -> Result<(), AllocError>
     requires { cut.from + cut.len ≤ length token.now }
     ensures { OnOk result (out.new.items ≡ out.old.items ++ take cut.from token.now ++ codes "..."
@@ -193,7 +193,7 @@ pub fn push_elided(
     language: Language,
     most: usize,
 ) -> Result<(), AllocError>
-    // The text in tokens, of which some that are longer than `most` have a part left out.
+    // The text in tokens; some that are longer than `most` have a part left out.
     ensures elided { OnOk result ((added : List ℕ)
         × (out.new.items ≡ out.old.items ++ added) × IsElided most text.now added) }
 

@@ -7,7 +7,7 @@ use crate::quoted::{byte_at, comment_end, string_end};
 /// What a text is written in.
 #[derive(Clone, Copy, PartialEq, Eq, Debug)]
 pub enum Language {
-    /// EDN, of which JSON is a part.
+    /// EDN, which includes JSON.
     Edn,
     /// Lines of a path and EDN, with two blanks between them.
     Paths,

@@ -116,7 +116,7 @@ pub fn push_without_widths(
     text: &[u8],
     language: Language,
 ) -> Result<(), AllocError>
-    // The text in tokens, of which some have the indicator at their end left out.
+    // The text in tokens; some have the indicator at their end left out.
     ensures widthless { OnOk result ((added : List ℕ)
         × (out.new.items ≡ out.old.items ++ added) × IsWidthless text.now added) }
 {

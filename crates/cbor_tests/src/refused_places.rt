@@ -109,7 +109,7 @@ fn shown(alloc: Global, case: &Case) -> Result<Vec<u8>, Error> {
     written(end, out)
 }
 
-/// The same of an item that comes in two pieces, of which the first alone writes nothing. If memory
+/// The same for an item that comes in two pieces. The first alone writes nothing. If memory
 /// runs out there, the item is written once the second is there.
 fn streamed(alloc: Global, case: &Case) -> Result<Vec<u8>, Error> {
     let show = show_of(alloc, case)?;

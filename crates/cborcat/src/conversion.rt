@@ -51,11 +51,11 @@ pub struct Conversion<'a> {
     pub any: bool,
     /// How many items were passed, if the number of one is asked for.
     index: usize,
-    /// Whether a simple value in two bytes was named.
+    /// Whether a simple value below 32 in two bytes was reported.
     noted: bool,
     /// Whether a rule that the check names is broken.
     broken: bool,
-    /// Whether the byte that is asked for was written of.
+    /// Whether the answer to `--at` was written.
     found: bool,
     /// How many bytes were passed last.
     passed: usize,
@@ -78,8 +78,8 @@ fn drop_front(bytes: &mut Vec<u8>, count: usize) {
     bytes.truncate(len - count);
 }
 
-/// Where the items end, from this place on, that are not longer than the limit, and whether a longer
-/// one follows. It looks at no item if at most as many bytes are left.
+/// Where the items end, from this place on, that are not longer than the limit, and whether a
+/// longer one follows. It looks at no item if at most as many bytes are left.
 fn short_items(bytes: &[u8], from: usize, limit: usize) -> (usize, bool) {
     let mut at = from;
     for _ in 0..u64::MAX {
@@ -133,7 +133,7 @@ impl<'a> Conversion<'a> {
         }
     }
 
-    /// Takes down how a part of the conversion went.
+    /// Records the status of a part.
     fn ended(&mut self, status: Status) {
         self.status = self.status.or(status);
     }
@@ -244,7 +244,7 @@ impl<'a> Conversion<'a> {
         }
     }
 
-    /// Passes items up to that of the number that is asked for, or all of them after it, and tells
+    /// Passes items up to that of the number before the path, or all of them after it, and returns
     /// what follows them.
     fn skip_to(&mut self, item: usize) -> End {
         for _ in 0..u64::MAX {
@@ -260,7 +260,7 @@ impl<'a> Conversion<'a> {
         End::Full
     }
 
-    /// Converts some items, or the next one, if that is asked for alone.
+    /// Converts some items, or the next one if only that is wanted.
     fn show_next(&mut self, one: bool) -> End {
         let before = self.stream.rest().len();
         let end = match self.job.view {

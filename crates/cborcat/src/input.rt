@@ -100,8 +100,8 @@ fn character_before(text: &[u8], at: usize) -> usize {
     from
 }
 
-/// Reads an input until it is known to be bytes, or to its end. Returns the place of the byte by
-/// which it is known, if it is bytes: the first that no text has, unless the arguments say so.
+/// Reads an input until it is known to be bytes, or to its end. If it is bytes, returns the place
+/// of the byte that shows it: the first that no text has, unless the arguments say so.
 pub fn read_first<R: Read>(
     input: &mut R,
     bytes: &mut Vec<u8>,

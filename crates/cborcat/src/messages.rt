@@ -275,7 +275,7 @@ pub fn report_lost(
     }
 }
 
-/// Says that an input has too few items for the number of the one that is asked for.
+/// Says that an input has too few items for the number before the path.
 pub fn report_few(rt: &HostRuntime, place: &Place, item: usize, count: usize) {
     let name = label(place.name);
     let what = if count == 1 { "item" } else { "items" };

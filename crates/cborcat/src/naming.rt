@@ -56,7 +56,7 @@ pub struct Tables<'a> {
 }
 
 impl<'a> Tables<'a> {
-    /// The same, as `cbor_inspect` is told it.
+    /// The same, for `cbor_inspect`.
     pub fn naming(self) -> Naming<'a> {
         Naming::new(self.names, self.outer)
     }
@@ -119,7 +119,7 @@ fn push_encoded(
     Ok(())
 }
 
-/// The names in the notes of an item that takes `len` bytes, as JSON is told them.
+/// The names in the notes of an item that takes `len` bytes, for JSON.
 pub fn key_names<'n>(
     alloc: Global,
     notes: &'n Notes<'_>,
@@ -138,8 +138,8 @@ pub fn key_names<'n>(
     Ok(names)
 }
 
-/// The names by these tables, if they are shown. Says which types there are if the one that is
-/// asked for is none.
+/// The names by these tables, if they are shown. Lists the types if that of `--as` is none of
+/// them.
 pub fn shown_of<'a>(
     rt: &HostRuntime,
     job: &Job,

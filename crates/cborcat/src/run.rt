@@ -71,7 +71,7 @@ pub struct Runner<'a> {
 }
 
 impl Runner<'_> {
-    /// Takes down how a part of the run went.
+    /// Records the status of a part.
     fn ended(&mut self, status: Status) {
         self.status = self.status.or(status);
     }

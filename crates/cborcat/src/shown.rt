@@ -1,4 +1,4 @@
-//! What the program writes of items, as `cbor_inspect` is told it.
+//! What the program writes for items, in the terms of `cbor_inspect`.
 
 use crate::naming::Tables;
 use cbor_grammar::Error;

@@ -36,7 +36,7 @@ pub enum View {
     Items,
     /// The same as JSON.
     Json,
-    /// The same, of which each is a string: its content.
+    /// The same, each a string: its content.
     Raw,
     /// The items that hold no other, and the paths to them.
     Paths,
@@ -79,7 +79,7 @@ pub struct Job<'a> {
     pub item: Option<usize>,
     /// The path as it was given, without the number of an item before it.
     pub path: &'a str,
-    /// Whether what is there of an item that is not whole is written.
+    /// Whether the part of a truncated or malformed item that is there is written.
     pub partial: bool,
     /// Whether what JSON does not keep is an error.
     pub strict: bool,
@@ -89,7 +89,7 @@ pub struct Job<'a> {
     pub check: bool,
     /// The rules that a check asks for beyond those of RFC 8949's grammar.
     pub rules: Option<RuleSet>,
-    /// The rules by which items are encoded again.
+    /// The rules for re-encoding items.
     pub encode: Option<RuleSet>,
     /// The files that are read; `-` for standard input.
     pub files: Vec<&'a str>,

@@ -38,7 +38,7 @@ fn piece<'a>(row: &'a Row) -> Piece<'a> {
     }
 }
 
-/// Lines, of which there may be none, or an error.
+/// Lines, or none, or an error.
 fn shown(alloc: Global, lines: Result<String, Error>) -> Result<String, AllocError> {
     match lines {
         Ok(lines) if lines.is_empty() => Ok(lines),

@@ -1,4 +1,4 @@
-//! The statements of a text in TOML, each of which may take several lines.
+//! The statements of a text in TOML. Each may take several lines.
 
 use std::alloc::{AllocError, Global};
 

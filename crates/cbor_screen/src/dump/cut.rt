@@ -104,7 +104,7 @@ impl<'a> Cut<'a> {
         }
     }
 
-    /// The last line, of which at most `left` bytes are shown: whole characters, and no part of an
+    /// The last line, with at most `left` bytes: whole characters, and no part of an
     /// element.
     fn last(&self, at: usize, left: usize) -> Piece<'a> {
         let cut = Some(self.content.as_bytes().len());

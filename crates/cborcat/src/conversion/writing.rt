@@ -115,7 +115,7 @@ impl Conversion<'_> {
         lines_at(alloc, (number, item), byte, self.entered(&encoded))
     }
 
-    /// Writes what is there of an item that is not whole, if it is asked for.
+    /// Writes the part of a truncated or malformed item that is there, with `--partial`.
     pub(super) fn write_left(&mut self, end: End) -> Result<Written, Error> {
         match self.job.view {
             View::At(byte) => self.write_at_left(byte),

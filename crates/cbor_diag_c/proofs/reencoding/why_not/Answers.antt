@@ -1,4 +1,4 @@
--- What is told of the error of `reencoded` is told of the input.
+-- The result for the error of `reencoded` is the result for the input.
 use Rattle.std.proofs.Common.{rules, ◌≡◌, ℤ, w64, to_z, of_z, subst, sym}
 use Rattle.cbor_diag_c.specs.Answers.{IfLength}
 use Rattle.cbor_diag_c.specs.Reencodings.{IsToldWhyNot}

@@ -1,4 +1,4 @@
--- The members that are left have none exactly if all have none.
+-- The members that are left have none if and only if all have none.
 use Rattle.std.proofs.Common.{◌↔◌, drop}
 use Rattle.cbor_diag.specs.View.{items_view, pairs_view}
 use Rattle.cbor_inspect.specs.Simple.{NoneReservedItems, NoneReservedPairs}

@@ -1,4 +1,4 @@
--- There is no violation exactly if the rules are kept.
+-- There is no violation if and only if the rules are kept.
 use Rattle.std.proofs.Common.{arith}
 use Rattle.cbor_rules.proofs.Exactly.{exactly_ok}
 use Rattle.cbor_rules.proofs.check.violation_in.Goals as goal

@@ -1,4 +1,4 @@
--- Notes of which one more may come are in order.
+-- Notes are in order before one more comes.
 use Rattle.std.proofs.Common.{suc}
 use Rattle.cbor_names.proofs.FallingTo.{falls}
 use Rattle.cbor_names.proofs.note.Notes.list.Goals as goal
