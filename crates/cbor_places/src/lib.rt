@@ -10,7 +10,7 @@
 //! ```rust
 //! use cbor_places::{Around, ByteNumbers, Piece};
 //!
-//! // {"a": [1, 2, ..: the array is cut, of which the head says that it has 4 items.
+//! // {"a": [1, 2, ..: the array is truncated; its head says that it has 4 items.
 //! let piece = Piece {
 //!     begins: 0,
 //!     bytes: b"\xa1\x61a\x84\x01\x02",
