@@ -12,6 +12,8 @@ DESTDIR =
 PROGRAMS = cborcat cbor_view
 RUN_cborcat = --from=bytes
 RUN_cbor_view = seq bytes
+# The scripts that are installed beside them, with their manual pages: they are in share.
+SCRIPTS = cboredit
 
 CC = cc
 LD = ld
@@ -39,8 +41,9 @@ SHARED = $(DIST)/lib/libcbor_diag.so.0
 HEADER = $(DIST)/include/cbor_diag.h
 PKGCONFIG = $(DIST)/lib/pkgconfig/cbor_diag.pc
 PROGRAM_FILES = $(PROGRAMS:%=$(DIST)/bin/%)
-MANUALS = $(PROGRAMS:%=$(DIST)/share/man/man1/%.1)
-COMPLETIONS = $(PROGRAMS:%=$(DIST)/share/bash-completion/completions/%)
+SCRIPT_FILES = $(SCRIPTS:%=$(DIST)/bin/%)
+MANUALS = $(patsubst share/man/%,$(DIST)/share/man/man1/%,$(wildcard share/man/*.1))
+COMPLETIONS = $(patsubst share/%,$(DIST)/share/bash-completion/%,$(wildcard share/completions/*))
 
 # The files that a proof of these crates reads. With AS_BUILT=1 what is in dist/ is taken as it is, whatever its age.
 sources = $(if $(AS_BUILT),,crates.txt \
@@ -49,10 +52,10 @@ sources = $(if $(AS_BUILT),,crates.txt \
 BELOW := $(filter-out %_tests cbor_diag_c $(PROGRAMS),$(shell sed -n 's/^\(cbor[a-z0-9_]*\).*:.*/\1/p' crates.txt))
 
 .PHONY: all program library install try quick test gate planted check check-pages check-commands check-docs check-cat \
-    check-allocations check-bindings check-packages tarball deb wheel vectors arm64 arm64-packages check-arm64 release \
-    compare bench clean
+    check-editing check-allocations check-bindings check-packages tarball deb wheel vectors arm64 arm64-packages \
+    check-arm64 release compare bench clean
 
-all: program library $(MANUALS) $(COMPLETIONS)
+all: program library $(SCRIPT_FILES) $(MANUALS) $(COMPLETIONS)
 
 program: $(PROGRAM_FILES)
 
@@ -91,6 +94,9 @@ $(PKGCONFIG): bindings/c/cbor_diag.pc.in VERSION Makefile
 	mkdir -p $(@D)
 	sed 's|@VERSION@|$(VERSION)|; s|@LIBDIR@|lib|; s|@UP@|../..|' $< > $@
 
+$(SCRIPT_FILES): $(DIST)/bin/%: share/%
+	install -D -m 755 $< $@
+
 $(MANUALS): $(DIST)/share/man/man1/%: share/man/% VERSION
 	mkdir -p $(@D)
 	sed 's|@VERSION@|$(VERSION)|' $< > $@
@@ -100,7 +106,7 @@ $(COMPLETIONS): $(DIST)/share/bash-completion/completions/%: share/completions/%
 
 # The pkg-config file finds the rest from where it is itself.
 install: all
-	install -D -m 755 -t $(DESTDIR)$(PREFIX)/bin $(PROGRAM_FILES)
+	install -D -m 755 -t $(DESTDIR)$(PREFIX)/bin $(PROGRAM_FILES) $(SCRIPT_FILES)
 	install -D -m 644 -t $(DESTDIR)$(PREFIX)/$(LIBDIR) $(STATIC) $(SHARED)
 	ln -sf libcbor_diag.so.0 $(DESTDIR)$(PREFIX)/$(LIBDIR)/libcbor_diag.so
 	install -D -m 644 -t $(DESTDIR)$(PREFIX)/include $(HEADER)
@@ -150,7 +156,8 @@ check: check-pages
 	done
 	@$(MAKE) --no-print-directory -q $(PROGRAM_FILES) $(ARCHIVE) || \
 	    echo "note: files of the crates are newer than dist/: make builds it again"
-	@$(MAKE) --no-print-directory AS_BUILT=1 check-commands check-cat check-allocations check-bindings check-packages
+	@$(MAKE) --no-print-directory AS_BUILT=1 check-commands check-cat check-editing check-allocations check-bindings \
+	    check-packages
 
 # The links, names, words and Rust examples of all pages, and the examples of doc comments, which the tests run; the
 # second implementation, alone.
@@ -174,6 +181,10 @@ check-docs: check-pages check-commands
 check-cat: $(DIST)/bin/cborcat
 	checks/cborcat $<
 	checks/compare/edn --count 1000 $<
+
+# The script that edits files of CBOR, with editors that are scripts.
+check-editing: $(DIST)/bin/cborcat
+	checks/editing $<
 
 # Failing allocations in the programs, and in single calls, which tests make that the gate builds.
 check-allocations: $(PROGRAM_FILES)
