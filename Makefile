@@ -13,7 +13,7 @@ PROGRAMS = cborcat cbor_view
 RUN_cborcat = --from=bytes
 RUN_cbor_view = seq bytes
 # The scripts that are installed beside them, with their manual pages: they are in share.
-SCRIPTS = cboredit
+SCRIPTS = cboredit cbormerge
 
 CC = cc
 LD = ld
@@ -182,7 +182,7 @@ check-cat: $(DIST)/bin/cborcat
 	checks/cborcat $<
 	checks/compare/edn --count 1000 $<
 
-# The script that edits files of CBOR, with editors that are scripts.
+# The scripts that edit and merge files of CBOR, with editors that are scripts and in repositories.
 check-editing: $(DIST)/bin/cborcat
 	checks/editing $<
 
