@@ -30,6 +30,31 @@ pub(crate) struct ByteString {
 }
 
 impl Entered<'_> {
+    /// Those below the tags 24 and 63 alone.
+    pub const TAGGED: Entered<'static> = Entered {
+        embedded: false,
+        encoded: &[],
+    };
+
+    /// Returns where the item begins that a byte string holds, if it is entered and holds one. What
+    /// is given of the string is its head, with the places where that begins and ends in the data,
+    /// the tag right above it, and its level; the outermost is 1.
+    pub fn item_in(
+        self,
+        bytes: &[u8],
+        head: (ItemHead, usize, usize),
+        around: (Option<u64>, u8),
+    ) -> Option<usize> {
+        let (head, start, begins) = head;
+        let (tag, level) = around;
+        let content = content_behind(bytes, head, begins)?;
+        let string = ByteString { start, level, tag };
+        match self.content(string, content.bytes(bytes)) {
+            Content::Item => Some(content.start),
+            _ => None,
+        }
+    }
+
     /// What the content of a byte string is to paths: an item or items that they enter, or bytes.
     pub(crate) fn content(self, string: ByteString, content: &[u8]) -> Content {
         let level = string.level.saturating_add(1);

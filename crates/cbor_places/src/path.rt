@@ -81,7 +81,7 @@ impl Path {
 
     /// Appends the step to the item that a byte string encodes, or to the one of several at that
     /// byte of the string.
-    pub(crate) fn push_inside(&mut self, byte: Option<usize>) -> Result<(), AllocError> {
+    pub fn push_inside(&mut self, byte: Option<usize>) -> Result<(), AllocError> {
         self.push_slash()?;
         match byte {
             Some(byte) => write!(self.text, "@{byte}"),

@@ -269,7 +269,7 @@ impl<'a> Conversion<'a> {
             View::Items if self.job.show.style.form == Form::Hex => self.show_dumps(),
             View::Items => self.show_some(),
             View::Json | View::Raw => self.show_plain(),
-            View::Paths | View::At(_) => self.stream.skip(one),
+            View::Paths | View::At(_) | View::Diff => self.stream.skip(one),
         };
         if self.stream.rest().len() < before {
             self.index = self.index.saturating_add(1);

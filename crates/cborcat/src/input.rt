@@ -57,7 +57,7 @@ fn read_block<R: Read>(input: &mut R, bytes: &mut Vec<u8>, most: usize) -> io::R
 }
 
 /// Reads all that the input has, after the bytes that are there.
-fn read_all<R: Read>(input: &mut R, bytes: &mut Vec<u8>) -> io::Result<()> {
+pub fn read_all<R: Read>(input: &mut R, bytes: &mut Vec<u8>) -> io::Result<()> {
     for _ in 0..u64::MAX {
         if read_block(input, bytes, BLOCK)? == 0 {
             break;

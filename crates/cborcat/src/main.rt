@@ -6,6 +6,7 @@
 #![tactic(auto)]
 
 mod conversion;
+mod diff;
 mod dumps;
 mod each;
 mod encode;

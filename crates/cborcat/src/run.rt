@@ -1,6 +1,7 @@
 //! A run of the program: each input, one after the other.
 
 use crate::conversion::Conversion;
+use crate::diff::Diff;
 use crate::input::{block_len, read_first};
 use crate::messages::{Place, say, say_no_text, say_pasted};
 use crate::naming::{Tables, shown_of, tables_of};
@@ -39,6 +40,14 @@ pub fn run(rt: &HostRuntime, job: &Job) -> u8 {
     let Some(mut target) = open(rt, asked) else {
         return Status::Trouble.number();
     };
+    if job.view == View::Diff {
+        let status = Diff { rt, job, tables }.run(&mut target);
+        return if close(rt, target, asked, status != Status::Trouble) {
+            status.number()
+        } else {
+            Status::Trouble.number()
+        };
+    }
     let mut run = Runner {
         rt,
         job,

@@ -45,7 +45,7 @@ enum Takes {
 /// An option: its name, which `--` precedes, its letter, which `-` precedes, and what it takes.
 type Row<'a> = (&'a str, Option<char>, Takes);
 
-const OPTIONS: [Row<'static>; 25] = [
+const OPTIONS: [Row<'static>; 27] = [
     ("from", Some('f'), Takes::From),
     ("text", Some('x'), Takes::Text),
     ("one", Some('1'), Takes::Nothing),
@@ -71,10 +71,12 @@ const OPTIONS: [Row<'static>; 25] = [
     ("names", None, Takes::Name),
     ("no-names", None, Takes::Nothing),
     ("names-as-keys", None, Takes::Nothing),
+    ("diff", None, Takes::Nothing),
+    ("exact", None, Takes::Nothing),
 ];
 
 /// Arguments that cannot stand together.
-const CONFLICTS: [(&str, &str); 14] = [
+const CONFLICTS: [(&str, &str); 23] = [
     ("text", "file"),
     ("encode", "check"),
     ("at", "to"),
@@ -89,6 +91,15 @@ const CONFLICTS: [(&str, &str); 14] = [
     ("no-names", "names"),
     ("no-names", "names-as-keys"),
     ("no-notes", "names-as-keys"),
+    ("diff", "text"),
+    ("diff", "to"),
+    ("diff", "path"),
+    ("diff", "at"),
+    ("diff", "check"),
+    ("diff", "encode"),
+    ("diff", "partial"),
+    ("diff", "one"),
+    ("diff", "offset"),
 ];
 
 /// The command, whose help is the text as written.

@@ -42,6 +42,8 @@ pub enum View {
     Paths,
     /// The item to which this byte of the data belongs.
     At(usize),
+    /// What differs between two inputs.
+    Diff,
 }
 
 /// What the arguments ask for.
@@ -75,6 +77,8 @@ pub struct Job<'a> {
     pub names_as_keys: bool,
     /// Whether the lines of paths have the place of each item.
     pub places: bool,
+    /// Whether the same item in another encoding is a difference.
+    pub exact: bool,
     /// The number of the item that is shown alone, counted from 0.
     pub item: Option<usize>,
     /// The path as it was given, without the number of an item before it.
@@ -134,7 +138,7 @@ impl Job<'_> {
             View::Items => has_comments && !self.check,
             View::Json => self.names_as_keys,
             // Names say which byte strings paths enter.
-            View::Paths | View::At(_) => style.notes,
+            View::Paths | View::At(_) | View::Diff => style.notes,
             View::Raw => false,
         };
         is_named && self.names

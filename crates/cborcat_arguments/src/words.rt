@@ -114,6 +114,7 @@ fn view_of(matches: &ArgMatches) -> View {
         return View::At(byte);
     }
     match matches.get_str("to") {
+        _ if matches.get_flag("diff") => View::Diff,
         _ if matches.get_str("check").is_some() => View::Items,
         Some("json") => View::Json,
         Some("raw") => View::Raw,
@@ -135,6 +136,8 @@ fn refusal(job: &Job, matches: &ArgMatches) -> Option<&'static str> {
                  without --no-notes, and -t json with --names-as-keys",
             )
         }
+        View::Diff if job.files.len() != 2 => Some("--diff compares two files"),
+        _ if job.exact && job.view != View::Diff => Some("--exact is for --diff"),
         _ if job.places && job.view != View::Paths => Some("--places is for -t paths"),
         _ if job.elide.is_some() && !is_notation && job.show.style.form != Form::Hex => {
             Some("--elide cuts strings of pretty, diag, hex and paths alone")
@@ -154,7 +157,7 @@ fn refusal(job: &Job, matches: &ArgMatches) -> Option<&'static str> {
                  and have no --encode or --partial",
             )
         }
-        View::Json => None,
+        View::Json | View::Diff => None,
         _ if job.strict => Some("--strict is for -t json"),
         _ if job.names_as_keys => Some("--names-as-keys is for -t json"),
         _ => None,
@@ -223,6 +226,7 @@ fn job_of<'a>(rt: &HostRuntime, matches: &ArgMatches<'a>) -> Asked<'a> {
         item,
         path,
         places: matches.get_flag("places"),
+        exact: matches.get_flag("exact"),
         partial: matches.get_flag("partial"),
         strict: matches.get_flag("strict"),
         output: matches.get_str("output"),

@@ -15,7 +15,7 @@ impl Conversion<'_> {
     /// Writes what was made of the items that were passed last.
     pub(super) fn write(&mut self) -> Result<Written, Error> {
         match self.job.view {
-            View::Paths => self.write_paths(),
+            View::Paths | View::Diff => self.write_paths(),
             View::At(byte) => self.write_at(byte),
             View::Items => self.write_items(),
             View::Json => Ok(self.screen.write(self.target, &self.out, Language::Edn)?),
@@ -120,7 +120,7 @@ impl Conversion<'_> {
         match self.job.view {
             View::At(byte) => self.write_at_left(byte),
             View::Items if self.job.partial => self.write_partial(end),
-            View::Items | View::Json | View::Raw | View::Paths => Ok(Written::Whole),
+            View::Items | View::Json | View::Raw | View::Paths | View::Diff => Ok(Written::Whole),
         }
     }
 

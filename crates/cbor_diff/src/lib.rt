@@ -1,0 +1,20 @@
+//! What differs between two sequences of items: by members of arrays, by keys of maps in any order,
+//! and by the number of the item.
+//!
+//! ```rust
+//! use cbor_diff::{Change, Comparison, differences};
+//!
+//! // {"a": 1, "b": 2} and {"b": 3, "a": 1_0}
+//! let (old, new) = (b"\xa2\x61a\x01\x61b\x02", b"\xa2\x61b\x03\x61a\x18\x01");
+//! let found = differences(alloc, old, new, Comparison::BY_VALUE)?;
+//! assert_eq!(rt; found.len(), 1);
+//! assert_eq!(rt; found[0].change, Change::Changed);
+//! assert_eq!(rt; found[0].path.as_str(), "b");
+//! ```
+#![tactic(auto)]
+
+mod compare;
+mod level;
+mod same;
+
+pub use compare::{Change, Comparison, Difference, differences};
