@@ -64,6 +64,9 @@ Output:
                      its first violation of RULES (default: the grammar of
                      RFC 8949)
       --encode=RULES re-encode each item so that it keeps RULES
+      --diff         compare two files: a line for each part that differs (~),
+                     or that the second (+) or the first (-) alone has
+      --exact        show other encodings of the same item, too (--diff)
 
   -h, --help         show this text
   -V, --version      show the version
@@ -79,6 +82,7 @@ Forms (i: input, o: output):
   json        io  output: JSON, one line for each item; input: the same as diag
   raw          o  the content of a byte or text string
   paths        o  a line for each item that holds no other: its path, and EDN
+  stats        o  which paths take the bytes: sizes, counts, kinds and bounds
 
 Without -f the form is recognized. A byte that no text has makes the input
 bytes, which are shown as they arrive. Text is read to its end first. A text of
@@ -100,7 +104,8 @@ string. Tags need no step. Byte strings that are shown as <<..>> need no @.
 N: before a path selects item N of a sequence, from 0; N: alone is all of it.
 
 Exit status: 0 all input is CBOR; 1 some is not, or PATH leads nowhere;
-2 wrong arguments, out of memory, or a file cannot be read or written.
+2 wrong arguments, out of memory, or a file cannot be read or written. With
+--diff: 0 the items are the same; 1 they differ; 2 anything else.
 
 Examples:
   cborcat message.cbor
@@ -111,7 +116,7 @@ Examples:
   cborcat -p 2 -t raw message.cbor > payload
   cborcat --as=COSE_Key key.cbor
   cborcat --at=0x5b message.cbor
-  diff <(cborcat -t paths a.cbor) <(cborcat -t paths b.cbor)
+  cborcat --diff a.cbor b.cbor
   cborcat --check=core *.cbor
   cborcat --encode=core -t bytes a.cbor > core.cbor
   git config diff.cbor.textconv cborcat
