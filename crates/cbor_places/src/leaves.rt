@@ -42,6 +42,9 @@ struct Level {
     path_len: usize,
     /// The level of the items in it.
     level: u8,
+    /// Whether it is an array whose members have a meaning each by their index: a short one that has
+    /// a tag.
+    is_record: bool,
 }
 
 /// The head of the item that comes next, below its tags.
@@ -65,6 +68,8 @@ pub struct Leaves<'a> {
     number: usize,
     /// Whether each line has the place before the path.
     places: bool,
+    /// Whether the step to each member of an array is `*`.
+    any_index: bool,
     /// What comes next.
     at: usize,
     /// What is around that, the outermost first.
@@ -91,6 +96,7 @@ impl<'a> Leaves<'a> {
             entered,
             number: 0,
             places: false,
+            any_index: false,
             at: 0,
             levels: Vec::new(alloc),
             path: Path::new(alloc, LONGEST),
@@ -106,6 +112,36 @@ impl<'a> Leaves<'a> {
     /// The same lines, if asked with the place before each path at which the item begins.
     pub fn with_places(self, places: bool) -> Leaves<'a> {
         Leaves { places, ..self }
+    }
+
+    /// The same items, with one path for all members of an array: its step to each is `*`. A tagged
+    /// array of at most 16 members, such as a COSE message, keeps its indices.
+    pub fn with_any_index(self) -> Leaves<'a> {
+        Leaves {
+            any_index: true,
+            ..self
+        }
+    }
+
+    /// Returns where the next item is that holds no other, with its tags; `None` after the last.
+    /// Then [`path`](Leaves::path) is the path to it.
+    pub fn next_leaf(&mut self) -> Result<Option<Span>, AllocError> {
+        for _ in 0..u64::MAX {
+            if self.is_done() {
+                break;
+            }
+            if !self.ends()
+                && let Some(leaf) = self.next_item()?
+            {
+                return Ok(Some(leaf));
+            }
+        }
+        Ok(None)
+    }
+
+    /// The path to the item that [`next_leaf`](Leaves::next_leaf) returned last.
+    pub fn path(&self) -> &str {
+        self.path.as_str()
     }
 
     /// How many items of the data begin before what comes next.
@@ -124,8 +160,10 @@ impl<'a> Leaves<'a> {
             if self.is_done() || out.len() >= BLOCK {
                 break;
             }
-            if !self.ends() {
-                self.push_next(out)?;
+            if !self.ends()
+                && let Some(leaf) = self.next_item()?
+            {
+                self.push_line(out, leaf)?;
             }
         }
         Ok(())
@@ -175,8 +213,8 @@ impl<'a> Leaves<'a> {
         }
     }
 
-    /// Goes past the next item, or into it.
-    fn push_next(&mut self, out: &mut String) -> Result<(), Error> {
+    /// Goes past the next item, which holds no other, and returns where it is; or goes into it.
+    fn next_item(&mut self) -> Result<Option<Span>, AllocError> {
         if self.levels.is_empty() {
             self.number = self.number.saturating_add(1);
         }
@@ -186,9 +224,14 @@ impl<'a> Leaves<'a> {
             && let Some(inside) = self.inside_of(next)
         {
             self.enter(next, inside)?;
-            return Ok(());
+            return Ok(None);
         }
-        self.push_line(out, start)
+        let len = len_of(self.rest());
+        self.pass(len);
+        Ok(Some(Span {
+            start,
+            end: self.at,
+        }))
     }
 
     /// Appends the step to what comes next, after its key if it has one.
@@ -197,8 +240,10 @@ impl<'a> Leaves<'a> {
             return Ok(());
         };
         let (inside, index) = (level.inside, level.index);
+        let any_index = self.any_index && !level.is_record;
         level.index = index.saturating_add(1);
         match inside {
+            Inside::Array(_) | Inside::Items(_) if any_index => self.path.push_each(),
             Inside::Array(_) => self.path.push_index(index),
             Inside::Map(_) => self.push_key(),
             Inside::Item => self.path.push_inside(None),
@@ -280,26 +325,33 @@ impl<'a> Leaves<'a> {
             index: 0,
             path_len: self.path.len(),
             level: next.level.saturating_add(1),
+            is_record: next.tag.is_some() && is_short(inside),
         })?;
         Ok(())
     }
 
-    /// Appends the line of an item whose tags begin at a place, and goes past it.
-    fn push_line(&mut self, out: &mut String, start: usize) -> Result<(), Error> {
-        let len = len_of(self.rest());
-        self.pass(len);
+    /// Appends the line of an item.
+    fn push_line(&mut self, out: &mut String, leaf: Span) -> Result<(), Error> {
         if self.places {
-            let byte = self.items.number(start);
+            let byte = self.items.number(leaf.start);
             write!(out, "0x{byte:x}  ")?;
         }
         push_number(out, self.number.saturating_sub(1))?;
         out.push_str(self.path.as_str())?;
         out.push_str("  ")?;
-        let item = self.items.bytes.get(start..self.at).unwrap_or(b"");
+        let item = leaf.bytes(self.items.bytes);
         push_bytes_to_edn(*out.allocator(), item, self.style, out)?;
         out.push('\n')?;
         Ok(())
     }
+}
+
+/// The most members that an array has whose indices stay apart in a path for all members.
+const SHORT: u64 = 16;
+
+/// Whether this is an array of few members.
+fn is_short(inside: Inside) -> bool {
+    matches!(inside, Inside::Array(Argument::Number(count, _)) if count <= SHORT)
 }
 
 /// Whether a container has a part, whose head ends at that place.

@@ -79,6 +79,12 @@ impl Path {
         write!(self.text, "{index}")
     }
 
+    /// Appends the step to each member.
+    pub fn push_each(&mut self) -> Result<(), AllocError> {
+        self.push_slash()?;
+        self.text.push('*')
+    }
+
     /// Appends the step to the item that a byte string encodes, or to the one of several at that
     /// byte of the string.
     pub fn push_inside(&mut self, byte: Option<usize>) -> Result<(), AllocError> {

@@ -21,6 +21,7 @@ use cbor_grammar::Error;
 use cbor_inspect::{End, Form, Stream, two_byte_simple};
 use cbor_messages::{TWO_BYTES, first_violation};
 use cbor_places::Piece;
+use cbor_stats::Stats;
 use cborcat_arguments::{Job, View};
 use std::alloc::{AllocError, Global};
 use std::io;
@@ -61,6 +62,8 @@ pub struct Conversion<'a> {
     passed: usize,
     /// How many items were before these, as far as paths are asked for.
     number: usize,
+    /// What is known of the values of all items, if that is asked for.
+    stats: &'a mut Stats,
     /// How the output is shown.
     screen: Screen<'a>,
     /// What is written next.
@@ -113,6 +116,7 @@ impl<'a> Conversion<'a> {
             rt,
             job,
             target: run.target,
+            stats: run.stats,
             place,
             tables,
             status: Status::Fine,
@@ -269,7 +273,7 @@ impl<'a> Conversion<'a> {
             View::Items if self.job.show.style.form == Form::Hex => self.show_dumps(),
             View::Items => self.show_some(),
             View::Json | View::Raw => self.show_plain(),
-            View::Paths | View::At(_) | View::Diff => self.stream.skip(one),
+            View::Paths | View::At(_) | View::Diff | View::Stats => self.stream.skip(one),
         };
         if self.stream.rest().len() < before {
             self.index = self.index.saturating_add(1);

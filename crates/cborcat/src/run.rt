@@ -3,13 +3,14 @@
 use crate::conversion::Conversion;
 use crate::diff::Diff;
 use crate::input::{block_len, read_first};
-use crate::messages::{Place, say, say_no_text, say_pasted};
+use crate::messages::{Place, say, say_no_text, say_out_of_memory, say_pasted};
 use crate::naming::{Tables, shown_of, tables_of};
-use crate::output::{Target, close, open};
+use crate::output::{Target, Written, close, open, write};
 use crate::recognized::{data_of, form_of, say_notation};
 use crate::status::{Next, Status};
 use cbor_inputs::{Input, looks_like};
 use cbor_inspect::Form;
+use cbor_stats::Stats;
 use cborcat_arguments::{Job, View};
 use std::fs::File;
 use std::io;
@@ -48,19 +49,36 @@ pub fn run(rt: &HostRuntime, job: &Job) -> u8 {
             Status::Trouble.number()
         };
     }
+    let mut stats = Stats::new(rt.alloc());
     let mut run = Runner {
         rt,
         job,
         target: &mut target,
+        stats: &mut stats,
         tables,
         status: Status::Fine,
     };
     run.inputs();
-    let status = run.status;
+    let mut status = run.status;
+    if job.view == View::Stats {
+        status = status.or(write_stats(rt, &mut target, &stats));
+    }
     if close(rt, target, asked, status == Status::Fine) {
         status.number()
     } else {
         Status::Trouble.number()
+    }
+}
+
+/// Writes which paths take the bytes.
+fn write_stats(rt: &HostRuntime, target: &mut Target, stats: &Stats) -> Status {
+    let mut text = String::new(rt.alloc());
+    if stats.push_text(&mut text).is_err() {
+        return say_out_of_memory(rt, "-");
+    }
+    match write(rt, target, text.as_bytes()) {
+        Written::Failed => Status::Trouble,
+        Written::Whole | Written::Closed => Status::Fine,
     }
 }
 
@@ -73,6 +91,8 @@ pub struct Runner<'a> {
     pub job: &'a Job<'a>,
     /// Where the output goes.
     pub target: &'a mut Target,
+    /// What is known of the values of all items, if that is asked for.
+    pub stats: &'a mut Stats,
     /// The names that are shown.
     pub tables: Option<Tables<'a>>,
     /// How it went so far.

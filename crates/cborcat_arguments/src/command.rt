@@ -11,8 +11,8 @@ use std::alloc::{AllocError, Global};
 static FROM: [&str; 7] = ["bytes", "cbor", "hex", "diag", "edn", "json", "base64"];
 
 /// The forms of the output, some by two names.
-static TO: [&str; 10] = [
-    "pretty", "diag", "edn", "hex", "digits", "bytes", "cbor", "json", "raw", "paths",
+static TO: [&str; 11] = [
+    "pretty", "diag", "edn", "hex", "digits", "bytes", "cbor", "json", "raw", "paths", "stats",
 ];
 
 /// What an option takes.

@@ -44,6 +44,8 @@ pub enum View {
     At(usize),
     /// What differs between two inputs.
     Diff,
+    /// Which paths take the bytes of all items.
+    Stats,
 }
 
 /// What the arguments ask for.
@@ -138,7 +140,7 @@ impl Job<'_> {
             View::Items => has_comments && !self.check,
             View::Json => self.names_as_keys,
             // Names say which byte strings paths enter.
-            View::Paths | View::At(_) | View::Diff => style.notes,
+            View::Paths | View::At(_) | View::Diff | View::Stats => style.notes,
             View::Raw => false,
         };
         is_named && self.names

@@ -56,7 +56,7 @@ fn input_of(word: &str) -> Option<Input> {
 /// The form of the output that a word names.
 fn form_of(word: Option<&str>) -> Form {
     match word {
-        Some("diag" | "edn" | "paths") => Form::Diag,
+        Some("diag" | "edn" | "paths" | "stats") => Form::Diag,
         Some("hex") => Form::Hex,
         Some("digits") => Form::Digits,
         // JSON and contents are made of the bytes of a part.
@@ -119,6 +119,7 @@ fn view_of(matches: &ArgMatches) -> View {
         Some("json") => View::Json,
         Some("raw") => View::Raw,
         Some("paths") => View::Paths,
+        Some("stats") => View::Stats,
         _ => View::Items,
     }
 }
@@ -150,6 +151,9 @@ fn refusal(job: &Job, matches: &ArgMatches) -> Option<&'static str> {
         }
         View::Paths if encoded || !job.path.is_empty() || job.item.is_some() => {
             Some("-t paths shows all paths as they are, and has no -p or --encode")
+        }
+        View::Stats if encoded || !job.path.is_empty() || job.item.is_some() || job.partial => {
+            Some("-t stats counts whole items as they are, and has no -p, --encode or --partial")
         }
         View::Json | View::Raw if encoded || job.partial => {
             Some(

@@ -15,7 +15,9 @@ impl Conversion<'_> {
     /// Writes what was made of the items that were passed last.
     pub(super) fn write(&mut self) -> Result<Written, Error> {
         match self.job.view {
-            View::Paths | View::Diff => self.write_paths(),
+            View::Paths => self.write_paths(),
+            View::Stats => self.count(),
+            View::Diff => Ok(Written::Whole),
             View::At(byte) => self.write_at(byte),
             View::Items => self.write_items(),
             View::Json => Ok(self.screen.write(self.target, &self.out, Language::Edn)?),
@@ -66,6 +68,21 @@ impl Conversion<'_> {
             }
         }
         self.number = leaves.number();
+        Ok(Written::Whole)
+    }
+
+    /// Counts the values of the items that were passed last.
+    fn count(&mut self) -> Result<Written, Error> {
+        let items = Piece {
+            begins: self.begins().saturating_sub(self.passed),
+            bytes: self.stream.passed(self.passed),
+        };
+        let encoded = encoded_in(self.rt.alloc(), self.tables, items)?;
+        let entered = Entered {
+            embedded: self.job.show.style.embedded,
+            encoded: &encoded,
+        };
+        self.stats.add(items, entered)?;
         Ok(Written::Whole)
     }
 
@@ -120,7 +137,7 @@ impl Conversion<'_> {
         match self.job.view {
             View::At(byte) => self.write_at_left(byte),
             View::Items if self.job.partial => self.write_partial(end),
-            View::Items | View::Json | View::Raw | View::Paths | View::Diff => Ok(Written::Whole),
+            _ => Ok(Written::Whole),
         }
     }
 

@@ -1,0 +1,21 @@
+//! Which paths take the bytes of items: how often each leads to a value, how many bytes these take,
+//! of which kinds they are, and between which bounds.
+//!
+//! ```rust
+//! use cbor_places::{Entered, Piece};
+//! use cbor_stats::Stats;
+//!
+//! // [1, 20, "a"]
+//! let items = Piece { begins: 0, bytes: b"\x83\x01\x14\x61a" };
+//! let mut stats = Stats::new(alloc);
+//! stats.add(items, Entered::TAGGED)?;
+//! let mut text = String::new(alloc);
+//! stats.push_text(&mut text)?;
+//! assert!(rt; text.as_str().contains("*  integer 1 to 20, text of 1 byte"));
+//! ```
+#![tactic(auto)]
+
+mod entry;
+mod stats;
+
+pub use stats::Stats;
