@@ -1,5 +1,7 @@
 //! Whether items are the same.
-ghost use Rattle.std.specs.Prelude.{◌≡◌, ◌↔◌, true, IfOk};
+ghost use Rattle.std.specs.Prelude.{◌≡◌, true, IfOk, IfSome};
+ghost use Rattle.cbor_rules.specs.declared.rules.TheConstants.Rules.{CORE};
+ghost use Rattle.cbor_reencode.specs.Reencoded.{IsReencoded};
 ghost use Rattle.cbor_diff.specs.Same.{AreSame};
 
 use cbor_reencode::{ReencodeError, reencoded};
@@ -8,7 +10,9 @@ use std::alloc::{AllocError, Global};
 
 /// The core deterministic encoding of items, or `None` if they have none: a map has two equal keys,
 /// for example.
-fn core_of(alloc: Global, items: &[u8]) -> Result<Option<Vec<u8>>, AllocError> {
+fn core_of(alloc: Global, items: &[u8]) -> Result<Option<Vec<u8>>, AllocError>
+    ensures { IfOk result (λ found. IfSome found (λ core. IsReencoded CORE items.now core.items)) }
+{
     match reencoded(alloc, items, Rules::CORE) {
         Ok(core) => Ok(Some(core)),
         Err(ReencodeError::Memory) => Err(AllocError),
