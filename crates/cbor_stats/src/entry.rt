@@ -13,7 +13,7 @@ const KINDS: [&str; 9] = [
     "integer",
     "float",
     "text",
-    "bytes",
+    "byte string",
     "boolean",
     "null",
     "undefined",

@@ -1,5 +1,5 @@
-//! Which paths take the bytes of items: how often each leads to a value, how many bytes these take,
-//! of which kinds they are, and between which bounds.
+//! Which paths take the bytes of items: how often each leads to a value, how many bytes the values
+//! take, their kinds, and the bounds of their numbers and lengths.
 //!
 //! ```rust
 //! use cbor_places::{Entered, Piece};

@@ -6,8 +6,8 @@ use cbor_places::{Entered, Leaves, Piece};
 use std::alloc::{AllocError, Global};
 use std::fmt::Write;
 
-/// At most this many paths are told apart. What other paths lead to is counted as one, so memory
-/// stays bounded on inputs whose keys go on to differ.
+/// At most this many paths have an entry each. The values of all other paths share one, so memory
+/// stays bounded on inputs with ever new keys.
 const MOST: usize = 10_000;
 
 /// The path of these.

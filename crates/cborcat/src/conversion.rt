@@ -62,7 +62,7 @@ pub struct Conversion<'a> {
     passed: usize,
     /// How many items were before these, as far as paths are asked for.
     number: usize,
-    /// What is known of the values of all items, if that is asked for.
+    /// The values of all items by their paths, for `-t stats`.
     stats: &'a mut Stats,
     /// How the output is shown.
     screen: Screen<'a>,

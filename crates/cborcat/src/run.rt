@@ -91,7 +91,7 @@ pub struct Runner<'a> {
     pub job: &'a Job<'a>,
     /// Where the output goes.
     pub target: &'a mut Target,
-    /// What is known of the values of all items, if that is asked for.
+    /// The values of all items by their paths, for `-t stats`.
     pub stats: &'a mut Stats,
     /// The names that are shown.
     pub tables: Option<Tables<'a>>,
