@@ -75,15 +75,16 @@ def shown_commands(shell, same, text):
 
 def forms(run, same, text):
     """Each form stands in the help once, and is one of an input and of the output as it says there."""
-    block = text.partition("Forms, ")[2].partition("\n\n")[0]
-    rows = re.findall(r"^  ([a-z0-9]+)(?:, ([a-z]+))? +(io|i|o) ", block, re.MULTILINE)
-    same("how many forms", len(rows), 9)
+    block = text.partition("Forms (")[2].partition("\n\n")[0]
+    rows = re.findall(r"^  ([a-z0-9]+)(?:=SIZE)?(?:, ([a-z]+))? +(io|i|o) ", block, re.MULTILINE)
+    same("how many forms", len(rows), 11)
     for name, other, ways in rows:
         for word in filter(None, (name, other)):
             same(f"-f {word}", run("-f", word, "-t", "digits")[2], 0 if "i" in ways else 2)
-            same(f"-t {word}", run("-t", word)[2], 0 if "o" in ways else 2)
+            asked = "index=1" if word == "index" else word
+            same(f"-t {word}", run("-t", asked)[2], 0 if "o" in ways else 2)
     page = text_of("share/man/cborcat.1").partition(".SH FORMS")[2].partition(".SH ")[0]
-    listed = re.findall(r"[a-z0-9]+", " ".join(re.findall(r"^\.TP.*\n\.BR? (.*)$", page, re.MULTILINE)))
+    listed = re.findall(r"[a-z0-9]+\b(?<!SIZE)", " ".join(re.findall(r"^\.TP.*\n\.BR? (.*)$", page, re.MULTILINE)))
     wanted = [word for name, other, _ in rows for word in (name, other) if word]
     same("the forms of the manual page", sorted(listed), sorted(wanted))
 

@@ -1,4 +1,4 @@
-"""What `cborcat -t stats` writes. Expected lines are counted by hand from the bytes of the items."""
+"""What `cborcat -t stats` and `-t index=SIZE` write. Expected lines are counted by hand from the bytes of the items."""
 
 # Items in notation, and the lines of their statistics.
 ROWS = [
@@ -33,8 +33,34 @@ ROWS = [
 ]
 
 
+# Bytes, a size, and the pieces of the items.
+PIECES = [
+    ("01 82 02 03 04", "1", "0 1 1\n1 3 1\n4 1 1\n"),
+    ("01 82 02 03 04", "2", "0 4 2\n4 1 1\n"),
+    ("01 82 02 03 04", "5", "0 5 3\n"),
+    ("01 82 02 03 04", "0x1", "0 1 1\n1 3 1\n4 1 1\n"),
+    ("", "1", ""),
+    ("01", "64M", "0 1 1\n"),
+]
+
+
+def pieces(run, same):
+    """Pieces of whole items, one after the other, that have all bytes."""
+    for digits, size, wanted in PIECES:
+        same(f"{size} of {digits}", run("-t", f"index={size}", "-f", "hex", "-x", digits), (wanted.encode(), "", 0))
+    data = bytes.fromhex("83010203") * 5000
+    same("of 1K", run("-t", "index=1K", data=data)[0].splitlines()[-1], b"19456 544 136")
+    same("behind an offset", run("-t", "index=8", "--offset=19992", data=data), (b"19992 8 2\n", "", 0))
+    said = "cborcat: standard input: truncated: the array at byte 1 has 2 items, none is there\n"
+    same("before what is no item", run("-t", "index=1", data=b"\x01\x82"), (b"0 1 1\n", said, 1))
+    for word in ("index", "index=", "index=0", "index=1X", "index=-1", "index=0K", "index=99999999999999999999"):
+        written, said, status = run("-t", word, "-x", "1")
+        same(word, (written, said.splitlines()[0], status), (b"", f"error: invalid value \"{word}\" for '--to <to>'", 2))
+
+
 def check(run, same, folder):
     """All of it."""
+    pieces(run, same)
     for text, wanted in ROWS:
         same(f"statistics of {text}", run("-t", "stats", "-f", "diag", "-x", text), (wanted.encode(), "", 0))
 
@@ -55,5 +81,5 @@ def check(run, same, folder):
     same("of many keys", (len(lines), said, status), (10_003, "", 0))
     same("those without a line", [line for line in lines if "(other paths)" in line],
          ["        2000   2.3%       2000  (other paths)  integer 1"])
-    said = "cborcat: -t stats counts whole items as they are, and has no -p, --encode or --partial\n"
+    said = "cborcat: -t stats and -t index count whole items, and have no -p, --encode or --partial\n"
     same("of a part", run("-t", "stats", "-p", "0", "-x", "[1]"), (b"", said, 2))

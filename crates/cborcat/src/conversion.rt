@@ -1,6 +1,8 @@
 //! In the program, the conversion of one input, as its bytes come.
+mod index;
 mod writing;
 
+use self::index::Indexed;
 use crate::dumps::Dumps;
 use crate::each::show_each;
 use crate::encode::Encoding;
@@ -62,6 +64,8 @@ pub struct Conversion<'a> {
     passed: usize,
     /// How many items were before these, as far as paths are asked for.
     number: usize,
+    /// The piece of items that is not written yet, for `-t index`.
+    piece: Indexed,
     /// The values of all items by their paths, for `-t stats`.
     stats: &'a mut Stats,
     /// How the output is shown.
@@ -117,6 +121,7 @@ impl<'a> Conversion<'a> {
             job,
             target: run.target,
             stats: run.stats,
+            piece: Indexed::from(job.offset),
             place,
             tables,
             status: Status::Fine,
@@ -274,6 +279,7 @@ impl<'a> Conversion<'a> {
             View::Items => self.show_some(),
             View::Json | View::Raw => self.show_plain(),
             View::Paths | View::At(_) | View::Diff | View::Stats => self.stream.skip(one),
+            View::Index(size) => self.index_items(size),
         };
         if self.stream.rest().len() < before {
             self.index = self.index.saturating_add(1);
@@ -407,6 +413,13 @@ impl<'a> Conversion<'a> {
         {
             report_few(self.rt, self.place, item, self.index);
             self.ended(Status::Bad);
+        }
+        if let View::Index(_) = self.job.view {
+            match self.write_last_piece() {
+                Ok(Written::Failed) => self.ended(Status::Trouble),
+                Ok(_) => {}
+                Err(_) => return self.stop(End::Memory),
+            }
         }
         if let View::At(byte) = self.job.view {
             let count = self.came;

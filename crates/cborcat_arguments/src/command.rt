@@ -10,8 +10,8 @@ use std::alloc::{AllocError, Global};
 /// The forms of an input, some by two names.
 static FROM: [&str; 7] = ["bytes", "cbor", "hex", "diag", "edn", "json", "base64"];
 
-/// The forms of the output, some by two names.
-static TO: [&str; 11] = [
+/// The forms of the output, some by two names; `index` also takes a size, as in `index=64M`.
+pub(crate) static TO: [&str; 11] = [
     "pretty", "diag", "edn", "hex", "digits", "bytes", "cbor", "json", "raw", "paths", "stats",
 ];
 
@@ -139,12 +139,12 @@ fn taking(argument: Arg<'_>, takes: Takes) -> Arg<'_> {
     }
     let argument = argument.action(ArgAction::Set);
     match takes {
-        Takes::Nothing | Takes::Name | Takes::Bytes => argument,
+        // The word of `--to` is looked up once the arguments are known: one of them has a size.
+        Takes::Nothing | Takes::Name | Takes::Bytes | Takes::To => argument,
         Takes::Text => argument.allow_hyphen_values(true),
         Takes::Length => or(argument, "32").value_parser(clap::value_parser!(usize)),
         Takes::Columns => argument.value_parser(clap::value_parser!(u16).range(20..=1000)),
         Takes::From => argument.value_parser(FROM.as_slice()),
-        Takes::To => argument.value_parser(TO.as_slice()),
         Takes::When => argument.value_parser(COLORS.as_slice()),
         Takes::Rules => or(argument, "rfc8949").value_parser(RULES.as_slice()),
         Takes::Encoding => argument.value_parser(ENCODINGS.as_slice()),

@@ -83,6 +83,8 @@ Forms (i: input, o: output):
   raw          o  the content of a byte or text string
   paths        o  a line for each item that holds no other: its path, and EDN
   stats        o  which paths take the bytes: sizes, counts, kinds and bounds
+  index=SIZE   o  pieces of whole items of at least SIZE bytes (64M, say), to
+                  convert a large file in parts: place, length, items
 
 Without -f the form is recognized. A byte that no text has makes the input
 bytes, which are shown as they arrive. Text is read to its end first. A text of

@@ -46,6 +46,8 @@ pub enum View {
     Diff,
     /// Which paths take the bytes of all items.
     Stats,
+    /// Where pieces of whole items begin and end that have at least this many bytes.
+    Index(usize),
 }
 
 /// What the arguments ask for.
@@ -141,7 +143,7 @@ impl Job<'_> {
             View::Json => self.names_as_keys,
             // Names say which byte strings paths enter.
             View::Paths | View::At(_) | View::Diff | View::Stats => style.notes,
-            View::Raw => false,
+            View::Raw | View::Index(_) => false,
         };
         is_named && self.names
     }

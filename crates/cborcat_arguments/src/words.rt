@@ -1,6 +1,6 @@
 //! The arguments, read: the job that they ask for, or why they ask for none.
 
-use crate::command::command;
+use crate::command::{TO, command};
 use crate::job::{Color, Job, View, Wanted};
 use cbor_inputs::Input;
 use cbor_inspect::{Form, Style, steps_of};
@@ -79,6 +79,35 @@ fn number_of(text: &str) -> Option<usize> {
     Some(number)
 }
 
+/// The size that the word of an index says: a number of bytes, or of K, M or G (1,024 bytes, and
+/// 1,024 times as many each).
+fn index_size(word: &str) -> Option<usize> {
+    let text = word.strip_prefix("index=")?;
+    for (unit, shift) in [("K", 10u32), ("M", 20), ("G", 30)] {
+        if let Some(digits) = text.strip_suffix(unit) {
+            return digits.parse::<usize>().ok()?.checked_mul(1usize << shift);
+        }
+    }
+    number_of(text)
+}
+
+/// The word of `--to` that is no form, if it is none.
+fn wrong_form<'a>(matches: &ArgMatches<'a>) -> Option<&'a str> {
+    let word = matches.get_str("to")?;
+    let is_form = TO.contains(&word) || index_size(word).is_some_and(|size| size > 0);
+    if is_form { None } else { Some(word) }
+}
+
+/// Says which forms there are.
+fn say_forms(rt: &HostRuntime, word: &str) {
+    let _ = eprintln!(rt; "error: invalid value {word:?} for '--to <to>'");
+    let _ = eprint!(rt; "  [possible values: ");
+    for form in &TO {
+        let _ = eprint!(rt; "{form}, ");
+    }
+    let _ = eprintln!(rt; "index=SIZE]\n\nFor more information, try '--help'.");
+}
+
 /// The options that take a number of bytes.
 const COUNTS: [&str; 3] = ["at", "offset", "limit"];
 
@@ -120,6 +149,7 @@ fn view_of(matches: &ArgMatches) -> View {
         Some("raw") => View::Raw,
         Some("paths") => View::Paths,
         Some("stats") => View::Stats,
+        Some(word) if let Some(size) = index_size(word) => View::Index(size),
         _ => View::Items,
     }
 }
@@ -152,8 +182,9 @@ fn refusal(job: &Job, matches: &ArgMatches) -> Option<&'static str> {
         View::Paths if encoded || !job.path.is_empty() || job.item.is_some() => {
             Some("-t paths shows all paths as they are, and has no -p or --encode")
         }
-        View::Stats if encoded || !job.path.is_empty() || job.item.is_some() || job.partial => {
-            Some("-t stats counts whole items as they are, and has no -p, --encode or --partial")
+        View::Stats | View::Index(_)
+            if encoded || !job.path.is_empty() || job.item.is_some() || job.partial => {
+            Some("-t stats and -t index count whole items, and have no -p, --encode or --partial")
         }
         View::Json | View::Raw if encoded || job.partial => {
             Some(
@@ -198,6 +229,10 @@ fn job_of<'a>(rt: &HostRuntime, matches: &ArgMatches<'a>) -> Asked<'a> {
         let _ = eprintln!(rt;
             "cborcat: --{option} takes a number of bytes, as 91 or 0x5b, and not {text:?}"
         );
+        return Asked::Ended(2);
+    }
+    if let Some(word) = wrong_form(matches) {
+        say_forms(rt, word);
         return Asked::Ended(2);
     }
     let (item, path) = item_of(matches.get_str("path").unwrap_or(""));

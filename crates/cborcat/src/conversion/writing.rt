@@ -20,6 +20,7 @@ impl Conversion<'_> {
             View::Diff => Ok(Written::Whole),
             View::At(byte) => self.write_at(byte),
             View::Items => self.write_items(),
+            View::Index(_) => Ok(write(self.rt, self.target, &self.out)),
             View::Json => Ok(self.screen.write(self.target, &self.out, Language::Edn)?),
             View::Raw => Ok(write(self.rt, self.target, &self.out)),
         }
@@ -137,6 +138,7 @@ impl Conversion<'_> {
         match self.job.view {
             View::At(byte) => self.write_at_left(byte),
             View::Items if self.job.partial => self.write_partial(end),
+            View::Index(_) => self.write_last_piece(),
             _ => Ok(Written::Whole),
         }
     }
