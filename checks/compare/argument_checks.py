@@ -75,7 +75,7 @@ def shown_commands(shell, same, text):
 
 def forms(run, same, text):
     """Each form stands in the help once, and is one of an input and of the output as it says there."""
-    block = text.partition("Forms (")[2].partition("\n\n")[0]
+    block = text.partition("Forms, ")[2].partition("\n\n")[0]
     rows = re.findall(r"^  ([a-z0-9]+)(?:=SIZE)?(?:, ([a-z]+))? +(io|i|o) ", block, re.MULTILINE)
     same("how many forms", len(rows), 11)
     for name, other, ways in rows:

@@ -51,8 +51,8 @@ fn micros_below(number: u128, power: u64) -> u128 {
     (number >> (power - 1)).saturating_add(1) >> 1
 }
 
-/// The moment that is so many seconds after 1970-01-01T00:00:00Z, as `datetime_of_epoch` writes it.
-/// A fraction of a second has at most six digits, to which it is rounded.
+/// The moment this number of seconds after 1970-01-01T00:00:00Z, as `datetime_of_epoch` writes it.
+/// A fraction of a second is rounded to six digits.
 pub(crate) fn datetime_of_float(
     alloc: Global,
     seconds: EncodedFloat,

@@ -18,8 +18,8 @@ use std::alloc::{AllocError, Global};
 use std::fmt::Write;
 
 /// What is said of this byte of the data: the path, the head, and where the item begins and ends,
-/// in a line each. The byte is in the item with which these bytes begin, before which there are so
-/// many items of the data.
+/// in a line each. These bytes begin with the item that contains the byte, and this many items of
+/// the data come before it.
 pub fn lines_at(
     alloc: Global,
     nth_item: (usize, Piece),

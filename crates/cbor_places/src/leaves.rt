@@ -103,7 +103,7 @@ impl<'a> Leaves<'a> {
         }
     }
 
-    /// The same lines, if so many items of the data are before these. Then the lines of each item
+    /// The same lines, if this many items of the data come before. Then the lines of each item
     /// but the first of the data begin with its number and a colon.
     pub fn numbered_from(self, number: usize) -> Leaves<'a> {
         Leaves { number, ..self }

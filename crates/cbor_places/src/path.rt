@@ -113,8 +113,8 @@ impl Path {
     }
 }
 
-/// Appends what a path begins with in the item of the data before which there are so many: nothing
-/// in the first.
+/// Appends the beginning of a path in an item that this many items of the data come before: nothing
+/// for the first.
 pub(crate) fn push_number(out: &mut String, number: usize) -> Result<(), AllocError> {
     match number {
         0 => Ok(()),

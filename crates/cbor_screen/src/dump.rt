@@ -58,7 +58,7 @@ impl DumpStyle<'_> {
 /// - With `embedded` the lines of an item stand in place of those of the byte string that it is in,
 ///   one step deeper than the head of the string, in at most 16 byte strings in each other. Strings
 ///   in chunks and those whose tag says what they are stay as they are.
-/// - With `elide` a string of more bytes has its first bytes alone: at most so many, as far as
+/// - With `elide` a string of more bytes has only its first bytes: at most this many, as far as
 ///   characters and elements are whole. After them come `...` in place of further digits and in the
 ///   comment, and a note of how many bytes the string has. Such a dump is not to be read back.
 ///

@@ -81,8 +81,8 @@ fn with<T: PartialOrd + Copy>(bounds: Option<Bounds<T>>, number: T) -> Option<Bo
 /// The number of a float, by its bits.
 fn float_of(bits: u64, width: FloatWidth) -> f64 {
     match width {
-        FloatWidth::Sixteen => EncodedFloat::Half(bits as u16).value(),
-        FloatWidth::ThirtyTwo => EncodedFloat::Single(bits as u32).value(),
+        FloatWidth::Sixteen => EncodedFloat::Half(u16::try_from(bits).unwrap_or(0)).value(),
+        FloatWidth::ThirtyTwo => EncodedFloat::Single(u32::try_from(bits).unwrap_or(0)).value(),
         FloatWidth::SixtyFour | FloatWidth::Unknown => EncodedFloat::Double(bits).value(),
     }
 }

@@ -51,7 +51,7 @@ fn tagged(alloc: Global, tag: u64, bitwidth: IntegerWidth) -> Result<DataItem> {
     })
 }
 
-/// Bytes of so many zeros, a text chunk of as many letters, an array and a map of as many items.
+/// Bytes of this many zeros, a text chunk of as many letters, an array and a map of as many items.
 fn of_length(alloc: Global, count: usize, bitwidth: IntegerWidth) -> Result<[DataItem; 4]> {
     let content = vec![in alloc; 0u8; count]?;
     let bytes = DataItem::ByteString(ByteString { content, bitwidth });

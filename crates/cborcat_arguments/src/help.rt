@@ -51,8 +51,8 @@ Output:
       --strict       report what JSON does not keep as an error (-t json)
       --elide[=N]    cut strings of more than N bytes (default: 32) in notation
                      and dumps; such text is not to be read back
-      --color=WHEN   auto, always or never (default: auto, which is in a
-                     terminal and if NO_COLOR is not set)
+      --color=WHEN   auto, always or never (default: auto: in a terminal,
+                     unless NO_COLOR is set)
   -o, --output=FILE  write FILE, once all input is converted
       --partial      show also the part of a truncated or malformed item that
                      is there
@@ -71,7 +71,7 @@ Output:
   -h, --help         show this text
   -V, --version      show the version
 
-Forms (i: input, o: output):
+Forms, i for input and o for output:
   pretty       o  notation with comments, over several lines where it is long
   diag, edn   io  diagnostic notation (EDN); JSON is read as EDN
   hex         io  input: pairs of digits, also with blanks , : 0x \\x, and

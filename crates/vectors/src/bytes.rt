@@ -95,8 +95,8 @@ fn counted_text(alloc: Global, bytes: &[u8]) -> Result<String, AllocError> {
     }
 }
 
-/// How bytes begin: with an item of so many bytes, with a part of one, or with an error after so
-/// many bytes.
+/// How bytes begin: with an item of this many bytes, with a part of one, or with an error after
+/// this many bytes.
 fn extent_text(alloc: Global, extent: Extent) -> Result<String, AllocError> {
     match extent {
         Extent::Item(len) => format!(in alloc; "item {len}"),
@@ -105,7 +105,7 @@ fn extent_text(alloc: Global, extent: Extent) -> Result<String, AllocError> {
     }
 }
 
-/// What a scanner says of the last of the pieces of so many bytes.
+/// What a scanner returns for the last of the pieces of this many bytes.
 fn fed_text(alloc: Global, bytes: &[u8], count: &str) -> Result<String, AllocError> {
     let mut scanner = Scanner::new();
     let mut answer = Extent::Cut;

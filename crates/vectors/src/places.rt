@@ -101,7 +101,7 @@ fn leaves(alloc: Global, row: &Row) -> Result<String, Error> {
     Ok(out)
 }
 
-/// One line, or lines with notes of so many columns.
+/// One line, or lines with notes of this many columns.
 fn style(row: &Row) -> EdnStyle {
     let mut style = EdnStyle::LINE;
     if let Ok(columns) = row.argument.parse::<u16>() {

@@ -37,8 +37,8 @@ pub(super) struct PartialEdn<'a> {
 }
 
 impl PartialEdn<'_> {
-    /// Appends what is shown of the item at this spot, which is not whole. Its lines begin with so
-    /// many blanks.
+    /// Appends the truncated or malformed item at this spot. Its lines begin with this many
+    /// blanks.
     pub(super) fn push_item(&self, out: &mut String, spot: Spot, indent: usize) -> Result<(), Error>
         requires start { spot.start ≤ length self.now.bytes.now }
         requires indent { indent ≤ 4 * spot.level }

@@ -61,7 +61,7 @@ fn elements_of(tag: Option<Tag>, content: StringContent<'_>) -> Option<(Tag, usi
 }
 
 impl<'a> Cut<'a> {
-    /// The bytes from a place on, at most so many.
+    /// The bytes from a place on, at most this many.
     fn bytes(&self, at: usize, len: usize) -> &'a [u8] {
         let rest = self.content.as_bytes().get(at..).unwrap_or(b"");
         rest.get(..len).unwrap_or(rest)

@@ -121,7 +121,7 @@ impl Conversion<'_> {
         Ok((number, Some(lines)))
     }
 
-    /// The lines of a byte in the item at the front, before which there are so many in the data.
+    /// The lines of a byte in the item at the front. This many items of the data come before it.
     fn lines_at(&self, nth_item: (usize, Piece), byte: usize) -> Result<String, Error> {
         let alloc = self.rt.alloc();
         let (number, items) = nth_item;
