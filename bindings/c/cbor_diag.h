@@ -80,7 +80,57 @@ enum cbor_diag_error {
     CBOR_DIAG_ERROR_SAME_KEYS = 14,  /* two keys of a map become the same in JSON */
     CBOR_DIAG_ERROR_NOT_KEPT = 15,   /* JSON does not keep all of the item: only for CBOR_DIAG_FORM_JSON_STRICT */
     CBOR_DIAG_ERROR_NO_PART = 16,    /* the path leads to no part of the item */
-    CBOR_DIAG_ERROR_NO_TYPE = 17     /* no type of the tables of names has this name */
+    CBOR_DIAG_ERROR_NO_TYPE = 17,    /* no type of the tables of names has this name */
+    CBOR_DIAG_ERROR_NOT_RECOGNIZED = 18 /* neither hex, EDN, base 64 nor bytes of items */
+};
+
+/* What a head is: its major type, or a float, or a break. */
+enum cbor_diag_kind {
+    CBOR_DIAG_KIND_UNSIGNED = 0, /* an unsigned integer: the argument */
+    CBOR_DIAG_KIND_NEGATIVE = 1, /* a negative integer: -1 minus the argument */
+    CBOR_DIAG_KIND_BYTES = 2,    /* a byte string of as many bytes as the argument says */
+    CBOR_DIAG_KIND_TEXT = 3,     /* a text string of as many bytes of UTF-8 */
+    CBOR_DIAG_KIND_ARRAY = 4,    /* an array of as many items */
+    CBOR_DIAG_KIND_MAP = 5,      /* a map of as many pairs */
+    CBOR_DIAG_KIND_TAG = 6,      /* a tag: the argument is its number, and its item follows */
+    CBOR_DIAG_KIND_SIMPLE = 7,   /* a simple value: 20 is false, 21 true, 22 null, 23 undefined */
+    CBOR_DIAG_KIND_FLOAT = 8,    /* a float: its bits are the argument */
+    CBOR_DIAG_KIND_BREAK = 9     /* the end of an indefinite length */
+};
+
+/* A head, as cbor_diag_head reads it. */
+struct cbor_diag_head {
+    uint8_t kind;       /* an enum cbor_diag_kind */
+    uint8_t indefinite; /* 1 for an indefinite length; the argument is 0 then */
+    uint64_t argument;  /* a number, a length, a count, a tag, a simple value, or the bits of a float */
+    double number;      /* the number of a float, and 0 for other kinds */
+};
+
+/* A part of an item, as cbor_diag_parts finds it: where it is in the bytes. */
+struct cbor_diag_part {
+    size_t key;   /* where its key begins, if it is a value of a map; otherwise the same as start */
+    size_t start; /* where it begins, with its tags */
+    size_t end;   /* where it ends */
+};
+
+/* The value of a part, as cbor_diag_value finds it: that of the head below its tags. */
+struct cbor_diag_value {
+    uint8_t kind;       /* an enum cbor_diag_kind, neither a tag nor a break */
+    uint8_t indefinite; /* 1 for an indefinite length; the argument is 0 then */
+    uint8_t tagged;     /* 1 if it has tags */
+    uint64_t tag;       /* the innermost of its tags, and 0 without any */
+    uint64_t argument;  /* as in struct cbor_diag_head */
+    double number;      /* the number of a float, and 0 for other kinds */
+    size_t start;       /* where the content of a string of definite length begins; of any other part where it begins */
+    size_t end;         /* where that ends */
+};
+
+/* The form that cbor_diag_recognize finds. */
+enum cbor_diag_input {
+    CBOR_DIAG_INPUT_BYTES = 0, /* the bytes of items, one after the other */
+    CBOR_DIAG_INPUT_HEX = 1,   /* these bytes in hex, as people paste it */
+    CBOR_DIAG_INPUT_EDN = 2,   /* items in EDN, none or more */
+    CBOR_DIAG_INPUT_BASE64 = 3 /* the bytes in base 64, in either alphabet */
 };
 
 /* What JSON does not keep. */
@@ -167,6 +217,18 @@ int64_t cbor_diag_reencode_fault(uint32_t rules, const uint8_t *input, size_t in
                                  size_t *detail);
 int64_t cbor_diag_name_at(const uint8_t *input, size_t input_len, const uint8_t *path, size_t path_len,
                           const uint8_t *type, size_t type_len, uint8_t *output, size_t output_len);
+int64_t cbor_diag_head(const uint8_t *input, size_t input_len, struct cbor_diag_head *head);
+int64_t cbor_diag_part(const uint8_t *input, size_t input_len, const uint8_t *path, size_t path_len, size_t *start,
+                       size_t *end);
+int64_t cbor_diag_parts(const uint8_t *input, size_t input_len, const uint8_t *path, size_t path_len,
+                        struct cbor_diag_part *parts, size_t parts_len);
+int64_t cbor_diag_value(const uint8_t *input, size_t input_len, const uint8_t *path, size_t path_len,
+                        struct cbor_diag_value *value);
+int64_t cbor_diag_paths(const uint8_t *input, size_t input_len, uint8_t *output, size_t output_len);
+int64_t cbor_diag_named(const uint8_t *input, size_t input_len, const uint8_t *type, size_t type_len, uint8_t *output,
+                        size_t output_len);
+int64_t cbor_diag_recognize(const uint8_t *input, size_t input_len, uint32_t *form, uint8_t *output,
+                            size_t output_len);
 int64_t cbor_diag_error_text(uint32_t error, uint8_t *output, size_t output_len);
 uint32_t cbor_diag_version(void);
 
@@ -558,6 +620,212 @@ static inline int64_t cbor_diag_name_at_checked(const void *input, size_t input_
     return cbor_diag_name_at(in, input_len, steps, path_len, kind, type_len, out, output_len);
 }
 #define cbor_diag_name_at cbor_diag_name_at_checked
+
+/*
+ * Reads one head at the front of the bytes, or a break. It takes no memory and keeps no state, so a walk over an item
+ * is this call and an offset: into an array, a map or a tag is the length of the head, and past an item is what
+ * cbor_diag_extent returns.
+ *
+ * Returns how many bytes the head takes, 1 to 9, and sets `*head`. The content of a string and the items that a head
+ * announces are not looked at, and may be cut. On an error, returns minus CBOR_DIAG_ERROR_CUT_SHORT, if the bytes end
+ * before the head does, or minus CBOR_DIAG_ERROR_HEAD, and `*head` is unchanged.
+ *
+ *     struct cbor_diag_head head;
+ *     cbor_diag_head("\x19\x03\xe8", 3, &head);  // 3: head.kind is CBOR_DIAG_KIND_UNSIGNED, head.argument is 1000
+ *
+ * `input` may be null if its length is 0, and `head` may be null.
+ */
+static inline int64_t cbor_diag_head_checked(const void *input, size_t input_len, struct cbor_diag_head *head)
+{
+    const uint8_t *in = input ? (const uint8_t *)input : cbor_diag_no_bytes();
+    struct cbor_diag_head unused = {0, 0, 0, 0};
+    if (input_len > (size_t)PTRDIFF_MAX) {
+        return -CBOR_DIAG_ERROR_MEMORY; /* no object is that large */
+    }
+    return cbor_diag_head(in, input_len, head ? head : &unused);
+}
+#define cbor_diag_head(input, input_len, head) cbor_diag_head_checked(input, input_len, head)
+
+/*
+ * Finds the part of an item that a path leads to: steps joined by /, as cborcat -p reads them, but no names. A step is
+ * an index, a key in EDN (a plain word is a text), @ for the item in a byte string, @ and a number for the item that
+ * begins at that byte of one, or * for each member. A step goes through tags, and into a byte string below tag 24 or 63.
+ * The empty path is the item itself.
+ *
+ * Returns 0, and sets `*start` and `*end` to how many bytes of the input come before the part, with its tags, and before
+ * what follows it. With a * it is the first of the parts.
+ *
+ * On an error, returns minus a number of enum cbor_diag_error, and sets both to CBOR_DIAG_NO_PLACE:
+ *
+ * - the error for which the bytes are no item; CBOR_DIAG_ERROR_UTF8 also for a path that is not UTF-8;
+ * - CBOR_DIAG_ERROR_NO_PART and CBOR_DIAG_ERROR_MEMORY.
+ *
+ *     size_t start, end;
+ *     cbor_diag_part("\xa1\x61k\x82\x01\x02", 6, "k/1", 3, &start, &end);  // 0: the 2, from byte 5 to byte 6
+ *
+ * A pointer may be null if its length is 0, and `start` and `end` may be null.
+ */
+static inline int64_t cbor_diag_part_checked(const void *input, size_t input_len, const void *path, size_t path_len,
+                                             size_t *start, size_t *end)
+{
+    const uint8_t *in = input ? (const uint8_t *)input : cbor_diag_no_bytes();
+    const uint8_t *steps = path ? (const uint8_t *)path : cbor_diag_no_bytes();
+    size_t unused_start, unused_end;
+    size_t *begins = start ? start : &unused_start;
+    size_t *ends = end ? end : &unused_end;
+    if (input_len > (size_t)PTRDIFF_MAX || path_len > (size_t)PTRDIFF_MAX) {
+        *begins = CBOR_DIAG_NO_PLACE;
+        *ends = CBOR_DIAG_NO_PLACE;
+        return -CBOR_DIAG_ERROR_MEMORY; /* no object is that large */
+    }
+    return cbor_diag_part(in, input_len, steps, path_len, begins, ends);
+}
+#define cbor_diag_part(input, input_len, path, path_len, start, end) \
+    cbor_diag_part_checked(input, input_len, path, path_len, start, end)
+
+/*
+ * Finds all parts that a path leads to, which are several with *: for example each member of an array, or each value of
+ * a map with its key, by the path *.
+ *
+ * Returns how many there are, which is 0 if the path leads nowhere, and sets as many elements of `parts`, in order, as
+ * there are; no more than `parts_len`. On an error, returns minus a number of enum cbor_diag_error, as cbor_diag_part
+ * does, and `parts` is unchanged.
+ *
+ *     struct cbor_diag_part parts[8];
+ *     cbor_diag_parts("\xa1\x61k\x82\x01\x02", 6, "k/" "*", 3, parts, 8);  // 2: the 1 at byte 4, the 2 at byte 5
+ *
+ * A pointer may be null if its length is 0.
+ */
+static inline int64_t cbor_diag_parts_checked(const void *input, size_t input_len, const void *path, size_t path_len,
+                                              struct cbor_diag_part *parts, size_t parts_len)
+{
+    const uint8_t *in = input ? (const uint8_t *)input : cbor_diag_no_bytes();
+    const uint8_t *steps = path ? (const uint8_t *)path : cbor_diag_no_bytes();
+    struct cbor_diag_part none;
+    size_t most = (size_t)PTRDIFF_MAX / sizeof none;
+    if (input_len > (size_t)PTRDIFF_MAX || path_len > (size_t)PTRDIFF_MAX) {
+        return -CBOR_DIAG_ERROR_MEMORY; /* no object is that large */
+    }
+    return cbor_diag_parts(in, input_len, steps, path_len, parts ? parts : &none, parts_len < most ? parts_len : most);
+}
+#define cbor_diag_parts(input, input_len, path, path_len, parts, parts_len) \
+    cbor_diag_parts_checked(input, input_len, path, path_len, parts, parts_len)
+
+/*
+ * Finds the value of the part that a path leads to, below its tags: of an integer, a float and a simple value all of it,
+ * and of a string of definite length where its content is.
+ *
+ * Returns 0, and sets `*value`. On an error, returns minus a number of enum cbor_diag_error, as cbor_diag_part does, and
+ * `*value` is unchanged.
+ *
+ *     struct cbor_diag_value value;
+ *     cbor_diag_value("\xa1\x61k\x62hi", 6, "k", 1, &value);
+ *     // 0: value.kind is CBOR_DIAG_KIND_TEXT, and its content is from byte 4 to byte 6
+ *
+ * A pointer may be null if its length is 0, and `value` may be null.
+ */
+static inline int64_t cbor_diag_value_checked(const void *input, size_t input_len, const void *path, size_t path_len,
+                                              struct cbor_diag_value *value)
+{
+    const uint8_t *in = input ? (const uint8_t *)input : cbor_diag_no_bytes();
+    const uint8_t *steps = path ? (const uint8_t *)path : cbor_diag_no_bytes();
+    struct cbor_diag_value unused = {0, 0, 0, 0, 0, 0, 0, 0};
+    if (input_len > (size_t)PTRDIFF_MAX || path_len > (size_t)PTRDIFF_MAX) {
+        return -CBOR_DIAG_ERROR_MEMORY; /* no object is that large */
+    }
+    return cbor_diag_value(in, input_len, steps, path_len, value ? value : &unused);
+}
+#define cbor_diag_value(input, input_len, path, path_len, value) \
+    cbor_diag_value_checked(input, input_len, path, path_len, value)
+
+/*
+ * Writes a line for each item in an item that holds no other, as cborcat -t paths does: the path that leads to it, two
+ * blanks, its EDN, and a line feed. It is UTF-8, and has no other control characters.
+ *
+ * Returns the length of the whole output, of which as much is written as fits `output`, as cbor_diag_convert does. On an
+ * error, returns minus the number of the error for which the bytes are no item, or minus CBOR_DIAG_ERROR_MEMORY, and
+ * `output` is unchanged.
+ *
+ *     char lines[64];
+ *     cbor_diag_paths("\xa1\x61k\x82\x01\x02", 6, lines, sizeof lines);  // 14, "k/0  1\nk/1  2\n"
+ *
+ * A pointer may be null if its length is 0. The output must not overlap the input.
+ */
+static inline int64_t cbor_diag_paths_checked(const void *input, size_t input_len, void *output, size_t output_len)
+{
+    const uint8_t *in = input ? (const uint8_t *)input : cbor_diag_no_bytes();
+    uint8_t *out = output ? (uint8_t *)output : cbor_diag_no_bytes();
+    if (input_len > (size_t)PTRDIFF_MAX) {
+        return -CBOR_DIAG_ERROR_MEMORY; /* no object is that large */
+    }
+    if (output_len > (size_t)PTRDIFF_MAX) {
+        output_len = (size_t)PTRDIFF_MAX;
+    }
+    return cbor_diag_paths(in, input_len, out, output_len);
+}
+#define cbor_diag_paths cbor_diag_paths_checked
+
+/*
+ * Writes an item in EDN over several lines as cborcat shows it: with the names of COSE, CWT, EAT, SenML and CTAP2 and
+ * with notes, as comments, and a line feed at the end. `type` is the type of the item where no tag says it, such as
+ * COSE_Key; or empty.
+ *
+ * Returns the length of the whole output, of which as much is written as fits `output`, as cbor_diag_convert does. On an
+ * error, returns minus a number of enum cbor_diag_error, and `output` is unchanged: that for which the bytes are no
+ * item, CBOR_DIAG_ERROR_NO_TYPE, or CBOR_DIAG_ERROR_MEMORY.
+ *
+ *     char text[64];
+ *     cbor_diag_named("\xa1\x01\x04", 3, "COSE_Key", 8, text, sizeof text);
+ *     // 36, "/COSE_Key/ {/kty/ 1: 4 /Symmetric/}" and a line feed
+ *
+ * The tables are made at each call. A pointer may be null if its length is 0. The output must not overlap the others.
+ */
+static inline int64_t cbor_diag_named_checked(const void *input, size_t input_len, const void *type, size_t type_len,
+                                              void *output, size_t output_len)
+{
+    const uint8_t *in = input ? (const uint8_t *)input : cbor_diag_no_bytes();
+    const uint8_t *kind = type ? (const uint8_t *)type : cbor_diag_no_bytes();
+    uint8_t *out = output ? (uint8_t *)output : cbor_diag_no_bytes();
+    if (input_len > (size_t)PTRDIFF_MAX || type_len > (size_t)PTRDIFF_MAX) {
+        return -CBOR_DIAG_ERROR_MEMORY; /* no object is that large */
+    }
+    if (output_len > (size_t)PTRDIFF_MAX) {
+        output_len = (size_t)PTRDIFF_MAX;
+    }
+    return cbor_diag_named(in, input_len, kind, type_len, out, output_len);
+}
+#define cbor_diag_named cbor_diag_named_checked
+
+/*
+ * Finds the form of an input, as cborcat does: hex as people paste it, EDN, base 64, or bytes; and writes the bytes that
+ * it stands for. Unless it is hex, these are items, none or more, one after the other. A text of pairs of hex digits is
+ * hex, whatever bytes they are, and no text is taken for bytes.
+ *
+ * Returns how many bytes it stands for, of which as many are written as fit `output`, and sets `*form` to an enum
+ * cbor_diag_input. On an error, returns minus CBOR_DIAG_ERROR_NOT_RECOGNIZED or minus CBOR_DIAG_ERROR_MEMORY, and
+ * `*form` and `output` are unchanged.
+ *
+ *     uint32_t form;
+ *     unsigned char bytes[64];
+ *     cbor_diag_recognize("0x82 01 02", 10, &form, bytes, sizeof bytes);  // 3, and form is CBOR_DIAG_INPUT_HEX
+ *
+ * A pointer may be null if its length is 0, and `form` may be null. The output must not overlap the input.
+ */
+static inline int64_t cbor_diag_recognize_checked(const void *input, size_t input_len, uint32_t *form, void *output,
+                                                  size_t output_len)
+{
+    const uint8_t *in = input ? (const uint8_t *)input : cbor_diag_no_bytes();
+    uint8_t *out = output ? (uint8_t *)output : cbor_diag_no_bytes();
+    uint32_t unused;
+    if (input_len > (size_t)PTRDIFF_MAX) {
+        return -CBOR_DIAG_ERROR_MEMORY; /* no object is that large */
+    }
+    if (output_len > (size_t)PTRDIFF_MAX) {
+        output_len = (size_t)PTRDIFF_MAX;
+    }
+    return cbor_diag_recognize(in, input_len, form ? form : &unused, out, output_len);
+}
+#define cbor_diag_recognize cbor_diag_recognize_checked
 
 /*
  * Writes the text of an error into `text`, with a zero byte at its end, and returns `text`. `answer` is the negative

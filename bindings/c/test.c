@@ -5,6 +5,7 @@
  *
  * Links with -Wl,--wrap=malloc,--wrap=realloc,--wrap=free, so that each allocation can be made to fail.
  */
+#include <math.h>
 #include <pthread.h>
 #include <stdarg.h>
 #include <stddef.h>
@@ -1102,6 +1103,423 @@ static void test_reencoding_without_memory(void)
     check_answer("an encoding, with memory enough", 5, came);
 }
 
+/* ---- heads, parts and values */
+
+static void test_heads(void)
+{
+    const struct {
+        struct text input;
+        int64_t answer;
+        int kind, indefinite;
+        uint64_t argument;
+        double number;
+    } rows[] = {
+        {TEXT("\x17"), 1, CBOR_DIAG_KIND_UNSIGNED, 0, 23, 0},
+        {TEXT("\x19\x03\xe8\xff"), 3, CBOR_DIAG_KIND_UNSIGNED, 0, 1000, 0},
+        {TEXT("\x1b\xff\xff\xff\xff\xff\xff\xff\xff"), 9, CBOR_DIAG_KIND_UNSIGNED, 0, UINT64_MAX, 0},
+        {TEXT("\x38\x63"), 2, CBOR_DIAG_KIND_NEGATIVE, 0, 99, 0},
+        {TEXT("\x43"), 1, CBOR_DIAG_KIND_BYTES, 0, 3, 0},
+        {TEXT("\x5f"), 1, CBOR_DIAG_KIND_BYTES, 1, 0, 0},
+        {TEXT("\x78\xff\xfe"), 2, CBOR_DIAG_KIND_TEXT, 0, 255, 0},
+        {TEXT("\x7f"), 1, CBOR_DIAG_KIND_TEXT, 1, 0, 0},
+        {TEXT("\x9a\x00\x01\x00\x00"), 5, CBOR_DIAG_KIND_ARRAY, 0, 65536, 0},
+        {TEXT("\x9f\xff"), 1, CBOR_DIAG_KIND_ARRAY, 1, 0, 0},
+        {TEXT("\xa2"), 1, CBOR_DIAG_KIND_MAP, 0, 2, 0},
+        {TEXT("\xbf"), 1, CBOR_DIAG_KIND_MAP, 1, 0, 0},
+        {TEXT("\xd9\xd9\xf7"), 3, CBOR_DIAG_KIND_TAG, 0, 55799, 0},
+        {TEXT("\xf4"), 1, CBOR_DIAG_KIND_SIMPLE, 0, 20, 0},
+        {TEXT("\xf8\xff"), 2, CBOR_DIAG_KIND_SIMPLE, 0, 255, 0},
+        {TEXT("\xf9\x3e\x00"), 3, CBOR_DIAG_KIND_FLOAT, 0, 0x3e00, 1.5},
+        {TEXT("\xf9\x00\x01"), 3, CBOR_DIAG_KIND_FLOAT, 0, 1, 1.0 / 16777216},
+        {TEXT("\xf9\xfc\x00"), 3, CBOR_DIAG_KIND_FLOAT, 0, 0xfc00, -HUGE_VAL},
+        {TEXT("\xfa\xc0\x20\x00\x00"), 5, CBOR_DIAG_KIND_FLOAT, 0, 0xc0200000, -2.5},
+        {TEXT("\xfb\x40\x09\x21\xfb\x54\x44\x2d\x18"), 9, CBOR_DIAG_KIND_FLOAT, 0, 0x400921fb54442d18,
+         3.141592653589793},
+        {TEXT("\xff\x01"), 1, CBOR_DIAG_KIND_BREAK, 0, 0, 0},
+        {TEXT(""), -CBOR_DIAG_ERROR_CUT_SHORT, 77, 77, 77, 77},
+        {TEXT("\x19\x03"), -CBOR_DIAG_ERROR_CUT_SHORT, 77, 77, 77, 77},
+        {TEXT("\x1c\x00"), -CBOR_DIAG_ERROR_HEAD, 77, 77, 77, 77},
+        {TEXT("\x1f"), -CBOR_DIAG_ERROR_HEAD, 77, 77, 77, 77},
+        {TEXT("\xdf"), -CBOR_DIAG_ERROR_HEAD, 77, 77, 77, 77},
+    };
+    for (size_t i = 0; i < sizeof rows / sizeof *rows; i++) {
+        char name[32];
+        snprintf(name, sizeof name, "head %zu", i);
+        unsigned char *input = malloc(rows[i].input.length);
+        memcpy(input, rows[i].input.bytes, rows[i].input.length);
+        struct cbor_diag_head head = {77, 77, 77, 77};
+        check_answer(name, rows[i].answer, cbor_diag_head(input, rows[i].input.length, &head));
+        check(head.kind == rows[i].kind, "%s: expected the kind %d, came %d", name, rows[i].kind, head.kind);
+        check(head.indefinite == rows[i].indefinite, "%s: expected indefinite %d, came %d", name, rows[i].indefinite,
+              head.indefinite);
+        check(head.argument == rows[i].argument, "%s: expected the argument %llx, came %llx", name,
+              (unsigned long long)rows[i].argument, (unsigned long long)head.argument);
+        check(head.number == rows[i].number, "%s: expected the number %g, came %g", name, rows[i].number, head.number);
+        check_answer(name, rows[i].answer, cbor_diag_head(input, rows[i].input.length, NULL));
+        free(input);
+    }
+    struct cbor_diag_head head;
+    check_answer("the head of a NaN", 3, cbor_diag_head("\xf9\x7e\x01", 3, &head));
+    check(head.number != head.number && head.argument == 0x7e01, "the head of a NaN: came %g", head.number);
+    check_answer("a head at a null pointer", -CBOR_DIAG_ERROR_CUT_SHORT, cbor_diag_head(NULL, 0, NULL));
+    check_answer("a head of 2^64 - 1 bytes", -CBOR_DIAG_ERROR_MEMORY, cbor_diag_head("\x01", SIZE_MAX, NULL));
+}
+
+/* A walk over an item by heads alone ends where the item does. */
+static void test_walk(void)
+{
+    static const struct text item = TEXT("\xa2\x61" "a\x9f\x01\xc1\x02\x5f\x41\x00\xff\xff\x20\xf9\x3e\x00");
+    const unsigned char *bytes = item.bytes;
+    const int kinds[] = {5, 3, 4, 0, 6, 0, 2, 2, 9, 9, 1, 8};
+    size_t at = 0, count = 0;
+    while (at < item.length) {
+        struct cbor_diag_head head;
+        int64_t length = cbor_diag_head(bytes + at, item.length - at, &head);
+        check(length > 0 && count < 12 && head.kind == kinds[count], "a walk: head %zu at %zu is of another kind",
+              count, at);
+        if (length <= 0) {
+            break;
+        }
+        at += (size_t)length;
+        if (!head.indefinite && (head.kind == CBOR_DIAG_KIND_BYTES || head.kind == CBOR_DIAG_KIND_TEXT)) {
+            at += head.argument;
+        }
+        count++;
+    }
+    check(at == item.length && count == 12, "a walk: %zu heads, %zu bytes", count, at);
+}
+
+/* {"k": [1, {2: "hi"}], -1: 1(3), "e": [], "b": 24(<<[5]>>)} */
+#define NESTED "\xa4\x61k\x82\x01\xa1\x02\x62hi\x20\xc1\x03\x61" "e\x80\x61" "b\xd8\x18\x42\x81\x05"
+
+static void test_parts(void)
+{
+    const struct {
+        struct text input, path;
+        int64_t answer;
+        size_t start, end;
+    } rows[] = {
+        {TEXT(NESTED), TEXT(""), 0, 0, 23},
+        {TEXT(NESTED), TEXT("/"), 0, 0, 23},
+        {TEXT(NESTED), TEXT("k"), 0, 3, 10},
+        {TEXT(NESTED), TEXT("k/0"), 0, 4, 5},
+        {TEXT(NESTED), TEXT("k/1/2"), 0, 7, 10},
+        {TEXT(NESTED), TEXT("k/" "*/2"), 0, 7, 10},
+        {TEXT(NESTED), TEXT("-1"), 0, 11, 13},
+        {TEXT(NESTED), TEXT("\"e\""), 0, 15, 16},
+        {TEXT(NESTED), TEXT("b"), 0, 18, 23},
+        {TEXT(NESTED), TEXT("b/0"), 0, 22, 23},
+        {TEXT(NESTED), TEXT("b/@/0"), 0, 22, 23},
+        {TEXT(NESTED), TEXT("b/@1"), 0, 22, 23},
+        {TEXT(NESTED), TEXT("k/2"), -CBOR_DIAG_ERROR_NO_PART, 0, 0},
+        {TEXT(NESTED), TEXT("e/" "*"), -CBOR_DIAG_ERROR_NO_PART, 0, 0},
+        {TEXT(NESTED), TEXT("x"), -CBOR_DIAG_ERROR_NO_PART, 0, 0},
+        {TEXT(NESTED), TEXT("b/@9999999999999999999999"), -CBOR_DIAG_ERROR_NO_PART, 0, 0},
+        {TEXT(NESTED), TEXT("\xff"), -CBOR_DIAG_ERROR_UTF8, 0, 0},
+        {TEXT(""), TEXT("k"), -CBOR_DIAG_ERROR_CUT_SHORT, 0, 0},
+        {TEXT("\x82\x01"), TEXT("0"), -CBOR_DIAG_ERROR_CUT_SHORT, 0, 0},
+        {TEXT("\x01\x01"), TEXT("0"), -CBOR_DIAG_ERROR_REMAINING, 0, 0},
+        {TEXT("\x82\x01\x1c"), TEXT("0"), -CBOR_DIAG_ERROR_HEAD, 0, 0},
+        {TEXT("\x82\x01\x61\xff"), TEXT("0"), -CBOR_DIAG_ERROR_UTF8, 0, 0},
+    };
+    for (size_t i = 0; i < sizeof rows / sizeof *rows; i++) {
+        char name[32];
+        snprintf(name, sizeof name, "part %zu", i);
+        size_t length = rows[i].input.length;
+        unsigned char *input = malloc(length), *path = malloc(rows[i].path.length);
+        memcpy(input, rows[i].input.bytes, length);
+        memcpy(path, rows[i].path.bytes, rows[i].path.length);
+        size_t start = 77, end = 77;
+        size_t wanted_start = rows[i].answer ? CBOR_DIAG_NO_PLACE : rows[i].start;
+        size_t wanted_end = rows[i].answer ? CBOR_DIAG_NO_PLACE : rows[i].end;
+        check_answer(name, rows[i].answer, cbor_diag_part(input, length, path, rows[i].path.length, &start, &end));
+        check(start == wanted_start && end == wanted_end, "%s: expected %zu to %zu, came %zu to %zu", name,
+              wanted_start, wanted_end, start, end);
+        check_answer(name, rows[i].answer, cbor_diag_part(input, length, path, rows[i].path.length, NULL, NULL));
+        struct cbor_diag_value value;
+        check_answer(name, rows[i].answer, cbor_diag_value(input, length, path, rows[i].path.length, &value));
+        check_answer(name, rows[i].answer, cbor_diag_value(input, length, path, rows[i].path.length, NULL));
+        free(input);
+        free(path);
+    }
+    size_t start = 77, end = 77;
+    check_answer("a part at null pointers", -CBOR_DIAG_ERROR_CUT_SHORT, cbor_diag_part(NULL, 0, NULL, 0, &start, &end));
+    check(start == CBOR_DIAG_NO_PLACE && end == CBOR_DIAG_NO_PLACE, "a part at null pointers has a place");
+    start = end = 77;
+    check_answer("a part of 2^64 - 1 bytes", -CBOR_DIAG_ERROR_MEMORY,
+                 cbor_diag_part("\x01", SIZE_MAX, NULL, 0, &start, &end));
+    check(start == CBOR_DIAG_NO_PLACE && end == CBOR_DIAG_NO_PLACE, "a part of 2^64 - 1 bytes has a place");
+    check_answer("a path of 2^64 - 1 bytes", -CBOR_DIAG_ERROR_MEMORY,
+                 cbor_diag_part("\x01", 1, "", SIZE_MAX, NULL, NULL));
+}
+
+/* The parts of {"a": 1, "b": [2, 3]}, with room for each number of them. */
+static void test_several_parts(void)
+{
+    static const struct text map = TEXT("\xa2\x61" "a\x01\x61" "b\x82\x02\x03");
+    const struct {
+        const char *path;
+        int64_t count;
+        struct cbor_diag_part parts[4];
+    } rows[] = {
+        {"*", 2, {{1, 3, 4}, {4, 6, 9}}},
+        {"b/" "*", 2, {{7, 7, 8}, {8, 8, 9}}},
+        {"*/" "*", 2, {{7, 7, 8}, {8, 8, 9}}},
+        {"", 1, {{0, 0, 9}}},
+        {"a", 1, {{1, 3, 4}}},
+        {"c", 0, {{0, 0, 0}}},
+        {"a/" "*", 0, {{0, 0, 0}}},
+    };
+    for (size_t i = 0; i < sizeof rows / sizeof *rows; i++) {
+        for (size_t room = 0; room <= 4; room++) {
+            char name[32];
+            snprintf(name, sizeof name, "parts %zu, room for %zu", i, room);
+            struct cbor_diag_part *parts = malloc(room * sizeof *parts);
+            memset(parts, UNTOUCHED, room * sizeof *parts);
+            check_answer(name, rows[i].count,
+                         cbor_diag_parts(map.bytes, map.length, rows[i].path, strlen(rows[i].path), parts, room));
+            for (size_t j = 0; j < room; j++) {
+                struct cbor_diag_part wanted;
+                memset(&wanted, UNTOUCHED, sizeof wanted);
+                if ((int64_t)j < rows[i].count) {
+                    wanted = rows[i].parts[j];
+                }
+                check(memcmp(&parts[j], &wanted, sizeof wanted) == 0, "%s: part %zu: came %zu, %zu, %zu", name, j,
+                      parts[j].key, parts[j].start, parts[j].end);
+            }
+            free(parts);
+        }
+    }
+    struct cbor_diag_part untouched = {77, 77, 77};
+    check_answer("parts of a cut item", -CBOR_DIAG_ERROR_CUT_SHORT, cbor_diag_parts("\x81", 1, "*", 1, &untouched, 1));
+    check(untouched.key == 77 && untouched.start == 77 && untouched.end == 77, "parts of a cut item were set");
+    check_answer("parts at null pointers", -CBOR_DIAG_ERROR_CUT_SHORT, cbor_diag_parts(NULL, 0, NULL, 0, NULL, 0));
+    check_answer("parts of 2^64 - 1 bytes", -CBOR_DIAG_ERROR_MEMORY,
+                 cbor_diag_parts("\x01", SIZE_MAX, NULL, 0, NULL, 0));
+    check_answer("room for 2^64 - 1 parts", 1, cbor_diag_parts("\x01", 1, NULL, 0, &untouched, SIZE_MAX));
+    check(untouched.end == 1, "room for 2^64 - 1 parts: came the end %zu", untouched.end);
+}
+
+static void test_values(void)
+{
+    const struct {
+        struct text input;
+        struct cbor_diag_value value;
+    } rows[] = {
+        {TEXT("\x18\x2a"), {0, 0, 0, 0, 42, 0, 0, 2}},
+        {TEXT("\x38\x63"), {1, 0, 0, 0, 99, 0, 0, 2}},
+        {TEXT("\x43" "abc"), {2, 0, 0, 0, 3, 0, 1, 4}},
+        {TEXT("\x78\x03" "abc"), {3, 0, 0, 0, 3, 0, 2, 5}},
+        {TEXT("\x60"), {3, 0, 0, 0, 0, 0, 1, 1}},
+        {TEXT("\x7f\x61" "a\xff"), {3, 1, 0, 0, 0, 0, 0, 4}},
+        {TEXT("\x82\x01\x02"), {4, 0, 0, 0, 2, 0, 0, 3}},
+        {TEXT("\x9f\xff"), {4, 1, 0, 0, 0, 0, 0, 2}},
+        {TEXT("\xa0"), {5, 0, 0, 0, 0, 0, 0, 1}},
+        {TEXT("\xf5"), {7, 0, 0, 0, 21, 0, 0, 1}},
+        {TEXT("\xf9\x3e\x00"), {8, 0, 0, 0, 0x3e00, 1.5, 0, 3}},
+        {TEXT("\xc1\x1a\x65\x53\xf1\x00"), {0, 0, 1, 1, 1700000000, 0, 0, 6}},
+        {TEXT("\xd8\x20\xc2\x41\xff"), {2, 0, 1, 2, 1, 0, 4, 5}},
+    };
+    for (size_t i = 0; i < sizeof rows / sizeof *rows; i++) {
+        char name[32];
+        snprintf(name, sizeof name, "value %zu", i);
+        size_t length = rows[i].input.length;
+        unsigned char *input = malloc(length);
+        memcpy(input, rows[i].input.bytes, length);
+        struct cbor_diag_value value, wanted = rows[i].value;
+        memset(&value, UNTOUCHED, sizeof value);
+        check_answer(name, 0, cbor_diag_value(input, length, NULL, 0, &value));
+        check(value.kind == wanted.kind && value.indefinite == wanted.indefinite && value.tagged == wanted.tagged &&
+                  value.tag == wanted.tag && value.argument == wanted.argument && value.number == wanted.number,
+              "%s: came %d %d %d %llu %llu %g", name, value.kind, value.indefinite, value.tagged,
+              (unsigned long long)value.tag, (unsigned long long)value.argument, value.number);
+        check(value.start == wanted.start && value.end == wanted.end, "%s: expected %zu to %zu, came %zu to %zu", name,
+              wanted.start, wanted.end, value.start, value.end);
+        free(input);
+    }
+    struct cbor_diag_value value = {77, 77, 77, 77, 77, 77, 77, 77};
+    check_answer("the value of a cut item", -CBOR_DIAG_ERROR_CUT_SHORT, cbor_diag_value("\x81", 1, "0", 1, &value));
+    check(value.kind == 77 && value.argument == 77 && value.end == 77, "the value of a cut item was set");
+    check_answer("a value at null pointers", -CBOR_DIAG_ERROR_CUT_SHORT, cbor_diag_value(NULL, 0, NULL, 0, NULL));
+    check_answer("a value of 2^64 - 1 bytes", -CBOR_DIAG_ERROR_MEMORY,
+                 cbor_diag_value("\x01", SIZE_MAX, NULL, 0, &value));
+}
+
+/* An output of an input, in each length of the buffer. */
+static void test_each_room(const char *name, int64_t (*call)(const struct text *, void *, size_t),
+                           const struct text *input, struct text output)
+{
+    for (size_t room = 0; room <= output.length + 2; room++) {
+        unsigned char *buffer = malloc(room), *wanted = malloc(room);
+        memset(buffer, UNTOUCHED, room);
+        memset(wanted, UNTOUCHED, room);
+        memcpy(wanted, output.bytes, output.length < room ? output.length : room);
+        check_answer(name, (int64_t)output.length, call(input, buffer, room));
+        check_bytes(name, wanted, buffer, room);
+        free(buffer);
+        free(wanted);
+    }
+}
+
+static int64_t paths_of(const struct text *input, void *output, size_t room)
+{
+    return cbor_diag_paths(input->bytes, input->length, output, room);
+}
+
+static int64_t named_of(const struct text *input, void *output, size_t room)
+{
+    return cbor_diag_named(input[0].bytes, input[0].length, input[1].bytes, input[1].length, output, room);
+}
+
+static int64_t recognized_of(const struct text *input, void *output, size_t room)
+{
+    uint32_t form = 77;
+    int64_t answer = cbor_diag_recognize(input[0].bytes, input[0].length, &form, output, room);
+    check(form == input[1].length, "recognizing: expected the form %zu, came %u", input[1].length, form);
+    return answer;
+}
+
+static void test_shown(void)
+{
+    static const struct text map = TEXT("\xa2\x61k\x82\x01\x02\x20\x61" "a");
+    test_each_room("paths", paths_of, &map, (struct text)TEXT("k/0  1\nk/1  2\n-1  \"a\"\n"));
+    static const struct text key[] = {TEXT("\xa1\x01\x04"), TEXT("COSE_Key")};
+    test_each_room("names", named_of, key, (struct text)TEXT("/COSE_Key/ {/kty/ 1: 4 /Symmetric/}\n"));
+    static const struct text date[] = {TEXT("\xc1\x00"), TEXT("")};
+    test_each_room("a date", named_of, date, (struct text)TEXT("1(0 /1970-01-01T00:00:00Z/)\n"));
+    char buffer[4] = "xxx";
+    check_answer("paths of a cut item", -CBOR_DIAG_ERROR_CUT_SHORT, cbor_diag_paths("\x81", 1, buffer, 4));
+    check_answer("paths of two items", -CBOR_DIAG_ERROR_REMAINING, cbor_diag_paths("\x01\x02", 2, buffer, 4));
+    check_answer("names of a cut item", -CBOR_DIAG_ERROR_CUT_SHORT, cbor_diag_named("\x81", 1, NULL, 0, buffer, 4));
+    check_answer("names of no type", -CBOR_DIAG_ERROR_NO_TYPE, cbor_diag_named("\xa0", 1, "what", 4, buffer, 4));
+    check_answer("nothing recognized", -CBOR_DIAG_ERROR_NOT_RECOGNIZED,
+                 cbor_diag_recognize("what is it?", 11, NULL, buffer, 4));
+    check(strcmp(buffer, "xxx") == 0, "an error wrote to the buffer: %s", buffer);
+    check_answer("paths at null pointers", -CBOR_DIAG_ERROR_CUT_SHORT, cbor_diag_paths(NULL, 0, NULL, 0));
+    check_answer("names at null pointers", -CBOR_DIAG_ERROR_CUT_SHORT, cbor_diag_named(NULL, 0, NULL, 0, NULL, 0));
+    check_answer("paths of 2^64 - 1 bytes", -CBOR_DIAG_ERROR_MEMORY, cbor_diag_paths("\x01", SIZE_MAX, NULL, 0));
+    check_answer("names of 2^64 - 1 bytes", -CBOR_DIAG_ERROR_MEMORY,
+                 cbor_diag_named("\x01", SIZE_MAX, NULL, 0, NULL, 0));
+    check_answer("recognizing 2^64 - 1 bytes", -CBOR_DIAG_ERROR_MEMORY,
+                 cbor_diag_recognize("\x01", SIZE_MAX, NULL, NULL, 0));
+}
+
+static void test_recognizing(void)
+{
+    const struct {
+        const char *name;
+        struct text input, bytes;
+        uint32_t form;
+    } rows[] = {
+        {"hex", TEXT("0x82 01 02"), TEXT("\x82\x01\x02"), CBOR_DIAG_INPUT_HEX},
+        {"EDN", TEXT("[1, 2]"), TEXT("\x82\x01\x02"), CBOR_DIAG_INPUT_EDN},
+        {"base 64", TEXT("ggEC"), TEXT("\x82\x01\x02"), CBOR_DIAG_INPUT_BASE64},
+        {"bytes", TEXT("\x82\x01\x02\xf5"), TEXT("\x82\x01\x02\xf5"), CBOR_DIAG_INPUT_BYTES},
+    };
+    for (size_t i = 0; i < sizeof rows / sizeof *rows; i++) {
+        struct text given[] = {rows[i].input, {NULL, rows[i].form}};
+        test_each_room(rows[i].name, recognized_of, given, rows[i].bytes);
+    }
+    check_answer("no bytes at all", 0, cbor_diag_recognize(NULL, 0, NULL, NULL, 0));
+}
+
+/* Each allocation fails in turn in each of the calls that take memory. */
+static int64_t part_call(int call, unsigned char *buffer)
+{
+    size_t start, end;
+    struct cbor_diag_part parts[4];
+    struct cbor_diag_value value;
+    switch (call) {
+    case 0:
+        return cbor_diag_part("\x81\xa1\x61k\x01", 5, "0/k", 3, &start, &end);
+    case 1:
+        return cbor_diag_parts("\x81\xa1\x61k\x01", 5, "*/" "*", 3, parts, 4);
+    case 2:
+        return cbor_diag_value("\x81\xa1\x61k\x01", 5, "0/k", 3, &value);
+    case 3:
+        return cbor_diag_paths("\x81\xa1\x61k\x01", 5, buffer, 8);
+    case 4:
+        return cbor_diag_recognize("[1, {\"a\": h'00'}]", 17, NULL, buffer, 8);
+    default:
+        return cbor_diag_named("\xa1\x01\x04", 3, "COSE_Key", 8, buffer, 8);
+    }
+}
+
+static void test_parts_without_memory(void)
+{
+    for (int call = 0; call < 6; call++) {
+        int64_t came = -CBOR_DIAG_ERROR_MEMORY;
+        for (failing = 0; came == -CBOR_DIAG_ERROR_MEMORY && failing < 20000; failing++) {
+            unsigned char buffer[8] = {0};
+            allocations = held = 0;
+            counting = 1;
+            came = part_call(call, buffer);
+            counting = 0;
+            check(held == 0, "call %d, allocation %ld fails: expected no block held, came %ld", call, failing, held);
+            check(came >= 0 || buffer[0] == 0, "call %d: the buffer was written without memory", call);
+        }
+        check(failing > 1, "call %d: no allocation was made to fail", call);
+        check(came >= 0, "call %d, with memory enough: came %lld", call, (long long)came);
+    }
+}
+
+/* Hostile bytes: each beginning of an item, and the item with each byte changed. None of the answers is past the bytes. */
+static void test_hostile_parts(void)
+{
+    static const struct text item = TEXT("\xa3\x61k\x82\x01\xa1\x02\x62hi\x20\xc1\x03\x61" "b\xd8\x18\x42\x81\x05");
+    static const char *const paths[] = {"", "k", "k/1/2", "*", "*/" "*", "b/0", "b/@", "b/@1", "-1", "@", "h'00'", "//"};
+    for (size_t at = 0; at <= item.length; at++) {
+        for (int byte = -1; byte < 256; byte++) {
+            size_t length = byte < 0 ? at : item.length;
+            if (byte >= 0 && at == item.length) {
+                break;
+            }
+            unsigned char *bytes = malloc(length);
+            memcpy(bytes, item.bytes, length);
+            if (byte >= 0) {
+                bytes[at] = (unsigned char)byte;
+            }
+            size_t end;
+            int64_t extent = cbor_diag_extent(bytes, length, &end);
+            int whole = extent == (int64_t)length;
+            for (size_t i = 0; i < sizeof paths / sizeof *paths; i++) {
+                size_t start = 0, stop = 0;
+                struct cbor_diag_value value;
+                struct cbor_diag_part parts[6];
+                int64_t answer = cbor_diag_part(bytes, length, paths[i], strlen(paths[i]), &start, &stop);
+                int64_t count = cbor_diag_parts(bytes, length, paths[i], strlen(paths[i]), parts, 6);
+                int64_t valued = cbor_diag_value(bytes, length, paths[i], strlen(paths[i]), &value);
+                check(whole == (answer == 0 || answer == -CBOR_DIAG_ERROR_NO_PART), "byte %zu is %d, %s: came %lld", at,
+                      byte, paths[i], (long long)answer);
+                check((answer == 0) == (count > 0) && answer == valued, "byte %zu is %d, %s: the calls differ", at,
+                      byte, paths[i]);
+                if (answer == 0) {
+                    size_t unused;
+                    check(start < stop && stop <= length && parts[0].start == start && parts[0].end == stop &&
+                              parts[0].key <= start && value.start <= value.end && value.end <= stop,
+                          "byte %zu is %d, %s: a part is past the bytes", at, byte, paths[i]);
+                    check_answer("a part", (int64_t)(stop - start), cbor_diag_extent(bytes + start, length - start, &unused));
+                }
+            }
+            cbor_diag_head(bytes, length, NULL);
+            int64_t lines = cbor_diag_paths(bytes, length, NULL, 0);
+            check(whole == (lines > 0), "byte %zu is %d: paths came to %lld", at, byte, (long long)lines);
+            cbor_diag_recognize(bytes, length, NULL, NULL, 0);
+            free(bytes);
+        }
+    }
+    char *arrays = malloc(100000);
+    memset(arrays, 0x81, 100000);
+    check_answer("a part of arrays too deep", -CBOR_DIAG_ERROR_TOO_DEEP,
+                 cbor_diag_part(arrays, 100000, "0/0", 3, NULL, NULL));
+    check_answer("paths of arrays too deep", -CBOR_DIAG_ERROR_TOO_DEEP, cbor_diag_paths(arrays, 100000, NULL, 0));
+    arrays[127] = 0;
+    check_answer("a part of deep arrays", 0, cbor_diag_part(arrays, 128, "0/0", 3, NULL, NULL));
+    check(cbor_diag_paths(arrays, 128, NULL, 0) == 127 * 2 + 3, "paths of deep arrays: came another length");
+    check(cbor_diag_named(arrays, 128, NULL, 0, NULL, 0) > 0, "deep arrays with names: came an error");
+    free(arrays);
+}
+
 /* ---- arguments at their limits */
 
 static void test_limits(void)
@@ -1165,6 +1583,7 @@ static void test_memory(void)
     check(failing == 1, "a rule that needs no memory took some");
     test_reencoding_without_memory();
     test_reencoding_faults_without_memory();
+    test_parts_without_memory();
     struct text map = TEXT("\xa2\x01\x00\x61" "a\xf9\x3c\x00"), json = TEXT("{\"1\": 0, \"a\": 1.0}\n");
     test_failing_memory(BYTES, JSON, map, json);
     test_failing_memory(HEX, JSON, (struct text)TEXT("a2 01 00 61 61 f9 3c 00"), json);
@@ -1322,6 +1741,14 @@ int main(int argc, char **argv)
     test_reencoding();
     test_reencoding_faults();
     test_names();
+    test_heads();
+    test_walk();
+    test_parts();
+    test_several_parts();
+    test_values();
+    test_shown();
+    test_recognizing();
+    test_hostile_parts();
     test_limits();
     test_memory();
     test_openings();

@@ -4,3 +4,4 @@ pub mod NoOutput
 pub mod FormNumbers
 pub mod Told
 pub mod NameErrors
+pub mod HeadFits

@@ -50,9 +50,13 @@ no_part = 16
 abbrev pub no_type : ℕ
 no_type = 17
 
+-- what is returned for an input that has none of the forms
+abbrev pub not_recognized : ℕ
+not_recognized = 18
+
 -- no error has this number
 abbrev pub IsNoError : ℕ → Type 0
-IsNoError n = (n ≡ 0) ⊎ (no_type < n)
+IsNoError n = (n ≡ 0) ⊎ (not_recognized < n)
 
 -- what the error of this number says
 abbrev pub IsTextOf : ℕ → List ℕ → Type 0
@@ -65,6 +69,7 @@ IsTextOf n text =
     ⊎ ((n ≡ not_kept) × (text ≡ codes "JSON does not keep all of the item"))
     ⊎ ((n ≡ no_part) × (text ≡ codes "the path leads to no part of the item"))
     ⊎ ((n ≡ no_type) × (text ≡ codes "no such type"))
+    ⊎ ((n ≡ not_recognized) × (text ≡ codes "neither hex, EDN, base 64 nor bytes of items"))
     ⊎ (IsNoError n × (text ≡ codes "no such error"))
 
 -- this number was returned

@@ -10,3 +10,6 @@ pub mod Messages
 pub mod Names
 pub mod Violations
 pub mod Reencodings
+pub mod Heads
+pub mod Parts
+pub mod Recognized

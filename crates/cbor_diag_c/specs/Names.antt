@@ -29,3 +29,12 @@ IsNoName input path kind n =
     ⊎ ((e : Error) × (n ≡ number_of e) × IsNoItemOrText input path e)
     ⊎ ((n ≡ no_part) × IsOneItem input)
     ⊎ ((n ≡ no_type) × (kind ≢ []))
+
+-- the input is no item; nothing is said of memory
+abbrev pub IsNoItemOrMemory : List ℕ → Error → Type 0
+IsNoItemOrMemory input e = (e ≡ refusal.Memory) ⊎ IsNoItem input e
+
+-- the same by the number of the error, or no type has the name that is given
+abbrev pub IsNotShown : List ℕ → List ℕ → ℕ → Type 0
+IsNotShown input kind n =
+    ((e : Error) × (n ≡ number_of e) × IsNoItemOrMemory input e) ⊎ ((n ≡ no_type) × (kind ≢ []))

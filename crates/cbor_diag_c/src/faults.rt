@@ -28,7 +28,7 @@ pub(crate) const NO_PLACE: usize = usize::MAX;
 
 /// The fault of bytes.
 #[tactic(auto, using(crate::proofs::Refusals::refused, crate::proofs::Refusals::fault_place))]
-fn in_bytes(bytes: &[u8]) -> Fault
+pub(crate) fn in_bytes(bytes: &[u8]) -> Fault
     ensures none { result ≡ None → (i : Item) × IsItem bytes.now i }
     ensures refused { IfSome result (λ x. IsNoItem bytes.now x.0) }
     ensures place { IfSome result (λ x. IsBytesPlace bytes.now x.0 x.1) }

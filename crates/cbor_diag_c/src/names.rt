@@ -10,13 +10,13 @@ use cbor_names::{Names, Type, known_names};
 use std::alloc::Global;
 
 /// What is returned for a path that leads to no part of the item.
-const NO_PART: i64 = -16;
+pub(crate) const NO_PART: i64 = -16;
 
 /// What is returned for a name of no type.
-const NO_TYPE: i64 = -17;
+pub(crate) const NO_TYPE: i64 = -17;
 
 /// Returns the type of this name.
-fn type_of(names: &Names, name: &[u8]) -> Option<Type> {
+pub(crate) fn type_of(names: &Names, name: &[u8]) -> Option<Type> {
     match str::from_utf8(name) {
         Ok(name) => names.of(name),
         Err(_) => None,

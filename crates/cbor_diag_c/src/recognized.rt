@@ -1,0 +1,54 @@
+//! The call for C that finds the form of an input.
+ghost use Rattle.std.specs.Prelude.{◌≡◌};
+ghost use Rattle.cbor_diag_c.specs.Answers.{IfLength, IfError};
+ghost use Rattle.cbor_diag_c.specs.Recognized.{input_number, IsRecognized, IsNotRecognized};
+
+use crate::answer::{refused, write};
+use cbor_grammar::Error;
+use cbor_inputs::{Input, Refusal, recognize};
+use std::alloc::Global;
+
+/// What is returned for an input that has none of the forms.
+const NOT_RECOGNIZED: i64 = -18;
+
+/// The number of a form of an input.
+fn input_number(form: Input) -> u32
+    ensures { result ≡ input_number form }
+{
+    match form {
+        Input::Bytes => 0,
+        Input::Hex => 1,
+        Input::Diag => 2,
+        Input::Base64 => 3,
+    }
+}
+
+/// Finds the form of an input, as `cborcat` does: hex as people paste it, EDN, base 64, or bytes;
+/// and the bytes that it stands for. Unless it is hex, these are items, one after the other. No text
+/// is taken for bytes.
+///
+/// Returns how many bytes these are, of which as many are written as fit `output`, and sets `form`.
+/// Otherwise returns minus the number of the error, and both are unchanged: `Memory`, or 18 for an
+/// input that has none of the forms.
+#[unsafe(no_mangle)]
+pub extern "C" fn cbor_diag_recognize(
+    alloc: Global,
+    input: &[u8],
+    form: &mut u32,
+    output: &mut [u8],
+) -> i64
+    ensures recognized { IfLength result
+        (IsRecognized input.now form.new output.old output.new) }
+    ensures refused { IfError result (IsNotRecognized input.now) }
+    ensures unchanged { IfError result (λ n. output.new ≡ output.old) }
+    ensures same_form { IfError result (λ n. form.new ≡ form.old) }
+{
+    match recognize(alloc, input) {
+        Ok(found) => {
+            *form = input_number(found.form);
+            write(&found.bytes, output)
+        }
+        Err(Refusal::Memory) => refused(Error::Memory),
+        Err(_) => NOT_RECOGNIZED,
+    }
+}
