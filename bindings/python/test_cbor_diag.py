@@ -73,6 +73,7 @@ TEXTS = {
     Error.NOT_KEPT: "JSON does not keep all of the item",
     Error.NO_PART: "the path leads to no part of the item",
     Error.NO_TYPE: "no such type",
+    Error.NOT_RECOGNIZED: "neither hex, EDN, base 64 nor bytes of items",
 }
 
 
@@ -131,7 +132,8 @@ class Conversions(unittest.TestCase):
                  cbor_diag.bytes_to_edn, cbor_diag.bytes_to_edn_pretty, cbor_diag.bytes_to_json, cbor_diag.extent,
                  cbor_diag.Scanner().feed,
                  lambda data: cbor_diag.violation(data, Rules.CORE), lambda data: cbor_diag.reencode(data, Rules.CORE),
-                 lambda data: cbor_diag.name_at(data, ""),
+                 lambda data: cbor_diag.name_at(data, ""), lambda data: cbor_diag.part(data, ""),
+                 lambda data: cbor_diag.parts(data, "*"), cbor_diag.value, cbor_diag.paths, cbor_diag.named,
                  lambda data: cbor_diag.convert(Form.BYTES, Form.DIAG, data)]
         for call in calls:
             with self.subTest(call=call), self.assertRaisesRegex(TypeError, r"bytes\.fromhex"):
@@ -661,6 +663,93 @@ class Names(unittest.TestCase):
                 if call is cbor_diag.bytes_to_diag:
                     self.assertEqual((told.error, told.offset, told.path, str(told)), named)
                 named = told.error, told.offset, told.path, str(told)
+
+
+class Parts(unittest.TestCase):
+    ITEM = cbor_diag.edn_to_bytes("""{"k": [1, {2: "hi"}], -1: 1(3), "e": [], "b": 24(<<[5]>>), "a b": 1.5}""")
+
+    def each(self, data):
+        """The data in each of the kinds that are read in another way."""
+        return data, bytearray(data), memoryview(data), memoryview(bytes(2) + data)[2:], array.array("B", data)
+
+    def test_part(self):
+        for path, edn in [("k", '[1, {2: "hi"}]'), ("k/1/2", '"hi"'), ("-1", "1(3)"), ("b", "24(<<[5]>>)"), ("b/0", "5"),
+                          ("k/*/2", '"hi"'), ('"a b"', "1.5"), ("", cbor_diag.bytes_to_edn(self.ITEM))]:
+            for data in self.each(self.ITEM):
+                self.assertEqual(cbor_diag.part(data, path), cbor_diag.edn_to_bytes(edn))
+
+    def test_parts(self):
+        for path, found in [("k/*", ["1", '{2: "hi"}']), ("e/*", []), ("x", []), ("*/0", ["1", "5"]), ("k", ['[1, {2: "hi"}]'])]:
+            for data in self.each(self.ITEM):
+                self.assertEqual([cbor_diag.bytes_to_edn(one) for one in cbor_diag.parts(data, path)], found)
+        many = cbor_diag.edn_to_bytes("[" + "1," * 1000 + "2]")
+        self.assertEqual(cbor_diag.parts(many, "*"), [b"\x01"] * 1000 + [b"\x02"])
+
+    def test_values(self):
+        for edn, found in [("0", 0), ("-1", -1), ("18446744073709551615", 2**64 - 1), ("-18446744073709551616", -(2**64)),
+                           ("18446744073709551616", 2**64), ("-18446744073709551617", -(2**64) - 1), ("1.5", 1.5),
+                           ("1e300", 1e300), ("-0.0", 0.0), ('"\u00fc\\n"', "\u00fc\n"), ("h'00ff'", b"\x00\xff"),
+                           ('(_ "a", "bc")', "abc"), ("(_ h'01', h'02')", b"\x01\x02"), ("''_", b""), ("true", True),
+                           ("false", False), ("null", None), ("undefined", None), ("simple(99)", b"\xf8\x63"),
+                           ("[1]", b"\x81\x01"), ("{}", b"\xa0"), ("1(1.5)", 1.5), ("32(\"x\")", "x"),
+                           ("99(2(h'0100'))", 256), ("2((_ h'01', h'00'))", 256)]:
+            for data in self.each(cbor_diag.edn_to_bytes("[" + edn + "]")):
+                came = cbor_diag.value(data, "0")
+                self.assertEqual((type(came), came), (type(found), found), edn)
+        self.assertTrue(cbor_diag.value(bytes.fromhex("f97e00")) != cbor_diag.value(bytes.fromhex("f97e00")))
+        self.assertEqual(cbor_diag.value(b"\x01"), 1)
+
+    def test_paths(self):
+        wanted = [("k/0", "1"), ("k/1/2", '"hi"'), ("-1", "1(3)"), ("e", "[]"), ("b/@/0", "5"), ('"a b"', "1.5")]
+        for data in self.each(self.ITEM):
+            self.assertEqual(cbor_diag.paths(data), wanted)
+        for path, edn in wanted:
+            self.assertEqual(cbor_diag.bytes_to_edn(cbor_diag.part(self.ITEM, path)), edn)
+        odd = cbor_diag.edn_to_bytes("""{"a  b": {"": 1, "\\"  ": "  "}}""")
+        self.assertEqual([edn for _, edn in cbor_diag.paths(odd)], ["1", '"  "'])
+        for path, edn in cbor_diag.paths(odd):
+            self.assertEqual(cbor_diag.bytes_to_edn(cbor_diag.part(odd, path)), edn)
+        self.assertEqual(cbor_diag.paths(b"\x01"), [("/", "1")])
+
+    def test_named(self):
+        self.assertEqual(cbor_diag.named(b"\xa1\x01\x04", "COSE_Key"), "/COSE_Key/ {/kty/ 1: 4 /Symmetric/}")
+        self.assertEqual(cbor_diag.named(bytearray(b"\xa1\x01\x04")), "{1: 4}")
+        with self.assertRaises(CborDiagError) as raised:
+            cbor_diag.named(b"\xa0", "what")
+        self.assertIs(raised.exception.error, Error.NO_TYPE)
+
+    def test_recognized(self):
+        for given, form, found in [
+            ("0x82 01 02", "HEX", "820102"), ("[1, 2] 3", "EDN", "82010203"), ("ggEC", "BASE64", "820102"),
+            (b"\x82\x01\x02\xf5", "BYTES", "820102f5"), (bytearray(b"1.5"), "EDN", "f93e00"), ("", "HEX", ""),
+            ("[" + "1.5, " * 100 + "]", "EDN", "9864" + "f93e00" * 100),
+        ]:
+            self.assertEqual(cbor_diag.recognize(given), (cbor_diag.Input[form], bytes.fromhex(found)))
+        for given in ("what is it?", b"\xff\xff", b"\x82\x01"):
+            with self.assertRaises(CborDiagError) as raised:
+                cbor_diag.recognize(given)
+            self.assertIs(raised.exception.error, Error.NOT_RECOGNIZED)
+            self.assertEqual(str(raised.exception), TEXTS[Error.NOT_RECOGNIZED])
+
+    def test_errors(self):
+        for call in (cbor_diag.part, cbor_diag.value):
+            with self.assertRaises(CborDiagError) as raised:
+                call(self.ITEM, "x")
+            self.assertIs(raised.exception.error, Error.NO_PART)
+            self.assertEqual(str(raised.exception), TEXTS[Error.NO_PART])
+        for data in (self.ITEM[:-1], b"", b"\xa1\x61k\x82\x01\x1f", b"\x01\x02"):
+            calls = (cbor_diag.bytes_to_diag, lambda data: cbor_diag.part(data, "0"), lambda data: cbor_diag.parts(data, "*"),
+                     cbor_diag.value, cbor_diag.paths, cbor_diag.named)
+            told = []
+            for call in calls:
+                with self.assertRaises(CborDiagError) as raised:
+                    call(data)
+                came = raised.exception
+                told.append((came.error, came.offset, came.path, str(came)))
+            self.assertEqual(set(told), {told[0]})
+        with self.assertRaises(CborDiagError) as raised:
+            cbor_diag.part(self.ITEM, "\ud800")
+        self.assertIs(raised.exception.error, Error.UTF8)
 
 
 class Errors(unittest.TestCase):

@@ -30,6 +30,7 @@ __all__ = [
     "CborDiagError",
     "Error",
     "Form",
+    "Input",
     "Loss",
     "LossKind",
     "Rules",
@@ -56,7 +57,13 @@ __all__ = [
     "items",
     "library_version",
     "name_at",
+    "named",
+    "part",
+    "parts",
+    "paths",
+    "recognize",
     "reencode",
+    "value",
 ]
 
 __version__ = "0.1.0"
@@ -128,6 +135,21 @@ class Error(enum.IntEnum):
     """The path leads to no part of the item."""
     NO_TYPE = 17
     """No type of the tables of names has this name."""
+    NOT_RECOGNIZED = 18
+    """Neither hex, EDN, base 64 nor bytes of items."""
+
+
+class Input(enum.IntEnum):
+    """The form that `recognize` finds."""
+
+    BYTES = 0
+    """The bytes of items, one after the other."""
+    HEX = 1
+    """These bytes in hex, as people paste it."""
+    EDN = 2
+    """Items in EDN, none or more."""
+    BASE64 = 3
+    """The bytes in base 64, in either alphabet."""
 
 
 class Rules(enum.IntEnum):
@@ -295,6 +317,38 @@ def _library_path() -> str:
     return ctypes.util.find_library("cbor_diag") or "libcbor_diag.so.0"
 
 
+class _Part(ctypes.Structure):
+    """A part of an item: `struct cbor_diag_part`."""
+
+    _fields_ = [("key", ctypes.c_size_t), ("start", ctypes.c_size_t), ("end", ctypes.c_size_t)]
+
+
+class _Head(ctypes.Structure):
+    """A head: `struct cbor_diag_head`."""
+
+    _fields_ = [
+        ("kind", ctypes.c_uint8),
+        ("indefinite", ctypes.c_uint8),
+        ("argument", ctypes.c_uint64),
+        ("number", ctypes.c_double),
+    ]
+
+
+class _Value(ctypes.Structure):
+    """The value of a part: `struct cbor_diag_value`."""
+
+    _fields_ = [
+        ("kind", ctypes.c_uint8),
+        ("indefinite", ctypes.c_uint8),
+        ("tagged", ctypes.c_uint8),
+        ("tag", ctypes.c_uint64),
+        ("argument", ctypes.c_uint64),
+        ("number", ctypes.c_double),
+        ("start", ctypes.c_size_t),
+        ("end", ctypes.c_size_t),
+    ]
+
+
 class _Library:
     """The calls of the library. `kind` says whether they hold the interpreter's lock."""
 
@@ -352,6 +406,27 @@ class _Library:
         self.name_at.restype = ctypes.c_int64
         text = ctypes.c_char_p
         self.name_at.argtypes = [pointer, size, text, size, text, size, text, size]
+        self.head = library.cbor_diag_head
+        self.head.restype = ctypes.c_int64
+        self.head.argtypes = [pointer, size, ctypes.POINTER(_Head)]
+        self.part = library.cbor_diag_part
+        self.part.restype = ctypes.c_int64
+        self.part.argtypes = [pointer, size, text, size, ctypes.POINTER(size), ctypes.POINTER(size)]
+        self.parts = library.cbor_diag_parts
+        self.parts.restype = ctypes.c_int64
+        self.parts.argtypes = [pointer, size, text, size, ctypes.POINTER(_Part), size]
+        self.value = library.cbor_diag_value
+        self.value.restype = ctypes.c_int64
+        self.value.argtypes = [pointer, size, text, size, ctypes.POINTER(_Value)]
+        self.paths = library.cbor_diag_paths
+        self.paths.restype = ctypes.c_int64
+        self.paths.argtypes = [pointer, size, pointer, size]
+        self.named = library.cbor_diag_named
+        self.named.restype = ctypes.c_int64
+        self.named.argtypes = [pointer, size, text, size, pointer, size]
+        self.recognize = library.cbor_diag_recognize
+        self.recognize.restype = ctypes.c_int64
+        self.recognize.argtypes = [pointer, size, ctypes.POINTER(ctypes.c_uint32), pointer, size]
         self.error_text = library.cbor_diag_error_text
         self.error_text.restype = ctypes.c_int64
         self.error_text.argtypes = [ctypes.c_uint32, ctypes.c_char_p, size]
@@ -751,6 +826,199 @@ def name_at(data: Bytes, path: str, type: Optional[str] = None) -> Optional[str]
     """
     steps, kind = (given.encode("utf-8", "surrogatepass") for given in (path, type or ""))
     return _on_bytes(data, _name, steps, kind)
+
+
+Scalar = Union[int, float, str, bytes, bool, None]
+"""What `value` returns."""
+
+
+def _slice(given: Any, start: int, end: int) -> bytes:
+    """These bytes of the data."""
+    if isinstance(given, bytes):
+        return given[start:end]
+    return ctypes.string_at(given + start, end - start)
+
+
+def _part(library: _Library, given: Any, length: int, path: bytes) -> bytes:
+    start, end = ctypes.c_size_t(), ctypes.c_size_t()
+    found = library.part(given, length, path, len(path), ctypes.byref(start), ctypes.byref(end))
+    if found < 0:
+        raise _no_name(library, given, length, Error(-found))
+    return _slice(given, start.value, end.value)
+
+
+def _path(path: str) -> bytes:
+    return path.encode("utf-8", "surrogatepass")
+
+
+def part(data: Bytes, path: str) -> bytes:
+    """Returns the part of an item that `path` leads to, with its tags; with a `*` the first of the parts.
+
+    >>> part(edn_to_bytes('{"a": [1, 2]}'), "a").hex()
+    '820102'
+
+    A path has steps joined by `/`, as `cborcat -p` reads them: an index, a key in EDN, where a plain word is a text, `@`
+    for the item in a byte string, and `*` for each member; names are none. The empty path is the item itself.
+
+    Raises `CborDiagError` if the data is no item, with `NO_PART` if the path leads to no part of it, and if memory runs
+    out.
+    """
+    return _on_bytes(data, _part, _path(path))
+
+
+def _parts(library: _Library, given: Any, length: int, path: bytes) -> list[bytes]:
+    wanted = 64
+    while True:
+        found = (_Part * wanted)()
+        room, wanted = wanted, library.parts(given, length, path, len(path), found, wanted)
+        if wanted < 0:
+            raise _no_name(library, given, length, Error(-wanted))
+        if wanted <= room:
+            return [_slice(given, one.start, one.end) for one in found[:wanted]]
+
+
+def parts(data: Bytes, path: str) -> list[bytes]:
+    """Returns all parts of an item that `path` leads to, in order: several with a `*`, and none if it leads nowhere.
+
+    >>> [one.hex() for one in parts(edn_to_bytes('{"a": [1, 2]}'), "a/*")]
+    ['01', '02']
+
+    Raises `CborDiagError` if the data is no item, and if memory runs out.
+    """
+    return _on_bytes(data, _parts, _path(path))
+
+
+def _joined(string: bytes) -> bytes:
+    """The content of a string in chunks, whose tags are left out."""
+    head, at, content = _Head(), 0, b""
+    while True:
+        at += _releasing.head(string[at : at + 9], len(string[at : at + 9]), ctypes.byref(head))
+        if head.kind == 9:
+            return content
+        if head.kind in (2, 3) and not head.indefinite:
+            content += string[at : at + head.argument]
+            at += head.argument
+
+
+def _scalar(found: _Value, part: bytes) -> Scalar:
+    """The value, of which these are the bytes: of a string of definite length its content, and otherwise the part."""
+    if found.kind in (0, 1):
+        return -1 - found.argument if found.kind else found.argument
+    if found.kind == 8:
+        return found.number
+    if found.kind == 7:
+        return {20: False, 21: True, 22: None, 23: None}.get(found.argument, part)
+    if found.kind not in (2, 3):
+        return part
+    content = _joined(part) if found.indefinite else part
+    if found.kind == 3:
+        return content.decode("utf-8")
+    if found.tagged and found.tag in (2, 3):
+        number = int.from_bytes(content, "big")
+        return -1 - number if found.tag == 3 else number
+    return content
+
+
+def _value(library: _Library, given: Any, length: int, path: bytes) -> Scalar:
+    found = _Value()
+    answer = library.value(given, length, path, len(path), ctypes.byref(found))
+    if answer < 0:
+        raise _no_name(library, given, length, Error(-answer))
+    return _scalar(found, _slice(given, found.start, found.end))
+
+
+def value(data: Bytes, path: str = "") -> Scalar:
+    """Returns the value of the part of an item that `path` leads to, without its tags: an `int`, also of a big number, a
+    `float`, a `str`, `bytes`, a `bool`, or `None` for null and undefined; and for an array, a map and any other simple
+    value the bytes of the part.
+
+    >>> value(edn_to_bytes('{"at": 1(1700000000), "a": ["x"]}'), "at")
+    1700000000
+    >>> value(edn_to_bytes('{"at": 1(1700000000), "a": ["x"]}'), "a/0")
+    'x'
+
+    Raises `CborDiagError` as `part` does.
+    """
+    return _on_bytes(data, _value, _path(path))
+
+
+def _written(library: _Library, given: Any, length: int, call: Callable[..., int], *arguments: Any) -> bytes:
+    """What a call writes."""
+    wanted = 4096
+    while True:
+        output = ctypes.create_string_buffer(wanted)
+        room, wanted = wanted, call(given, length, *arguments, output, wanted)
+        if wanted < 0:
+            raise _no_name(library, given, length, Error(-wanted))
+        if wanted <= room:
+            return output.raw[:wanted]
+
+
+def _path_and_text(line: str) -> Tuple[str, str]:
+    """The path and the EDN of a line: two blanks that are not in a text are between them."""
+    at, quoted = 0, False
+    while quoted or not line.startswith("  ", at):
+        quoted ^= line[at] == '"'
+        at += 1
+    return line[:at], line[at + 2 :]
+
+
+def _paths(library: _Library, given: Any, length: int) -> list[Tuple[str, str]]:
+    lines = _written(library, given, length, library.paths).decode("utf-8")
+    return [_path_and_text(line) for line in lines.split("\n")[:-1]]
+
+
+def paths(data: Bytes) -> list[Tuple[str, str]]:
+    """Returns each item in an item that holds no other: the path that leads to it, and the item in EDN.
+
+    >>> paths(edn_to_bytes('{"a": [1, 2.5], "b": {}}'))
+    [('a/0', '1'), ('a/1', '2.5'), ('b', '{}')]
+
+    Raises `CborDiagError` if the data is no item, and if memory runs out.
+    """
+    return _on_bytes(data, _paths)
+
+
+def _named(library: _Library, given: Any, length: int, kind: bytes) -> str:
+    return _written(library, given, length, library.named, kind, len(kind))[:-1].decode("utf-8")
+
+
+def named(data: Bytes, type: Optional[str] = None) -> str:
+    """An item in EDN over several lines as `cborcat` shows it: with the names of COSE, CWT, EAT, SenML and CTAP2, and
+    with notes, as comments; without a line feed at the end. `type` is the type of the item where no tag says it.
+
+    >>> print(named(bytes.fromhex("a10104"), type="COSE_Key"))
+    /COSE_Key/ {/kty/ 1: 4 /Symmetric/}
+
+    Raises `CborDiagError` if the data is no item, with `NO_TYPE` if there is no such type, and if memory runs out.
+    """
+    return _on_bytes(data, _named, _path(type or ""))
+
+
+def _recognized(library: _Library, given: Any, length: int) -> Tuple[Input, bytes]:
+    form = ctypes.c_uint32()
+    output = ctypes.create_string_buffer(max(length, 1))
+    wanted = library.recognize(given, length, ctypes.byref(form), output, length)
+    if wanted > length:
+        output = ctypes.create_string_buffer(wanted)
+        wanted = library.recognize(given, length, ctypes.byref(form), output, wanted)
+    if wanted < 0:
+        raise CborDiagError(Error(-wanted))
+    return Input(form.value), output.raw[:wanted]
+
+
+def recognize(data: Data) -> Tuple[Input, bytes]:
+    """Returns the form that `data` has, and the bytes that it stands for, as `cborcat` finds them: hex as people paste
+    it, EDN, base 64, or bytes. Unless it is hex, these are items, none or more, one after the other. A `str` is taken as
+    its UTF-8, and no text is taken for bytes.
+
+    >>> form, found = recognize("0x82 01 02  # pasted")
+    >>> form.name, found.hex()
+    ('HEX', '820102')
+
+    Raises `CborDiagError` with `NOT_RECOGNIZED` if it has none of the forms, and if memory runs out.
+    """
+    return _on_bytes(_path(data) if isinstance(data, str) else data, _recognized)
 
 
 class Scanner:

@@ -37,6 +37,8 @@ pub enum Error {
     NoPart,
     /// No type of the tables of names has this name.
     NoType,
+    /// Neither hex, EDN, base 64 nor bytes of items.
+    NotRecognized,
 }
 
 /// The result of a conversion.
@@ -70,6 +72,9 @@ const NOT_KEPT: i64 = 15;
 const NO_PART: i64 = 16;
 const NO_TYPE: i64 = 17;
 
+/// The number of `NotRecognized`.
+const NOT_RECOGNIZED: i64 = 18;
+
 impl Error {
     /// The error for a negative result of the library.
     pub(crate) fn of(answer: i64) -> Error {
@@ -79,6 +84,7 @@ impl Error {
             NOT_KEPT => Error::NotKept,
             NO_PART => Error::NoPart,
             NO_TYPE => Error::NoType,
+            NOT_RECOGNIZED => Error::NotRecognized,
             number => usize::try_from(number - 1)
                 .ok()
                 .and_then(|index| ERRORS.get(index).copied())
@@ -173,7 +179,7 @@ impl Error {
     }
 
     /// Returns the number of the error: from 1 for `Memory` to 10 for `PastWidth`, in the order of the variants, and
-    /// from 13 for `NotEncodable` to 17 for `NoType`.
+    /// from 13 for `NotEncodable` to 18 for `NotRecognized`.
     pub fn number(self) -> u32 {
         match self {
             Error::NotEncodable => NOT_ENCODABLE as u32,
@@ -181,6 +187,7 @@ impl Error {
             Error::NotKept => NOT_KEPT as u32,
             Error::NoPart => NO_PART as u32,
             Error::NoType => NO_TYPE as u32,
+            Error::NotRecognized => NOT_RECOGNIZED as u32,
             other => other as u32 + 1,
         }
     }
@@ -215,6 +222,7 @@ mod tests {
             (15, Error::NotKept),
             (16, Error::NoPart),
             (17, Error::NoType),
+            (18, Error::NotRecognized),
         ] {
             assert_eq!(error.number(), number);
             assert_eq!(Error::of(-i64::from(number)), error);

@@ -4,13 +4,17 @@
 mod error;
 mod json;
 mod names;
+mod parts;
+mod recognized;
 mod rules;
 mod scanner;
 
 pub use error::{Error, Result};
 pub use json::{bytes_to_json, bytes_to_json_strict, hex_to_json, hex_to_json_strict, json_fault};
 pub use json::{JsonFault, LossKind};
-pub use names::name_at;
+pub use names::{name_at, named};
+pub use parts::{head, part, parts, paths, value, Head, HeadKind, Part, Value};
+pub use recognized::{recognize, Input};
 pub use rules::{violation, reencode, reencode_fault, Violation, ViolationKind, ReencodeFault, Rules};
 pub use scanner::Scanner;
 
@@ -55,6 +59,39 @@ mod library {
     #[repr(C)]
     #[derive(Clone)]
     pub struct ScannerRoom(pub [u64; 256]);
+
+    /// A head.
+    #[repr(C)]
+    #[derive(Default)]
+    pub struct Head {
+        pub kind: u8,
+        pub indefinite: u8,
+        pub argument: u64,
+        pub number: f64,
+    }
+
+    /// A part of an item.
+    #[repr(C)]
+    #[derive(Clone, Copy, Default)]
+    pub struct Part {
+        pub key: usize,
+        pub start: usize,
+        pub end: usize,
+    }
+
+    /// The value of a part.
+    #[repr(C)]
+    #[derive(Default)]
+    pub struct Value {
+        pub kind: u8,
+        pub indefinite: u8,
+        pub tagged: u8,
+        pub tag: u64,
+        pub argument: u64,
+        pub number: f64,
+        pub start: usize,
+        pub end: usize,
+    }
 
     extern "C" {
         /// Returns the length of the whole output, or minus the number of an error, and writes as much of the output as
@@ -150,6 +187,59 @@ mod library {
             path_len: usize,
             kind: *const u8,
             kind_len: usize,
+            output: *mut u8,
+            output_len: usize,
+        ) -> i64;
+        /// Returns how many bytes the head at the front takes, or minus the number of an error, and writes to `head` what
+        /// it says.
+        pub fn cbor_diag_head(input: *const u8, input_len: usize, head: *mut Head) -> i64;
+        /// Returns 0, or minus the number of an error, and writes to `start` and `end` where the part is.
+        pub fn cbor_diag_part(
+            input: *const u8,
+            input_len: usize,
+            path: *const u8,
+            path_len: usize,
+            start: *mut usize,
+            end: *mut usize,
+        ) -> i64;
+        /// Returns how many parts there are, or minus the number of an error, and writes as many as fit.
+        pub fn cbor_diag_parts(
+            input: *const u8,
+            input_len: usize,
+            path: *const u8,
+            path_len: usize,
+            parts: *mut Part,
+            parts_len: usize,
+        ) -> i64;
+        /// Returns 0, or minus the number of an error, and writes to `value` that of the part.
+        pub fn cbor_diag_value(
+            input: *const u8,
+            input_len: usize,
+            path: *const u8,
+            path_len: usize,
+            value: *mut Value,
+        ) -> i64;
+        /// Returns the length of the lines, of which as much is written as fits, or minus the number of an error.
+        pub fn cbor_diag_paths(
+            input: *const u8,
+            input_len: usize,
+            output: *mut u8,
+            output_len: usize,
+        ) -> i64;
+        /// The same of an item with names.
+        pub fn cbor_diag_named(
+            input: *const u8,
+            input_len: usize,
+            kind: *const u8,
+            kind_len: usize,
+            output: *mut u8,
+            output_len: usize,
+        ) -> i64;
+        /// The same of the bytes that an input stands for, and writes its form to `form`.
+        pub fn cbor_diag_recognize(
+            input: *const u8,
+            input_len: usize,
+            form: *mut u32,
             output: *mut u8,
             output_len: usize,
         ) -> i64;

@@ -1,5 +1,6 @@
 //! The names of parts of items.
 
+use crate::parts::written;
 use crate::{library, Error, Result};
 
 /// Returns the name of the part of an item that a path leads to, in COSE, CWT, EAT, SenML or CTAP2; `None` if it has no
@@ -43,4 +44,27 @@ pub fn name_at(bytes: &[u8], path: &str, kind: Option<&str>) -> Result<Option<St
             return Ok(Some(name).filter(|name| !name.is_empty()));
         }
     }
+}
+
+/// An item in EDN over several lines as `cborcat` shows it: with the names of COSE, CWT, EAT, SenML and CTAP2, and with
+/// notes, as comments; without a line feed at the end. `kind` is the type of the item where no tag says it.
+///
+/// The error is that for which the bytes are no item; [`Error::NoType`] if there is no such type; or [`Error::Memory`].
+///
+/// ```rust
+/// use semphluk::named;
+///
+/// let text = named(b"\xa1\x01\x04", Some("COSE_Key")).unwrap();
+/// assert_eq!(text, "/COSE_Key/ {/kty/ 1: 4 /Symmetric/}");
+/// ```
+pub fn named(bytes: &[u8], kind: Option<&str>) -> Result<String> {
+    let kind = kind.unwrap_or("");
+    // SAFETY: the pointers are those of the slices and of the room, with their lengths, and do not overlap.
+    let text = written(|room, length| unsafe {
+        let (given, kind_len) = (bytes.as_ptr(), kind.len());
+        library::cbor_diag_named(given, bytes.len(), kind.as_ptr(), kind_len, room, length)
+    })?;
+    let mut text = String::from_utf8(text).expect("the text is UTF-8");
+    text.pop();
+    Ok(text)
 }
