@@ -106,7 +106,7 @@ struct cbor_sql_given {
     uint32_t from, to; /* forms, or a set of rules */
     const void *input;
     size_t length;
-    const void *word; /* the name of a type */
+    const void *word; /* the name of a type, or a path */
     size_t word_length;
 };
 

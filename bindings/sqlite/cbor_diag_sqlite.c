@@ -186,7 +186,8 @@ static void result_bytes(sqlite3_context *context, const void *input, size_t sta
     sqlite3_result_blob64(context, (const unsigned char *)input + start, end - start, SQLITE_TRANSIENT);
 }
 
-static void result_big_integer(sqlite3_context *context, const struct cbor_diag_value *value)
+/* An integer; past 2^63 a text of its digits. */
+static void result_integer(sqlite3_context *context, const struct cbor_diag_value *value)
 {
     char digits[32];
     if (value->argument <= INT64_MAX) {
@@ -194,7 +195,6 @@ static void result_big_integer(sqlite3_context *context, const struct cbor_diag_
         sqlite3_result_int64(context, value->kind == CBOR_DIAG_KIND_NEGATIVE ? -1 - number : number);
         return;
     }
-    /* past 2^63 a number is a text */
     if (value->kind == CBOR_DIAG_KIND_UNSIGNED) {
         snprintf(digits, sizeof digits, "%llu", (unsigned long long)value->argument);
     } else if (value->argument == UINT64_MAX) {
@@ -225,55 +225,70 @@ static void result_joined(sqlite3_context *context, const struct cbor_sql_given 
     sqlite3_free(bytes);
 }
 
-/* The value of a part, which begins and ends at these bytes. */
-static void result_value(sqlite3_context *context, const struct cbor_sql_given *given, size_t start, size_t end)
+/* The part of an item at a path. Returns 0 where there is none, and has set the result then. */
+static int find_part(sqlite3_context *context, const struct cbor_sql_given *given, struct cbor_sql_given *part)
 {
-    const unsigned char *part = (const unsigned char *)given->input + start;
-    struct cbor_sql_given one = {BYTES, CBOR_DIAG_FORM_JSON, part, end - start, NULL, 0};
-    struct cbor_diag_value value;
-    int64_t answer = cbor_diag_value(part, end - start, NULL, 0, &value);
+    size_t start, end;
+    int64_t answer = cbor_diag_part(given->input, given->length, given->word, given->word_length, &start, &end);
     if (answer < 0) {
-        result_failure(context, &one, answer);
+        if (answer != -CBOR_DIAG_ERROR_NO_PART) {
+            result_failure(context, given, answer);
+        }
+        return 0;
+    }
+    part->input = (const unsigned char *)given->input + start;
+    part->length = end - start;
+    return 1;
+}
+
+/* The value of an item at the path that is given as a word. */
+static void result_value(sqlite3_context *context, const struct cbor_sql_given *given)
+{
+    const unsigned char *bytes = given->input;
+    struct cbor_diag_value value;
+    int64_t answer = cbor_diag_value(bytes, given->length, given->word, given->word_length, &value);
+    if (answer < 0) {
+        if (answer != -CBOR_DIAG_ERROR_NO_PART) {
+            result_failure(context, given, answer);
+        }
     } else if (cbor_sql_is_null(&value)) {
         return;
     } else if (cbor_sql_is_big_number(&value)) {
-        result_text(context, cbor_sql_convert, &one, 1);
+        struct cbor_sql_given part = {BYTES, CBOR_DIAG_FORM_JSON, NULL, 0, NULL, 0};
+        if (find_part(context, given, &part)) {
+            result_text(context, cbor_sql_convert, &part, 1);
+        }
     } else if (value.indefinite && (value.kind == CBOR_DIAG_KIND_BYTES || value.kind == CBOR_DIAG_KIND_TEXT)) {
-        result_joined(context, &one);
+        struct cbor_sql_given part = {BYTES, BYTES, bytes + value.start, value.end - value.start, NULL, 0};
+        result_joined(context, &part);
     } else if (value.kind == CBOR_DIAG_KIND_UNSIGNED || value.kind == CBOR_DIAG_KIND_NEGATIVE) {
-        result_big_integer(context, &value);
+        result_integer(context, &value);
     } else if (value.kind == CBOR_DIAG_KIND_FLOAT) {
         sqlite3_result_double(context, value.number);
     } else if (value.kind == CBOR_DIAG_KIND_TEXT) {
-        sqlite3_result_text64(context, (const char *)part + value.start, value.end - value.start, SQLITE_TRANSIENT,
+        sqlite3_result_text64(context, (const char *)bytes + value.start, value.end - value.start, SQLITE_TRANSIENT,
                               SQLITE_UTF8);
     } else if (value.kind == CBOR_DIAG_KIND_SIMPLE && (value.argument == 20 || value.argument == 21)) {
         sqlite3_result_int(context, value.argument == 21);
     } else {
-        result_bytes(context, part, value.start, value.end);
+        result_bytes(context, bytes, value.start, value.end);
     }
 }
 
 /* cbor_part, and cbor_get where the user data is not null. */
 static void cbor_part(sqlite3_context *context, int count, sqlite3_value **arguments)
 {
-    struct cbor_sql_given given = {BYTES, BYTES, NULL, 0, NULL, 0};
+    struct cbor_sql_given given = {BYTES, BYTES, NULL, 0, NULL, 0}, part;
     const char *path;
-    size_t length, start, end;
     (void)count;
-    if (!given_blob(context, arguments[0], &given) || !given_text(context, arguments[1], &path, &length)) {
+    if (!given_blob(context, arguments[0], &given) || !given_text(context, arguments[1], &path, &given.word_length)) {
         return;
     }
-    int64_t answer = cbor_diag_part(given.input, given.length, path, length, &start, &end);
-    if (answer == -CBOR_DIAG_ERROR_NO_PART) {
-        return;
-    }
-    if (answer < 0) {
-        result_failure(context, &given, answer);
-    } else if (sqlite3_user_data(context)) {
-        result_value(context, &given, start, end);
-    } else {
-        result_bytes(context, given.input, start, end);
+    given.word = path;
+    if (sqlite3_user_data(context)) {
+        result_value(context, &given);
+    } else if (find_part(context, &given, &part)) {
+        result_bytes(context, part.input, 0, part.length);
     }
 }
 
@@ -496,7 +511,7 @@ static void result_key(sqlite3_context *context, struct cursor *cursor)
     int64_t answer = cbor_diag_value(key.input, key.length, NULL, 0, &value);
     if (answer == 0 && !cbor_sql_is_null(&value) && value.kind != CBOR_DIAG_KIND_ARRAY &&
         value.kind != CBOR_DIAG_KIND_MAP && value.kind != CBOR_DIAG_KIND_SIMPLE) {
-        result_value(context, &key, 0, key.length);
+        result_value(context, &key);
     } else {
         result_text(context, cbor_sql_convert, &key, 1);
     }
@@ -505,7 +520,6 @@ static void result_key(sqlite3_context *context, struct cursor *cursor)
 static int column(sqlite3_vtab_cursor *base, sqlite3_context *context, int which)
 {
     struct cursor *cursor = (struct cursor *)base;
-    struct cbor_sql_given given = {BYTES, BYTES, cursor->bytes, cursor->length, NULL, 0};
     if (which == ITEM) {
         result_bytes(context, cursor->bytes, cursor->start, cursor->end);
     } else if (which == EACH_BYTES) {
@@ -515,7 +529,8 @@ static int column(sqlite3_vtab_cursor *base, sqlite3_context *context, int which
     } else if (which == KEY) {
         result_key(context, cursor);
     } else {
-        result_value(context, &given, cursor->start, cursor->end);
+        struct cbor_sql_given item = {BYTES, BYTES, cursor->bytes + cursor->start, cursor->end - cursor->start, NULL, 0};
+        result_value(context, &item);
     }
     return SQLITE_OK;
 }
