@@ -25,6 +25,7 @@ MACHINE = x86_64
 DEBIAN = amd64
 PYTHON = python3
 CARGO = cargo
+PG_CONFIG = pg_config
 
 # Says what a command of the kit is at.
 PROGRESS = $(CURDIR)/checks/progress
@@ -38,6 +39,8 @@ PROGRAM = $(DIST)/bin/cbor_view
 ARCHIVE = $(DIST)/libcbor_diag_c.a
 STATIC = $(DIST)/lib/libcbor_diag.a
 SHARED = $(DIST)/lib/libcbor_diag.so.0
+SQLITE = $(DIST)/lib/cbor_diag_sqlite.so
+POSTGRESQL = $(DIST)/postgresql/cbor_diag.so
 HEADER = $(DIST)/include/cbor_diag.h
 PKGCONFIG = $(DIST)/lib/pkgconfig/cbor_diag.pc
 PROGRAM_FILES = $(PROGRAMS:%=$(DIST)/bin/%)
@@ -53,7 +56,7 @@ BELOW := $(filter-out %_tests cbor_diag_c $(PROGRAMS),$(shell sed -n 's/^\(cbor[
 
 .PHONY: all program library install try quick test gate planted check check-pages check-commands check-docs check-cat \
     check-editing check-allocations check-bindings check-packages tarball deb wheel vectors arm64 arm64-packages \
-    check-arm64 release compare bench clean
+    check-arm64 release compare bench clean sqlite postgresql install-postgresql
 
 all: program library $(SCRIPT_FILES) $(MANUALS) $(COMPLETIONS)
 
@@ -86,6 +89,24 @@ $(SHARED): $(STATIC) bindings/c/cbor_diag.map
 	$(CC) -shared -o $@ -Wl,--whole-archive $(STATIC) -Wl,--no-whole-archive \
 	    -Wl,--version-script=bindings/c/cbor_diag.map -Wl,-soname,$(@F) -Wl,--gc-sections -Wl,-z,defs -Wl,-z,now -Wl,-s
 	ln -f $@ $(DIST)/lib/libcbor_diag.so
+
+# The extensions for databases, which take the library in. They need the headers of SQLite and of PostgreSQL's server.
+EXTENSION = $(CC) -shared -fPIC -O2 -Wall -Ibindings/c -Wl,--exclude-libs,ALL
+sqlite: $(SQLITE)
+
+postgresql: $(POSTGRESQL)
+
+$(SQLITE): bindings/sqlite/cbor_diag_sqlite.c $(STATIC) bindings/sql/cbor_sql.h bindings/c/cbor_diag.h
+	$(EXTENSION) -o $@ $< $(STATIC)
+
+$(POSTGRESQL): bindings/postgresql/cbor_diag_pg.c $(STATIC) bindings/sql/cbor_sql.h bindings/c/cbor_diag.h
+	mkdir -p $(@D)
+	$(EXTENSION) -I"$$($(PG_CONFIG) --includedir-server)" -o $@ $< $(STATIC)
+
+install-postgresql: postgresql
+	install -D -m 755 $(POSTGRESQL) "$(DESTDIR)$$($(PG_CONFIG) --pkglibdir)/cbor_diag.so"
+	install -D -m 644 -t "$(DESTDIR)$$($(PG_CONFIG) --sharedir)/extension" bindings/postgresql/cbor_diag.control \
+	    bindings/postgresql/cbor_diag--*.sql
 
 $(HEADER): bindings/c/cbor_diag.h
 	install -D -m 644 $< $@
