@@ -158,9 +158,11 @@ pub(crate) fn edn_notes<'n>(
     alloc: Global,
     notes: &'n Notes<'_>,
 ) -> Result<Vec<Note<'n>>, AllocError> {
-    let found = notes.list(alloc)?;
-    let mut list = Vec::with_capacity(alloc, found.len())?;
-    for note in &found {
+    let mut list = Vec::with_capacity(alloc, notes.len())?;
+    for index in 0..notes.len() {
+        let Some(note) = notes.get(index) else {
+            break;
+        };
         list.push(Note {
             at: note.at,
             before: note.before,

@@ -23,6 +23,7 @@ mod authenticator;
 mod decimal;
 mod define;
 mod file;
+mod heads;
 mod known;
 mod marks;
 mod moment;

@@ -76,10 +76,11 @@ impl<'a> Found<'a> {
     }
 
     /// Whether it says nothing.
-    fn is_empty(self) -> bool {
+    #[inline(always)]
+    fn is_empty(&self) -> bool {
         match self.after {
-            After::Text("") => self.before.is_empty() && !self.encoded,
-            _ => false,
+            After::Text(text) => self.before.is_empty() && text.is_empty() && !self.encoded,
+            After::Made(..) => false,
         }
     }
 
@@ -136,6 +137,7 @@ impl<'a> Notes<'a> {
     }
 
     /// The last one, if it says something.
+    #[inline(always)]
     pub(crate) fn push(&mut self, found: Found<'a>) -> Result<(), AllocError> {
         if !found.is_empty() {
             self.found.push(found)?;
@@ -186,6 +188,14 @@ impl<'a> Notes<'a> {
             low = push_next(&mut list, low, self.note(found))?;
         }
         Ok(list)
+    }
+
+    /// The note at this index, in the order of the items.
+    pub fn get(&self, index: usize) -> Option<Note<'_>> {
+        match self.found.get(index) {
+            Some(found) => Some(self.note(found)),
+            None => None,
+        }
     }
 
     /// What is written of a note that was found.

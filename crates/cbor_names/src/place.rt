@@ -88,6 +88,12 @@ impl Names {
 }
 
 impl<'a> Place<'a> {
+    /// Whether an item without parts has no note there.
+    #[inline(always)]
+    pub(crate) fn says_nothing(&self) -> bool {
+        self.name.is_empty() && matches!(self.what, WhatRow::Any)
+    }
+
     /// That of an item in this one, if nothing is known about it.
     pub(crate) fn unknown(&self) -> Place<'a>
         requires { 0 < self.now.left }
@@ -122,22 +128,6 @@ impl<'a> Place<'a> {
             name,
             what,
             around: self.around,
-            ..self.unknown()
-        }
-    }
-
-    /// That of a key of a map.
-    pub(crate) fn key(&self, names: &'a Names, part: Option<&PartRow>) -> Place<'a>
-        requires { 0 < self.now.left }
-        ensures left { result.left + 1 ≡ self.now.left }
-        ensures behind { result.behind ≡ self.now.behind }
-    {
-        let name = match part {
-            Some(part) => names.text(part.name),
-            None => "",
-        };
-        Place {
-            name,
             ..self.unknown()
         }
     }

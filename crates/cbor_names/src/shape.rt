@@ -1,6 +1,7 @@
 //! Whether an item has the shape that its type says: a name asks for it.
 
 use crate::decimal::Scaled;
+use crate::heads::after_small;
 use crate::scalar::float_at;
 use crate::table::{Inside, Names, PartRow, Type, WhatRow};
 use cbor_bytes::head::read_head;
@@ -32,9 +33,14 @@ impl Names {
     /// How far the item at the front has the shape of this type. Of bytes that end before it does,
     /// what is there decides.
     pub(crate) fn fit(&self, found: &Type, bytes: &[u8]) -> Fit {
-        let Ok((head, rest)) = read_head(bytes) else {
-            return Fit::Other;
-        };
+        match read_head(bytes) {
+            Ok((head, rest)) => self.fit_head(found, head, rest),
+            Err(_) => Fit::Other,
+        }
+    }
+
+    /// The same of an item whose head is read already.
+    fn fit_head(&self, found: &Type, head: ItemHead, rest: &[u8]) -> Fit {
         match (self.inside_of(found), head) {
             // The type has nothing but a name.
             (Inside::Members([]), _) => Fit::Whole,
@@ -67,7 +73,8 @@ impl Names {
         match read_head(bytes) {
             Ok((ItemHead::Tag(SELF_DESCRIBED, _), rest)) => self.fit(found, rest),
             Ok((ItemHead::Tag(tag, _), _)) if self.type_of(tag).is_some() => Fit::Whole,
-            _ => self.fit(found, bytes),
+            Ok((head, rest)) => self.fit_head(found, head, rest),
+            Err(_) => Fit::Other,
         }
     }
 
@@ -173,7 +180,10 @@ fn after_head<'b>(head: ItemHead, inner: &'b [u8], bytes: &'b [u8]) -> Option<&'
                 Err(_) => None,
             }
         }
-        _ => after_front(bytes, 1),
+        _ => match after_small(bytes) {
+            Some(after) => Some(after),
+            None => after_front(bytes, 1),
+        },
     }
 }
 

@@ -6,12 +6,13 @@ ghost use Rattle.cbor_names.specs.Falling.{len_of};
 
 use crate::authenticator::parts_in_words;
 use crate::decimal::Scaled;
+use crate::heads::after_leaf;
 use crate::moment::datetime_of_float;
 use crate::note::{Found, Notes};
 use crate::place::Place;
 use crate::scalar::{Scalar, float_at, scalar_at};
 use crate::shape::{EPOCH, Fit, SELF_DESCRIBED};
-use crate::table::{Inside, Names, Type, WhatRow};
+use crate::table::{Inside, Names, PartRow, Type, WhatRow};
 use cbor_bytes::head::read_head;
 use cbor_bytes::strings::{read_chunk_length, split_at};
 use cbor_grammar::argument::Argument;
@@ -180,6 +181,11 @@ impl<'a> Pass<'a> {
         if place.left == 0 {
             return Err(Stop::NoItem);
         }
+        if place.says_nothing() {
+            if let Some(rest) = after_leaf(bytes) {
+                return Ok(rest);
+            }
+        }
         let Ok((head, rest)) = read_head(bytes) else {
             return Err(Stop::NoItem);
         };
@@ -286,12 +292,39 @@ impl<'a> Pass<'a> {
             let part = names.part_at(keys.parts, keys.chosen, rest);
             let at = rest.len() + place.behind;
             let noted = self.notes.len();
-            let key = place.key(names, part);
-            let value = self.item(&key, rest)?;
+            let value = self.key(place, part, rest)?;
             rest = self.item(&place.value(part, keys.each), value)?;
             self.notes.end(noted, at, rest.len() + place.behind);
             index += 1;
         }
+    }
+
+    /// The bytes after a key, which this part is, if it is one.
+    #[cycle(item)]
+    fn key<'b>(
+        &mut self,
+        place: &Place<'a>,
+        part: Option<&PartRow>,
+        bytes: &'b [u8],
+    ) -> Result<&'b [u8], Stop>
+        requires left { 0 < place.now.left }
+        requires total { length bytes.now + place.now.behind < 2 ^ 64 }
+        ensures shorter { IfOk result (λ rest. length rest.now < length bytes.now) }
+    {
+        let name = match part {
+            Some(part) => self.names.text(part.name),
+            None => "",
+        };
+        if let Some(rest) = after_leaf(bytes) {
+            let at = bytes.len() + place.behind;
+            self.notes.push(Found::new(at, name))?;
+            return Ok(rest);
+        }
+        let key = Place {
+            name,
+            ..place.unknown()
+        };
+        self.item(&key, bytes)
     }
 
     /// The bytes after the content of a byte string, which may hold an item.
