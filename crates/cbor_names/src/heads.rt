@@ -51,6 +51,15 @@ fn after_long(bytes: &[u8]) -> Option<&[u8]>
     }
 }
 
+/// Whether a tag is at the front.
+#[inline(always)]
+pub(crate) fn begins_tag(bytes: &[u8]) -> bool {
+    match bytes.first() {
+        Some(first) => *first & 0xe0 == 0xc0,
+        None => false,
+    }
+}
+
 /// The bytes after the item at the front, if that is a number, a simple value or a string of
 /// definite length.
 #[inline(always)]

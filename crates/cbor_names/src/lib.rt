@@ -38,7 +38,7 @@ mod walk;
 
 pub use file::{Fault, FileError, with_file};
 pub use known::known_names;
-pub use marks::Marks;
+pub use marks::FirstMark;
 pub use note::{Note, Notes};
 pub use part::{Definition, Key, Kind, Part, Shape, What};
 pub use table::{Names, Type};

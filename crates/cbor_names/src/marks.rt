@@ -1,74 +1,63 @@
-//! A quick look at bytes, before the exact one, for the tags that give notes.
+//! A quick look at items for the tags that give notes.
 
-use crate::table::{Inside, Names};
+use crate::heads::{after_head, begins_tag};
+use crate::table::Names;
 
-/// The tags below 64 of values that have a meaning, whatever the tables are: 1, 4 and 5.
+/// Bit n is set for a tag n of values that have a meaning, whatever the tables are: 1, 4 and 5.
 const VALUES: u64 = 0x32;
 
-/// The tags for which tables have notes.
+/// The first tag in items that gives notes.
 #[derive(Clone, Copy)]
-pub struct Marks {
-    /// Bit n of word m is set if 64 m + n is such a tag.
-    short: [u64; 4],
-    /// Whether a tag above 255 is one.
-    has_long: bool,
-    /// Whether an item below one may be a number or a string.
-    has_leaves: bool,
+pub struct FirstMark {
+    /// Its place, or that of the first head that was not looked at.
+    pub at: usize,
+    /// Whether there is such a tag.
+    pub is_there: bool,
 }
 
 impl Names {
-    /// The tags that give notes.
-    pub fn marks(&self) -> Marks {
-        let mut marks = Marks {
-            short: [VALUES, 0, 0, 0],
-            has_long: false,
-            has_leaves: false,
-        };
-        for found in &self.types {
-            let Some(tag) = found.tag else {
-                continue;
-            };
-            marks.add(tag);
-            if matches!(
-                self.inside_of(found),
-                Inside::Values(_) | Inside::Members([])
-            ) {
-                marks.has_leaves = true;
+    /// Looks through items, one after the other, for the first tag that gives notes. Heads behind
+    /// this many bytes are not looked at, and neither is what follows bytes that are no head.
+    ///
+    /// ```rust
+    /// use cbor_names::known_names;
+    ///
+    /// let names = known_names(alloc)?;
+    /// // [1, 18([h'', {}, h'', h''])]
+    /// let mark = names.first_mark(b"\x82\x01\xd2\x84\x40\xa0\x40\x40", 64);
+    /// assert_eq!(rt; mark.at, 2);
+    /// assert!(rt; mark.is_there);
+    /// ```
+    pub fn first_mark(&self, bytes: &[u8], most: usize) -> FirstMark {
+        let behind = bytes.len().saturating_sub(most);
+        let mut rest = bytes;
+        let mut is_there = false;
+        'heads: while rest.len() > behind {
+            if begins_tag(rest) && self.may_say(rest) && self.says(rest) {
+                is_there = true;
+                break;
+            }
+            match after_head(rest) {
+                Some(after) => rest = after,
+                None => break,
             }
         }
-        marks
-    }
-}
-
-impl Marks {
-    /// With this tag.
-    fn add(&mut self, tag: u64) {
-        let index = usize::try_from(tag / 64).unwrap_or(usize::MAX);
-        match self.short.get_mut(index) {
-            Some(word) => *word |= 1 << (tag % 64),
-            None => self.has_long = true,
+        FirstMark {
+            at: bytes.len().saturating_sub(rest.len()),
+            is_there,
         }
     }
 
-    /// Whether a tag below 256 is one.
-    fn has(&self, tag: u8) -> bool {
-        match self.short.get(usize::from(tag / 64)) {
-            Some(word) => (*word >> (tag % 64)) & 1 == 1,
-            None => false,
-        }
-    }
-
-    /// Whether one may be at the front of bytes that begin with a tag. [`Names::says`] is exact.
-    pub fn may_begin(&self, bytes: &[u8]) -> bool {
-        let [first, second, ..] = bytes else {
-            return false;
+    /// Whether the tag at the front may give notes, as its first two bytes and the byte behind it
+    /// tell quickly. [`Names::says`] is exact.
+    #[inline(never)]
+    fn may_say(&self, bytes: &[u8]) -> bool {
+        let (tag, next) = match bytes {
+            [first @ 0xc0..=0xd7, next, ..] => (*first & 31, *next),
+            [0xd8, tag, next, ..] => (*tag, *next),
+            _ => return true,
         };
-        let (tag, next) = match *first & 31 {
-            short @ 0..=23 => (short, Some(second)),
-            24 => (*second, bytes.get(2)),
-            25..=27 => return self.has_long || *second == 0,
-            _ => return false,
-        };
-        self.has(tag) && (self.has_leaves || matches!(next, Some(next) if *next >= 0x80))
+        let bit = 1 << (tag % 64);
+        self.tags & bit != 0 || VALUES & bit != 0 && next >= 0x80
     }
 }

@@ -94,3 +94,14 @@ fn of_tags(rt: HostRuntime) -> Result<(), AllocError> {
     assert!(rt; !names.says(b"\xd2\x60"));
     Ok(())
 }
+
+#[test]
+fn of_marks(rt: HostRuntime) -> Result<(), AllocError> {
+    let alloc = rt.alloc();
+    let names = known_names(alloc)?;
+    // [1, 18([h'', {}, h'', h''])]
+    let mark = names.first_mark(b"\x82\x01\xd2\x84\x40\xa0\x40\x40", 64);
+    assert_eq!(rt; mark.at, 2);
+    assert!(rt; mark.is_there);
+    Ok(())
+}
