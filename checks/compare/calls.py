@@ -17,6 +17,7 @@ CALLS = {name: call for subject in SUBJECTS for name, call in subject.CALLS.item
 # messages, whose words are the library's own.
 WITHOUT = {
     "encoded", "excerpt_of_bytes", "excerpt_of_text", "first_violation", "looks_like", "lost_words", "meanings",
-    "meanings_by", "name_before", "names", "names_at", "names_by", "not_encoded", "not_json", "partial_dump",
-    "partial_edn", "position_of", "push_colored", "push_dump", "push_elided", "push_without_widths", "with_file",
+    "meanings_by", "name_before", "names", "names_at", "names_by", "not_encoded", "not_json", "partial_edn",
+    "position_of", "push_colored", "push_dump", "push_elided", "push_partial_dump", "push_without_widths",
+    "with_file",
 }

@@ -152,11 +152,61 @@ def spelled(run, same):
          "f8 00 # unassigned, simple(0)\n81       # array(1)\n   f8 14 #   false, simple(20)\n")
     same("in a byte string", dump("43 81f814", "-e"),
          "43          # bytes(3)\n   81       #   array(1)\n      f8 14 #     false, simple(20)\n")
+    same("in a note", dump("d818 43 81f814").splitlines()[-2:],
+         ["             #     81       # array(1)", "             #        f8 14 #   false, simple(20)"])
     same("with names", dump("d2 84 40 a0 f816 40").splitlines()[-3],
          "      f8 16 #     /payload/ null, simple(22)")
     for digits in ("82f80001", "42f800", "8242f800f800", "d8184381f814", "f820f8ff", "bf6161f814ff", "9ff8009ff817ffff"):
         shown = "".join(line.partition("#")[0] for line in dump(digits).splitlines()).replace(" ", "")
         same(f"the digits of {digits}", shown, digits)
+
+
+def partial_dumps(run, same):
+    """Dumps of what is there of an item that is not whole."""
+    def dump(digits, *words):
+        return run("--partial", *words, "-t", "hex", "-f", "hex", "-x", digits)
+
+    said = "cborcat: -x:1:9: truncated: the array at 1:1 has 2 items, 1 is there\n"
+    same("f8 00", dump("82 f8 00"),
+         (b"82       # array(2)\n   f8 00 #   unassigned, simple(0)\n   # truncated\n", said, 1))
+    same("a long string", dump("83 43 616263 f8 00", "--elide=2")[0].decode(), """\
+83            # array(3)
+   43         #   bytes(3)
+      6162... #     "ab..." /3 bytes/
+   f8 00      #   unassigned, simple(0)
+   # truncated
+""")
+    same("a string that is not whole", dump("82 01 43 6162", "--elide=0")[0],
+         b"82    # array(2)\n   01 #   unsigned(1)\n   # truncated\n   436162\n")
+    same("names", dump("d2 84 43 a10126 a1 05 1c")[0].decode(), """\
+d2              # /COSE_Sign1/ tag(18)
+   84           #   array(4)
+      43        #     /protected/ bytes(3)
+         a10126 #       "\\xa1\\x01&"
+      a1        #     /unprotected/ map(1)
+         05     #       /IV/ unsigned(5)
+         # malformed: 1c: lengths 28 to 30 are reserved
+         1c
+""")
+    same("names, and items in byte strings", dump("d2 84 43 a10126 a0", "-e")[0].decode(), """\
+d2             # /COSE_Sign1/ tag(18)
+   84          #   array(4)
+      43       #     /protected/ bytes(3)
+         a1    #       map(1)
+            01 #         /alg/ unsigned(1)
+            26 #         negative(-7) /ES256/
+      a0       #     /unprotected/ map(0)
+      # truncated
+""")
+    same("by a type", dump("a2 01 26 05", "--as=COSE_Key")[0].decode(), """\
+a2    # /COSE_Key/ map(2)
+   01 #   /kty/ unsigned(1)
+   26 #   negative(-7)
+   05 #   /Base IV/ unsigned(5)
+   # truncated
+""")
+    same("no names", dump("d2 84 40", "--no-names")[0],
+         b"d2       # tag(18)\n   84    #   array(4)\n      40 #     bytes(0)\n         #       \"\"\n      # truncated\n")
 
 
 def dumps(run, same):
@@ -194,6 +244,7 @@ def check(run, in_terminal, same, examples):
     elided_dumps(run, same)
     widthless(run, same)
     spelled(run, same)
+    partial_dumps(run, same)
     dumps(run, same)
     for name in sorted(os.listdir(examples)):
         if not name.endswith((".hex", ".cbor")):

@@ -20,7 +20,6 @@ use Rattle.cbor_trace.specs.declared.part.Spot.{Spot}
 use Rattle.cbor_trace.specs.Around.{head_of, parts_before, IsPartAt, spot_of}
 use Rattle.cbor_places.specs.Partial.{PartTexts, EdnPart, AreTextsFrom, ArePartTexts, IsPartialEdn, remains, opens}
 use Rattle.cbor_places.specs.Partial.{style_at, indent_inside}
-use Rattle.cbor_places.specs.PartialDump as dumps
 
 -- ---- heads
 
@@ -99,11 +98,3 @@ edn_goes_on style b more said fits indent s text (opens p items parts next is te
     opens p items parts next is
     (parts_go_on (EdnPart style (style_at style.lines indent) p.«open») b more s p items parts fits is texts)
     (edn_goes_on style b more said fits (indent_inside p.«open» indent) (spot_of s p) next then)
-
-pub dump_goes_on : (b more said : List ℕ) → IsBytes b → (indent : ℕ) (s : Spot) (text : List ℕ)
-    → dumps.IsPartialDump b b said indent s text → dumps.IsPartialDump b (b ++ more) said indent s text
-dump_goes_on b more said fits indent s text (dumps.remains none) = dumps.remains none
-dump_goes_on b more said fits indent s text (dumps.opens p items head parts next is line texts then) =
-    dumps.opens p items head parts next is line
-    (parts_go_on (dumps.DumpPart (indent + 3)) b more s p items parts fits is texts)
-    (dump_goes_on b more said fits (indent + 3) (spot_of s p) next then)

@@ -1,9 +1,6 @@
 -- Of an item that is cut, whole parts of a container, as they are read and as they are shown.
 use Rattle.std.proofs.Common.{◌≡◌, ℕ, zero, suc, ◌+◌, ◌-◌, ◌<◌, ◌≤◌, List, [], ◌∷◌, ◌++◌, length, take, drop}
 use Rattle.std.proofs.Common.{Ok, Err, refl, sym, ap, subst, ◌∙◌, append_assoc, append-nil, arith}
-use Rattle.std.proofs.Common.{min}
-use Rattle.std.proofs.lemmas.List.{take_min, drop_min, length-drop}
-use Rattle.hex.specs.Hex.{encode_lower}
 use Rattle.cbor_grammar.specs.declared.error.Error.{Error}
 use Rattle.cbor_grammar.specs.Item.{Item}
 use Rattle.cbor_grammar.specs.Facts.{IsItem}
@@ -23,8 +20,7 @@ use Rattle.cbor_trace.specs.declared.part.Spot.{Spot}
 use Rattle.cbor_trace.specs.Around.{head_of, parts_before, AfterItems, IsPartAt, spot_of}
 use Rattle.cbor_trace.proofs.Values.{next_value, no_value, same_read, same_rest}
 use Rattle.cbor_places.specs.Partial.{PartTexts, EdnPart, AreTextsFrom, ArePartTexts, before_part, style_at}
-use Rattle.cbor_places.specs.PartialDump.{some_hex_lines}
-use Rattle.cbor_places.specs.Partial.{one_line, indent_inside, opening_of, closing_of, container_text}
+use Rattle.cbor_places.specs.Partial.{indent_inside, opening_of, closing_of, container_text}
 use Rattle.cbor_places.specs.Partial.{IsPartialEdn, opens}
 
 -- The bytes of an item that is read at some level are that item, and no other.
@@ -140,35 +136,3 @@ item_opens style b said indent inside s t p l old opened parted nexted closed is
       opens p g.0 g.1 h.0 is texts next,
       all ∙ ap (λ (x : ContainerStyle). old ++ container_text style.widths x o g.1 h.0) laid,
     )
-
--- ---- lines of bytes
-
--- one line more
-pub hex_more : (n indent m : ℕ) (rest line after out new all : List ℕ) → length rest ≤ n → 0 < length rest
-    → m ≡ min 16 (length rest) → line ≡ take m rest → after ≡ drop m rest
-    → new ≡ out ++ one_line indent (encode_lower line) → out ++ some_hex_lines n indent rest ≡ all
-    → (k : ℕ) × (length after ≤ k) × (new ++ some_hex_lines k indent after ≡ all)
-hex_more n indent m [] line after out new all le some is first then written so = absurd (omega (arith, some))
-hex_more zero indent m (b ∷ bs) line after out new all le some is first then written so =
-    absurd (omega (arith, le, some))
-hex_more (suc n) indent m (b ∷ bs) line after out new all le some is first then written so =
-    let rest : List ℕ = b ∷ bs in
-    let front : line ≡ take 16 rest = first ∙ ap (λ (k : ℕ). take k rest) is ∙ take_min 16 rest in
-    let back : after ≡ drop 16 rest = then ∙ ap (λ (k : ℕ). drop k rest) is ∙ drop_min 16 rest in
-    let few : length after ≡ length rest - 16 = ap length back ∙ length-drop 16 rest in (
-      n,
-      omega (arith, few, le),
-      ap (λ (x : List ℕ). x ++ some_hex_lines n indent after)
-          (written ∙ ap (λ (x : List ℕ). out ++ one_line indent (encode_lower x)) front)
-          ∙ ap (λ (x : List ℕ). (out ++ one_line indent (encode_lower (take 16 rest))) ++ some_hex_lines n indent x)
-          back
-          ∙ append_assoc out (one_line indent (encode_lower (take 16 rest))) (some_hex_lines n indent (drop 16 rest))
-          ∙ so,
-    )
-
--- no line is left
-pub hex_end : (n indent : ℕ) (rest out all : List ℕ) → length rest ≡ 0 → out ++ some_hex_lines n indent rest ≡ all
-    → out ≡ all
-hex_end zero indent rest out all none so = sym (append-nil out) ∙ so
-hex_end (suc n) indent [] out all none so = sym (append-nil out) ∙ so
-hex_end (suc n) indent (b ∷ bs) out all none so = absurd (omega (arith, none))

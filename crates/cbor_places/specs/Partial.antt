@@ -5,7 +5,6 @@ use Rattle.std.specs.Char.{encode_utf8}
 use Rattle.std.specs.Fmt.{decimal}
 use Rattle.std.specs.List.{flat_map}
 use Rattle.std.specs.Str.{chars}
-use Rattle.std.specs.Str.Lines.{lines}
 use Rattle.hex.specs.Hex.{encode_lower}
 use Rattle.cbor_tokens.specs.Ascii.{line_feed, space}
 use Rattle.cbor_grammar.specs.declared.layout.ContainerStyle.{ContainerStyle}
@@ -33,13 +32,6 @@ indented_character indent c = encode_utf8 c ++ (if c == line_feed then replicate
 
 abbrev pub indented : ℕ → List ℕ → List ℕ
 indented indent text = flat_map (indented_character indent) (chars text)
-
--- each line of a text with this many blanks before it
-abbrev pub one_line : ℕ → List ℕ → List ℕ
-one_line indent line = replicate indent space ++ (line ++ line_feed ∷ [])
-
-abbrev pub in_lines : ℕ → List ℕ → List ℕ
-in_lines indent text = flat_map (one_line indent) (lines text)
 
 -- ---- containers that are open
 

@@ -69,7 +69,7 @@ fn push_head(out: &mut String, bytes: &[u8], start: usize) -> Result<(), Error> 
 }
 
 /// Appends the digits of a head, and what it is, as a line of a dump.
-pub(crate) fn push_head_words(out: &mut String, digits: &[u8], head: ItemHead) -> Result<(), Error>
+fn push_head_words(out: &mut String, digits: &[u8], head: ItemHead) -> Result<(), Error>
     ensures { OnOk result ((words : List ℕ) × IsHeadWords digits.now head words
         × (string_bytes out.new ≡ string_bytes out.old ++ head_line digits.now words)) }
 {

@@ -4,8 +4,8 @@
 //! [`Around`] has what is around a byte, and says it: the path that `cborcat -p` reads, the
 //! container, and what an item that is cut lacks. [`lines_at`] says which item has a byte,
 //! [`Leaves`] goes from one item that holds no other to the next, also in byte strings that are
-//! [`Entered`], and [`partial_edn`] and
-//! [`partial_dump`] show an item that is not whole.
+//! [`Entered`], and [`partial_edn`] shows an item
+//! that is not whole.
 //!
 //! ```rust
 //! use cbor_places::{Around, ByteNumbers, Piece};
@@ -41,6 +41,6 @@ pub use at::lines_at;
 pub use entered::Entered;
 pub use fault::{Fault, fault_of};
 pub use leaves::Leaves;
-pub use partial::{partial_dump, partial_edn};
+pub use partial::partial_edn;
 pub use path::Path;
 pub use piece::{ByteNumbers, Piece, Places};

@@ -1,4 +1,4 @@
-//! What `--partial` shows of an item that is cut or has a fault.
+//! What `--partial` shows of a truncated or malformed item in EDN.
 ghost use Rattle.std.specs.Prelude.{◌≡◌, ℕ, ◌+◌, ◌-◌, ◌^◌, ◌<◌, ◌≤◌, [], ◌∷◌, ◌++◌, List};
 ghost use Rattle.std.specs.Prelude.{take, length, IfOk, IfSome, IfNone, Ok, Err};
 ghost use Rattle.std.specs.String.{string_bytes};
@@ -9,9 +9,7 @@ ghost use Rattle.cbor_grammar.specs.Reading.{read_item};
 ghost use Rattle.cbor_grammar.specs.WellFormed.{deepest, levels_left};
 ghost use Rattle.cbor_trace.specs.Around.{outermost, parts_before as parts_of};
 ghost use Rattle.cbor_places.specs.Partial.{IsPartialEdn};
-ghost use Rattle.cbor_places.specs.PartialDump.{IsPartialDump};
 
-mod dump;
 mod edn;
 mod lines;
 
@@ -19,7 +17,6 @@ use cbor_bytes::skip::after_front;
 use cbor_edn_writer::EdnStyle;
 use cbor_grammar::Error;
 use cbor_trace::{Open, Spot};
-use dump::PartialDump;
 use edn::PartialEdn;
 use std::alloc::Global;
 
@@ -45,18 +42,6 @@ pub fn partial_edn(
     let edn = PartialEdn { bytes, said, style };
     edn.push_item(&mut out, Spot::outermost(), 0)?;
     out.push('\n')?;
-    Ok(out)
-}
-
-/// What a dump shows of it, in lines.
-pub fn partial_dump(alloc: Global, bytes: &[u8], said: &str) -> Result<String, Error>
-    // The same as EDN has.
-    ensures dump { (more : List ℕ) → IfOk result (λ s.
-        IsPartialDump bytes.now (bytes.now ++ more) said.now 0 outermost (string_bytes s)) }
-{
-    let mut out = String::new(alloc);
-    let dump = PartialDump { bytes, said };
-    dump.push_item(&mut out, Spot::outermost(), 0)?;
     Ok(out)
 }
 

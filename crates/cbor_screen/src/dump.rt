@@ -7,8 +7,10 @@
 
 mod beside;
 mod cut;
+mod embedded;
 mod lines;
 mod measure;
+mod partial;
 mod walk;
 mod write;
 
@@ -16,7 +18,9 @@ use beside::Beside;
 use cbor_dump::push_bytes_to_hex_partial;
 use cbor_grammar::Error;
 use cbor_names::{Names, Note, Type, notes};
+use embedded::write_all;
 use measure::Measure;
+pub use partial::push_partial_dump;
 use walk::Walk;
 use write::Writing;
 
@@ -92,16 +96,23 @@ pub fn push_dump(out: &mut String, bytes: &[u8], style: &DumpStyle<'_>) -> Resul
     walk.item(&mut measure)?;
     let used = bytes.len().saturating_sub(walk.rest().len());
     let item = bytes.get(..used).unwrap_or(bytes);
-    let width = measure.width();
+    push_named(out, item, (style, measure.width()))?;
+    Ok(used)
+}
+
+/// Appends the lines of an item, or of the part of it that is there, whose digits are in a column
+/// of this width, with its names.
+fn push_named(out: &mut String, item: &[u8], how: (&DumpStyle<'_>, usize)) -> Result<(), Error> {
+    let alloc = *out.allocator();
+    let (style, _) = how;
     match style.names {
         Some(names) => {
             let found = notes(alloc, item, names, style.outer)?;
             let list = found.list(alloc)?;
-            push_lines(out, item, (style, width), &list)?;
+            push_lines(out, item, how, &list)
         }
-        None => push_lines(out, item, (style, width), &[])?,
+        None => push_lines(out, item, how, &[]),
     }
-    Ok(used)
 }
 
 /// Whether the two bytes of a simple value in a non-minimal encoding (`f8 00`) stand anywhere, at a
@@ -113,7 +124,7 @@ fn may_hold_long_simple(bytes: &[u8]) -> bool {
         .any(|pair| matches!(pair, [0xf8, value] if *value < 24))
 }
 
-/// Appends the lines of an item, whose digits are in a column of this width, with these notes.
+/// Appends these lines, with these notes.
 fn push_lines(
     out: &mut String,
     item: &[u8],
@@ -122,8 +133,8 @@ fn push_lines(
 ) -> Result<(), Error> {
     let (style, width) = how;
     let mut writing = Writing::new(out, width, Beside::new(notes));
-    let mut walk = Walk::new(*out.allocator(), item, style);
-    let answer = walk.item(&mut writing);
+    let walk = Walk::new(*out.allocator(), item, style);
+    let answer = write_all(*out.allocator(), &mut writing, walk);
     writing.give_back(out);
     answer
 }

@@ -24,7 +24,7 @@ mod token;
 mod widths;
 
 pub use color::{push_colored, push_in_color};
-pub use dump::{DumpStyle, push_dump};
+pub use dump::{DumpStyle, push_dump, push_partial_dump};
 pub use elide::push_elided;
 pub use kind::Kind;
 pub use token::Language;

@@ -2,7 +2,7 @@
 
 use cbor_screen::{
     DumpStyle, Kind, Language, push_colored, push_dump, push_elided, push_in_color,
-    push_without_widths,
+    push_partial_dump, push_without_widths,
 };
 use std::test::Fail;
 
@@ -68,5 +68,16 @@ fn push_dump_example(rt: HostRuntime) -> Result<(), Fail> {
     out.clear();
     push_dump(&mut out, b"\x41\x80\x01", &style)?;
     assert_eq!(rt; out.as_str(), "41    # bytes(1)\n   80 #   array(0)\n");
+    Ok(())
+}
+
+#[test]
+fn push_partial_dump_example(rt: HostRuntime) -> Result<(), Fail> {
+    let alloc = rt.alloc();
+    // An array of two, of which a simple value in a non-minimal encoding is there.
+    let mut out = String::new(alloc);
+    push_partial_dump(&mut out, b"\x82\xf8\x00", &DumpStyle::PLAIN, "truncated")?;
+    let wanted = "82       # array(2)\n   f8 00 #   unassigned, simple(0)\n   # truncated\n";
+    assert_eq!(rt; out.as_str(), wanted);
     Ok(())
 }

@@ -9,7 +9,7 @@ use cbor_bytes::{Extent, extent};
 use cbor_grammar::Error;
 use cbor_inspect::{End, Form, Show, Style, show_items};
 use cbor_places::Piece;
-use cbor_screen::{DumpStyle, push_dump};
+use cbor_screen::{DumpStyle, push_dump, push_partial_dump};
 use cborcat_arguments::Job;
 
 /// How the dumps of items, or of their parts, are written.
@@ -80,6 +80,13 @@ impl<'a> Dumps<'a> {
             out.extend_from_slice(text.as_bytes())?;
         }
         Ok(())
+    }
+
+    /// What is shown of bytes that begin with no whole item, with what is said of that item.
+    pub fn partial(&self, bytes: &[u8], said: &str) -> Result<String, Error> {
+        let mut text = String::new(self.rt.alloc());
+        push_partial_dump(&mut text, bytes, &self.style_of(bytes), said)?;
+        Ok(text)
     }
 
     /// Writes the dumps of items, one after the other.

@@ -1,19 +1,17 @@
 //! Where a byte of an item is, which begins at byte 10 of an input: `words` and `cut_words` of the
 //! end of the bytes, `fault_words`, `words PLACE` of a place in a whole item. Of items from byte 10
 //! on: `lines_at BYTE` and `leaves`, also with `embedded`, and `leaves places`. What is shown of an
-//! item that is not whole: `partial_dump`, `partial_edn`, `partial_edn COLUMNS`.
+//! item that is not whole: `partial_edn`, `partial_edn COLUMNS`.
 
 use crate::row::Row;
 use crate::texts::{lines_text, number_of, refused_text};
 use cbor_diag::{Error, Extent, extent};
 use cbor_edn::EdnStyle;
-use cbor_places::{
-    Around, ByteNumbers, Entered, Leaves, Piece, item_with, lines_at, partial_dump, partial_edn,
-};
+use cbor_places::{Around, ByteNumbers, Entered, Leaves, Piece, item_with, lines_at, partial_edn};
 use std::alloc::{AllocError, Global};
 
-/// What is said of the items of `partial_dump` and `partial_edn`.
-const SAID: &str = "fault: no item can have this head";
+/// What is said of the items of `partial_edn`.
+const SAID: &str = "malformed: no item can have this head";
 
 /// What the call of a row gives; none if it is no call of this subject.
 pub fn answer(alloc: Global, row: &Row) -> Result<Option<String>, AllocError> {
@@ -23,7 +21,6 @@ pub fn answer(alloc: Global, row: &Row) -> Result<Option<String>, AllocError> {
         "fault_words" => fault_words(alloc, row),
         "lines_at" => shown(alloc, lines_of_byte(alloc, row)),
         "leaves" => shown(alloc, leaves(alloc, row)),
-        "partial_dump" => shown(alloc, partial_dump(alloc, &row.bytes, SAID)),
         "partial_edn" => shown(alloc, partial_edn(alloc, style(row), &row.bytes, SAID)),
         _ => return Ok(None),
     };

@@ -1,13 +1,20 @@
 //! What a screen shows of EDN and of dumps: `push_colored edn` and `push_colored dump`, where an
 //! escape character is `\e` in the result; `push_elided MOST` and `push_without_widths` of EDN;
 //! `push_dump` of the items that bytes are, with the words `embedded`, `elide=MOST`, and `names` or
-//! `names=TYPE` by the tables of [`tables`].
+//! `names=TYPE` by the tables of [`tables`]; `push_partial_dump`, with the same words, of an item that
+//! is not whole.
 
 use crate::row::Row;
 use crate::texts::{lines_text, number_of, refused_text, text_of};
 use cbor_names::{Definition, Key, Names, Part, Shape, What};
-use cbor_screen::{DumpStyle, Language, push_colored, push_dump, push_elided, push_without_widths};
+use cbor_screen::{
+    DumpStyle, Language, push_colored, push_dump, push_elided, push_partial_dump,
+    push_without_widths,
+};
 use std::alloc::{AllocError, Global};
+
+/// What is said of the items of `push_partial_dump`.
+const SAID: &str = "malformed: no item can have this head";
 
 /// What the call of a row gives; none if it is no call of this subject.
 pub fn answer(alloc: Global, row: &Row) -> Result<Option<String>, AllocError> {
@@ -15,7 +22,7 @@ pub fn answer(alloc: Global, row: &Row) -> Result<Option<String>, AllocError> {
         "push_colored" => colored(alloc, row),
         "push_elided" => elided(alloc, row),
         "push_without_widths" => widthless(alloc, row),
-        "push_dump" => dumps(alloc, row),
+        "push_dump" | "push_partial_dump" => dumps(alloc, row),
         _ => return Ok(None),
     };
     Ok(Some(found?))
@@ -62,6 +69,12 @@ fn dumps(alloc: Global, row: &Row) -> Result<String, AllocError> {
         }
     }
     let mut out = String::new(alloc);
+    if row.call == "push_partial_dump" {
+        return match push_partial_dump(&mut out, &row.bytes, &style, SAID) {
+            Ok(()) => lines_text(alloc, &out),
+            Err(error) => refused_text(alloc, error),
+        };
+    }
     let mut rest = row.bytes.as_slice();
     for _ in 0..=row.bytes.len() {
         match push_dump(&mut out, rest, &style) {

@@ -1,7 +1,7 @@
-//! For an item that is cut, lines with blanks before them.
+//! For a truncated item, lines with blanks before them.
 ghost use Rattle.std.specs.Prelude.{◌≡◌, ◌++◌, OnOk};
 ghost use Rattle.std.specs.String.{string_bytes};
-ghost use Rattle.cbor_places.specs.Partial.{indented, indented_character, in_lines};
+ghost use Rattle.cbor_places.specs.Partial.{indented, indented_character};
 
 use cbor_notes::push_blanks;
 use std::alloc::AllocError;
@@ -25,19 +25,6 @@ pub(super) fn push_indented(out: &mut String, text: &str, indent: usize) -> Resu
 {
     'characters: for c in text.chars() {
         push_character(out, c, indent)?;
-    }
-    Ok(())
-}
-
-/// Appends the lines of a text, each with this many blanks before it.
-pub(super) fn push_lines(out: &mut String, text: &str, indent: usize) -> Result<(), AllocError>
-    ensures { OnOk result (string_bytes out.new ≡ string_bytes out.old
-        ++ in_lines indent text.now) }
-{
-    'lines: for line in text.lines() {
-        push_blanks(out, indent)?;
-        out.push_str(line)?;
-        out.push('\n')?;
     }
     Ok(())
 }

@@ -33,6 +33,9 @@ pub(super) struct Piece<'a> {
 
 /// What takes the lines of a dump.
 pub(super) trait Lines {
+    /// Whether notes are shown.
+    const SHOWS_NOTES: bool;
+
     /// Takes the line of a head, whose bytes these are. From it on this many bytes remain.
     fn head(
         &mut self,

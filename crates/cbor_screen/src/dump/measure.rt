@@ -35,6 +35,8 @@ impl Measure {
 }
 
 impl Lines for Measure {
+    const SHOWS_NOTES: bool = false;
+
     fn head(
         &mut self,
         depth: usize,

@@ -1,11 +1,12 @@
 //! The walk over the bytes of an item: its heads, the content of its strings, the ends of its
 //! containers, and the values of its tags, in the order of the lines of a dump.
-ghost use Rattle.std.specs.Prelude.{◌≤◌, IsTrue};
+ghost use Rattle.std.specs.Prelude.{◌≤◌, ◌+◌, IsTrue};
 ghost use Rattle.cbor_dump.specs.mirror.Dumped.{IsContext};
 ghost use Rattle.cbor_grammar.specs.WellFormed.{deepest};
 
 use crate::dump::DumpStyle;
 use crate::dump::cut::push_cut;
+use crate::dump::embedded::{Embedded, embedded_in};
 use crate::dump::lines::Lines;
 use cbor_bytes::borrowed::{next_chunk, read_borrowed};
 use cbor_bytes::head::{no_level_left, read_head};
@@ -66,11 +67,17 @@ impl<'a> Open<'a> {
     }
 }
 
-/// A walk over the bytes of an item.
+/// A walk over the bytes of an item. It ends before the first item that is not whole.
 #[derive(Drop)]
 pub(super) struct Walk<'a> {
     /// The bytes that remain.
     rest: &'a [u8],
+    /// The level of the item.
+    level: u8,
+    /// The byte string whose items are to be shown in a note, before the walk goes on.
+    note: Option<Embedded<'a>>,
+    /// The depth of the item that was read last, or that is not whole.
+    depth: usize,
     /// What is open, the outermost first.
     open: Vec<Open<'a>>,
     /// The number of values that were shared so far.
@@ -88,6 +95,30 @@ fn says_what_bytes_are(tag: Option<Tag>) -> bool {
     match tag {
         Some(Tag(number)) => matches!(number, 2 | 3 | 24 | 37 | 52 | 54 | 63..=87 | 260),
         None => false,
+    }
+}
+
+/// The content of the string of definite length whose head is at the front, and the bytes after it;
+/// `None` of any other item. The second bytes are those after the head. It fails if a string is not
+/// whole.
+fn whole_content<'a>(
+    head: ItemHead,
+    bytes: &'a [u8],
+    rest: &'a [u8],
+    level: u8,
+) -> Result<Option<(StringContent<'a>, &'a [u8])>, Error>
+    requires from { 1 ≤ level }
+    requires to { level ≤ deepest + 1 }
+{
+    match head {
+        ItemHead::String(kind, Argument::Number(count, _)) => {
+            Ok(Some(read_borrowed(kind, count, rest)?))
+        }
+        ItemHead::String(_, Argument::Indefinite) => {
+            let _ = dump_width(bytes, level)?;
+            Ok(None)
+        }
+        _ => Ok(None),
     }
 }
 
@@ -110,6 +141,9 @@ impl<'a> Walk<'a> {
     pub(super) fn new(alloc: Global, bytes: &'a [u8], style: &DumpStyle<'_>) -> Walk<'a> {
         Walk {
             rest: bytes,
+            level: 1,
+            note: None,
+            depth: 0,
             open: Vec::new(alloc),
             shared: 0,
             inside: 0,
@@ -118,16 +152,44 @@ impl<'a> Walk<'a> {
         }
     }
 
+    /// A walk over the item at the front, which is at this level in a note.
+    pub(super) fn in_note(alloc: Global, bytes: &'a [u8], level: u8) -> Walk<'a> {
+        let mut walk = Walk::new(alloc, bytes, &DumpStyle::PLAIN);
+        walk.level = level;
+        walk
+    }
+
     /// The bytes that remain.
     pub(super) fn rest(&self) -> &'a [u8] {
         self.rest
     }
 
-    /// Passes the item, and gives its lines.
+    /// The depth of the item that was read last. After an error that is the one that is not whole,
+    /// and the bytes that remain begin with it.
+    pub(super) fn depth(&self) -> usize {
+        self.depth
+    }
+
+    /// Takes the byte string whose items are to be shown in a note, if the walk waits for one.
+    pub(super) fn take_note(&mut self) -> Option<Embedded<'a>> {
+        self.note.take()
+    }
+
+    /// Has the walk wait until the items of a byte string are shown in a note.
+    pub(super) fn wait_for(&mut self, note: Embedded<'a>) {
+        self.note = Some(note);
+    }
+
+    /// Passes the item, and gives its lines, up to the next note that shows items.
     pub(super) fn item<L: Lines>(&mut self, lines: &mut L) -> Result<(), Error> {
-        self.front(lines, &DumpContext::top(1))?;
+        self.front(lines, &DumpContext::top(self.level))?;
+        self.go_on(lines)
+    }
+
+    /// Passes the rest of the item in the same way.
+    pub(super) fn go_on<L: Lines>(&mut self, lines: &mut L) -> Result<(), Error> {
         for _ in 0..u64::MAX {
-            if self.open.is_empty() {
+            if self.open.is_empty() || self.note.is_some() {
                 break;
             }
             self.next(lines)?;
@@ -163,7 +225,7 @@ impl<'a> Walk<'a> {
                 lines.end(open.inner.depth)
             }
             Holder::Array(_) | Holder::Map(_) => Ok(()),
-            Holder::Tag(tag, value) => lines.notes(&open.inner, tag, value),
+            Holder::Tag(tag, value) => self.notes(lines, &open.inner, tag, value),
             Holder::Bytes(shared) => {
                 self.shared = shared;
                 self.inside = self.inside.saturating_sub(1);
@@ -172,24 +234,41 @@ impl<'a> Walk<'a> {
         }
     }
 
+    /// Gives the notes on the value of a tag, or waits until the items in it are shown.
+    fn notes<L: Lines>(
+        &mut self,
+        lines: &mut L,
+        context: &DumpContext,
+        tag: Tag,
+        value: &'a [u8],
+    ) -> Result<(), AllocError> {
+        if L::SHOWS_NOTES {
+            self.note = embedded_in(context, tag, value);
+        }
+        match self.note {
+            Some(_) => Ok(()),
+            None => lines.notes(context, tag, value),
+        }
+    }
+
     /// Passes the head at the front, and the content of a string.
     fn front<L: Lines>(&mut self, lines: &mut L, context: &DumpContext) -> Result<(), Error> {
         let bytes = self.rest;
+        self.depth = context.depth;
         if !has_level_left(context) {
             return Err(no_level_left(bytes));
         }
         let (head, rest) = read_head(bytes)?;
+        let content = whole_content(head, bytes, rest, context.level)?;
         let taken = bytes.len().saturating_sub(rest.len());
         let digits = bytes.get(..taken).unwrap_or(b"");
         lines.head(context.depth, (head, digits), bytes.len())?;
         self.rest = rest;
+        if let Some(content) = content {
+            return Ok(self.string(lines, context, content)?);
+        }
         match head {
-            ItemHead::String(kind, Argument::Number(count, _)) => {
-                self.string(lines, context, (kind, count))
-            }
-            ItemHead::String(kind, Argument::Indefinite) => {
-                self.chunks(lines, &context.inside(), kind)
-            }
+            ItemHead::String(kind, _) => self.chunks(lines, &context.inside(), kind),
             ItemHead::Array(count) => Ok(self.begin(context.inside(), Holder::Array(count))?),
             ItemHead::Map(count) => Ok(self.begin(context.inside(), Holder::Map(count))?),
             ItemHead::Tag(number, _) => {
@@ -212,18 +291,17 @@ impl<'a> Walk<'a> {
         Ok(())
     }
 
-    /// Passes the content of a string of a kind and a length, or opens it.
+    /// Passes the content of a string, which other bytes follow, or opens it.
     fn string<L: Lines>(
         &mut self,
         lines: &mut L,
         context: &DumpContext,
-        head: (StringKind, u64),
-    ) -> Result<(), Error>
+        content: (StringContent<'a>, &'a [u8]),
+    ) -> Result<(), AllocError>
         requires context { IsContext context.now }
         requires level { context.now.level ≤ deepest }
     {
-        let (kind, count) = head;
-        let (content, after) = read_borrowed(kind, count, self.rest)?;
+        let (content, after) = content;
         let inner = DumpContext {
             encoding: None,
             ..context.inside()

@@ -9,14 +9,20 @@ use cbor_dump::context::DumpContext;
 use cbor_dump::hex_style::HexStyle;
 use cbor_dump::walk::{Walk, dump_notes};
 use cbor_dump::writer::Writer;
-use cbor_grammar::Tag;
 use cbor_grammar::head::ItemHead;
 use cbor_grammar::strings::StringContent;
+use cbor_grammar::{Error, Tag};
 use cbor_notes::{push_blanks, push_gap};
 use cbor_tokens::push_hex;
 use std::alloc::{AllocError, Global};
 use std::fmt::Write;
 use std::mem;
+
+const EMBEDDED_ITEM: &str = "encoded cbor data item";
+
+const FAILED_ITEM: &str = "failed to parse encoded cbor data item";
+
+const FAILED_REST: &str = "failed to parse remaining encoded cbor sequence";
 
 /// No line has more bytes.
 const MOST_BYTES: usize = 24;
@@ -30,6 +36,17 @@ pub(super) struct Writing<'n> {
     beside: Beside<'n>,
     /// The comment of a line with words.
     said: String,
+    /// How many notes the next lines are in.
+    inside: usize,
+}
+
+/// The columns of a dump.
+#[derive(Clone, Copy)]
+pub(super) struct Columns {
+    /// The width of the digits.
+    width: usize,
+    /// The length of what stands before each line.
+    before: usize,
 }
 
 /// The bytes of a line; none if they are too many for one.
@@ -54,12 +71,72 @@ impl<'n> Writing<'n> {
             walk,
             beside,
             said: String::new(alloc),
+            inside: 0,
         }
     }
 
     /// Gives the text back with the lines.
     pub(super) fn give_back(self, out: &mut String) {
         *out = self.walk.writer.out;
+    }
+
+    /// Begins the dump of an item in a note on a value at this depth, with its digits in a column
+    /// of this width. Returns the columns of the dump around it.
+    pub(super) fn enter(&mut self, depth: usize, width: usize) -> Result<Columns, AllocError> {
+        self.note_line(depth, EMBEDDED_ITEM)?;
+        let writer = &mut self.walk.writer;
+        let columns = Columns {
+            width: writer.width,
+            before: writer.prefix.len(),
+        };
+        let comment = at_most(depth, MOST_DEPTH)
+            .saturating_add(1)
+            .saturating_mul(2);
+        push_gap(&mut writer.prefix, columns.width, comment)?;
+        writer.width = width;
+        self.inside = self.inside.saturating_add(1);
+        Ok(columns)
+    }
+
+    /// Ends the dump of an item in a note. These are the columns of the dump around it.
+    pub(super) fn leave(&mut self, columns: Columns) {
+        self.inside = self.inside.saturating_sub(1);
+        self.walk.writer.width = columns.width;
+        for _ in 0..self.walk.writer.prefix.len() {
+            if self.walk.writer.prefix.len() <= columns.before {
+                break;
+            }
+            let _ = self.walk.writer.prefix.pop();
+        }
+    }
+
+    /// Writes the note of bytes that are no item, or of the last of a sequence that are none.
+    pub(super) fn failed(
+        &mut self,
+        depth: usize,
+        sequence: bool,
+        error: Error,
+    ) -> Result<(), AllocError> {
+        self.note_line(depth, if sequence { FAILED_REST } else { FAILED_ITEM })?;
+        self.note_line(depth.saturating_add(1), error.text())
+    }
+
+    /// Writes a line of a note.
+    fn note_line(&mut self, depth: usize, text: &str) -> Result<(), AllocError> {
+        let depth = at_most(depth, MOST_DEPTH);
+        let comment = Comment::Note(text);
+        self.walk
+            .writer
+            .line(depth, HexStyle::Content, b"", &comment)
+    }
+
+    /// The name and the meaning of the item from which on this many bytes remain. Items in notes
+    /// have none.
+    fn words(&mut self, remaining: usize) -> (&'n str, &'n str) {
+        if self.inside > 0 {
+            return ("", "");
+        }
+        self.beside.next(remaining)
     }
 
     /// Writes a line with the comment that is said.
@@ -87,6 +164,8 @@ impl<'n> Writing<'n> {
 }
 
 impl Lines for Writing<'_> {
+    const SHOWS_NOTES: bool = true;
+
     fn head(
         &mut self,
         depth: usize,
@@ -95,7 +174,7 @@ impl Lines for Writing<'_> {
     ) -> Result<(), AllocError> {
         let (head, digits) = head;
         let comment = Comment::of(head, digits);
-        let (name, meaning) = self.beside.next(remaining);
+        let (name, meaning) = self.words(remaining);
         if name.is_empty() && meaning.is_empty() {
             let depth = at_most(depth, MOST_DEPTH);
             return self

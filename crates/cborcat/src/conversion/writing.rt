@@ -1,13 +1,14 @@
 //! In the program, what a conversion writes: of items, of a byte, and of an item that is not whole.
 
 use super::Conversion;
+use crate::dumps::Dumps;
 use crate::naming::encoded_in;
 use crate::output::{Written, write};
 use crate::screen::language_of;
 use cbor_bytes::{Extent, extent};
 use cbor_grammar::Error;
 use cbor_inspect::{End, Form};
-use cbor_places::{Around, Entered, Leaves, Piece, item_with, lines_at, partial_dump, partial_edn};
+use cbor_places::{Around, Entered, Leaves, Piece, item_with, lines_at, partial_edn};
 use cbor_screen::Language;
 use cborcat_arguments::View;
 
@@ -155,17 +156,30 @@ impl Conversion<'_> {
             End::Cut => String::from_str(alloc, "truncated")?,
             _ => return Ok(Written::Whole),
         };
+        let Some(text) = self.partial_text(&said)? else {
+            return Ok(Written::Whole);
+        };
+        let language = language_of(self.job.show.style.form).unwrap_or(Language::Edn);
+        Ok(self.screen.write(self.target, text.as_bytes(), language)?)
+    }
+
+    /// What is shown of the item at the front of the bytes that are left, which is not whole; `None`
+    /// if it is nothing.
+    fn partial_text(&self, said: &str) -> Result<Option<String>, Error> {
         let style = self.job.show.style;
         let bytes = self.stream.rest();
+        if bytes.is_empty() {
+            return Ok(None);
+        }
         let text = match style.form {
-            Form::Pretty | Form::Diag if !bytes.is_empty() => {
-                partial_edn(alloc, style.edn(), bytes, &said)?
+            Form::Pretty | Form::Diag => partial_edn(self.rt.alloc(), style.edn(), bytes, said)?,
+            Form::Hex => {
+                let dumps = Dumps::new(self.rt, self.job, self.place, self.tables);
+                dumps.partial(bytes, said)?
             }
-            Form::Hex if !bytes.is_empty() => partial_dump(alloc, bytes, &said)?,
-            _ => return Ok(Written::Whole),
+            Form::Digits | Form::Bytes => return Ok(None),
         };
-        let language = language_of(style.form).unwrap_or(Language::Edn);
-        Ok(self.screen.write(self.target, text.as_bytes(), language)?)
+        Ok(Some(text))
     }
 
     /// Writes what is said of a byte of an item that is not whole.
