@@ -742,7 +742,7 @@ static inline int64_t cbor_diag_value_checked(const void *input, size_t input_le
  * Writes a line for each item in an item that holds no other, as cborcat -t paths does: the path that leads to it, two
  * blanks, its EDN, and a line feed. It is UTF-8, and has no other control characters.
  *
- * Returns the length of the whole output, of which as much is written as fits `output`, as cbor_diag_convert does. On an
+ * Returns the length of the whole output, and writes as much of it as fits `output`, as cbor_diag_convert does. On an
  * error, returns minus the number of the error for which the bytes are no item, or minus CBOR_DIAG_ERROR_MEMORY, and
  * `output` is unchanged.
  *
@@ -770,7 +770,7 @@ static inline int64_t cbor_diag_paths_checked(const void *input, size_t input_le
  * with notes, as comments, and a line feed at the end. `type` is the type of the item where no tag says it, such as
  * COSE_Key; or empty.
  *
- * Returns the length of the whole output, of which as much is written as fits `output`, as cbor_diag_convert does. On an
+ * Returns the length of the whole output, and writes as much of it as fits `output`, as cbor_diag_convert does. On an
  * error, returns minus a number of enum cbor_diag_error, and `output` is unchanged: that for which the bytes are no
  * item, CBOR_DIAG_ERROR_NO_TYPE, or CBOR_DIAG_ERROR_MEMORY.
  *
@@ -801,7 +801,7 @@ static inline int64_t cbor_diag_named_checked(const void *input, size_t input_le
  * it stands for. Unless it is hex, these are items, none or more, one after the other. A text of pairs of hex digits is
  * hex, whatever bytes they are, and no text is taken for bytes.
  *
- * Returns how many bytes it stands for, of which as many are written as fit `output`, and sets `*form` to an enum
+ * Returns how many bytes it stands for, writes as many of them as fit `output`, and sets `*form` to an enum
  * cbor_diag_input. On an error, returns minus CBOR_DIAG_ERROR_NOT_RECOGNIZED or minus CBOR_DIAG_ERROR_MEMORY, and
  * `*form` and `output` are unchanged.
  *
