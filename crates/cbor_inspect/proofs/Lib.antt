@@ -1,4 +1,4 @@
-pub mod SimpleLemmas
+pub mod Rfc8949Lemmas
 pub mod StreamLemmas
 pub mod OutputLemmas
 pub mod Lines

@@ -1,6 +1,6 @@
 pub mod Forms
 pub mod Shows
-pub mod Simple
+pub mod Rfc8949
 pub mod Raw
 pub mod Named
 -- what the crate below defines, for callers

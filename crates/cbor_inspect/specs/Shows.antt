@@ -12,7 +12,7 @@ use Rattle.cbor_inspect.specs.declared.form.Form.{Form}
 use Rattle.cbor_inspect.specs.declared.form.Form.TheVariants as form
 use Rattle.cbor_inspect.specs.declared.items.Show.{Show}
 use Rattle.cbor_inspect.specs.Forms.{IsForm}
-use Rattle.cbor_inspect.specs.Simple.{BeginsNo8949}
+use Rattle.cbor_inspect.specs.Rfc8949.{BeginsNo8949}
 
 -- what is written of a part: its bytes as they are, or their digits and a line feed, or what is written of its item
 abbrev pub IsPartForm : Form → Show → Item → List ℕ → Type 0

@@ -24,7 +24,7 @@ mod notation;
 mod part;
 mod picture;
 mod raw;
-mod simple;
+mod rfc8949;
 mod steps;
 mod stream;
 
@@ -35,6 +35,6 @@ pub use name::{NameError, name_at};
 pub use naming::Naming;
 pub use picture::{marks_of, parts_of};
 pub use raw::{RawError, raw_content};
-pub use simple::two_byte_simple;
+pub use rfc8949::two_byte_simple;
 pub use steps::steps_of;
 pub use stream::Stream;

@@ -1,8 +1,8 @@
 //! For viewers, items one after the other that come in pieces.
-ghost use Rattle.std.specs.Prelude.{◌≡◌, ◌↔◌, ◌⊎◌, ℕ, ◌<◌, ◌≤◌, ◌++◌, List, length, take, drop};
-ghost use Rattle.std.specs.Prelude.{false, IfOk, IfErr, IfSome, IfNone, OnOk, OnErr, IsTrue};
+ghost use Rattle.std.specs.Prelude.{◌≡◌, ◌↔◌, ℕ, ◌<◌, ◌≤◌, ◌++◌, List, length, take, drop};
+ghost use Rattle.std.specs.Prelude.{false, IfErr, IfSome, IfNone, OnOk, OnErr, IsTrue};
 ghost use Rattle.cbor_grammar.specs.Facts.{BeginsWithItem};
-ghost use Rattle.cbor_inspect.specs.Simple.{ItemsThen8949, IsSequence8949, Is8949, BeginsNo8949};
+ghost use Rattle.cbor_inspect.specs.Rfc8949.{ItemsThen8949, IsSequence8949, Is8949, BeginsNo8949};
 ghost use Rattle.cbor_bytes.specs.declared.skip.answer.Extent.{Extent};
 ghost use Rattle.cbor_grammar.specs.Item.{Item};
 ghost use Rattle.cbor_bytes.specs.Extent.{IsExtent};
@@ -14,9 +14,8 @@ ghost use Rattle.cbor_inspect.specs.Shows.{ChecksSo, Shows};
 
 use crate::items::{Show, show_first, show_items};
 use crate::notation::Work;
-use crate::simple::fault_8949;
+use crate::rfc8949::fault_8949;
 use cbor_bytes::{Extent, Scanner, extent};
-use cbor_grammar::Error;
 use cbor_paths::{End, bytes_from};
 use std::alloc::{AllocError, Global};
 use std::marker::Model;
@@ -201,60 +200,59 @@ impl Stream {
     }
 
     /// Goes past the next items as [`Stream::skip`] does, but only past items by RFC 8949: those
-    /// without a simple value below 32 in two bytes. Memory is taken only if a byte below 32
-    /// follows `f8` somewhere in an item.
+    /// without a simple value below 32 in two bytes. It takes no memory.
     ///
     /// ```rust
     /// use cbor_inspect::{End, Stream};
     ///
     /// let mut stream = Stream::new(Vec::from_slice(alloc, b"\x01\x81\xf8\x14")?);
-    /// assert_eq!(rt; stream.check(alloc, false), End::TwoByteSimple { at: 1 });
+    /// assert_eq!(rt; stream.check(false), End::TwoByteSimple { at: 1 });
     /// assert_eq!(rt; stream.rest(), b"\x81\xf8\x14".as_slice());
     /// ```
-    pub fn check(&mut self, alloc: Global, one: bool) -> End
+    pub fn check(&mut self, one: bool) -> End
         // Items by RFC 8949 are passed.
         ensures items { (items : List Item) × ItemsThen8949 self.old items self.new }
 
         // So of all bytes that came, those are such items that all calls passed, and these bytes
-        // are such items alone if and only if none remain at the end, unless memory ran out.
+        // are such items alone if and only if none remain at the end.
         ensures joined { (came : List ℕ) (before : List Item) → ItemsThen8949 came before self.old
             → (more : List Item) × ItemsThen8949 came (before ++ more) self.new
-            × ((one ≡ false) → (result ≡ End.Done → IsSequence8949 came)
-            × (IsSequence8949 came → (result ≡ End.Done) ⊎ (result ≡ End.Memory))) }
+            × ((one ≡ false) → (result ≡ End.Done) ↔ IsSequence8949 came) }
 
         // Why none of the bytes that are kept are.
         ensures ends { ChecksSo self.new result }
 
-        // The bytes are only such items if and only if none remain, unless memory ran out.
+        // The bytes are only such items if and only if none remain.
         ensures clean { (one ≡ false) → result ≡ End.Done → IsSequence8949 self.old }
-        ensures refused { (one ≡ false) → IsSequence8949 self.old
-            → (result ≡ End.Done) ⊎ (result ≡ End.Memory) }
+        ensures refused { (one ≡ false) → IsSequence8949 self.old → result ≡ End.Done }
 
         // It stops without a look at what remains only after the one item that it was to pass.
         ensures full { result ≡ End.Full → IsTrue one × (length self.new < length self.old) }
 
         // One item at most is passed, if so asked.
         ensures one { IsTrue one → OneAtMost self.old self.new }
+
+        // It takes no memory, so none runs out.
+        ensures failed { ¬ (result ≡ End.Memory) }
     {
-        self.check_next(alloc, one)
+        self.check_next(one)
     }
 
     /// The same as `check`.
-    fn check_next(&mut self, alloc: Global, one: bool) -> End
+    fn check_next(&mut self, one: bool) -> End
         ensures items { (items : List Item) × ItemsThen8949 self.old items self.new }
         ensures ends { ChecksSo self.new result }
         ensures clean { (one ≡ false) → result ≡ End.Done → IsSequence8949 self.old }
-        ensures refused { (one ≡ false) → IsSequence8949 self.old
-            → (result ≡ End.Done) ⊎ (result ≡ End.Memory) }
+        ensures refused { (one ≡ false) → IsSequence8949 self.old → result ≡ End.Done }
         ensures full { result ≡ End.Full → IsTrue one × (length self.new < length self.old) }
         ensures one { IsTrue one → OneAtMost self.old self.new }
+        ensures failed { ¬ (result ≡ End.Memory) }
     {
         'items: while !self.rest().is_empty() {
             match self.scan() {
-                Extent::Item(len) => match self.fault_within(alloc, len) {
-                    Ok(None) => self.pass(len),
-                    Ok(Some(at)) => return End::TwoByteSimple { at },
-                    Err(_) => return End::Memory,
+                Extent::Item(len) => match self.fault_within(len) {
+                    None => self.pass(len),
+                    Some(at) => return End::TwoByteSimple { at },
                 },
                 Extent::Cut => return End::Cut,
                 Extent::Fault { error, end } => return End::Fault { error, end },
@@ -268,12 +266,12 @@ impl Stream {
 
     /// The place in the item of this length that the bytes begin with where RFC 8949 forbids it, if
     /// it does.
-    fn fault_within(&self, alloc: Global, len: usize) -> Result<Option<usize>, Error>
+    fn fault_within(&self, len: usize) -> Option<usize>
         requires { (i : Item) × BeginsWithItem self.now i len }
-        ensures none { IfOk result (λ found. IfNone found (Is8949 (take len self.now))) }
-        ensures some { IfOk result (λ found. IfSome found (λ at. BeginsNo8949 self.now at)) }
+        ensures none { IfNone result (Is8949 (take len self.now)) }
+        ensures some { IfSome result (λ at. BeginsNo8949 self.now at) }
     {
-        fault_8949(alloc, &self.rest()[..len])
+        fault_8949(&self.rest()[..len])
     }
 
     /// Returns the last of the bytes that were passed, at most `count`, and none that were passed

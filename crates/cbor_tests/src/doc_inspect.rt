@@ -33,7 +33,7 @@ fn items_come_in_pieces(rt: HostRuntime) -> Result<(), Fail> {
 fn items_are_checked(rt: HostRuntime) -> Result<(), Fail> {
     let alloc = rt.alloc();
     let mut stream = Stream::new(Vec::from_slice(alloc, b"\x01\x81\xf8\x14")?);
-    assert_eq!(rt; stream.check(alloc, false), End::TwoByteSimple { at: 1 });
+    assert_eq!(rt; stream.check(false), End::TwoByteSimple { at: 1 });
     assert_eq!(rt; stream.rest(), b"\x81\xf8\x14".as_slice());
     assert_eq!(rt; two_byte_simple(b"\x82\xf8\xff\xf8\x14"), Some(3));
     Ok(())

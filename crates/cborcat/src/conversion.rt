@@ -273,7 +273,7 @@ impl<'a> Conversion<'a> {
     fn show_next(&mut self, one: bool) -> End {
         let before = self.stream.rest().len();
         let end = match self.job.view {
-            View::Items if self.job.check => self.stream.check(self.rt.alloc(), one),
+            View::Items if self.job.check => self.stream.check(one),
             View::Items if self.job.encode.is_some() => self.show_encoded(),
             View::Items if self.job.show.style.form == Form::Hex => self.show_dumps(),
             View::Items => self.show_some(),

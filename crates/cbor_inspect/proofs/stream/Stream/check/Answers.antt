@@ -1,4 +1,4 @@
-use Rattle.cbor_inspect.proofs.SimpleLemmas.{items_then_8949, rest_of_items_8949, sequence_with_8949}
+use Rattle.cbor_inspect.proofs.Rfc8949Lemmas.{items_then_8949, rest_of_items_8949, sequence_with_8949}
 use Rattle.cbor_inspect.proofs.stream.Stream.check.Goals as goal
 
 pub returns-clause-joined : goal.returns-clause-joined

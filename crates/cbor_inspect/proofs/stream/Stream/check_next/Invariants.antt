@@ -1,6 +1,6 @@
 use Rattle.std.proofs.Common.{◌≡◌, List, length, IsTrue}
 use Rattle.cbor_grammar.specs.Item.{Item}
-use Rattle.cbor_inspect.specs.Simple.{ItemsThen8949, IsSequence8949}
+use Rattle.cbor_inspect.specs.Rfc8949.{ItemsThen8949, IsSequence8949}
 use Rattle.cbor_inspect.proofs.stream.Stream.check_next.Given as goal
 
 -- items by RFC 8949 were passed; if all bytes are such items, so are those that follow

@@ -2,8 +2,8 @@ use Rattle.std.proofs.Common.{◌≡◌, ◌++◌, subst, sym, rules, is_ok}
 use Rattle.cbor_inspect.specs.Shows.{Shows}
 use Rattle.cbor_paths.specs.Sequence.{IsShownOfFirst, ItemsThen}
 use Rattle.cbor_paths.proofs.Sequences.{shown_later, came_later}
-use Rattle.cbor_inspect.specs.Simple.{ItemsThen8949}
-use Rattle.cbor_inspect.proofs.SimpleLemmas.{came_later_8949, checked_if_came}
+use Rattle.cbor_inspect.specs.Rfc8949.{ItemsThen8949}
+use Rattle.cbor_inspect.proofs.Rfc8949Lemmas.{came_later_8949, checked_if_came}
 use Rattle.cbor_inspect.proofs.StreamLemmas.{still_scanned, shown_if_came, passed_if_came}
 use Rattle.cbor_inspect.proofs.stream.Stream.push.Goals as goal
 

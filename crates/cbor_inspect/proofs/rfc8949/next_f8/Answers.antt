@@ -1,9 +1,9 @@
 -- No byte before the place that is found is 0xf8, or none is.
 use Rattle.std.proofs.Common.{drop, sym, subst, ◌∙◌, ap}
 use Rattle.std.proofs.lemmas.List.{drop-drop}
-use Rattle.cbor_inspect.specs.Simple.{NoPair}
-use Rattle.cbor_inspect.proofs.SimpleLemmas.{no_f8, before_f8}
-use Rattle.cbor_inspect.proofs.simple.next_f8.Goals as goal
+use Rattle.cbor_inspect.specs.Rfc8949.{NoPair}
+use Rattle.cbor_inspect.proofs.Rfc8949Lemmas.{no_f8, before_f8}
+use Rattle.cbor_inspect.proofs.rfc8949.next_f8.Goals as goal
 
 pub returns-in-Some-clause-none : goal.returns-in-Some-clause-none
 returns-in-Some-clause-none c = λ later.

@@ -1,6 +1,6 @@
 use Rattle.std.proofs.Common.{◌-◌, drop}
-use Rattle.cbor_inspect.specs.Simple.{NoPair}
-use Rattle.cbor_inspect.proofs.simple.first_pair.Given as goal
+use Rattle.cbor_inspect.specs.Rfc8949.{NoPair}
+use Rattle.cbor_inspect.proofs.rfc8949.first_pair.Given as goal
 
 -- if none is in the bytes that are left, none is in all of them
 abbrev pub invariant-bytes : goal.invariant-bytes

@@ -1,6 +1,6 @@
 -- For viewers, bytes in which no byte below 32 follows 0xf8, and items by RFC 8949.
 use Rattle.std.proofs.Common.{◌≡◌, ℕ, zero, suc, ◌+◌, ◌<◌, ◌≤◌, List, [], ◌∷◌, ◌++◌, length, take, drop}
-use Rattle.std.proofs.Common.{Option, Some, None, inl, inr, refl, sym, ap, subst, ◌∙◌, arith}
+use Rattle.std.proofs.Common.{Option, Some, None, inl, inr, refl, sym, ap, append-nil, subst, ◌∙◌, arith}
 use Rattle.std.proofs.Common.{length-append, take-append-drop, append_assoc, Result, Ok, Err, OnOk, get_or, true}
 use Rattle.std.proofs.lemmas.Bool.{eq-eqb}
 use Rattle.memchr.specs.Find.{IsFirstByte, is_byte}
@@ -14,12 +14,21 @@ use Rattle.cbor_grammar.specs.Bytes.{any, MembersThen, Spells, SpellsItems, Spel
 use Rattle.cbor_grammar.specs.mirror.StrictHeads.{LongSimple, NoLongSimple}
 use Rattle.cbor_bytes.proofs.bytes.NoLongSimple.{plainly_spelled}
 use Rattle.cbor_grammar.specs.Facts.{IsItem, BeginsWithItem}
-use Rattle.cbor_inspect.specs.Simple.{NoneReserved, NoneReservedItems, NoneReservedPairs, NoPair}
+use Rattle.std.specs.List.{AllByRecursion}
+use Rattle.cbor_grammar.specs.Item.{Chunk}
+use Rattle.cbor_grammar.specs.Written.{encoded}
+use Rattle.cbor_grammar.specs.declared.strings.StringKind.{StringKind}
+use Rattle.cbor_grammar.specs.declared.strings.StringKind.TheVariants.{Bytes, Text}
+use Rattle.cbor_rules.specs.declared.rules.KeyOrder.TheVariants.{Any}
+use Rattle.cbor_rules.specs.Keeps.{Keeps, KeepsItems, KeepsPairs, KeepsNumber, KeepsCount, KeepsChunk, KeysAfter}
+use Rattle.cbor_rules.specs.Keeps.{KeysInOrder, KeepsRules}
+use Rattle.cbor_rules.specs.Sets.{rfc_8949}
+use Rattle.cbor_inspect.specs.Rfc8949.{NoPair}
 use Rattle.cbor_bytes.specs.declared.skip.answer.Extent.{Extent}
 use Rattle.cbor_bytes.specs.declared.skip.answer.Extent.TheVariants as extent
 use Rattle.cbor_bytes.specs.Extent.{IsExtent}
-use Rattle.cbor_inspect.specs.Simple.{Is8949, ItemsThen8949, IsSequence8949}
-use Rattle.cbor_inspect.specs.Simple.{BeginsNo8949}
+use Rattle.cbor_inspect.specs.Rfc8949.{Is8949, ItemsThen8949, IsSequence8949}
+use Rattle.cbor_inspect.specs.Rfc8949.{BeginsNo8949}
 use Rattle.cbor_paths.proofs.Fronts.{front_length, take_front, drop_front, same_rest}
 
 -- ---- parts of bytes
@@ -72,48 +81,86 @@ members_of major n None b Members (rest, is, members) none = record {
   none = behind (opening major ∷ []) rest (subst NoPair is none);
 }
 
+-- no rule on widths, on order or on texts is one of these
+number_kept : (n : ℕ) (w : IntegerWidth) → KeepsNumber rfc_8949 n w
+number_kept n w = λ on. absurd cc
+
+count_kept : (n : ℕ) (w : Option IntegerWidth) → KeepsCount rfc_8949 n w
+count_kept n (Some w) = number_kept n w
+count_kept n None = λ on. absurd cc
+
+chunk_kept : (kind : StringKind) (c : Chunk) → KeepsChunk rfc_8949 kind c
+chunk_kept Bytes c = (number_kept (length c.bytes) c.width, tt)
+chunk_kept Text c = (number_kept (length c.bytes) c.width, λ on. absurd cc)
+
+chunks_kept : (kind : StringKind) (cs : List Chunk) → AllByRecursion (KeepsChunk rfc_8949 kind) cs
+chunks_kept kind [] = tt
+chunks_kept kind (c ∷ cs) = (chunk_kept kind c, chunks_kept kind cs)
+
+after_kept : (last : List ℕ) (ps : Pairs) → KeysAfter Any last ps
+after_kept last no_pairs = tt
+after_kept last (pair k v ps) = (refl, after_kept (encoded k) ps)
+
+order_kept : (ps : Pairs) → KeysInOrder Any ps
+order_kept no_pairs = tt
+order_kept (pair k v ps) = after_kept (encoded k) ps
+
 mutual
-  item_plain : (level : ℕ) (b : List ℕ) (i : Item) → Spells any level b i → NoPair b → NoneReserved i
-  item_plain level b (atom (integer n w)) h none = tt
-  item_plain level b (atom (negative n w)) h none = tt
-  item_plain level b (atom (string kind c)) h none = tt
-  item_plain level b (atom (chunked_string kind cs)) h none = tt
-  item_plain level b (atom (float bits w)) h none = tt
-  item_plain level b (atom (simple n)) (le, inl h) none = inl h.0
-  item_plain level b (atom (simple n)) (le, inr h) none =
+  item_kept : (level : ℕ) (b : List ℕ) (i : Item) → Spells any level b i → NoPair b → Keeps rfc_8949 level i
+  item_kept level b (atom (integer n w)) h none = number_kept n w
+  item_kept level b (atom (negative n w)) h none = number_kept n w
+  item_kept level b (atom (string kind c)) h none = chunk_kept kind c
+  item_kept level b (atom (chunked_string kind cs)) h none = ((λ on. absurd cc), chunks_kept kind cs)
+  item_kept level b (atom (float bits w)) h none = ((λ on. absurd cc), (λ on. absurd cc))
+  item_kept level b (atom (simple n)) (le, inl h) none = (inl h.0, inl refl)
+  item_kept level b (atom (simple n)) (le, inr h) none =
       let two = subst NoPair h.1 none in
-      inr (two.0 refl)
-  item_plain level b (array is w) h none =
+      (inr (two.0 refl), inl refl)
+  item_kept level b (array is w) h none =
       let m = members_of 4 (item_count is) w b _ h.1 none in
-      items_plain (level + 1) m.rest is m.end m.are m.none
-  item_plain level b (spec.map ps w) h none =
-      let m = members_of 5 (pair_count ps) w b _ h.1 none in
-      pairs_plain (level + 1) m.rest ps m.end m.are m.none
-  item_plain level b (tagged t w i) (le, (fits, rest, is, below)) none =
-      item_plain (level + 1) rest i below (behind (head 6 t w) rest (subst NoPair is none))
+      (h.0, count_kept (item_count is) w, items_kept (level + 1) m.rest is m.end m.are m.none)
+  item_kept level b (spec.map ps w) h none =
+      let m = members_of 5 (pair_count ps) w b _ h.1 none in (
+        h.0,
+        count_kept (pair_count ps) w,
+        pairs_kept (level + 1) m.rest ps m.end m.are m.none,
+        order_kept ps,
+        (λ on. absurd cc),
+      )
+  item_kept level b (tagged t w i) (le, (fits, rest, is, below)) none = (
+    refl,
+    number_kept t w,
+    (λ on. absurd cc),
+    item_kept (level + 1) rest i below (behind (head 6 t w) rest (subst NoPair is none)),
+  )
 
-  items_plain : (level : ℕ) (b : List ℕ) (is : Items) (end : List ℕ) → SpellsItems any level b is end → NoPair b
-      → NoneReservedItems is
-  items_plain level b no_items end h none = tt
-  items_plain level b (item i is) end h none =
+  items_kept : (level : ℕ) (b : List ℕ) (is : Items) (end : List ℕ) → SpellsItems any level b is end → NoPair b
+      → KeepsItems rfc_8949 level is
+  items_kept level b no_items end h none = tt
+  items_kept level b (item i is) end h none =
       let whole = subst NoPair h.2 none in
-      (item_plain level h.0 i h.3 (in_front h.0 h.1 whole), items_plain level h.1 is end h.4 (behind h.0 h.1 whole))
+      (item_kept level h.0 i h.3 (in_front h.0 h.1 whole), items_kept level h.1 is end h.4 (behind h.0 h.1 whole))
 
-  pairs_plain : (level : ℕ) (b : List ℕ) (ps : Pairs) (end : List ℕ) → SpellsPairs any level b ps end → NoPair b
-      → NoneReservedPairs ps
-  pairs_plain level b no_pairs end h none = tt
-  pairs_plain level b (pair k v ps) end h none =
+  pairs_kept : (level : ℕ) (b : List ℕ) (ps : Pairs) (end : List ℕ) → SpellsPairs any level b ps end → NoPair b
+      → KeepsPairs rfc_8949 level ps
+  pairs_kept level b no_pairs end h none = tt
+  pairs_kept level b (pair k v ps) end h none =
       let whole = subst NoPair h.3 none in
       let after = behind h.0 (h.1 ++ h.2) whole in (
-        item_plain level h.0 k h.4 (in_front h.0 (h.1 ++ h.2) whole),
-        item_plain level h.1 v h.5 (in_front h.1 h.2 after),
-        pairs_plain level h.2 ps end h.6 (behind h.1 h.2 after),
+        item_kept level h.0 k h.4 (in_front h.0 (h.1 ++ h.2) whole),
+        item_kept level h.1 v h.5 (in_front h.1 h.2 after),
+        pairs_kept level h.2 ps end h.6 (behind h.1 h.2 after),
       )
 
 -- an item in such bytes is one by RFC 8949
-pub plain_is_8949 : (b : List ℕ) → (i : Item) × IsItem b i → NoPair b → Is8949 b
-plain_is_8949 b h none =
-    (h.0, (h.1, plainly_spelled 1 b h.0 h.1 (no_long b none), item_plain 1 b h.0 h.1 none))
+pub plain_is_8949 : (b : List ℕ) (i : Item) → IsItem b i → NoPair b → Is8949 b
+plain_is_8949 b i is none =
+    let kept : KeepsRules rfc_8949 b = (
+      item i no_items,
+      (b, [], sym (append-nil b), plainly_spelled 1 b i is (no_long b none), refl),
+      (item_kept 1 b i is none, tt),
+    ) in
+    (i, (is, kept))
 
 -- ---- steps of the search
 
