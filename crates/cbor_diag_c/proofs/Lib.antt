@@ -5,3 +5,4 @@ pub mod FormNumbers
 pub mod Told
 pub mod NameErrors
 pub mod HeadFits
+pub mod NotRecognized

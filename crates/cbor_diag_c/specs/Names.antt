@@ -37,4 +37,6 @@ IsNoItemOrMemory input e = (e ≡ refusal.Memory) ⊎ IsNoItem input e
 -- the same by the number of the error, or no type has the name that is given
 abbrev pub IsNotShown : List ℕ → List ℕ → ℕ → Type 0
 IsNotShown input kind n =
-    ((e : Error) × (n ≡ number_of e) × IsNoItemOrMemory input e) ⊎ ((n ≡ no_type) × (kind ≢ []))
+    (n ≡ 1)
+    ⊎ ((e : Error) × (n ≡ number_of e) × IsNoItemOrMemory input e)
+    ⊎ ((n ≡ no_type) × (kind ≢ []))

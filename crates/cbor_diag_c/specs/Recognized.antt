@@ -2,6 +2,8 @@
 use Rattle.std.specs.Prelude.{◌≡◌, ◌⊎◌, ℕ, List, length}
 use Rattle.cbor_inputs.specs.declared.decode.Input.{Input}
 use Rattle.cbor_inputs.specs.declared.decode.Input.TheVariants as input
+use Rattle.cbor_inputs.specs.declared.decode.Refusal.{Refusal}
+use Rattle.cbor_inputs.specs.declared.decode.Refusal.TheVariants as refusal
 use Rattle.cbor_inputs.specs.Inputs.{Takes, NoneBefore, MayBe}
 use Rattle.cbor_diag_c.specs.Answers.{not_recognized, written}
 
@@ -11,6 +13,15 @@ input_number input.Bytes = 0
 input_number input.Hex = 1
 input_number input.Diag = 2
 input_number input.Base64 = 3
+
+-- the number of the error for which an input has no form
+abbrev pub refusal_number : Refusal → ℕ
+refusal_number refusal.Memory = 1
+refusal_number (refusal.Hex fault) = not_recognized
+refusal_number (refusal.Utf8 at) = not_recognized
+refusal_number (refusal.Diag expected at) = not_recognized
+refusal_number refusal.Base64 = not_recognized
+refusal_number (refusal.Items form shown) = not_recognized
 
 -- The first form that takes the input, by its number, and how many bytes it stands for, with the buffer after they were
 -- written.

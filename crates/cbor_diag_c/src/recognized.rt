@@ -1,7 +1,8 @@
 //! The call for C that finds the form of an input.
 ghost use Rattle.std.specs.Prelude.{◌≡◌};
-ghost use Rattle.cbor_diag_c.specs.Answers.{IfLength, IfError};
-ghost use Rattle.cbor_diag_c.specs.Recognized.{input_number, IsRecognized, IsNotRecognized};
+ghost use Rattle.cbor_diag_c.specs.Answers.{IfLength, IfError, IsMinus};
+ghost use Rattle.cbor_diag_c.specs.Recognized.{input_number, refusal_number};
+ghost use Rattle.cbor_diag_c.specs.Recognized.{IsRecognized, IsNotRecognized};
 
 use crate::answer::{refused, write};
 use cbor_grammar::Error;
@@ -20,6 +21,20 @@ fn input_number(form: Input) -> u32
         Input::Hex => 1,
         Input::Diag => 2,
         Input::Base64 => 3,
+    }
+}
+
+/// Returns minus the number of the error for which an input has no form.
+fn not_recognized(refusal: Refusal) -> i64
+    ensures { IsMinus (refusal_number refusal) result }
+{
+    match refusal {
+        Refusal::Memory => refused(Error::Memory),
+        Refusal::Hex(_)
+        | Refusal::Utf8 { .. }
+        | Refusal::Diag { .. }
+        | Refusal::Base64
+        | Refusal::Items { .. } => NOT_RECOGNIZED,
     }
 }
 
@@ -48,7 +63,6 @@ pub extern "C" fn cbor_diag_recognize(
             *form = input_number(found.form);
             write(&found.bytes, output)
         }
-        Err(Refusal::Memory) => refused(Error::Memory),
-        Err(_) => NOT_RECOGNIZED,
+        Err(refusal) => not_recognized(refusal),
     }
 }
