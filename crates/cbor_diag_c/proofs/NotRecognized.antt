@@ -1,5 +1,5 @@
 -- The error of an input that has no form says that it may be in none, if it is not memory.
-use Rattle.std.proofs.Common.{◌≡◌, ◌≢◌, ℕ, List, ℤ, pos, negsuc, inl, inr}
+use Rattle.std.proofs.Common.{◌≢◌, ℕ, List, ℤ, pos, negsuc, inl, inr}
 use Rattle.cbor_inputs.specs.declared.decode.Input.{Input}
 use Rattle.cbor_inputs.specs.declared.decode.Refusal.{Refusal}
 use Rattle.cbor_inputs.specs.declared.decode.Refusal.TheVariants as refusal
