@@ -901,7 +901,7 @@ def _joined(string: bytes) -> bytes:
 
 
 def _scalar(found: _Value, part: bytes) -> Scalar:
-    """The value, of which these are the bytes: of a string of definite length its content, and otherwise the part."""
+    """The value of a part: of a string of definite length its content, and of any other item the part itself."""
     if found.kind in (0, 1):
         return -1 - found.argument if found.kind else found.argument
     if found.kind == 8:

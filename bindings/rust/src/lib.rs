@@ -219,7 +219,7 @@ mod library {
             path_len: usize,
             value: *mut Value,
         ) -> i64;
-        /// Returns the length of the lines, of which as much is written as fits, or minus the number of an error.
+        /// Returns the length of the lines, and writes as much of them as fits; or returns minus the number of an error.
         pub fn cbor_diag_paths(
             input: *const u8,
             input_len: usize,

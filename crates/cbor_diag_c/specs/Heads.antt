@@ -1,4 +1,4 @@
--- What C is told of a head, and of a break.
+-- What C gets of a head, and of a break.
 use Rattle.std.specs.Prelude.{◌≡◌, ℕ, ◌+◌, List, length, Ok, Err, Some, None}
 use Rattle.std.specs.Prelude.{◌⊎◌}
 use Rattle.cbor_floats.specs.declared.float.EncodedFloat.{EncodedFloat}

@@ -1,4 +1,4 @@
--- What C is told of the parts of an item.
+-- What C gets of the parts of an item.
 use Rattle.std.specs.Prelude.{◌≡◌, ◌⊎◌, ℕ, ◌+◌, List, drop}
 use Rattle.cbor_grammar.specs.declared.error.Error.{Error}
 use Rattle.cbor_grammar.specs.Item.{Item}

@@ -1,4 +1,4 @@
--- What C is told of the form of an input.
+-- What C gets of the form of an input.
 use Rattle.std.specs.Prelude.{◌≡◌, ◌⊎◌, ℕ, List, length}
 use Rattle.cbor_inputs.specs.declared.decode.Input.{Input}
 use Rattle.cbor_inputs.specs.declared.decode.Input.TheVariants as input

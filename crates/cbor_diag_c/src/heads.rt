@@ -17,7 +17,7 @@ use cbor_grammar::{Error, FloatWidth};
 /// The kind of a tag.
 pub(crate) const TAG: u8 = 6;
 
-/// What C is told of a head.
+/// What C gets of a head.
 #[repr(C)]
 #[derive(Clone, Copy)]
 pub struct Head {
@@ -70,7 +70,7 @@ fn counted(kind: u8, count: Argument) -> Head
     }
 }
 
-/// What C is told of a head.
+/// What C gets of a head.
 fn told(head: ItemHead) -> Head
     requires { FitsHead head }
     ensures { IsToldOf head result }
@@ -91,7 +91,7 @@ fn told(head: ItemHead) -> Head
     }
 }
 
-/// What C is told of the head at the front, and how many bytes it takes.
+/// What C gets of the head at the front, and how many bytes it takes.
 #[tactic(auto, using(crate::proofs::HeadFits::head_fits))]
 pub(crate) fn head_in(bytes: &[u8]) -> Result<(Head, usize), Error>
     ensures head { IfOk result (λ x. IsHeadOf bytes.now x.1 x.0) }

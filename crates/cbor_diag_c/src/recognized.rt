@@ -42,7 +42,7 @@ fn not_recognized(refusal: Refusal) -> i64
 /// and the bytes that it stands for. Unless it is hex, these are items, one after the other. No text
 /// is taken for bytes.
 ///
-/// Returns how many bytes these are, of which as many are written as fit `output`, and sets `form`.
+/// Returns how many bytes these are, writes as many of them as fit `output`, and sets `form`.
 /// Otherwise returns minus the number of the error, and both are unchanged: `Memory`, or 18 for an
 /// input that has none of the forms.
 #[unsafe(no_mangle)]

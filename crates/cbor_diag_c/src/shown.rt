@@ -35,7 +35,7 @@ fn named(alloc: Global, naming: Naming<'_>, input: &[u8]) -> Result<Vec<u8>, Err
 /// come with the library, and with notes as comments. A line feed ends it. `kind` is the name of the
 /// type of the item, or empty if that is not known.
 ///
-/// Returns the length of the text, of which as much is written as fits `output`. Otherwise returns
+/// Returns the length of the text, and writes as much of it as fits `output`. Otherwise returns
 /// minus the number of the error, and nothing is written: that for which the input is no item,
 /// `Memory`, or 17 for a name of no type.
 #[unsafe(no_mangle)]
@@ -100,7 +100,7 @@ fn lines(alloc: Global, input: &[u8]) -> Result<String, Error>
 /// Writes a line for each item in an item that holds no other, as `cborcat -t paths` does: its path,
 /// two blanks, and EDN.
 ///
-/// Returns the length of the lines, of which as much is written as fits `output`. Otherwise returns
+/// Returns the length of the lines, and writes as much of them as fits `output`. Otherwise returns
 /// minus the number of the error for which the input is no item, or of `Memory`, and nothing is
 /// written.
 #[unsafe(no_mangle)]

@@ -10,7 +10,7 @@ use cbor_inspect::NameError;
 use cbor_paths::{Found, bytes_from};
 use std::alloc::Global;
 
-/// What C is told of the value of a part.
+/// What C gets of the value of a part.
 #[repr(C)]
 #[derive(Clone, Copy)]
 pub struct Value {

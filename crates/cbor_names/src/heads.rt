@@ -37,7 +37,7 @@ pub(crate) fn after_head(bytes: &[u8]) -> Option<&[u8]>
     }
 }
 
-/// The same of a string whose length is behind its first byte, in two bytes or more.
+/// The same of a string whose length stands in several bytes behind its first byte.
 #[inline(never)]
 fn after_long(bytes: &[u8]) -> Option<&[u8]>
     ensures { IfSome result (λ rest. length rest.now < length bytes.now) }

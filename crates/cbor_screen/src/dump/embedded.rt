@@ -16,7 +16,7 @@ use cbor_grammar::{Error, Tag};
 use std::alloc::Global;
 use std::mem;
 
-/// A byte string right below a tag of encoded CBOR, of which items are still to be shown.
+/// A byte string right below a tag of encoded CBOR that has items still to be shown.
 #[derive(Clone, Copy)]
 pub(super) struct Embedded<'a> {
     /// Where the string is.

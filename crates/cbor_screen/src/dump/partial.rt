@@ -24,7 +24,7 @@ const PER_LINE: usize = 16;
 /// ```rust
 /// use cbor_screen::{DumpStyle, push_partial_dump};
 ///
-/// // An array of two, of which a simple value in a non-minimal encoding is there.
+/// // An array of two. Its first item is there: a simple value in a non-minimal encoding.
 /// let mut out = String::new(alloc);
 /// push_partial_dump(&mut out, b"\x82\xf8\x00", &DumpStyle::PLAIN, "truncated")?;
 /// let wanted = "82       # array(2)\n   f8 00 #   unassigned, simple(0)\n   # truncated\n";
@@ -54,8 +54,8 @@ fn as_far_as(answer: Result<(), Error>) -> Result<(), AllocError> {
     }
 }
 
-/// Appends what is said of the bytes that remain, and the first of them. The lines begin with so
-/// many blanks.
+/// Appends the error, and the first of the bytes that remain. The lines begin with that many
+/// blanks.
 fn push_remaining(
     out: &mut String,
     rest: &[u8],
