@@ -649,11 +649,11 @@ static inline int64_t cbor_diag_head_checked(const void *input, size_t input_len
 /*
  * Finds the part of an item that a path leads to: steps joined by /, as cborcat -p reads them, but no names. A step is
  * an index, a key in EDN (a plain word is a text), @ for the item in a byte string, @ and a number for the item that
- * begins at that byte of one, or * for each member. A step goes through tags, and into a byte string below tag 24 or 63.
- * The empty path is the item itself.
+ * begins at that byte of one, or * for each member. A step goes through tags, and into a byte string below tag 24 or
+ * 63. The empty path is the item itself.
  *
- * Returns 0, and sets `*start` and `*end` to how many bytes of the input come before the part, with its tags, and before
- * what follows it. With a * it is the first of the parts.
+ * Returns 0, and sets `*start` and `*end` to how many bytes of the input come before the part, with its tags, and
+ * before what follows it. With a * it is the first of the parts.
  *
  * On an error, returns minus a number of enum cbor_diag_error, and sets both to CBOR_DIAG_NO_PLACE:
  *
@@ -712,11 +712,11 @@ static inline int64_t cbor_diag_parts_checked(const void *input, size_t input_le
     cbor_diag_parts_checked(input, input_len, path, path_len, parts, parts_len)
 
 /*
- * Finds the value of the part that a path leads to, below its tags: of an integer, a float and a simple value all of it,
- * and of a string of definite length where its content is.
+ * Finds the value of the part that a path leads to, below its tags: of an integer, a float and a simple value all of
+ * it, and of a string of definite length where its content is.
  *
- * Returns 0, and sets `*value`. On an error, returns minus a number of enum cbor_diag_error, as cbor_diag_part does, and
- * `*value` is unchanged.
+ * Returns 0, and sets `*value`. On an error, returns minus a number of enum cbor_diag_error, as cbor_diag_part does,
+ * and `*value` is unchanged.
  *
  *     struct cbor_diag_value value;
  *     cbor_diag_value("\xa1\x61k\x62hi", 6, "k", 1, &value);
@@ -797,9 +797,9 @@ static inline int64_t cbor_diag_named_checked(const void *input, size_t input_le
 #define cbor_diag_named cbor_diag_named_checked
 
 /*
- * Finds the form of an input, as cborcat does: hex as people paste it, EDN, base 64, or bytes; and writes the bytes that
- * it stands for. Unless it is hex, these are items, none or more, one after the other. A text of pairs of hex digits is
- * hex, whatever bytes they are, and no text is taken for bytes.
+ * Finds the form of an input, as cborcat does: hex as people paste it, EDN, base 64, or bytes; and writes the bytes
+ * that it stands for. Unless it is hex, these are items, none or more, one after the other. A text of pairs of hex
+ * digits is hex, whatever bytes they are, and no text is taken for bytes.
  *
  * Returns how many bytes it stands for, writes as many of them as fit `output`, and sets `*form` to an enum
  * cbor_diag_input. On an error, returns minus CBOR_DIAG_ERROR_NOT_RECOGNIZED or minus CBOR_DIAG_ERROR_MEMORY, and

@@ -190,8 +190,8 @@ mod library {
             output: *mut u8,
             output_len: usize,
         ) -> i64;
-        /// Returns how many bytes the head at the front takes, or minus the number of an error, and writes to `head` what
-        /// it says.
+        /// Returns how many bytes the head at the front takes, or minus the number of an error, and writes to `head`
+        /// what it says.
         pub fn cbor_diag_head(input: *const u8, input_len: usize, head: *mut Head) -> i64;
         /// Returns 0, or minus the number of an error, and writes to `start` and `end` where the part is.
         pub fn cbor_diag_part(

@@ -89,8 +89,8 @@ pub fn head(bytes: &[u8]) -> Result<(Head, usize)> {
 
 /// Returns the part of an item that a path leads to, with its tags; with a `*` the first of the parts.
 ///
-/// A path has steps joined by `/`, as `cborcat -p` reads them: an index, a key in EDN, where a plain word is a text, `@`
-/// for the item in a byte string, and `*` for each member; names are none. The empty path is the item itself.
+/// A path has steps joined by `/`, as `cborcat -p` reads them: an index, a key in EDN, where a plain word is a text,
+/// `@` for the item in a byte string, and `*` for each member; names are none. The empty path is the item itself.
 ///
 /// The error is that for which the bytes are no item, [`Error::NoPart`] or [`Error::Memory`].
 ///

@@ -28,9 +28,9 @@ impl Input {
     }
 }
 
-/// Returns the form that an input has, and the bytes that it stands for, as `cborcat` finds them: hex as people paste it,
-/// EDN, base 64, or bytes. Unless it is hex, these are items, none or more, one after the other. No text is taken for
-/// bytes.
+/// Returns the form that an input has, and the bytes that it stands for, as `cborcat` finds them: hex as people paste
+/// it, EDN, base 64, or bytes. Unless it is hex, these are items, none or more, one after the other. No text is taken
+/// for bytes.
 ///
 /// The error is [`Error::NotRecognized`] or [`Error::Memory`].
 ///

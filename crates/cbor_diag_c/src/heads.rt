@@ -109,8 +109,8 @@ pub(crate) fn head_in(bytes: &[u8]) -> Result<(Head, usize), Error>
 /// Reads the head at the front of the bytes, or a break. It allocates nothing.
 ///
 /// Returns how many bytes it takes, and sets `head`; or minus the number of the error, `CutShort`
-/// or `Head`, and `head` is unchanged. The content of a string, and the items that a head announces,
-/// are not looked at.
+/// or `Head`, and `head` is unchanged. The content of a string, and the items that a head
+/// announces, are not looked at.
 #[unsafe(no_mangle)]
 pub extern "C" fn cbor_diag_head(input: &[u8], head: &mut Head) -> i64
     ensures head { IfLength result (λ n. IsHeadOf input.now n head.new) }

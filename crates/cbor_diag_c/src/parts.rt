@@ -79,9 +79,9 @@ pub(crate) fn no_part(error: NameError) -> i64
 /// but for names. With `*` it is the first of the parts.
 ///
 /// Returns 0, and sets `start` and `end` to where in the input the part begins and ends, with its
-/// tags. Otherwise returns minus the number of the error, and both are 2^64 - 1: the error for which
-/// the input is no item; `Utf8` also for a path that is not UTF-8; `Memory`; or 16 for a path that
-/// leads to no part.
+/// tags. Otherwise returns minus the number of the error, and both are 2^64 - 1: the error for
+/// which the input is no item; `Utf8` also for a path that is not UTF-8; `Memory`; or 16 for a path
+/// that leads to no part.
 #[unsafe(no_mangle)]
 pub extern "C" fn cbor_diag_part(
     alloc: Global,
@@ -110,9 +110,9 @@ pub extern "C" fn cbor_diag_part(
 
 /// Finds all parts of an item that a path leads to, which are several with `*`.
 ///
-/// Returns how many there are, which may be 0, and writes as many of them, in order, as fit `parts`.
-/// Otherwise returns minus the number of the error of `cbor_diag_part`, but 16, and then writes
-/// nothing.
+/// Returns how many there are, which may be 0, and writes as many of them, in order, as fit
+/// `parts`. Otherwise returns minus the number of the error of `cbor_diag_part`, but 16, and then
+/// writes nothing.
 #[unsafe(no_mangle)]
 pub extern "C" fn cbor_diag_parts(
     alloc: Global,

@@ -39,8 +39,8 @@ fn not_recognized(refusal: Refusal) -> i64
 }
 
 /// Finds the form of an input, as `cborcat` does: hex as people paste it, EDN, base 64, or bytes;
-/// and the bytes that it stands for. Unless it is hex, these are items, one after the other. No text
-/// is taken for bytes.
+/// and the bytes that it stands for. Unless it is hex, these are items, one after the other. No
+/// text is taken for bytes.
 ///
 /// Returns how many bytes these are, writes as many of them as fit `output`, and sets `form`.
 /// Otherwise returns minus the number of the error, and both are unchanged: `Memory`, or 18 for an

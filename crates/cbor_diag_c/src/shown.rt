@@ -32,8 +32,8 @@ fn named(alloc: Global, naming: Naming<'_>, input: &[u8]) -> Result<Vec<u8>, Err
 }
 
 /// Writes an item in EDN over several lines, as `cborcat` shows it: with names, by the tables that
-/// come with the library, and with notes as comments. A line feed ends it. `kind` is the name of the
-/// type of the item, or empty if that is not known.
+/// come with the library, and with notes as comments. A line feed ends it. `kind` is the name of
+/// the type of the item, or empty if that is not known.
 ///
 /// Returns the length of the text, and writes as much of it as fits `output`. Otherwise returns
 /// minus the number of the error, and nothing is written: that for which the input is no item,
@@ -97,8 +97,8 @@ fn lines(alloc: Global, input: &[u8]) -> Result<String, Error>
     Ok(lines)
 }
 
-/// Writes a line for each item in an item that holds no other, as `cborcat -t paths` does: its path,
-/// two blanks, and EDN.
+/// Writes a line for each item in an item that holds no other, as `cborcat -t paths` does: its
+/// path, two blanks, and EDN.
 ///
 /// Returns the length of the lines, and writes as much of them as fits `output`. Otherwise returns
 /// minus the number of the error for which the input is no item, or of `Memory`, and nothing is
