@@ -1463,11 +1463,12 @@ static void test_parts_without_memory(void)
     }
 }
 
-/* Hostile bytes: each beginning of an item, and the item with each byte changed. None of the answers is past the bytes. */
+/* Hostile bytes: each beginning of an item, and the item with each byte changed. No answer is past the bytes. */
 static void test_hostile_parts(void)
 {
     static const struct text item = TEXT("\xa3\x61k\x82\x01\xa1\x02\x62hi\x20\xc1\x03\x61" "b\xd8\x18\x42\x81\x05");
-    static const char *const paths[] = {"", "k", "k/1/2", "*", "*/" "*", "b/0", "b/@", "b/@1", "-1", "@", "h'00'", "//"};
+    static const char *const paths[] = {"",    "k",    "k/1/2", "*", "*/" "*", "b/0",
+                                        "b/@", "b/@1", "-1",    "@", "h'00'",  "//"};
     for (size_t at = 0; at <= item.length; at++) {
         for (int byte = -1; byte < 256; byte++) {
             size_t length = byte < 0 ? at : item.length;
@@ -1498,7 +1499,8 @@ static void test_hostile_parts(void)
                     check(start < stop && stop <= length && parts[0].start == start && parts[0].end == stop &&
                               parts[0].key <= start && value.start <= value.end && value.end <= stop,
                           "byte %zu is %d, %s: a part is past the bytes", at, byte, paths[i]);
-                    check_answer("a part", (int64_t)(stop - start), cbor_diag_extent(bytes + start, length - start, &unused));
+                    check_answer("a part", (int64_t)(stop - start),
+                                 cbor_diag_extent(bytes + start, length - start, &unused));
                 }
             }
             cbor_diag_head(bytes, length, NULL);

@@ -673,20 +673,22 @@ class Parts(unittest.TestCase):
         return data, bytearray(data), memoryview(data), memoryview(bytes(2) + data)[2:], array.array("B", data)
 
     def test_part(self):
-        for path, edn in [("k", '[1, {2: "hi"}]'), ("k/1/2", '"hi"'), ("-1", "1(3)"), ("b", "24(<<[5]>>)"), ("b/0", "5"),
-                          ("k/*/2", '"hi"'), ('"a b"', "1.5"), ("", cbor_diag.bytes_to_edn(self.ITEM))]:
+        for path, edn in [("k", '[1, {2: "hi"}]'), ("k/1/2", '"hi"'), ("-1", "1(3)"), ("b", "24(<<[5]>>)"),
+                          ("b/0", "5"), ("k/*/2", '"hi"'), ('"a b"', "1.5"), ("", cbor_diag.bytes_to_edn(self.ITEM))]:
             for data in self.each(self.ITEM):
                 self.assertEqual(cbor_diag.part(data, path), cbor_diag.edn_to_bytes(edn))
 
     def test_parts(self):
-        for path, found in [("k/*", ["1", '{2: "hi"}']), ("e/*", []), ("x", []), ("*/0", ["1", "5"]), ("k", ['[1, {2: "hi"}]'])]:
+        for path, found in [("k/*", ["1", '{2: "hi"}']), ("e/*", []), ("x", []), ("*/0", ["1", "5"]),
+                            ("k", ['[1, {2: "hi"}]'])]:
             for data in self.each(self.ITEM):
                 self.assertEqual([cbor_diag.bytes_to_edn(one) for one in cbor_diag.parts(data, path)], found)
         many = cbor_diag.edn_to_bytes("[" + "1," * 1000 + "2]")
         self.assertEqual(cbor_diag.parts(many, "*"), [b"\x01"] * 1000 + [b"\x02"])
 
     def test_values(self):
-        for edn, found in [("0", 0), ("-1", -1), ("18446744073709551615", 2**64 - 1), ("-18446744073709551616", -(2**64)),
+        for edn, found in [("0", 0), ("-1", -1), ("18446744073709551615", 2**64 - 1),
+                           ("-18446744073709551616", -(2**64)),
                            ("18446744073709551616", 2**64), ("-18446744073709551617", -(2**64) - 1), ("1.5", 1.5),
                            ("1e300", 1e300), ("-0.0", 0.0), ('"\u00fc\\n"', "\u00fc\n"), ("h'00ff'", b"\x00\xff"),
                            ('(_ "a", "bc")', "abc"), ("(_ h'01', h'02')", b"\x01\x02"), ("''_", b""), ("true", True),
@@ -738,8 +740,8 @@ class Parts(unittest.TestCase):
             self.assertIs(raised.exception.error, Error.NO_PART)
             self.assertEqual(str(raised.exception), TEXTS[Error.NO_PART])
         for data in (self.ITEM[:-1], b"", b"\xa1\x61k\x82\x01\x1f", b"\x01\x02"):
-            calls = (cbor_diag.bytes_to_diag, lambda data: cbor_diag.part(data, "0"), lambda data: cbor_diag.parts(data, "*"),
-                     cbor_diag.value, cbor_diag.paths, cbor_diag.named)
+            calls = (cbor_diag.bytes_to_diag, lambda data: cbor_diag.part(data, "0"),
+                     lambda data: cbor_diag.parts(data, "*"), cbor_diag.value, cbor_diag.paths, cbor_diag.named)
             told = []
             for call in calls:
                 with self.assertRaises(CborDiagError) as raised:

@@ -80,8 +80,8 @@ static void result_failure(sqlite3_context *context, const struct cbor_sql_given
         sqlite3_result_error_nomem(context);
         return;
     }
-    sqlite3_result_error(context, cbor_sql_message(answer, given->from, given->to, given->input, given->length, message),
-                         -1);
+    cbor_sql_message(answer, given->from, given->to, given->input, given->length, message);
+    sqlite3_result_error(context, message, -1);
 }
 
 /* The output of a call as a text, without so many bytes at its end. */
@@ -529,7 +529,8 @@ static int column(sqlite3_vtab_cursor *base, sqlite3_context *context, int which
     } else if (which == KEY) {
         result_key(context, cursor);
     } else {
-        struct cbor_sql_given item = {BYTES, BYTES, cursor->bytes + cursor->start, cursor->end - cursor->start, NULL, 0};
+        struct cbor_sql_given item = {BYTES, BYTES, cursor->bytes + cursor->start, 0, NULL, 0};
+        item.length = cursor->end - cursor->start;
         result_value(context, &item);
     }
     return SQLITE_OK;

@@ -857,8 +857,8 @@ def part(data: Bytes, path: str) -> bytes:
     >>> part(edn_to_bytes('{"a": [1, 2]}'), "a").hex()
     '820102'
 
-    A path has steps joined by `/`, as `cborcat -p` reads them: an index, a key in EDN, where a plain word is a text, `@`
-    for the item in a byte string, and `*` for each member; names are none. The empty path is the item itself.
+    A path has steps joined by `/`, as `cborcat -p` reads them: an index, a key in EDN, where a plain word is a text,
+    `@` for the item in a byte string, and `*` for each member; names are none. The empty path is the item itself.
 
     Raises `CborDiagError` if the data is no item, with `NO_PART` if the path leads to no part of it, and if memory runs
     out.
@@ -928,9 +928,9 @@ def _value(library: _Library, given: Any, length: int, path: bytes) -> Scalar:
 
 
 def value(data: Bytes, path: str = "") -> Scalar:
-    """Returns the value of the part of an item that `path` leads to, without its tags: an `int`, also of a big number, a
-    `float`, a `str`, `bytes`, a `bool`, or `None` for null and undefined; and for an array, a map and any other simple
-    value the bytes of the part.
+    """Returns the value of the part of an item that `path` leads to, without its tags: an `int`, also of a big number,
+    a `float`, a `str`, `bytes`, a `bool`, or `None` for null and undefined; and for an array, a map and any other
+    simple value the bytes of the part.
 
     >>> value(edn_to_bytes('{"at": 1(1700000000), "a": ["x"]}'), "at")
     1700000000
@@ -1009,8 +1009,8 @@ def _recognized(library: _Library, given: Any, length: int) -> Tuple[Input, byte
 
 def recognize(data: Data) -> Tuple[Input, bytes]:
     """Returns the form that `data` has, and the bytes that it stands for, as `cborcat` finds them: hex as people paste
-    it, EDN, base 64, or bytes. Unless it is hex, these are items, none or more, one after the other. A `str` is taken as
-    its UTF-8, and no text is taken for bytes.
+    it, EDN, base 64, or bytes. Unless it is hex, these are items, none or more, one after the other. A `str` is taken
+    as its UTF-8, and no text is taken for bytes.
 
     >>> form, found = recognize("0x82 01 02  # pasted")
     >>> form.name, found.hex()
