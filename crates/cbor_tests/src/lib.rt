@@ -7,6 +7,8 @@ mod doc_bytes;
 #[cfg(test)]
 mod doc_conversions;
 #[cfg(test)]
+mod doc_edit;
+#[cfg(test)]
 mod doc_escapes;
 #[cfg(test)]
 mod doc_floats;

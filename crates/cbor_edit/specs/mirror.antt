@@ -1,0 +1,2 @@
+-- Definitions for the checker alone, which follow the code that edits.
+pub mod Heads
