@@ -24,6 +24,8 @@ enum Takes {
     Name,
     /// Any text.
     Text,
+    /// Any text, and again.
+    Texts,
     /// A number of bytes, which is also read in base 16.
     Bytes,
     /// A number of bytes; 32 if it is left out.
@@ -53,6 +55,8 @@ const OPTIONS: [Row<'static>; 27] = [
     ("limit", None, Takes::Bytes),
     ("to", Some('t'), Takes::To),
     ("path", Some('p'), Takes::Text),
+    ("set", None, Takes::Texts),
+    ("delete", None, Takes::Texts),
     ("embedded", Some('e'), Takes::Nothing),
     ("no-notes", None, Takes::Nothing),
     ("widths", None, Takes::Nothing),
@@ -137,10 +141,14 @@ fn taking(argument: Arg<'_>, takes: Takes) -> Arg<'_> {
     if takes == Takes::Nothing {
         return argument.action(ArgAction::SetTrue);
     }
+    if takes == Takes::Texts {
+        let argument = argument.action(ArgAction::Append);
+        return argument.allow_hyphen_values(true);
+    }
     let argument = argument.action(ArgAction::Set);
     match takes {
         // The word of `--to` is looked up once the arguments are known: one of them has a size.
-        Takes::Nothing | Takes::Name | Takes::Bytes | Takes::To => argument,
+        Takes::Nothing | Takes::Name | Takes::Texts | Takes::Bytes | Takes::To => argument,
         Takes::Text => argument.allow_hyphen_values(true),
         Takes::Length => or(argument, "32").value_parser(clap::value_parser!(usize)),
         Takes::Columns => argument.value_parser(clap::value_parser!(u16).range(20..=1000)),

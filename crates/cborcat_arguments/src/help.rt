@@ -33,6 +33,8 @@ Output:
   -t, --to=FORM      the form of the output: a form below that is marked o
                      (default: pretty)
   -p, --path=PATH    show only the part that PATH leads to, or each such part
+      --set=PATH=EDN put the item EDN in place of that part, or add it at PATH
+      --delete=PATH  leave that part out; both come before -p, in their order
   -e, --embedded     show byte strings that hold an array, a map or a tagged
                      item as <<..>>; in a dump, show the lines of that item
       --no-notes     no comments in notation, and no names

@@ -1,5 +1,6 @@
 //! What the arguments of `cborcat` ask for.
 
+use crate::changes::Change;
 use cbor_inputs::Input;
 use cbor_inspect::{Form, Step, Style};
 use cbor_rules::RuleSet;
@@ -87,6 +88,8 @@ pub struct Job<'a> {
     pub item: Option<usize>,
     /// The path as it was given, without the number of an item before it.
     pub path: &'a str,
+    /// The changes of the items before they are shown, in this order.
+    pub changes: Vec<Change<'a>>,
     /// Whether the part of a truncated or malformed item that is there is written.
     pub partial: bool,
     /// Whether what JSON does not keep is an error.
@@ -130,8 +133,8 @@ impl Job<'_> {
 
     /// Whether there are names: they are shown, or a path may have them.
     pub fn has_names(&self) -> bool {
-        let is_followed = !self.path.is_empty() && self.names && !self.check;
-        is_followed || self.shows_names()
+        let is_followed = !self.path.is_empty() && !self.check || !self.changes.is_empty();
+        is_followed && self.names || self.shows_names()
     }
 
     /// Whether items are shown with their names.

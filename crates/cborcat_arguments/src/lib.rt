@@ -4,10 +4,12 @@
 //! Nothing here opens a file; help, the version and what is wrong with the arguments are printed.
 #![tactic(auto)]
 
+mod changes;
 mod command;
 mod help;
 mod job;
 mod words;
 
+pub use changes::Change;
 pub use job::{Color, Job, View, Wanted};
 pub use words::{Asked, read_words};

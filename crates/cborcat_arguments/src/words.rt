@@ -1,5 +1,6 @@
 //! The arguments, read: the job that they ask for, or why they ask for none.
 
+use crate::changes::{Wrong, changes_of};
 use crate::command::{TO, command};
 use crate::job::{Color, Job, View, Wanted};
 use cbor_inputs::Input;
@@ -212,7 +213,7 @@ fn files_of<'a>(alloc: Global, matches: &ArgMatches<'a>) -> Result<Vec<&'a str>,
 const LIMIT: usize = 256 * 1024 * 1024;
 
 /// The number of the item that a path begins with, before a colon, and the path in it.
-fn item_of(path: &str) -> (Option<usize>, &str) {
+pub(crate) fn item_of(path: &str) -> (Option<usize>, &str) {
     let Some((number, rest)) = path.split_once(":") else {
         return (None, path);
     };
@@ -239,6 +240,11 @@ fn job_of<'a>(rt: &HostRuntime, matches: &ArgMatches<'a>) -> Asked<'a> {
     let (Ok(steps), Ok(files)) = (steps_of(alloc, path), files_of(alloc, matches)) else {
         return out_of_memory(rt);
     };
+    let changes = match changes_of(rt, matches) {
+        Ok(changes) => changes,
+        Err(Wrong::Memory) => return out_of_memory(rt),
+        Err(Wrong::Said) => return Asked::Ended(2),
+    };
     let check = matches.get_str("check");
     let show = Wanted {
         style: style_of(matches),
@@ -264,6 +270,7 @@ fn job_of<'a>(rt: &HostRuntime, matches: &ArgMatches<'a>) -> Asked<'a> {
         names_as_keys: matches.get_flag("names-as-keys"),
         item,
         path,
+        changes,
         places: matches.get_flag("places"),
         exact: matches.get_flag("exact"),
         partial: matches.get_flag("partial"),
