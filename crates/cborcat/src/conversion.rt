@@ -3,6 +3,7 @@ mod index;
 mod writing;
 
 use self::index::Indexed;
+use crate::changes::Changes;
 use crate::dumps::Dumps;
 use crate::each::show_each;
 use crate::encode::Encoding;
@@ -42,6 +43,8 @@ pub struct Conversion<'a> {
     pub status: Status,
     /// The bytes that came, but for those that are skipped or converted.
     stream: Stream,
+    /// What changes the items before they are looked at, if something does.
+    changes: Option<Changes<'a>>,
     /// How many bytes came.
     came: usize,
     /// How many of the bytes that come next are skipped.
@@ -116,6 +119,12 @@ impl<'a> Conversion<'a> {
         let mut first = first;
         let skipped = job.offset.min(came);
         drop_front(&mut first, skipped);
+        let (changes, first, came) = if job.changes.is_empty() {
+            (None, first, came)
+        } else {
+            let changes = Changes::new(rt, job, (place, tables), first);
+            (Some(changes), Vec::new(rt.alloc()), 0)
+        };
         Conversion {
             rt,
             job,
@@ -126,6 +135,7 @@ impl<'a> Conversion<'a> {
             tables,
             status: Status::Fine,
             stream: Stream::new(first),
+            changes,
             came,
             skip: job.offset - skipped,
             within: 0,
@@ -150,7 +160,10 @@ impl<'a> Conversion<'a> {
     /// Converts the items of all that the input has, as it arrives.
     pub fn all<R: Read>(&mut self, input: &mut R) -> Next {
         let mut block = Vec::new(self.rt.alloc());
-        let mut next = self.items(false);
+        let mut next = match self.take(b"", false) {
+            Ok(()) => self.items(false),
+            Err(_) => self.stop(End::Memory),
+        };
         for _ in 0..u64::MAX {
             if next != Next::More {
                 break;
@@ -173,11 +186,28 @@ impl<'a> Conversion<'a> {
             block.resize(block_len(self.rt, self.place.name).min(MORE), 0)?;
         }
         let count = read_into(input, block.as_mut_slice())?.min(block.len());
-        self.came = self.came.saturating_add(count);
         let skipped = self.skip.min(count);
         self.skip -= skipped;
-        self.stream.push(self.rt.alloc(), &block[skipped..count])?;
+        if self.changes.is_none() {
+            self.came = self.came.saturating_add(skipped);
+        }
+        self.take(&block[skipped..count], count == 0)?;
         Ok(count)
+    }
+
+    /// Takes the next bytes, or what becomes of them by the changes that are asked for.
+    fn take(&mut self, bytes: &[u8], at_end: bool) -> Result<(), AllocError> {
+        let alloc = self.rt.alloc();
+        let Some(changes) = &mut self.changes else {
+            self.came = self.came.saturating_add(bytes.len());
+            return self.stream.push(alloc, bytes);
+        };
+        let changed = changes.take(bytes, at_end)?;
+        let (status, some) = (changes.status, changes.count > 0);
+        self.ended(status);
+        self.any |= some && status != Status::Fine;
+        self.came = self.came.saturating_add(changed.len());
+        self.stream.push(alloc, &changed)
     }
 
     /// Where the bytes that are left begin in the data.
@@ -421,6 +451,7 @@ impl<'a> Conversion<'a> {
                 Err(_) => return self.stop(End::Memory),
             }
         }
+        self.note_few_changed();
         if let View::At(byte) = self.job.view {
             let count = self.came;
             let what = format_args!("no item has this byte; {count} bytes came");
@@ -428,6 +459,22 @@ impl<'a> Conversion<'a> {
             self.ended(Status::Bad);
         }
         Next::NextInput
+    }
+
+    /// Says which items that were to be changed alone are not there.
+    fn note_few_changed(&mut self) {
+        let Some(changes) = &self.changes else {
+            return;
+        };
+        let count = changes.count;
+        for change in &self.job.changes {
+            if let Some(item) = change.item
+                && count <= item
+            {
+                report_few(self.rt, self.place, item, count);
+                self.ended(Status::Bad);
+            }
+        }
     }
 
     /// Says that the item of that length at the front does not have the part, and goes past it.

@@ -27,6 +27,8 @@ pub struct Place<'a> {
     pub text: &'a [u8],
     /// Whether messages of it have colours.
     pub color: Color,
+    /// Whether its items are changed before they are looked at.
+    pub changed: bool,
 }
 
 /// The name of an input in a message.
@@ -79,6 +81,7 @@ impl Place<'_> {
     /// Where the digits of a byte of the data are in the text, if that is hex.
     fn digits(&self, byte: usize) -> Option<usize> {
         match self.form {
+            _ if self.changed => None,
             Input::Hex => Some(place_of_digit(self.text, byte.saturating_mul(2))),
             _ => None,
         }
@@ -98,6 +101,7 @@ impl Place<'_> {
     /// What its bytes are counted in, if that is not the input.
     fn within(&self) -> &'static str {
         match self.form {
+            _ if self.changed => " of the changed bytes",
             Input::Base64 => " of the base 64",
             Input::Diag => " of the bytes of the notation",
             _ => "",

@@ -160,6 +160,7 @@ impl Runner<'_> {
             form,
             text,
             color,
+            changed: !self.job.changes.is_empty(),
         };
         let pasted = looks_like(&bytes);
         let (next, end) = self.items(&place, bytes, input);
@@ -204,6 +205,7 @@ impl Runner<'_> {
             form: data.form,
             text,
             color,
+            changed: !self.job.changes.is_empty(),
         };
         let (next, end) = self.items(&place, data.bytes, &mut none);
         if data.may_be_notation && end != Ended::Other {

@@ -1,0 +1,178 @@
+//! In the program, items that are changed before they are looked at, as they come.
+
+use crate::messages::{Place, label};
+use crate::naming::Tables;
+use crate::status::Status;
+use cbor_edit::{Edit, EditError, edited};
+use cbor_grammar::Error;
+use cbor_inspect::{End, Picture, Stream, marks_of};
+use cbor_messages::lost_words;
+use cborcat_arguments::{Change, Job};
+use std::alloc::AllocError;
+
+/// What changes items.
+#[derive(Drop)]
+pub struct Changes<'a> {
+    rt: &'a HostRuntime,
+    job: &'a Job<'a>,
+    place: &'a Place<'a>,
+    /// The names that the paths may have.
+    tables: Option<Tables<'a>>,
+    /// The bytes that came, but for those of the items that were changed.
+    stream: Stream,
+    /// How many items came.
+    pub count: usize,
+    /// How it went so far.
+    pub status: Status,
+    /// Whether no more items are changed, because no item follows.
+    ended: bool,
+}
+
+impl<'a> Changes<'a> {
+    /// What changes the items of an input that begins with these bytes.
+    pub fn new(
+        rt: &'a HostRuntime,
+        job: &'a Job<'a>,
+        asked: (&'a Place<'a>, Option<Tables<'a>>),
+        first: Vec<u8>,
+    ) -> Changes<'a> {
+        let (place, tables) = asked;
+        Changes {
+            rt,
+            job,
+            place,
+            tables,
+            stream: Stream::new(first),
+            count: 0,
+            status: Status::Fine,
+            ended: false,
+        }
+    }
+
+    /// Takes the next bytes, and returns the changed ones of the items that are whole, and at the
+    /// end of the input those that are left. After bytes that are no item, or one that is longer
+    /// than is allowed, all bytes are the same.
+    pub fn take(&mut self, bytes: &[u8], at_end: bool) -> Result<Vec<u8>, AllocError> {
+        let alloc = self.rt.alloc();
+        let mut out = Vec::new(alloc);
+        if self.ended {
+            out.extend_from_slice(bytes)?;
+            return Ok(out);
+        }
+        self.stream.push(alloc, bytes)?;
+        for _ in 0..u64::MAX {
+            let before = self.stream.rest().len();
+            let end = self.stream.skip(true);
+            if end != End::Full {
+                let is_cut = matches!(end, End::Done | End::Cut);
+                let is_long = self.stream.rest().len() > self.job.limit;
+                self.ended = !is_cut || is_long || at_end;
+                break;
+            }
+            let len = before.saturating_sub(self.stream.rest().len());
+            let index = self.count;
+            self.count = index.saturating_add(1);
+            match self.changed(index, self.stream.passed(len))? {
+                Ok(item) => out.extend_from_slice(&item)?,
+                Err(status) => self.status = self.status.or(status),
+            }
+        }
+        if self.ended {
+            out.extend_from_slice(self.stream.rest())?;
+        }
+        Ok(out)
+    }
+
+    /// An item with the changes, which is none if it was deleted, or why there is none: a message
+    /// said it.
+    fn changed(&self, index: usize, item: &[u8]) -> Result<Result<Vec<u8>, Status>, AllocError> {
+        let mut bytes = Vec::from_slice(self.rt.alloc(), item)?;
+        for change in &self.job.changes {
+            if change.item.is_some() && change.item != Some(index) || bytes.is_empty() {
+                continue;
+            }
+            match self.with(change, &bytes) {
+                Ok(next) => bytes = next,
+                Err(EditError::Memory) => return Err(AllocError),
+                Err(error) => return Ok(Err(self.refuse(change, &bytes, error))),
+            }
+        }
+        Ok(Ok(bytes))
+    }
+
+    /// An item with a change.
+    fn with(&self, change: &Change, item: &[u8]) -> Result<Vec<u8>, EditError> {
+        let alloc = self.rt.alloc();
+        let part = change.part.as_deref();
+        if change.steps.is_empty() {
+            return Ok(Vec::from_slice(alloc, part.unwrap_or(b""))?);
+        }
+        let steps = change.steps.as_slice();
+        let edit = Edit { steps, part };
+        let plain = self.picture();
+        match self.tables {
+            Some(tables) if tables.may_name(item) => {
+                let notes = tables.naming().notes(alloc, item)?;
+                let marks = marks_of(alloc, &notes, item.len())?;
+                let named = Picture {
+                    marks: &marks,
+                    ..plain
+                };
+                edited(alloc, item, edit, named)
+            }
+            _ => edited(alloc, item, edit, plain),
+        }
+    }
+
+    /// What is shown of items beside their bytes, without names.
+    fn picture(&self) -> Picture<'static> {
+        Picture {
+            marks: &[],
+            tagged: true,
+            embedded: self.job.show.style.embedded,
+        }
+    }
+
+    /// Says why an item has no such change.
+    fn refuse(&self, change: &Change, item: &[u8], error: EditError) -> Status {
+        let name = label(self.place.name);
+        let said = match error {
+            EditError::Lost => self.lost_words(change, item),
+            _ => Err(Error::TooDeep),
+        };
+        match said {
+            Ok(words) => {
+                let _ = eprintln!(self.rt; "cborcat: {name}: {words}");
+                Status::Bad
+            }
+            Err(Error::Memory) => {
+                let _ = eprintln!(self.rt; "cborcat: {name}: out of memory");
+                Status::Trouble
+            }
+            Err(error) => {
+                let path = change.path;
+                let _ = eprintln!(self.rt; "cborcat: {name}: {path}: {error}");
+                Status::Bad
+            }
+        }
+    }
+
+    /// What is said of an item in which the path of a change leads nowhere.
+    fn lost_words(&self, change: &Change, item: &[u8]) -> Result<String, Error> {
+        let alloc = self.rt.alloc();
+        let path = (change.path, change.steps.as_slice());
+        let plain = self.picture();
+        match self.tables {
+            Some(tables) if tables.may_name(item) => {
+                let notes = tables.naming().notes(alloc, item)?;
+                let marks = marks_of(alloc, &notes, item.len())?;
+                let named = Picture {
+                    marks: &marks,
+                    ..plain
+                };
+                lost_words(alloc, path, item, named)
+            }
+            _ => lost_words(alloc, path, item, plain),
+        }
+    }
+}
