@@ -80,7 +80,7 @@ const OPTIONS: [Row<'static>; 27] = [
 ];
 
 /// Arguments that cannot stand together.
-const CONFLICTS: [(&str, &str); 23] = [
+const CONFLICTS: [(&str, &str); 25] = [
     ("text", "file"),
     ("encode", "check"),
     ("at", "to"),
@@ -104,6 +104,8 @@ const CONFLICTS: [(&str, &str); 23] = [
     ("diff", "partial"),
     ("diff", "one"),
     ("diff", "offset"),
+    ("diff", "set"),
+    ("diff", "delete"),
 ];
 
 /// The command, whose help is the text as written.
