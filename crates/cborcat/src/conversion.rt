@@ -1,7 +1,9 @@
 //! In the program, the conversion of one input, as its bytes come.
+mod fronts;
 mod index;
 mod writing;
 
+use self::fronts::{drop_front, first_bytes, short_items};
 use self::index::Indexed;
 use crate::changes::Changes;
 use crate::dumps::Dumps;
@@ -19,14 +21,13 @@ use crate::screen::Screen;
 use crate::shape::shape_of;
 use crate::shown::show_of;
 use crate::status::{Next, Status};
-use cbor_bytes::{Extent, extent};
 use cbor_grammar::Error;
 use cbor_inspect::{End, Form, Stream, two_byte_simple};
 use cbor_messages::{TWO_BYTES, first_violation};
 use cbor_places::Piece;
 use cbor_stats::Stats;
 use cborcat_arguments::{Job, View};
-use std::alloc::{AllocError, Global};
+use std::alloc::AllocError;
 use std::io;
 use std::io::{IsTerminal, Read};
 
@@ -75,40 +76,6 @@ pub struct Conversion<'a> {
     screen: Screen<'a>,
     /// What is written next.
     out: Vec<u8>,
-}
-
-/// Drops the first bytes, at most all.
-fn drop_front(bytes: &mut Vec<u8>, count: usize) {
-    if count == 0 {
-        return;
-    }
-    let len = bytes.len();
-    let count = count.min(len);
-    bytes.as_mut_slice().copy_within(count.., 0);
-    bytes.truncate(len - count);
-}
-
-/// Where the items end, from this place on, that are not longer than the limit, and whether a
-/// longer one follows. It looks at no item if at most as many bytes are left.
-fn short_items(bytes: &[u8], from: usize, limit: usize) -> (usize, bool) {
-    let mut at = from;
-    for _ in 0..u64::MAX {
-        let left = bytes.get(at..).unwrap_or(b"");
-        if left.len() <= limit {
-            break;
-        }
-        match extent(&left[..limit]) {
-            Extent::Item(len) => at = at.saturating_add(len),
-            Extent::Cut => return (at, true),
-            Extent::Fault { .. } => break,
-        }
-    }
-    (at, false)
-}
-
-/// The first bytes, up to this place.
-fn first_bytes(alloc: Global, bytes: &[u8], end: usize) -> Result<Vec<u8>, AllocError> {
-    Vec::from_slice(alloc, bytes.get(..end).unwrap_or(b""))
 }
 
 impl<'a> Conversion<'a> {
