@@ -402,12 +402,13 @@ static const char *const error_texts[] = {
     "JSON does not keep all of the item",
     "the path leads to no part of the item",
     "no such type",
+    "neither hex, EDN, base 64 nor bytes of items",
     "no such error",
 };
 
 static void test_error_texts(void)
 {
-    for (int64_t number = 0; number <= 18; number++) {
+    for (int64_t number = 0; number <= 19; number++) {
         const char *expected = error_texts[number];
         char text[CBOR_DIAG_ERROR_TEXT_SIZE];
         check(strcmp(expected, cbor_diag_strerror(-number, text, sizeof text)) == 0,
