@@ -67,6 +67,7 @@ impl Diff<'_> {
             form: data.form,
             text: &text,
             color: self.job.color,
+            changed: false,
         };
         self.check(&place, &data.bytes)?;
         Ok(data.bytes)

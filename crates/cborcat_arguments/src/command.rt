@@ -47,7 +47,7 @@ enum Takes {
 /// An option: its name, which `--` precedes, its letter, which `-` precedes, and what it takes.
 type Row<'a> = (&'a str, Option<char>, Takes);
 
-const OPTIONS: [Row<'static>; 27] = [
+const OPTIONS: [Row<'static>; 29] = [
     ("from", Some('f'), Takes::From),
     ("text", Some('x'), Takes::Text),
     ("one", Some('1'), Takes::Nothing),
