@@ -46,13 +46,13 @@ enum cbor_diag_form {
 /*
  * A line feed ends each output in notation, EDN and JSON.
  *
- * EDN has decimal floats, texts with the escapes of JSON, and a width where it is not the shortest. An output in EDN is
- * read back as the same bytes, except a simple value below 32 in two bytes, which RFC 8949 forbids. It has no control
- * characters but line feeds, and these only outside of texts.
+ * EDN has decimal floats and texts with the escapes of JSON, and shows the width of a number or length only if that is
+ * not the shortest. An output in EDN is read back as the same bytes, except a simple value below 32 in two bytes, which
+ * RFC 8949 forbids. It has no control characters but line feeds, and these only outside of texts.
  *
  * JSON follows RFC 8949, section 6.1: tags are left out; NaN, the infinities and undefined become null; byte strings
- * become base64url; a key that is no text becomes a string of its EDN, so 1 becomes "1". Other than there, big numbers
- * of at most 1,024 bytes become their digits. Two keys of a map that become the same are an error.
+ * become base64url; a key that is no text becomes a string of its EDN, so 1 becomes "1". Unlike in that section, big
+ * numbers of at most 1,024 bytes become their digits. Two keys of a map that become the same are an error.
  * CBOR_DIAG_FORM_JSON_STRICT also refuses what JSON does not keep: a tag, NaN, an infinity, a simple value other than
  * false, true and null, a byte string, and a key that is no text. JSON has no control characters but the line feed at
  * its end.
@@ -69,8 +69,8 @@ enum cbor_diag_error {
     CBOR_DIAG_ERROR_UTF8 = 4,        /* a text is not UTF-8, or the hex, notation or EDN of the input is not */
     CBOR_DIAG_ERROR_TOO_DEEP = 5,    /* nested deeper than 128 levels */
     CBOR_DIAG_ERROR_REMAINING = 6,   /* bytes remain after the item */
-    CBOR_DIAG_ERROR_ODD_HEX = 7,     /* without comments, spaces and line ends, the hex has an odd number of bytes,
-                                        whatever they are */
+    CBOR_DIAG_ERROR_ODD_HEX = 7,     /* the hex has an odd number of bytes, not counting comments, spaces and
+                                        line ends */
     CBOR_DIAG_ERROR_BAD_HEX = 8,     /* that number is even, and one of the bytes is not a hex digit */
     CBOR_DIAG_ERROR_NOTATION = 9,    /* not diagnostic notation, or not one item in EDN */
     CBOR_DIAG_ERROR_PAST_WIDTH = 10, /* a number does not fit its width */

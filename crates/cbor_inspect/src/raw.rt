@@ -1,4 +1,4 @@
-//! For viewers, the content of a string.
+//! Returns the content of a byte or text string, with chunks joined and tags left out (`-t raw`).
 ghost use Rattle.std.specs.Prelude.{◌≡◌, IfOk, IfErr, option_map, map, Some};
 ghost use Rattle.std.specs.List.{flat_map};
 ghost use Rattle.cbor_grammar.specs.Item.{Chunk, Item};

@@ -38,21 +38,21 @@ Output:
   -e, --embedded     show byte strings that hold an array, a map or a tagged
                      item as <<..>>; in a dump, show the lines of that item
       --no-notes     no comments in notation, and no names
-      --as=TYPE      take what is shown for a TYPE such as COSE_Key where no
-                     tag says it; its keys and values then have their names
+      --as=TYPE      treat each item shown as a TYPE such as COSE_Key if no tag
+                     gives its type, and show the names of its keys and values
       --names=FILE   show also the names of FILE: tables in TOML, beside those
                      of COSE, CWT, EAT, SenML and CTAP2
       --no-names     no names; other comments stay
       --names-as-keys
                      write keys as their names (-t json)
       --widths       write the width of each float and of each number above 23
-      --no-widths    write no widths (_0 to _3) in notation; such text is not
-                     to be read back
+      --no-widths    write no widths (_0 to _3) in notation; such text does not
+                     give the same bytes back
       --width=N      break pretty notation into lines of N columns, 20 to 1000
                      (default: 80)
       --strict       report what JSON does not keep as an error (-t json)
       --elide[=N]    cut strings of more than N bytes (default: 32) in notation
-                     and dumps; such text is not to be read back
+                     and dumps; such text does not give the same bytes back
       --color=WHEN   auto, always or never (default: auto: in a terminal,
                      unless NO_COLOR is set)
   -o, --output=FILE  write FILE, once all input is converted
@@ -66,9 +66,10 @@ Output:
                      its first violation of RULES (default: the grammar of
                      RFC 8949)
       --encode=RULES re-encode each item so that it keeps RULES
-      --diff         compare two files: a line for each part that differs (~),
-                     or that the second (+) or the first (-) alone has
-      --exact        show other encodings of the same item, too (--diff)
+      --diff         compare two files: a line for each difference: ~ changed,
+                     + only in the second, - only in the first
+      --exact        with --diff: also report equal items that are encoded
+                     differently
 
   -h, --help         show this text
   -V, --version      show the version
@@ -88,24 +89,27 @@ Forms, i for input and o for output:
   index=SIZE   o  pieces of whole items of at least SIZE bytes (64M, say), to
                   convert a large file in parts: place, length, items
 
-Without -f the form is recognized. A byte that no text has makes the input
-bytes, which are shown as they arrive. Text is read to its end first. A text of
-pairs of hex digits is hex, even if its item is truncated or malformed. Other
-text is diag or base64: the first of the two that reads all of it. The name of
-a file may say more: .hex is hex; .edn, .diag and .json are diag. Text is never
-taken for bytes, except a file .cbor, .cose or .cwt that no form of text reads
-to its end.
+Without -f the form is recognized. Input with a byte that no text can have is
+taken as bytes, and shown as it arrives. Text is read to its end first. A text
+of pairs of hex digits is hex, even if its item is truncated or malformed.
+Other text is diag or base64: the first of the two that reads all of it. The
+name of a file may say more: .hex is hex; .edn, .diag and .json are diag. Text
+is taken for bytes only in a file named .cbor, .cose or .cwt that cannot be
+read to its end as any form of text.
 
-RULES are preferred, core (deterministic) or length-first: encodings of RFC
-8949; ctap2; dcbor; valid: no map has a key twice, where 1 and 1_0 are the same
-key; or rfc8949: the grammar alone. All include the grammar. --encode takes
-preferred, core, length-first, ctap2 and dcbor.
+RULES, each with the grammar of RFC 8949:
+  preferred, core (deterministic), length-first: encodings of RFC 8949
+  ctap2, dcbor: the encodings of CTAP2 and dCBOR
+  valid: no map has a key twice (1 and 1_0 are the same key)
+  rfc8949: the grammar alone
+--encode takes preferred, core, length-first, ctap2 and dcbor.
 
 A PATH is steps joined by /. A step is an index of an array, a key of a map (in
 notation or as a plain word), a name that is shown, * for each member, @ for
 the item that a byte string encodes, or @N for the item at byte N of a byte
 string. Tags need no step. Byte strings that are shown as <<..>> need no @.
-N: before a path selects item N of a sequence, from 0; N: alone is all of it.
+N: before a path selects item N of a sequence (the first is 0); N: without a
+path is that whole item.
 
 Exit status: 0 all input is CBOR; 1 some is not, or PATH leads nowhere;
 2 wrong arguments, out of memory, or a file cannot be read or written. With

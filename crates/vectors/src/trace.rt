@@ -1,4 +1,5 @@
-//! Containers that are open at a byte. Places are counted in bytes; LEVEL is 1 for the outermost.
+//! Answers the rows that call `cbor_trace`: which containers are open at a byte. Places are counted
+//! in bytes; LEVEL is 1 for the outermost.
 //!
 //! - `part_at START LEVEL AT`: the step from the item at START to its part at AT, and where that
 //!   begins. `[1/2]` is the member at index 1 of 2, `{0/2}` the key of the pair at index 0,

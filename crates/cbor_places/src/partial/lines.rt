@@ -1,4 +1,4 @@
-//! For a truncated item, lines with blanks before them.
+//! Indents the lines of a text, for what `--partial` shows.
 ghost use Rattle.std.specs.Prelude.{◌≡◌, ◌++◌, OnOk};
 ghost use Rattle.std.specs.String.{string_bytes};
 ghost use Rattle.cbor_places.specs.Partial.{indented, indented_character};
