@@ -44,7 +44,7 @@ fn opened_at(bytes: &[u8], start: usize) -> Option<Opened>
     })
 }
 
-/// The count without so many members.
+/// The count, less by this many members.
 fn less(count: Argument, gone: usize) -> Option<Argument>
     ensures less { IfSome result (IsLess gone count) }
     ensures fits { IfSome result FitsArgument }
@@ -149,7 +149,7 @@ pub fn without(
     start: usize,
     gone: &[Span],
 ) -> Result<Option<Vec<u8>>, AllocError>
-    // The head has so many members less, and the members between those are the same.
+    // The head has as many members less, and the members between those are the same.
     ensures without { IfOk result (λ found. IfSome found
         (λ new. IsWithout bytes.now start gone.now new.items)) }
 {
