@@ -1,3 +1,4 @@
+pub mod Braces
 pub mod Fills
 pub mod Digits
 pub mod BigDigits

@@ -3,3 +3,4 @@
 pub mod Clashing
 pub mod Losing
 pub mod LowDigits
+pub mod Walking

@@ -14,12 +14,14 @@ ghost use Rattle.json.specs.Strict.{HasUniqueKeys};
 ghost use Rattle.cbor_notation_writer.specs.mirror.Straight.{Written};
 ghost use Rattle.cbor_json.specs.Kept.{IsKept, IsLoss};
 ghost use Rattle.cbor_json.specs.Written.{IsJsonOf, IsNotKept, Judges, Tells};
+ghost use Rattle.cbor_json.specs.mirror.Walking.{IsUnique};
 
 use crate::error::Loss;
 use crate::loss::first_loss;
 use crate::print;
 use crate::print::place::JsonPlace;
 use crate::style::JsonStyle;
+use crate::walk::{NotWritten, push_item};
 use cbor_grammar::Error;
 use cbor_notation_writer::outermost::push_outermost;
 use json::{Scratch, Tape, Value};
@@ -110,8 +112,39 @@ fn loss_if_strict(bytes: &[u8], style: JsonStyle) -> Option<Loss>
     }
 }
 
-/// Writes the item at the front, and returns what became of it and the bytes after it.
-pub(crate) fn judge_front<'a>(
+/// What becomes of a text of which no object has a name twice.
+fn judged_text(text: String, bytes: &[u8], style: JsonStyle) -> Judged
+    ensures judged { (i : Item) (rest : List ℕ) → read_item deepest bytes.now ≡ Ok (i, rest)
+        → IsJsonOf style i (string_bytes text) → IsUnique (string_bytes text)
+        → Judges style result i }
+    ensures tells { Tells bytes.now result }
+{
+    match loss_if_strict(bytes, style) {
+        Some(loss) => Judged::NotKept(loss),
+        None => Judged::Text(text),
+    }
+}
+
+/// Writes the item at the front, and returns its text and the bytes after it, if no two names of an
+/// object are equal.
+fn distinct_text<'a>(
+    bytes: &'a [u8],
+    style: JsonStyle,
+    alloc: Global,
+) -> Result<(String, &'a [u8]), NotWritten>
+    ensures { IfOk result (λ found. (i : Item)
+        × (read_item deepest bytes.now ≡ Ok (i, found.1.now))
+        × IsJsonOf style i (string_bytes found.0) × IsUnique (string_bytes found.0)) }
+{
+    let mut text = String::with_capacity(alloc, first_capacity(bytes.len()))?;
+    let mut names = Vec::new(alloc);
+    let rest = push_item(&mut text, &mut names, bytes, &JsonPlace::new(alloc, style))?;
+    Ok((text, rest))
+}
+
+/// Writes the item at the front, and reads its text to see whether two names are equal. It returns
+/// what became of the item and the bytes after it.
+fn judge_again<'a>(
     bytes: &'a [u8],
     style: JsonStyle,
     alloc: Global,
@@ -129,6 +162,23 @@ pub(crate) fn judge_front<'a>(
         Ok((Judged::Text(text), rest))
     } else {
         Ok((Judged::SameKeys, rest))
+    }
+}
+
+/// Writes the item at the front, and returns what became of it and the bytes after it.
+pub(crate) fn judge_front<'a>(
+    bytes: &'a [u8],
+    style: JsonStyle,
+    alloc: Global,
+) -> cbor_grammar::Result<(Judged, &'a [u8])>
+    ensures judged { IfOk result (λ found. (i : Item)
+        × (read_item deepest bytes.now ≡ Ok (i, found.1.now)) × Judges style found.0 i) }
+    ensures tells { IfOk result (λ found. Tells bytes.now found.0) }
+    ensures refused { IfErr result (λ e. Fails e (read_item deepest bytes.now)) }
+{
+    match distinct_text(bytes, style, alloc) {
+        Ok((text, rest)) => Ok((judged_text(text, bytes, style), rest)),
+        Err(_) => judge_again(bytes, style, alloc),
     }
 }
 

@@ -8,8 +8,10 @@ mod error;
 mod judge;
 mod loss;
 mod named;
+mod names;
 mod print;
 mod style;
+mod walk;
 mod write;
 
 pub use digits::decimal;

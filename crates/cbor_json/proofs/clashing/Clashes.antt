@@ -1,12 +1,12 @@
 -- Keys that become the same in JSON: from a key to its map, and from an item to the one around it.
-use Rattle.std.proofs.Common.{◌≡◌, ℕ, suc, ◌+◌, ◌-◌, ◌<◌, ◌≤◌, List, ◌++◌, length, true, false}
-use Rattle.std.proofs.Common.{Option, Some, None, Result, Ok, Err, IfOk, inl, inr, refl, sym, ap, subst, ◌∙◌, arith}
+use Rattle.std.proofs.Common.{◌≡◌, ℕ, suc, ◌+◌, ◌<◌, ◌≤◌, List, ◌++◌, length, true, false}
+use Rattle.std.proofs.Common.{Option, Some, None, Result, Ok, Err, IfOk, inl, inr, refl, sym, subst, ◌∙◌, arith}
 use Rattle.std.proofs.lemmas.Bool.{cases_Bool}
 use Rattle.std.specs.Cmp.Lexicographic.{bytes_decides}
 use Rattle.std.specs.Map.{update}
 use Rattle.std.specs.Prelude.{IfSome, option_map, is_some, bytes_eq}
 use Rattle.cbor_grammar.specs.declared.argument.Argument.{Argument}
-use Rattle.cbor_grammar.specs.declared.argument.Argument.TheVariants.{Number, Indefinite}
+use Rattle.cbor_grammar.specs.declared.argument.Argument.TheVariants.{Number}
 use Rattle.cbor_grammar.specs.declared.head.ItemHead.{ItemHead}
 use Rattle.cbor_grammar.specs.declared.head.ItemHead.TheVariants as head
 use Rattle.cbor_grammar.specs.declared.strings.StringKind.TheVariants as kind

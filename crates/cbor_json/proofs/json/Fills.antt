@@ -6,12 +6,13 @@ use Rattle.std.proofs.Math.Utf8.{encode, encodes}
 use Rattle.std.proofs.lemmas.Bool.{cases_lt, le-ltb}
 use Rattle.std.proofs.lemmas.Bool.Decides.{nat_tests}
 use Rattle.std.proofs.lemmas.List.{append-nil}
+use Rattle.std.proofs.lemmas.Grind.{flat_map-append}
 use Rattle.std.proofs.lemmas.Str.{encode_ascii, encodes-append}
-use Rattle.std.specs.List.{AllByRecursion}
+use Rattle.std.specs.List.{AllByRecursion, flat_map}
 use Rattle.json.specs.Lex.{Lexeme, Mode, lex, lex_byte, in_string, operator, space, other}
 use Rattle.json.specs.Text.{content, plain, prepend}
 use Rattle.json.specs.Word.{is_operator, is_space}
-use Rattle.cbor_tokens.specs.Escapes.{is_hidden}
+use Rattle.cbor_tokens.specs.Escapes.{is_hidden, escaped_char}
 use Rattle.cbor_tokens.proofs.escaping.High.{High, high_encode}
 
 -- ---- characters
@@ -51,9 +52,13 @@ shows_byte b low high = record {
 
 -- ---- pieces
 
--- The reader of strings takes the piece, whatever follows, and does not end in it.
+-- The reader of strings takes the piece, whatever follows, and does not end in it. It is some characters, escaped as
+-- they are here.
 pub record Fills (t : List ℕ) : Type 0 where
   pub means : List ℕ
+  pub characters : List ℕ
+  pub spells : means ≡ encodes characters
+  pub escaped : t ≡ flat_map escaped_char characters
   pub read : (r : List ℕ) → content plain (t ++ r) ≡ prepend means (content plain r)
   pub lexed : (r : List ℕ) → lex in_string (t ++ r) ≡ lex in_string r
   pub shows : Shows t
@@ -69,6 +74,9 @@ prepend_both a b None = refl
 pub fills_nothing : Fills []
 fills_nothing = record {
   means = [];
+  characters = [];
+  spells = refl;
+  escaped = refl;
   read = λ r. prepend_none (content plain r);
   lexed = λ r. refl;
   shows = shows_nothing;
@@ -77,6 +85,11 @@ fills_nothing = record {
 pub fills_then : {a b : List ℕ} → Fills a → Fills b → Fills (a ++ b)
 fills_then {a} {b} p q = record {
   means = p.means ++ q.means;
+  characters = p.characters ++ q.characters;
+  spells = ap (λ x. x ++ q.means) p.spells ∙ ap (λ x. encodes p.characters ++ x) q.spells
+      ∙ sym (encodes-append p.characters q.characters);
+  escaped = ap (λ x. x ++ b) p.escaped ∙ ap (λ x. flat_map escaped_char p.characters ++ x) q.escaped
+      ∙ sym (flat_map-append escaped_char p.characters q.characters);
   read = λ r. ap (content plain) (append_assoc a b r) ∙ p.read (b ++ r) ∙ ap (prepend p.means) (q.read r)
       ∙ prepend_both p.means q.means (content plain r);
   lexed = λ r. ap (lex in_string) (append_assoc a b r) ∙ p.lexed (b ++ r) ∙ q.lexed r;
@@ -111,14 +124,29 @@ abbrev pub all_calm : List ℕ → Bool
 all_calm [] = true
 all_calm (b ∷ bs) = is_calm b && all_calm bs
 
+-- a character that is none of those with an escape
+escaped_plain : (c : ℕ) → is_hidden c ≡ false → (c == 34) ≡ false → (c == 92) ≡ false → escaped_char c ≡ encode c
+escaped_plain c shown no_quote no_escape =
+    let a : (c == 10) ≡ false = grind (arith, nat_tests, shown) in
+    let b : (c == 13) ≡ false = grind (arith, nat_tests, shown) in
+    let d : (c == 9) ≡ false = grind (arith, nat_tests, shown) in
+    let e : (c == 8) ≡ false = grind (arith, nat_tests, shown) in
+    let f : (c == 12) ≡ false = grind (arith, nat_tests, shown) in
+    rw (no_quote, no_escape, a, b, d, e, f, shown) refl
+
 calm_byte : (b : ℕ) → is_calm b ≡ true → Fills (b ∷ [])
 calm_byte b h =
     let q : (b == 34) ≡ false = grind (arith, nat_tests, h) in
     let s : (b == 92) ≡ false = grind (arith, nat_tests, h) in
     let low : 32 ≤ b = grind (arith, nat_tests, h) in
     let high : b ≤ 126 = grind (arith, nat_tests, h) in
+    let hidden : is_hidden b ≡ false = grind (arith, nat_tests, low, high) in
+    let spelled : b ∷ [] ≡ encode b ++ [] = ap (λ x. x ++ []) (sym (encode_ascii b (omega (arith, high)))) in
     record {
       means = b ∷ [];
+      characters = b ∷ [];
+      spells = spelled;
+      escaped = spelled ∙ ap (λ x. x ++ []) (sym (escaped_plain b hidden q s));
       read = λ r. byte_read b r q s low;
       lexed = λ r. byte_lexed b r q s;
       shows = shows_byte b low high;
@@ -169,6 +197,9 @@ plain_char c shown no_quote no_escape = elim (cases_lt c 128) [
       let high = high_encode c a in
       record {
         means = encode c;
+        characters = c ∷ [];
+        spells = sym (append-nil (encode c));
+        escaped = sym (append-nil (encode c)) ∙ ap (λ x. x ++ []) (sym (escaped_plain c shown no_quote no_escape));
         read = λ r. high_read (encode c) r high;
         lexed = λ r. high_lexed (encode c) r high;
         shows = record {

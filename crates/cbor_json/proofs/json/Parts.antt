@@ -42,11 +42,11 @@ use Rattle.cbor_json.proofs.json.Strings.{IsString, is_string, string_in_quotes,
 use Rattle.cbor_json.proofs.json.Tokens.{Reads, string_reads, number_reads, true_reads, false_reads, null_reads}
 
 -- a key is a string, what is in a key a piece of one, and all else JSON
-abbrev pub Part : Spot → ℕ → List ℕ → Type 0
-Part spot.Key left t = IsString t
-Part spot.InKey left t = Fills t
-Part spot.Value left t = Reads left t
-Part spot.Named left t = Reads left t
+abbrev pub Part : Bool → Spot → ℕ → List ℕ → Type 0
+Part strict spot.Key left t = IsString t
+Part strict spot.InKey left t = Fills t
+Part strict spot.Value left t = Reads strict left t
+Part strict spot.Named left t = Reads strict left t
 
 -- ---- what holds no item
 
@@ -95,39 +95,39 @@ edn_leaf_fills (simple n) t well h = subst Fills (sym h) (simple_fills n well)
 edn_leaf_fills (string k c) t well h = absurd h
 edn_leaf_fills (chunked_string k cs) t well h = absurd h
 
-float_reads : (left : ℕ) (finite : Bool) (x : Float) (t : List ℕ) → float_is_finite x ≡ finite → NumberIf finite x t
-    → Reads left t
-float_reads left true x t is h = number_reads t (float_number t (h.layout is))
+float_reads : (strict : Bool) (left : ℕ) (finite : Bool) (x : Float) (t : List ℕ) → float_is_finite x ≡ finite → NumberIf finite x t
+    → Reads strict left t
+float_reads strict left true x t is h = number_reads t (float_number t (h.layout is))
     (calm_fills t (number_text_calm t h)).shows
-float_reads left false x t is h =
-    subst (λ y. Reads left y) (sym h) (null_reads (constant (codes "null") refl).shows)
+float_reads strict left false x t is h =
+    subst (λ y. Reads strict left y) (sym h) (null_reads (constant (codes "null") refl).shows)
 
-value_simple : (left n : ℕ) → Reads left (json_simple n)
-value_simple left n =
-    chosen (λ t. Reads left t) (n == 20) _ _ (λ e. false_reads (constant (codes "false") refl).shows) (λ e.
-    chosen (λ t. Reads left t) (n == 21) _ _ (λ e. true_reads (constant (codes "true") refl).shows)
+value_simple : (strict : Bool) (left n : ℕ) → Reads strict left (json_simple n)
+value_simple strict left n =
+    chosen (λ t. Reads strict left t) (n == 20) _ _ (λ e. false_reads (constant (codes "false") refl).shows) (λ e.
+    chosen (λ t. Reads strict left t) (n == 21) _ _ (λ e. true_reads (constant (codes "true") refl).shows)
     (λ e. null_reads (constant (codes "null") refl).shows))
 
-value_leaf : (left : ℕ) (a : Atom) (t : List ℕ) → WellFormedAtom a → ValueLeaf a t → Reads left t
-value_leaf left (integer n w) t well h =
+value_leaf : (strict : Bool) (left : ℕ) (a : Atom) (t : List ℕ) → WellFormedAtom a → ValueLeaf a t → Reads strict left t
+value_leaf strict left (integer n w) t well h =
     let lt = below_limit n w well in
-    subst (λ y. Reads left y) (sym h)
+    subst (λ y. Reads strict left y) (sym h)
     (number_reads (integer_text n) (integer_number n lt) (integer_fills n (omega (arith, lt))).shows)
-value_leaf left (negative n w) t well h =
+value_leaf strict left (negative n w) t well h =
     let lt = below_limit n w well in
-    subst (λ y. Reads left y) (sym h)
+    subst (λ y. Reads strict left y) (sym h)
     (number_reads (negative_text n) (negative_number n lt) (negative_fills n lt).shows)
-value_leaf left (float bits w) t well h = float_reads left _ (value_of (encoded_float bits w)) t refl h
-value_leaf left (simple n) t well h = subst (λ y. Reads left y) (sym h) (value_simple left n)
-value_leaf left (string k c) t well h = absurd h
-value_leaf left (chunked_string k cs) t well h = absurd h
+value_leaf strict left (float bits w) t well h = float_reads strict left _ (value_of (encoded_float bits w)) t refl h
+value_leaf strict left (simple n) t well h = subst (λ y. Reads strict left y) (sym h) (value_simple strict left n)
+value_leaf strict left (string k c) t well h = absurd h
+value_leaf strict left (chunked_string k cs) t well h = absurd h
 
-pub leaf_part : (s : Spot) (left : ℕ) (a : Atom) (t : List ℕ) → WellFormedAtom a → LeafAt s a t → Part s left t
-leaf_part spot.Key left a t well h =
+pub leaf_part : (strict : Bool) (s : Spot) (left : ℕ) (a : Atom) (t : List ℕ) → WellFormedAtom a → LeafAt s a t → Part strict s left t
+leaf_part strict spot.Key left a t well h =
     subst IsString (sym h.2) (string_in_quotes h.0 (edn_leaf_fills a h.0 well h.1))
-leaf_part spot.InKey left a t well h = edn_leaf_fills a t well h
-leaf_part spot.Value left a t well h = value_leaf left a t well h
-leaf_part spot.Named left a t well h = value_leaf left a t well h
+leaf_part strict spot.InKey left a t well h = edn_leaf_fills a t well h
+leaf_part strict spot.Value left a t well h = value_leaf strict left a t well h
+leaf_part strict spot.Named left a t well h = value_leaf strict left a t well h
 
 -- ---- strings
 
@@ -136,51 +136,51 @@ quoted_fills b h =
     fills_then {a = codes "h'"} (constant (codes "h'") refl)
     (fills_then (calm_fills (encode_lower b) (hex_calm b h)) (constant (codes "'") refl))
 
-string_at_part : (p : JsonPlace) (s : Spot) (left : ℕ) (k : StringKind) (c : Chunk)
-    → AllByRecursion (λ x. x < 256) c.bytes → Part s left (string_at p s k c)
-string_at_part p spot.InKey left kind.Bytes c h = quoted_fills c.bytes h
-string_at_part p spot.InKey left kind.Text c h =
+string_at_part : (strict : Bool) (p : JsonPlace) (s : Spot) (left : ℕ) (k : StringKind) (c : Chunk)
+    → AllByRecursion (λ x. x < 256) c.bytes → Part strict s left (string_at p s k c)
+string_at_part strict p spot.InKey left kind.Bytes c h = quoted_fills c.bytes h
+string_at_part strict p spot.InKey left kind.Text c h =
     fills_then {a = codes "\\\""} quote_escaped (fills_then (escaped_fills (escaped_text c.bytes)) quote_escaped)
-string_at_part p spot.Key left kind.Bytes c h = string_in_quotes (quoted Base16 c.bytes) (quoted_fills c.bytes h)
-string_at_part p spot.Key left kind.Text c h = string_in_quotes (escaped_text c.bytes) (escaped_fills c.bytes)
-string_at_part p spot.Value left kind.Bytes c h =
+string_at_part strict p spot.Key left kind.Bytes c h = string_in_quotes (quoted Base16 c.bytes) (quoted_fills c.bytes h)
+string_at_part strict p spot.Key left kind.Text c h = string_in_quotes (escaped_text c.bytes) (escaped_fills c.bytes)
+string_at_part strict p spot.Value left kind.Bytes c h =
     string_reads (string_in_quotes _ (calm_fills _ (value_calm p.tag p.encoding c.bytes h)))
-string_at_part p spot.Value left kind.Text c h = string_reads (string_in_quotes _ (escaped_fills c.bytes))
-string_at_part p spot.Named left kind.Bytes c h =
+string_at_part strict p spot.Value left kind.Text c h = string_reads (string_in_quotes _ (escaped_fills c.bytes))
+string_at_part strict p spot.Named left kind.Bytes c h =
     string_reads (string_in_quotes _ (calm_fills _ (value_calm p.tag p.encoding c.bytes h)))
-string_at_part p spot.Named left kind.Text c h = string_reads (string_in_quotes _ (escaped_fills c.bytes))
+string_at_part strict p spot.Named left kind.Text c h = string_reads (string_in_quotes _ (escaped_fills c.bytes))
 
 -- a big number by its digits
-big_reads : (left : ℕ) (minus : Bool) (n : ℕ) (t digits : List ℕ) → IsDecimal n digits
-    → t ≡ sign_text minus ++ digits → Reads left t
-big_reads left minus n t digits is e =
-    subst (λ y. Reads left y) (sym e)
+big_reads : (strict : Bool) (left : ℕ) (minus : Bool) (n : ℕ) (t digits : List ℕ) → IsDecimal n digits
+    → t ≡ sign_text minus ++ digits → Reads strict left t
+big_reads strict left minus n t digits is e =
+    subst (λ y. Reads strict left y) (sym e)
     (number_reads (sign_text minus ++ digits) (big_number minus n digits is)
     (calm_fills (sign_text minus ++ digits) (big_calm minus digits is.digits.1)).shows)
 
-big_part : (p : JsonPlace) (s : Spot) (left : ℕ) (c : Chunk) (t : List ℕ) → is_value s ≡ true
-    → BigText (is_negative_tag p.tag) c.bytes t → Part s left t
-big_part p spot.Key left c t v h = absurd cc
-big_part p spot.InKey left c t v h = absurd cc
-big_part p spot.Value left c t v h = big_reads left _ _ t h.0 h.1 h.2
-big_part p spot.Named left c t v h = big_reads left _ _ t h.0 h.1 h.2
+big_part : (strict : Bool) (p : JsonPlace) (s : Spot) (left : ℕ) (c : Chunk) (t : List ℕ) → is_value s ≡ true
+    → BigText (is_negative_tag p.tag) c.bytes t → Part strict s left t
+big_part strict p spot.Key left c t v h = absurd cc
+big_part strict p spot.InKey left c t v h = absurd cc
+big_part strict p spot.Value left c t v h = big_reads strict left _ _ t h.0 h.1 h.2
+big_part strict p spot.Named left c t v h = big_reads strict left _ _ t h.0 h.1 h.2
 
-string_if : (test : Bool) (p : JsonPlace) (left : ℕ) (k : StringKind) (c : Chunk) (t : List ℕ)
+string_if : (strict : Bool) (test : Bool) (p : JsonPlace) (left : ℕ) (k : StringKind) (c : Chunk) (t : List ℕ)
     → (test ≡ true → is_value p.spot ≡ true) → AllByRecursion (λ x. x < 256) c.bytes → StringIf test p k c t
-    → Part p.spot left t
-string_if true p left k c t value h is = big_part p p.spot left c t (value refl) is
-string_if false p left k c t value h is =
-    subst (λ x. Part p.spot left x) (sym is) (string_at_part p p.spot left k c h)
+    → Part strict p.spot left t
+string_if strict true p left k c t value h is = big_part strict p p.spot left c t (value refl) is
+string_if strict false p left k c t value h is =
+    subst (λ x. Part strict p.spot left x) (sym is) (string_at_part strict p p.spot left k c h)
 
 middle_true : (a b c : Bool) → (a && (b && c)) ≡ true → b ≡ true
 middle_true true true c e = refl
 middle_true true false c e = absurd cc
 middle_true false b c e = absurd cc
 
-pub string_part : (p : JsonPlace) (left : ℕ) (k : StringKind) (c : Chunk) (t : List ℕ)
-    → AllByRecursion (λ x. x < 256) c.bytes → StringAt p k c t → Part p.spot left t
-string_part p left k c t h is =
-    string_if (is_big p k c.bytes) p left k c t
+pub string_part : (strict : Bool) (p : JsonPlace) (left : ℕ) (k : StringKind) (c : Chunk) (t : List ℕ)
+    → AllByRecursion (λ x. x < 256) c.bytes → StringAt p k c t → Part strict p.spot left t
+string_part strict p left k c t h is =
+    string_if strict (is_big p k c.bytes) p left k c t
     (middle_true (is_bytes k) (is_value p.spot) (is_big_tag p.tag && nat_le (length c.bytes) 1024)) h is
 
 part_fills : (p : JsonPlace) (s : Spot) (k : StringKind) (c : Chunk) → IsChunk k c → Fills (part_at p s k c)
@@ -304,26 +304,26 @@ chunk_texts_fill p k (c ∷ cs) [] well h = absurd h
 chunk_texts_fill p k (c ∷ cs) (m ∷ ms) well h =
     (subst Fills (sym h.0) (part_fills p p.spot k c well.0), chunk_texts_fill p k cs ms well.1 h.1)
 
-empty_part : (s : Spot) (left : ℕ) (k : StringKind) → Part s left (empty_at s k)
-empty_part spot.Key left kind.Bytes = string_in_quotes (codes "h''") (constant (codes "h''") refl)
-empty_part spot.Key left kind.Text = string_in_quotes [] fills_nothing
-empty_part spot.InKey left kind.Bytes = constant (codes "h''") refl
-empty_part spot.InKey left kind.Text = fills_then {a = codes "\\\""} quote_escaped quote_escaped
-empty_part spot.Value left k = string_reads (string_in_quotes [] fills_nothing)
-empty_part spot.Named left k = string_reads (string_in_quotes [] fills_nothing)
+empty_part : (strict : Bool) (s : Spot) (left : ℕ) (k : StringKind) → Part strict s left (empty_at s k)
+empty_part strict spot.Key left kind.Bytes = string_in_quotes (codes "h''") (constant (codes "h''") refl)
+empty_part strict spot.Key left kind.Text = string_in_quotes [] fills_nothing
+empty_part strict spot.InKey left kind.Bytes = constant (codes "h''") refl
+empty_part strict spot.InKey left kind.Text = fills_then {a = codes "\\\""} quote_escaped quote_escaped
+empty_part strict spot.Value left k = string_reads (string_in_quotes [] fills_nothing)
+empty_part strict spot.Named left k = string_reads (string_in_quotes [] fills_nothing)
 
-joined_part : (s : Spot) (left : ℕ) (k : StringKind) (inner t o e : List ℕ) → Fills inner → o ≡ opening_at s (Chunks k)
-    → e ≡ closing_at s (Chunks k) → t ≡ o ++ (inner ++ e) → Part s left t
-joined_part spot.Key left k inner t o e f is_o is_e is = key_list (Chunks k) inner t o e f is_o is_e is
-joined_part spot.InKey left k inner t o e f is_o is_e is = edn_list (Chunks k) inner t o e f is_o is_e is
-joined_part spot.Value left k inner t o e f is_o is_e is =
+joined_part : (strict : Bool) (s : Spot) (left : ℕ) (k : StringKind) (inner t o e : List ℕ) → Fills inner → o ≡ opening_at s (Chunks k)
+    → e ≡ closing_at s (Chunks k) → t ≡ o ++ (inner ++ e) → Part strict s left t
+joined_part strict spot.Key left k inner t o e f is_o is_e is = key_list (Chunks k) inner t o e f is_o is_e is
+joined_part strict spot.InKey left k inner t o e f is_o is_e is = edn_list (Chunks k) inner t o e f is_o is_e is
+joined_part strict spot.Value left k inner t o e f is_o is_e is =
     string_reads (is_string inner t f (is ∙ ap (λ x. x ++ (inner ++ e)) is_o ∙ ap (λ x. 34 ∷ (inner ++ x)) is_e))
-joined_part spot.Named left k inner t o e f is_o is_e is =
+joined_part strict spot.Named left k inner t o e f is_o is_e is =
     string_reads (is_string inner t f (is ∙ ap (λ x. x ++ (inner ++ e)) is_o ∙ ap (λ x. 34 ∷ (inner ++ x)) is_e))
 
-pub chunks_part : (p : JsonPlace) (left : ℕ) (k : StringKind) (l : ContainerStyle) (cs : List Chunk) (t : List ℕ)
-    → AllByRecursion (IsChunk k) cs → ChunksText json_leaves p k l cs t → Part p.spot left t
-chunks_part p left k l [] t well h = subst (λ x. Part p.spot left x) (sym h) (empty_part p.spot left k)
-chunks_part p left k l (c ∷ cs) t well (ms, texts, (o, e, is_o, is_e, is)) =
-    joined_part p.spot left k (listed (λ first. before_member (Chunks k) first) [] ms) t o e
+pub chunks_part : (strict : Bool) (p : JsonPlace) (left : ℕ) (k : StringKind) (l : ContainerStyle) (cs : List Chunk) (t : List ℕ)
+    → AllByRecursion (IsChunk k) cs → ChunksText json_leaves p k l cs t → Part strict p.spot left t
+chunks_part strict p left k l [] t well h = subst (λ x. Part strict p.spot left x) (sym h) (empty_part strict p.spot left k)
+chunks_part strict p left k l (c ∷ cs) t well (ms, texts, (o, e, is_o, is_e, is)) =
+    joined_part strict p.spot left k (listed (λ first. before_member (Chunks k) first) [] ms) t o e
     (listed_fills (Chunks k) ms (chunk_texts_fill p k (c ∷ cs) ms well texts)) is_o is_e is

@@ -2,9 +2,11 @@
 use Rattle.std.proofs.Common.{◌≡◌, ℕ, ◌/◌, ◌%◌, ◌+◌, ◌*◌, ◌<◌, ◌≤◌, List, [], ◌∷◌, ◌++◌, Bool, true, false, Some}
 use Rattle.std.proofs.Common.{◌==◌, if◌then◌else◌, codes, refl, inl, inr, sym, ap, ap₂, subst, ◌∙◌, arith}
 use Rattle.std.proofs.Common.{append_assoc, slice_index}
-use Rattle.std.proofs.Math.Utf8.{encode}
+use Rattle.std.proofs.Math.Utf8.{encode, encodes}
 use Rattle.std.proofs.lemmas.Bool.{cases_lt, agree_below_at, eqb-true}
 use Rattle.std.proofs.lemmas.Bool.Decides.{nat_tests}
+use Rattle.std.proofs.lemmas.List.{append-nil}
+use Rattle.std.proofs.lemmas.Str.{encodes_same}
 use Rattle.std.specs.Char.{digit_value, is_digit, encode_utf8}
 use Rattle.std.specs.List.{flat_map}
 use Rattle.std.specs.Str.{chars}
@@ -25,28 +27,37 @@ two_bytes : (a b : ℕ) → 32 ≤ a → a ≤ 126 → 32 ≤ b → b ≤ 126 �
 two_bytes a b al ah bl bh = shows_then {a = a ∷ []} (shows_byte a al ah) (shows_byte b bl bh)
 
 quote_fills : Fills (codes "\\\"")
-unfolding content lex short_escape
+unfolding content lex short_escape encode
 quote_fills = record {
   means = 34 ∷ [];
+  characters = 34 ∷ [];
+  spells = refl;
+  escaped = refl;
   read = λ r. refl;
   lexed = λ r. refl;
   shows = two_bytes 92 34 (omega arith) (omega arith) (omega arith) (omega arith);
 }
 
 backslash_fills : Fills (codes "\\\\")
-unfolding content lex short_escape
+unfolding content lex short_escape encode
 backslash_fills = record {
   means = 92 ∷ [];
+  characters = 92 ∷ [];
+  spells = refl;
+  escaped = refl;
   read = λ r. refl;
   lexed = λ r. refl;
   shows = two_bytes 92 92 (omega arith) (omega arith) (omega arith) (omega arith);
 }
 
 letter_fills : (x c : ℕ) → (x == 117) ≡ false → short_escape x ≡ Some c → (x == 34) ≡ false → 32 ≤ x → x ≤ 126
-    → Fills (92 ∷ x ∷ [])
+    → c ∷ [] ≡ encodes (c ∷ []) → 92 ∷ x ∷ [] ≡ escaped_char c ++ [] → Fills (92 ∷ x ∷ [])
 unfolding content lex
-letter_fills x c no_u is q low high = record {
+letter_fills x c no_u is q low high spells escaped = record {
   means = c ∷ [];
+  characters = c ∷ [];
+  spells = spells;
+  escaped = escaped;
   read = λ r. rw (no_u, is) refl;
   lexed = λ r. refl;
   shows = two_bytes 92 x (omega arith) (omega arith) low high;
@@ -90,7 +101,7 @@ after_u : (t : List ℕ) → Fills t → (r : List ℕ) → lex in_string (92 �
 unfolding lex
 after_u t f r = f.lexed r
 
-module _ (c : ℕ) (hidden : is_hidden c ≡ true) where
+module _ (c : ℕ) (hidden : is_hidden c ≡ true) (escaped : escaped_char c ≡ unit_escape c) where
   unit_is : code_unit (hex (c / 256 / 16)) (hex (c / 256 % 16)) (hex (c % 256 / 16)) (hex (c % 256 % 16)) ≡ Some c
   unit_is =
       let low = low_of c hidden in
@@ -109,6 +120,9 @@ module _ (c : ℕ) (hidden : is_hidden c ≡ true) where
       (omega (arith, low), (omega arith, tt))) in
       record {
         means = encode_utf8 c;
+        characters = c ∷ [];
+        spells = sym (append-nil (encode c));
+        escaped = sym (append-nil (unit_escape c)) ∙ ap (λ x. x ++ []) (sym escaped);
         read = unit_read;
         lexed = λ r. after_u _ digits r;
         shows = shows_then {a = 92 ∷ 117 ∷ []}
@@ -124,17 +138,22 @@ chosen P true a b h k = h refl
 chosen P false a b h k = k refl
 
 char_fills : (c : ℕ) → Fills (escaped_char c)
-unfolding short_escape
+unfolding short_escape encode
 char_fills c =
     chosen Fills (c == 34) _ _ (λ e. quote_fills) (λ no_quote.
     chosen Fills (c == 92) _ _ (λ e. backslash_fills) (λ no_escape.
-    chosen Fills (c == 10) _ _ (λ e. letter_fills 110 10 refl refl refl (omega arith) (omega arith)) (λ e.
-    chosen Fills (c == 13) _ _ (λ e. letter_fills 114 13 refl refl refl (omega arith) (omega arith)) (λ e.
-    chosen Fills (c == 9) _ _ (λ e. letter_fills 116 9 refl refl refl (omega arith) (omega arith)) (λ e.
-    chosen Fills (c == 8) _ _ (λ e. letter_fills 98 8 refl refl refl (omega arith) (omega arith)) (λ e.
-    chosen Fills (c == 12) _ _ (λ e. letter_fills 102 12 refl refl refl (omega arith) (omega arith)) (λ e.
-    chosen Fills (is_hidden c) (unit_escape c) (encode c) (λ h. unit_fills c h)
-    (λ shown. plain_char c shown no_quote no_escape))))))))
+    chosen Fills (c == 10) _ _ (λ e. letter_fills 110 10 refl refl refl (omega arith) (omega arith) refl refl)
+    (λ no_10.
+    chosen Fills (c == 13) _ _ (λ e. letter_fills 114 13 refl refl refl (omega arith) (omega arith) refl refl)
+    (λ no_13.
+    chosen Fills (c == 9) _ _ (λ e. letter_fills 116 9 refl refl refl (omega arith) (omega arith) refl refl)
+    (λ no_9.
+    chosen Fills (c == 8) _ _ (λ e. letter_fills 98 8 refl refl refl (omega arith) (omega arith) refl refl)
+    (λ no_8.
+    chosen Fills (c == 12) _ _ (λ e. letter_fills 102 12 refl refl refl (omega arith) (omega arith) refl refl)
+    (λ no_12.
+    chosen Fills (is_hidden c) (unit_escape c) (encode c) (λ h. unit_fills c h
+    (rw (no_quote, no_escape, no_10, no_13, no_9, no_8, no_12, h) refl)) (λ shown. plain_char c shown no_quote no_escape))))))))
 
 chars_fill : (cs : List ℕ) → Fills (flat_map escaped_char cs)
 chars_fill [] = fills_nothing
@@ -153,6 +172,9 @@ quote_escaped = quote_fills
 -- the lexer takes the text as a string, whatever follows
 pub record IsString (t : List ℕ) : Type 0 where
   pub means : List ℕ
+  pub characters : List ℕ
+  pub spells : means ≡ encodes characters
+  pub written : t ≡ 34 ∷ (flat_map escaped_char characters ++ 34 ∷ [])
   pub lexed : (r : List ℕ) → lex between (t ++ r) ≡ token (string means) ∷ lex between r
   pub shows : Shows t
 
@@ -165,10 +187,19 @@ string_lexed s f r =
 pub is_string : (s t : List ℕ) → Fills s → t ≡ 34 ∷ (s ++ 34 ∷ []) → IsString t
 is_string s t f is = subst IsString (sym is) (record {
   means = f.means ++ [];
+  characters = f.characters;
+  spells = append-nil f.means ∙ f.spells;
+  written = ap (λ x. 34 ∷ (x ++ 34 ∷ [])) f.escaped;
   lexed = λ r. ap (λ l. lex between (34 ∷ l)) (append_assoc s (34 ∷ []) r) ∙ string_lexed s f r;
   shows = shows_then {a = 34 ∷ []} (shows_byte 34 (omega arith) (omega arith))
       (shows_then f.shows (shows_byte 34 (omega arith) (omega arith)));
 })
+
+-- one meaning is written in one way
+pub same_string : (s t : List ℕ) (a : IsString s) (b : IsString t) → a.means ≡ b.means → s ≡ t
+same_string s t a b same =
+    a.written ∙ ap (λ cs. 34 ∷ (flat_map escaped_char cs ++ 34 ∷ []))
+    (encodes_same a.characters b.characters (sym a.spells ∙ same ∙ b.spells)) ∙ sym b.written
 
 pub string_in_quotes : (s : List ℕ) → Fills s → IsString (in_quotes s)
 string_in_quotes s f = is_string s (in_quotes s) f refl

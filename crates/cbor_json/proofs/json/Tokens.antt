@@ -1,5 +1,5 @@
 -- Texts of JSON values, and the tokens that they are read as.
-use Rattle.std.proofs.Common.{◌≡◌, ◌≢◌, ℕ, suc, ◌≤◌, List, [], ◌∷◌, ◌++◌, Bool, true, false, Some}
+use Rattle.std.proofs.Common.{◌≡◌, ◌≢◌, ℕ, suc, ◌≤◌, List, [], ◌∷◌, ◌++◌, Bool, true, false, Some, IsTrue}
 use Rattle.std.proofs.Common.{if◌then◌else◌, cond, codes, refl, sym, ap, ap₂, ◌∙◌, arith, append_assoc, append-nil}
 use Rattle.std.specs.List.{flat_map}
 use Rattle.json.specs.Json.{Json, null, boolean, number, string}
@@ -8,6 +8,7 @@ use Rattle.std.specs.Prelude.{option_and_then}
 use Rattle.json.specs.Lex.{Lexeme, token, colon, lex, between, Place, fresh, after_value, after_comma, after_key}
 use Rattle.json.specs.Lex.{begins_colon, may_begin, punctuate}
 use Rattle.json.specs.Print.{IsNumber}
+use Rattle.json.specs.Strict.{HasUniqueKeys}
 use Rattle.json.specs.Token as tok
 use Rattle.json.specs.Token.{Token}
 use Rattle.json.specs.Tree.{json_tokens, depth}
@@ -24,16 +25,26 @@ Takes t ts =
     (p : Place) (r : List ℕ) → may_begin p ≡ true → ends_word r ≡ true → begins_colon (lex between r) ≡ false
     → punctuate p (lex between (t ++ r)) ≡ ts ++ punctuate after_value (lex between r)
 
--- the text is that of a value with this many levels
-pub record Reads (left : ℕ) (t : List ℕ) : Type 0 where
+-- the text is that of a value with this many levels; where it is asked for, no object of it has a key twice
+pub record Reads (strict : Bool) (left : ℕ) (t : List ℕ) : Type 0 where
   pub means : Json
+  pub unique : IsTrue strict → HasUniqueKeys means
   pub low : depth means ≤ left
   pub takes : Takes t (json_tokens means)
   pub shows : Shows t
 
--- one more level is no harm
-pub deeper : {left : ℕ} {t : List ℕ} → Reads left t → Reads (suc left) t
-deeper h = record { means = h.means; low = omega (arith, h.low); takes = h.takes; shows = h.shows }
+-- more levels are no harm
+abbrev pub lower : {strict : Bool} {left n : ℕ} {t : List ℕ} → left ≤ n → Reads strict left t → Reads strict n t
+lower le h = record {
+  means = h.means;
+  unique = h.unique;
+  low = omega (arith, le, h.low);
+  takes = h.takes;
+  shows = h.shows;
+}
+
+abbrev pub deeper : {strict : Bool} {left : ℕ} {t : List ℕ} → Reads strict left t → Reads strict (suc left) t
+deeper h = lower (omega arith) h
 
 -- ---- what holds no value
 
@@ -77,17 +88,19 @@ begin_null after_value ls may = absurd cc
 begin_null after_comma ls may = refl
 begin_null after_key ls may = absurd cc
 
-pub string_reads : {left : ℕ} {t : List ℕ} → IsString t → Reads left t
+pub string_reads : {strict : Bool} {left : ℕ} {t : List ℕ} → IsString t → Reads strict left t
 string_reads h = record {
   means = string h.means;
+  unique = λ _. tt;
   low = omega arith;
   takes = λ p r may ends no_colon. ap (punctuate p) (h.lexed r) ∙ begin_string p h.means (lex between r) may no_colon;
   shows = h.shows;
 }
 
-pub number_reads : {left : ℕ} (t : List ℕ) → IsNumber t → Shows t → Reads left t
+pub number_reads : {strict : Bool} {left : ℕ} (t : List ℕ) → IsNumber t → Shows t → Reads strict left t
 number_reads t h shows = record {
   means = number t;
+  unique = λ _. tt;
   low = omega arith;
   takes = λ p r may ends no_colon. ap (punctuate p) (lex-number t r h ends) ∙ begin_number p t (lex between r) may;
   shows = shows;
@@ -107,25 +120,28 @@ lex_null : (r : List ℕ) → ends_word r ≡ true → lex between (codes "null"
 unfolding lex word
 lex_null r ends = ap₂ (λ b l. token (cond b tok.null tok.bad) ∷ l) ends (in_word-ended r ends)
 
-pub true_reads : {left : ℕ} → Shows (codes "true") → Reads left (codes "true")
+pub true_reads : {strict : Bool} {left : ℕ} → Shows (codes "true") → Reads strict left (codes "true")
 true_reads shows = record {
   means = boolean true;
+  unique = λ _. tt;
   low = omega arith;
   takes = λ p r may ends no_colon. ap (punctuate p) (lex_true r ends) ∙ begin_boolean p true (lex between r) may;
   shows = shows;
 }
 
-pub false_reads : {left : ℕ} → Shows (codes "false") → Reads left (codes "false")
+pub false_reads : {strict : Bool} {left : ℕ} → Shows (codes "false") → Reads strict left (codes "false")
 false_reads shows = record {
   means = boolean false;
+  unique = λ _. tt;
   low = omega arith;
   takes = λ p r may ends no_colon. ap (punctuate p) (lex_false r ends) ∙ begin_boolean p false (lex between r) may;
   shows = shows;
 }
 
-pub null_reads : {left : ℕ} → Shows (codes "null") → Reads left (codes "null")
+pub null_reads : {strict : Bool} {left : ℕ} → Shows (codes "null") → Reads strict left (codes "null")
 null_reads shows = record {
   means = null;
+  unique = λ _. tt;
   low = omega arith;
   takes = λ p r may ends no_colon. ap (punctuate p) (lex_null r ends) ∙ begin_null p (lex between r) may;
   shows = shows;
@@ -255,7 +271,7 @@ colon_lexed : (s : List ℕ) (x : List ℕ) → token (tok.string s) ∷ lex bet
 unfolding lex
 colon_lexed s x = refl
 
-pub pair_takes : (left : ℕ) (a b : List ℕ) (key : IsString a) (val : Reads left b)
+pub pair_takes : {strict : Bool} (left : ℕ) (a b : List ℕ) (key : IsString a) (val : Reads strict left b)
     → Takes (a ++ (codes ": " ++ b)) (tok.key key.means ∷ json_tokens val.means)
 pair_takes left a b key val = λ p r may ends no_colon.
     ap (λ y. punctuate p (lex between y)) (append_assoc a (58 ∷ 32 ∷ b) r)
@@ -266,7 +282,7 @@ pair_takes left a b key val = λ p r may ends no_colon.
 -- ---- texts
 
 -- the whole text is that value
-pub reads_document : (t : List ℕ) (h : Reads 128 t) → document t ≡ Some h.means
+pub reads_document : {strict : Bool} (t : List ℕ) (h : Reads strict 128 t) → document t ≡ Some h.means
 unfolding lex punctuate
 reads_document t h =
     let whole = ap (λ y. punctuate fresh (lex between y)) (sym (append-nil t)) ∙ h.takes fresh [] refl refl refl in

@@ -20,6 +20,7 @@ use Rattle.cbor_grammar.specs.declared.error.Error.TheVariants.{Memory}
 use Rattle.cbor_grammar.specs.Item.{Item}
 use Rattle.cbor_grammar.specs.Reading.{read_item}
 use Rattle.cbor_grammar.specs.WellFormed.{WellFormed, levels_left}
+use Rattle.cbor_grammar.specs.mirror.AtLevel.{read_at}
 use Rattle.cbor_notation_writer.specs.Dialect.{TextsAt, TextsOf}
 use Rattle.cbor_notation_writer.specs.mirror.Straight.{Written}
 use Rattle.cbor_json.specs.JsonLeaves.{json_leaves}
@@ -29,6 +30,7 @@ use Rattle.cbor_json.specs.declared.error.JsonError.TheVariants.{Cbor}
 use Rattle.cbor_json.specs.declared.judge.Judged.{Judged}
 use Rattle.cbor_json.specs.declared.print.place.JsonPlace.{JsonPlace}
 use Rattle.cbor_json.specs.declared.style.JsonStyle.{JsonStyle}
+use Rattle.cbor_json.specs.mirror.Walking.{IsUnique, UniqueAs, UniqueTexts}
 use Rattle.cbor_json.proofs.json.Fills.{NotHidden}
 use Rattle.cbor_json.proofs.json.Parts.{Part}
 use Rattle.cbor_json.proofs.json.Texts.{text_part}
@@ -42,7 +44,7 @@ json_so (Ok x) style p f b old new here (i, is, t, text, written) =
     (i, is, t, record { place = p; outermost = here; written = text }, written)
 json_so (Err e) style p f b old new here h = tt
 
-all_bytes : (b : List ℕ) → IsBytes b → AllBytes b
+pub all_bytes : (b : List ℕ) → IsBytes b → AllBytes b
 all_bytes [] h = tt
 all_bytes (x ∷ b) h = (h 0, all_bytes b (λ i. h (suc i)))
 
@@ -63,7 +65,7 @@ pub record IsDocument (t : List ℕ) : Type 0 where
   pub is : document t ≡ Some means
   pub shown : IsShown false t
 
-of_reads : (t : List ℕ) → Reads 128 t → IsDocument t
+of_reads : (t : List ℕ) → Reads false 128 t → IsDocument t
 of_reads t h = record {
   means = h.means;
   is = reads_document t h;
@@ -76,7 +78,27 @@ json_is style b i rest t bytes is of =
     let here = of.outermost in
     let part = text_part 1 128 refl of.place i t (read_well b i rest bytes is)
     (subst (λ l. TextsOf json_leaves (levels_left l) of.place i t) here.level of.written) in
-    of_reads t (subst (λ s. Part s 128 t) here.spot part)
+    of_reads t (subst (λ s. Part false s 128 t) here.spot part)
+
+-- the text of an item of which no object has a key twice
+pub unique_json : (style : JsonStyle) (b : List ℕ) (i : Item) (rest t : List ℕ) → IsBytes b
+    → read_item 128 b ≡ Ok (i, rest) → IsJsonOf style i t → IsUnique t → (IsTrue style.strict → IsKept i)
+    → IsJsonText style i t
+unique_json style b i rest t bytes is of unique kept =
+    let d = json_is style b i rest t bytes is of in
+    record { of = of; means = d.means; is = d.is; unique = unique d.means d.is; shown = d.shown; kept = kept }
+
+pub unique_so : (style : JsonStyle) (p : JsonPlace) (b rest new : List ℕ) → IsOutermost style p
+    → Written (UniqueTexts (levels_left p.level) p) (read_at p.level b) rest [] new
+    → (i : Item) × (read_item 128 b ≡ Ok (i, rest)) × IsJsonOf style i new × IsUnique new
+unique_so style p b rest new here (i, is, t, text, written) =
+    let of : IsJsonOf style i t = record { place = p; outermost = here; written = text.0 } in
+    let alone : IsUnique t = subst (λ s. UniqueAs s t) here.spot text.1 in (
+      i,
+      subst (λ l. read_at l b ≡ Ok (i, rest)) here.level is,
+      subst (IsJsonOf style i) (sym written) of,
+      subst IsUnique (sym written) alone,
+    )
 
 -- ---- what became of an item
 

@@ -57,7 +57,7 @@ pub(crate) fn wants_bytes(tag: Option<u64>) -> bool
 }
 
 /// What the bytes of a byte string there are written as.
-pub(super) fn content_at(place: &JsonPlace, bytes: &[u8]) -> Content
+pub(crate) fn content_at(place: &JsonPlace, bytes: &[u8]) -> Content
     ensures { result ≡ content_there place.now bytes.now }
 {
     let may_be_item = place.style.embedded && !wants_bytes(place.tag) && is_value(place.spot);

@@ -2,7 +2,7 @@
 use Rattle.std.proofs.Common.{arith}
 use Rattle.std.specs.String.{string_bytes}
 use Rattle.cbor_json.proofs.writing.Json.{is_text, has_same_keys}
-use Rattle.cbor_json.proofs.judge.judge_front.Goals as goal
+use Rattle.cbor_json.proofs.judge.judge_again.Goals as goal
 
 pub returns-in-Some-clause-judged : goal.returns-in-Some-clause-judged
 returns-in-Some-clause-judged c =
