@@ -112,7 +112,7 @@ fn loss_if_strict(bytes: &[u8], style: JsonStyle) -> Option<Loss>
     }
 }
 
-/// What becomes of a text of which no object has a name twice.
+/// The result for a text in which no object has a name twice.
 fn judged_text(text: String, bytes: &[u8], style: JsonStyle) -> Judged
     ensures judged { (i : Item) (rest : List ℕ) → read_item deepest bytes.now ≡ Ok (i, rest)
         → IsJsonOf style i (string_bytes text) → IsUnique (string_bytes text)

@@ -188,7 +188,7 @@ fn push_object<'a>(
     }
 }
 
-/// Writes the key at the front, and takes down where its name stands.
+/// Writes the key at the front, and records where its name stands.
 fn push_name<'a>(
     out: &mut String,
     names: &mut Vec<Name>,

@@ -1,4 +1,4 @@
--- The texts that are written, of which none has an object with a key twice.
+-- Texts that the walk writes: no object in them has a key twice.
 use Rattle.std.proofs.Common.{◌≡◌, ℕ, suc, ◌+◌, ◌<◌, ◌≤◌, List, [], ◌∷◌, ◌++◌, Bool, true, false, Some, Result, Ok}
 use Rattle.std.proofs.Common.{Bor, Option, None, if◌then◌else◌, Err, IfOk, length, refl, sym, ap, subst, ◌∙◌, arith, append-nil}
 use Rattle.json.specs.Json.{Json}

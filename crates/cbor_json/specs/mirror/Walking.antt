@@ -1,4 +1,4 @@
--- What `walk.rt` writes: JSON of which no object has a name twice.
+-- What `walk.rt` writes: JSON in which no object has a name twice.
 use Rattle.std.specs.Prelude.{◌≡◌, ℕ, ◌+◌, ◌≤◌, List, [], ◌∷◌, ◌++◌, codes, length, Some}
 use Rattle.std.specs.Cmp.Lexicographic.{slice_cmp}
 use Rattle.std.specs.List.{AllZip, between}

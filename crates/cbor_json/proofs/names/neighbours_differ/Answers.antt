@@ -1,4 +1,4 @@
--- Sorted texts of which no two neighbours are equal.
+-- In sorted texts, no two neighbours are equal.
 use Rattle.std.proofs.Common.{arith}
 use Rattle.json.proofs.Unique.Keys.{AreDistinct-from_places, DifferAt-from_sorted}
 use Rattle.cbor_json.proofs.names.neighbours_differ.Goals as goal

@@ -1,4 +1,4 @@
--- What is appended is a text of the item of which no object has a name twice.
+-- The walk appends a text of the item, and no object in it has a name twice.
 use Rattle.std.proofs.Common.{◌≡◌, ◌+◌, ◌++◌, [], ◌∷◌, ℕ, List, Bor, Result, Ok, Some, true, refl, ap, sym, subst, ◌∙◌, arith}
 use Rattle.std.proofs.Common.{append_assoc, append-nil}
 use Rattle.std.specs.String.{string_bytes}
