@@ -1,0 +1,30 @@
+use Rattle.std.proofs.Common.{◌+◌, ◌-◌, ◌++◌, Option, Some, refl, ap, ◌∙◌, append_assoc, arith}
+use Rattle.std.proofs.lemmas.Result.{err_from_is_err_and}
+use Rattle.cbor_grammar.specs.declared.width.IntegerWidth.TheVariants.{Unknown}
+use Rattle.cbor_grammar.specs.Item.{Item, tagged}
+use Rattle.cbor_grammar.specs.Written.{encoded, encoded_head}
+use Rattle.cbor_edn_grammar.specs.Reading.{◌>>=◌}
+use Rattle.cbor_edn_grammar.proofs.Turns.{refused_step}
+use Rattle.cbor_edn_reader.proofs.Dates.{tagged_none, tagged_left}
+use Rattle.cbor_edn_reader.proofs.date.tagged_date.Goals as goal
+
+pub returns-then-inner-gt-DEEPEST : goal.returns-then-inner-gt-DEEPEST
+returns-then-inner-gt-DEEPEST c = tagged_none (129 - c.args.inner) c.args.content.now (omega arith)
+
+pub returns-in_err-date_item : goal.returns-in_err-date_item
+returns-in_err-date_item c =
+    let p = err_from_is_err_and c.from_residual-in_err-date_item.result c.from_residual-in_err-date_item.ensures.1 in
+    let is = tagged_left (129 - c.args.inner) (129 - (c.args.inner + 1)) c.args.content.now (omega arith) in
+    rw (p.1, p.2, is) (refused_step c.in_err-date_item.field-0.0 _ (λ i. Some (tagged 1 Unknown i))
+    c.in_err-date_item.ensures)
+
+pub returns : goal.returns
+returns c =
+    let is = tagged_left (129 - c.args.inner) (129 - (c.args.inner + 1)) c.args.content.now (omega arith) in
+    let d = c.in_ok-date_item.ensures in (
+      tagged 1 Unknown d.0,
+      is ∙ ap (λ (r : Option Item). r >>= λ i. Some (tagged 1 Unknown i)) d.1,
+      d.2 ∙ ap (λ b. b ++ encoded d.0) c.in_ok-push_head.ensures
+          ∙ append_assoc c.args.out.now.items (encoded_head 6 1 Unknown) (encoded d.0),
+      refl,
+    )
