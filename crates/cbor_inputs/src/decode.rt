@@ -11,8 +11,8 @@ use crate::base64_text::bytes_of_base64;
 use crate::loose::{HexFault, bytes_of_hex};
 use crate::text::{is_text, mark_len, unmarked};
 use cbor_bytes::utf8_fault;
-use cbor_edn::edn_to_bytes;
 use cbor_edn_grammar::error::{EdnError, Expected};
+use cbor_edn_reader::edn_to_bytes;
 use cbor_paths::{End, Shown, skip_items};
 use std::alloc::{AllocError, Global};
 

@@ -2,8 +2,8 @@
 ghost use Rattle.std.specs.Prelude.{◌≡◌, IfErr};
 
 use cbor_bytes::write::push_head;
-use cbor_edn::parse_edn;
 use cbor_edn_grammar::error::EdnError;
+use cbor_edn_reader::edn_item_to_bytes;
 use cbor_grammar::major::Major;
 use cbor_grammar::{Error, IntegerWidth};
 use cbor_paths::Step;
@@ -116,8 +116,8 @@ fn is_number(text: &str) -> bool {
 fn key_of(alloc: Global, word: &str) -> Result<Vec<u8>, Error>
     ensures refused { IfErr result (λ e. e ≡ Error.Memory) }
 {
-    match parse_edn(alloc, word) {
-        Ok(key) => key.to_bytes(alloc),
+    match edn_item_to_bytes(alloc, word) {
+        Ok(key) => Ok(key),
         Err(EdnError::Memory) => Err(Error::Memory),
         Err(_) => Ok(text_key(alloc, word)?),
     }

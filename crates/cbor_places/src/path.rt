@@ -1,7 +1,7 @@
 //! Where an item is: its path, written as `-p` reads it.
 
-use cbor_edn::parse_edn;
 use cbor_edn_grammar::error::EdnError;
+use cbor_edn_reader::edn_item_to_bytes;
 use cbor_edn_writer::bytes_to_edn;
 use cbor_grammar::Error;
 use cbor_grammar::argument::Argument;
@@ -159,7 +159,7 @@ fn plain_word(alloc: Global, key: &[u8]) -> Result<Option<&str>, AllocError> {
             return Ok(None);
         }
     }
-    match parse_edn(alloc, text) {
+    match edn_item_to_bytes(alloc, text) {
         Ok(_) => Ok(None),
         Err(EdnError::Memory) => Err(AllocError),
         Err(_) => Ok(Some(text)),
