@@ -1702,6 +1702,17 @@ static void *converting(void *unused)
                      cbor_diag_convert(DIAG, BYTES, deepest, sizeof deepest, output, sizeof output));
         check(output[0] == 0x58 && output[1] == deepest_length - 2 && output[deepest_length - 1] == 1,
               "127 levels in a thread: came %02x %02x", output[0], output[1]);
+        if (round % 256 == 0) {
+            uint32_t form;
+            check_answer("127 levels, recognized in a thread", deepest_length,
+                         cbor_diag_recognize(deepest, sizeof deepest, &form, output, sizeof output));
+            char arrays[128];
+            memset(arrays, 0x81, 127);
+            arrays[127] = 1;
+            check_answer("a part in a thread", 0, cbor_diag_part(arrays, sizeof arrays, "0/0/0", 5, NULL, NULL));
+            check(cbor_diag_paths(arrays, sizeof arrays, NULL, 0) > 0, "paths in a thread: came an error");
+            check(cbor_diag_named(arrays, sizeof arrays, NULL, 0, NULL, 0) > 0, "names in a thread: came an error");
+        }
     }
     return NULL;
 }
