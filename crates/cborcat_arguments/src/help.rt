@@ -98,7 +98,7 @@ is taken for bytes only in a file named .cbor, .cose or .cwt that cannot be
 read to its end as any form of text.
 
 RULES, each with the grammar of RFC 8949:
-  preferred, core (deterministic), length-first: encodings of RFC 8949
+  preferred; core, length-first (deterministic): encodings of RFC 8949
   ctap2, dcbor: the encodings of CTAP2 and dCBOR
   valid: no map has a key twice (1 and 1_0 are the same key)
   rfc8949: the grammar alone
