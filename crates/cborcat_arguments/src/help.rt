@@ -22,7 +22,7 @@ Reads each FILE and writes its items. Without a FILE, or for -, reads standard
 input.
 
 Input:
-  -f, --from=FORM    the form of the input: a form below that is marked i
+  -f, --from=FORM    the form of the input: one of those below marked i
                      (default: recognized)
   -x, --text=TEXT    read TEXT instead of files
   -1, --one          each input has to be exactly one item, not a sequence
@@ -30,7 +30,7 @@ Input:
       --limit=BYTES  refuse a longer item (default: 268435456)
 
 Output:
-  -t, --to=FORM      the form of the output: a form below that is marked o
+  -t, --to=FORM      the form of the output: one of those below marked o
                      (default: pretty)
   -p, --path=PATH    show only the part that PATH leads to, or each such part
       --set=PATH=EDN put the item EDN in place of that part, or add it at PATH
@@ -40,7 +40,7 @@ Output:
       --no-notes     no comments in notation, and no names
       --as=TYPE      treat each item shown as a TYPE such as COSE_Key if no tag
                      gives its type, and show the names of its keys and values
-      --names=FILE   show also the names of FILE: tables in TOML, beside those
+      --names=FILE   also show the names of FILE: tables in TOML, beside those
                      of COSE, CWT, EAT, SenML and CTAP2
       --no-names     no names; other comments stay
       --names-as-keys
@@ -56,7 +56,7 @@ Output:
       --color=WHEN   auto, always or never (default: auto: in a terminal,
                      unless NO_COLOR is set)
   -o, --output=FILE  write FILE, once all input is converted
-      --partial      show also the part of a truncated or malformed item that
+      --partial      also show the part of a truncated or malformed item that
                      is there
       --places       show the place of each item before its path (-t paths)
       --at=N         show the path, head and place of the innermost item that
@@ -90,14 +90,14 @@ Forms, i for input and o for output:
                   convert a large file in parts: place, length, items
 
 Without -f the form is recognized. Input with a byte that no text can have is
-taken as bytes, and shown as it arrives. Text is read to its end first. A text
-of pairs of hex digits is hex, even if its item is truncated or malformed.
-Other text is diag or base64: the first of the two that reads all of it. The
-name of a file may say more: .hex is hex; .edn, .diag and .json are diag. Text
-is taken for bytes only in a file named .cbor, .cose or .cwt that cannot be
-read to its end as any form of text.
+taken as bytes, and shown as it arrives. Text is read to its end before any of
+it is shown. A text of pairs of hex digits is hex, even if its item is truncated
+or malformed. Other text is diag or base64: the first of the two that reads all
+of it. The name of a file may say more: .hex is hex; .edn, .diag and .json are
+diag. Text is taken for bytes only in a file named .cbor, .cose or .cwt that
+cannot be read to its end as any form of text.
 
-RULES, each with the grammar of RFC 8949:
+RULES (each includes the grammar of RFC 8949):
   preferred; core, length-first (deterministic): encodings of RFC 8949
   ctap2, dcbor: the encodings of CTAP2 and dCBOR
   valid: no map has a key twice (1 and 1_0 are the same key)
