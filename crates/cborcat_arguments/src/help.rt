@@ -68,7 +68,7 @@ Output:
       --encode=RULES re-encode each item so that it keeps RULES
       --diff         compare two files: a line for each difference: ~ changed,
                      + only in the second, - only in the first
-      --exact        with --diff: also report equal items that are encoded
+      --exact        with --diff, also report equal items that are encoded
                      differently
 
   -h, --help         show this text
