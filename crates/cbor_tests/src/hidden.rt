@@ -30,7 +30,7 @@ fn hidden_characters_are_escaped(rt: HostRuntime) -> Result<(), Fail> {
         };
         let text = format!(in alloc; "{character}")?;
         let want = if is_hidden(code) {
-            format!(in alloc; "\\u{{{code:x}}}")?
+            format!(in alloc; "\\u{{{code:04x}}}")?
         } else {
             format!(in alloc; "{text}")?
         };
