@@ -38,7 +38,7 @@ use cbor_grammar::width::count_fits;
 use pieces::{read_content, read_string};
 use std::alloc::Global;
 
-/// One more than a count. No text has so many members that there is none.
+/// One more than a count. A text never has enough members that this does not fit.
 fn one_more(count: usize) -> Result<usize, Stop>
     ensures more { IfOk result (λ n. n ≡ count + 1) }
     ensures memory { IfErr result (λ e. e ≡ Memory) }

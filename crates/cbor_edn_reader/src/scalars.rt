@@ -139,7 +139,7 @@ fn named(word: &[u8]) -> Option<Simple>
     }
 }
 
-/// The simple value that a number is, of which no width is stated.
+/// The simple value of this number, for which no width is stated.
 fn simple_number(number: u64, width: IntegerWidth) -> Result<u8, Stop>
     ensures { Gives (λ n. n) result (simple_number number width) }
 {
