@@ -29,24 +29,28 @@ pub struct Changes<'a> {
 }
 
 impl<'a> Changes<'a> {
-    /// What changes the items of an input that begins with these bytes.
+    /// What changes the items of an input, if the arguments ask for it.
     pub fn new(
         rt: &'a HostRuntime,
         job: &'a Job<'a>,
-        asked: (&'a Place<'a>, Option<Tables<'a>>),
-        first: Vec<u8>,
+        place: &'a Place<'a>,
+        tables: Option<Tables<'a>>,
     ) -> Changes<'a> {
-        let (place, tables) = asked;
         Changes {
             rt,
             job,
             place,
             tables,
-            stream: Stream::new(first),
+            stream: Stream::new(Vec::new(rt.alloc())),
             count: 0,
             status: Status::Fine,
             ended: false,
         }
+    }
+
+    /// Whether changes are asked for.
+    pub fn are_asked(&self) -> bool {
+        !self.job.changes.is_empty()
     }
 
     /// Takes the next bytes, and returns the changed ones of the items that are whole, and at the

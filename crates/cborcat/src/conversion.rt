@@ -44,8 +44,8 @@ pub struct Conversion<'a> {
     pub status: Status,
     /// The bytes that came, but for those that are skipped or converted.
     stream: Stream,
-    /// What changes the items before they are looked at, if something does.
-    changes: Option<Changes<'a>>,
+    /// What changes the items before they are looked at, if that is asked for.
+    changes: Changes<'a>,
     /// How many bytes came.
     came: usize,
     /// How many of the bytes that come next are skipped.
@@ -86,12 +86,6 @@ impl<'a> Conversion<'a> {
         let mut first = first;
         let skipped = job.offset.min(came);
         drop_front(&mut first, skipped);
-        let (changes, first, came) = if job.changes.is_empty() {
-            (None, first, came)
-        } else {
-            let changes = Changes::new(rt, job, (place, tables), first);
-            (Some(changes), Vec::new(rt.alloc()), 0)
-        };
         Conversion {
             rt,
             job,
@@ -102,7 +96,7 @@ impl<'a> Conversion<'a> {
             tables,
             status: Status::Fine,
             stream: Stream::new(first),
-            changes,
+            changes: Changes::new(rt, job, place, tables),
             came,
             skip: job.offset - skipped,
             within: 0,
@@ -127,7 +121,7 @@ impl<'a> Conversion<'a> {
     /// Converts the items of all that the input has, as it arrives.
     pub fn all<R: Read>(&mut self, input: &mut R) -> Next {
         let mut block = Vec::new(self.rt.alloc());
-        let mut next = match self.take(b"", false) {
+        let mut next = match self.change_first() {
             Ok(()) => self.items(false),
             Err(_) => self.stop(End::Memory),
         };
@@ -155,22 +149,34 @@ impl<'a> Conversion<'a> {
         let count = read_into(input, block.as_mut_slice())?.min(block.len());
         let skipped = self.skip.min(count);
         self.skip -= skipped;
-        if self.changes.is_none() {
+        if !self.changes.are_asked() {
             self.came = self.came.saturating_add(skipped);
         }
         self.take(&block[skipped..count], count == 0)?;
         Ok(count)
     }
 
+    /// Changes the bytes that came first, if that is asked for.
+    fn change_first(&mut self) -> Result<(), AllocError> {
+        if !self.changes.are_asked() {
+            return Ok(());
+        }
+        let alloc = self.rt.alloc();
+        let first = Vec::from_slice(alloc, self.stream.rest())?;
+        self.stream = Stream::new(Vec::new(alloc));
+        self.came = 0;
+        self.take(&first, false)
+    }
+
     /// Takes the next bytes, or what becomes of them by the changes that are asked for.
     fn take(&mut self, bytes: &[u8], at_end: bool) -> Result<(), AllocError> {
         let alloc = self.rt.alloc();
-        let Some(changes) = &mut self.changes else {
+        if !self.changes.are_asked() {
             self.came = self.came.saturating_add(bytes.len());
             return self.stream.push(alloc, bytes);
-        };
-        let changed = changes.take(bytes, at_end)?;
-        let (status, some) = (changes.status, changes.count > 0);
+        }
+        let changed = self.changes.take(bytes, at_end)?;
+        let (status, some) = (self.changes.status, self.changes.count > 0);
         self.ended(status);
         self.any |= some && status != Status::Fine;
         self.came = self.came.saturating_add(changed.len());
@@ -430,10 +436,7 @@ impl<'a> Conversion<'a> {
 
     /// Says which items that were to be changed alone are not there.
     fn note_few_changed(&mut self) {
-        let Some(changes) = &self.changes else {
-            return;
-        };
-        let count = changes.count;
+        let count = self.changes.count;
         for change in &self.job.changes {
             if let Some(item) = change.item
                 && count <= item
