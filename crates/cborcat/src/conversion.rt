@@ -44,7 +44,7 @@ pub struct Conversion<'a> {
     pub status: Status,
     /// The bytes that came, but for those that are skipped or converted.
     stream: Stream,
-    /// What changes the items before they are looked at, if that is asked for.
+    /// The changes of `--set` and `--delete`, which come before everything else.
     changes: Changes<'a>,
     /// How many bytes came.
     came: usize,
@@ -156,7 +156,7 @@ impl<'a> Conversion<'a> {
         Ok(count)
     }
 
-    /// Changes the bytes that came first, if that is asked for.
+    /// Changes the bytes that came first, for `--set` and `--delete`.
     fn change_first(&mut self) -> Result<(), AllocError> {
         if !self.changes.are_asked() {
             return Ok(());
