@@ -155,7 +155,7 @@ def partial(program):
     same_partial("between items", "diag", b"\x82\x01", "[1, /truncated/ h'']\n")
     same_partial("in lines", "pretty", b"\x82\x01\x1f", f"[\n    1,\n    {fault} h'1f'\n]\n")
     same_partial("a dump", "hex", b"\x82\x01\x1f\x00",
-                 f"82 # array(2)\n   01 # unsigned(1)\n   # malformed: {WRONG}\n   1f00\n")
+                 f"82    # array(2)\n   01 #   unsigned(1)\n   # malformed: {WRONG}\n   1f00\n")
     same_partial("digits", "digits", b"\x01\x82\x01", "01\n")
     program.same("a whole item", program.run("--partial", "-t", "diag", data=b"\x81\x01"), (b"[1]\n", "", 0))
     for word in ("-c", "--path=1"):
