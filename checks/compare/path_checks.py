@@ -29,6 +29,12 @@ def steps_at(run, same, examples):
     webauthn = f"{examples}/webauthn.hex"
     same("a key in authenticator data", run("-p", "authData/@71", "-t", "digits", webauthn),
          (f"{KEY}\n".encode(), "", 0))
+    same("the key by its name", run("-p", "authData/credentialPublicKey", "-t", "digits", webauthn),
+         (f"{KEY}\n".encode(), "", 0))
+    same("and in it", run("-p", "authData/credentialPublicKey/-1", "-t", "diag", webauthn), (b"1\n", "", 0))
+    said = f"cborcat: {webauthn}: authData/extensions: "
+    out, error, status = run("-p", "authData/extensions", webauthn)
+    same("no extensions", (out, error.startswith(said), status), (b"", True, 1))
     same("and in that", run("-p", "authData/@71/-1", "-t", "diag", webauthn), (b"1\n", "", 0))
     for path, wanted in (("@0", b"1\n"), ("@1", b"[2]\n"), ("@01", b"[2]\n"), ("@2", b"2\n"), ("@1/0", b"2\n")):
         same(path, run("-p", path, "-t", "diag", "-f", "hex", "-x", "44 01 81 02 ff"), (wanted, "", 0))

@@ -46,9 +46,25 @@ fn number_of(bytes: &[u8]) -> u64 {
     number
 }
 
-/// The parts of authenticator data in words. An item in it has its place, as `-p authData/@N` takes
-/// it. Bytes that are too few for the flags and the counter have none.
-pub(crate) fn parts_in_words(alloc: Global, data: &[u8]) -> Result<Option<String>, AllocError> {
+/// An item in authenticator data: its name, and where it begins and ends there.
+#[derive(Clone, Copy)]
+pub(crate) struct Item {
+    pub name: &'static str,
+    pub start: usize,
+    pub end: usize,
+}
+
+/// The parts of authenticator data.
+#[derive(Drop)]
+pub(crate) struct Parts {
+    /// In words. An item has its place there, as `-p authData/@N` takes it.
+    pub text: String,
+    /// The whole items, in their order.
+    pub items: [Option<Item>; 2],
+}
+
+/// The parts of authenticator data. Bytes that are too few for the flags and the counter have none.
+pub(crate) fn parts_of(alloc: Global, data: &[u8]) -> Result<Option<Parts>, AllocError> {
     let (Some(flags), Some(counter)) = (data.get(FLAGS), data.get(COUNTER..CREDENTIAL)) else {
         return Ok(None);
     };
@@ -57,18 +73,29 @@ pub(crate) fn parts_in_words(alloc: Global, data: &[u8]) -> Result<Option<String
     let counter = number_of(counter);
     write!(text, ", signCount {counter}")?;
     let mut end = Some(CREDENTIAL);
+    let mut items = [None, None];
     if *flags & ATTESTED != 0 {
-        end = push_credential(&mut text, data)?;
+        items[0] = push_credential(&mut text, data)?;
+        end = end_of(items[0]);
     }
     if *flags & EXTENDED != 0
         && let Some(at) = end
     {
-        end = push_item(&mut text, "extensions", data, at)?;
+        items[1] = push_item(&mut text, "extensions", data, at)?;
+        end = end_of(items[1]);
     }
     if let Some(end) = end {
         push_rest(&mut text, data.len().saturating_sub(end))?;
     }
-    Ok(Some(text))
+    Ok(Some(Parts { text, items }))
+}
+
+/// Where an item ends.
+fn end_of(item: Option<Item>) -> Option<usize> {
+    match item {
+        Some(item) => Some(item.end),
+        None => None,
+    }
 }
 
 /// Appends the names of the flags that are set.
@@ -84,8 +111,8 @@ fn push_flags(text: &mut String, flags: u8) -> Result<(), AllocError> {
     Ok(())
 }
 
-/// Appends the parts of a credential, and returns where it ends. `None` if it is not whole.
-fn push_credential(text: &mut String, data: &[u8]) -> Result<Option<usize>, AllocError> {
+/// Appends the parts of a credential, and returns its key. `None` if that is not whole.
+fn push_credential(text: &mut String, data: &[u8]) -> Result<Option<Item>, AllocError> {
     let (Some(aaguid), Some(length)) = (data.get(CREDENTIAL..LENGTH), data.get(LENGTH..ID)) else {
         text.push_str(", attestedCredentialData is truncated")?;
         return Ok(None);
@@ -100,17 +127,21 @@ fn push_credential(text: &mut String, data: &[u8]) -> Result<Option<usize>, Allo
     push_item(text, "credentialPublicKey", data, key)
 }
 
-/// Appends where an item is, and returns where it ends. `None` if it is not whole.
+/// Appends where an item is, and returns it. `None` if it is not whole.
 fn push_item(
     text: &mut String,
-    name: &str,
+    name: &'static str,
     data: &[u8],
     at: usize,
-) -> Result<Option<usize>, AllocError> {
+) -> Result<Option<Item>, AllocError> {
     write!(text, ", {name} @{at}")?;
     let rest = data.get(at..).unwrap_or(b"");
     if let Some(after) = after_front(rest, 1) {
-        return Ok(Some(data.len().saturating_sub(after.len())));
+        return Ok(Some(Item {
+            name,
+            start: at,
+            end: data.len().saturating_sub(after.len()),
+        }));
     }
     text.push_str(" is no item")?;
     Ok(None)

@@ -4,7 +4,7 @@
 ghost use Rattle.std.specs.Prelude.{◌≡◌, ◌+◌, ◌^◌, ◌<◌, ◌≤◌, length, IfOk};
 ghost use Rattle.cbor_names.specs.Falling.{len_of};
 
-use crate::authenticator::parts_in_words;
+use crate::authenticator::{Item, parts_of};
 use crate::decimal::Scaled;
 use crate::heads::after_leaf;
 use crate::moment::datetime_of_float;
@@ -155,21 +155,43 @@ impl<'a> Pass<'a> {
         self.notes.push(note)
     }
 
-    /// Notes the name of a byte string, and what it holds if that is no item.
+    /// Notes the name of a byte string that is no item, and the names of items in it. This many
+    /// bytes remain behind its content.
     fn note_bytes(
         &mut self,
         what: WhatRow,
         note: Found<'a>,
         content: &[u8],
+        behind: usize,
     ) -> Result<(), AllocError> {
-        let note = match what {
-            WhatRow::AuthenticatorData => {
-                let parts = parts_in_words(self.alloc, content)?;
-                self.notes.meaning(note, &parts)?
-            }
-            _ => note,
+        let parts = match what {
+            WhatRow::AuthenticatorData => parts_of(self.alloc, content)?,
+            _ => None,
         };
-        self.notes.push(note)
+        let Some(parts) = parts else {
+            return self.notes.push(note);
+        };
+        let items = parts.items;
+        let note = self.notes.meaning(note, &Some(parts.text))?;
+        self.notes.push(note)?;
+        let end = content.len().saturating_add(behind);
+        for item in &items {
+            if let Some(item) = item {
+                self.note_item(*item, end)?;
+            }
+        }
+        Ok(())
+    }
+
+    /// Notes the name of an item in a byte string. This many bytes remain from the content of the
+    /// string on.
+    fn note_item(&mut self, item: Item, remaining: usize) -> Result<(), AllocError> {
+        let at = remaining.saturating_sub(item.start);
+        let index = self.notes.len();
+        self.notes.push(Found::new(at, item.name))?;
+        self.notes
+            .end(index, at, remaining.saturating_sub(item.end));
+        Ok(())
     }
 
     /// The bytes after an item.
@@ -345,7 +367,8 @@ impl<'a> Pass<'a> {
             return Err(Stop::NoItem);
         };
         let Some(what) = self.names.held(place.what, place.around, content) else {
-            self.note_bytes(place.what, note, content)?;
+            let behind = rest.len().saturating_add(place.behind);
+            self.note_bytes(place.what, note, content, behind)?;
             return Ok(rest);
         };
         self.notes.push(note.encoded(true))?;

@@ -98,9 +98,24 @@ fn named(bytes: &[u8], members: Members, name: &str, picture: Picture) -> Option
     None
 }
 
+/// The item in a byte string that has this name in the picture, whatever bytes are around it.
+fn named_inside(bytes: &[u8], below: Below, name: &str, picture: Picture) -> Option<At> {
+    let len = content(bytes, below)?.len();
+    for mark in picture.marks {
+        let byte = mark.place.saturating_sub(below.inner);
+        if mark.place >= below.inner && byte < len && mark.name == name {
+            return inside_at(bytes, below, byte);
+        }
+    }
+    None
+}
+
 /// Where a key leads: to an index or a key, or else to a name that is shown.
 fn member(bytes: &[u8], start: usize, key: &[u8], picture: Picture) -> Option<At> {
-    let members = Members::new(shown_below(bytes, start, picture)?)?;
+    let below = shown_below(bytes, start, picture)?;
+    let Some(members) = Members::new(below) else {
+        return named_inside(bytes, below, text_of(key)?, picture);
+    };
     if let Some(at) = keyed(bytes, members, key) {
         return Some(at);
     }
