@@ -84,7 +84,7 @@ def forms(run, same, text):
             asked = "index=1" if word == "index" else word
             same(f"-t {word}", run("-t", asked)[2], 0 if "o" in ways else 2)
     page = text_of("share/man/cborcat.1").partition(".SH FORMS")[2].partition(".SH ")[0]
-    listed = re.findall(r"[a-z0-9]+\b(?<!SIZE)", " ".join(re.findall(r"^\.TP.*\n\.BR? (.*)$", page, re.MULTILINE)))
+    listed = re.findall(r"[a-z0-9]+", " ".join(re.findall(r"^\.TP.*\n\.B[RI]? (.*)$", page, re.MULTILINE)))
     wanted = [word for name, other, _ in rows for word in (name, other) if word]
     same("the forms of the manual page", sorted(listed), sorted(wanted))
 

@@ -1,4 +1,5 @@
-//! The forms of an input, and which form one has.
+//! Finds which form an input has (bytes, hex, EDN or base 64), and decodes it to the bytes that it
+//! stands for.
 
 ghost use Rattle.std.specs.Prelude.{◌≡◌, ◌≢◌, ◌↔◌, ◌⊎◌, ℕ, List, [], IfOk, IfErr, IfSome, None};
 ghost use Rattle.std.specs.Prelude.{IsTrue};

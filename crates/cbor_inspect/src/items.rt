@@ -1,4 +1,5 @@
-//! For viewers, items one after the other, as far as they have come.
+//! Writes the whole items at the front of bytes, one after the other, in the form that a viewer asks
+//! for ([`Show`]), and says why it stops.
 ghost use Rattle.std.specs.Prelude.{◌≡◌, ℕ, ◌≤◌, ◌++◌, ◌∷◌, [], List, length, drop};
 ghost use Rattle.std.specs.Prelude.{IfOk, IfErr, IfSome, OnOk, OnErr, IsTrue, true, false, Ok};
 ghost use Rattle.std.specs.Prelude.{None, Some};

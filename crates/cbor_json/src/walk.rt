@@ -1,5 +1,5 @@
 //! Writes JSON straight from bytes, and keeps the names of the open objects by where they stand in
-//! the text, so that the text is not read again to see whether two of an object are equal.
+//! the text. So the text is not read again to see whether an object has two equal names.
 #![tactic(auto, using(cbor_tokens::proofs::texts::Appending::appending_steps))]
 
 ghost use Rattle.std.specs.Prelude.{◌≡◌, ◌+◌, ◌≤◌, ◌∷◌, [], ◌++◌, ℕ, List, length, true, IfOk, IfSome, IfNone, OnOk};

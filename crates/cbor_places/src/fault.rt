@@ -1,4 +1,4 @@
-//! Where in an item its fault is, and why the bytes are no item.
+//! Where in an item its error is: the path, and what is said there.
 ghost use Rattle.std.specs.Prelude.{◌≡◌, IfOk, IfErr, IfSome, None};
 ghost use Rattle.cbor_grammar.specs.Item.{Item};
 ghost use Rattle.cbor_grammar.specs.Facts.{IsItem, IsNoItem};

@@ -1,4 +1,4 @@
-//! Sets of rules.
+//! The rules that an encoding may keep, as switches, and the order of keys.
 ghost use Rattle.std.specs.Prelude.{◌≡◌};
 ghost use Rattle.cbor_rules.specs.KeyOrder.{key_cmp, major_type};
 ghost use Rattle.cbor_rules.specs.Keeps.{without_memory};

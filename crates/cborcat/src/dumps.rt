@@ -1,4 +1,5 @@
-//! In the program, dumps.
+//! Writes dumps of items, or of their parts, as the arguments of `cborcat` ask: with names, long
+//! strings cut, items in byte strings.
 
 use crate::each::ShowsItem;
 use crate::messages::{Place, report_lost};

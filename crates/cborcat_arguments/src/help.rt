@@ -34,7 +34,8 @@ Output:
                      (default: pretty)
   -p, --path=PATH    show only the part that PATH leads to, or each such part
       --set=PATH=EDN put the item EDN in place of that part, or add it at PATH
-      --delete=PATH  leave that part out; both come before -p, in their order
+      --delete=PATH  leave that part out; --set and --delete are done in the
+                     order given, before -p
   -e, --embedded     show byte strings that hold an array, a map or a tagged
                      item as <<..>>; in a dump, show the lines of that item
       --no-notes     no comments in notation, and no names
@@ -77,8 +78,8 @@ Output:
 Forms, i for input and o for output:
   pretty       o  notation with comments, over several lines where it is long
   diag, edn   io  diagnostic notation (EDN); JSON is read as EDN
-  hex         io  input: pairs of digits, also with blanks , : 0x \\x, and
-                  comments after #; output: a dump with comments
+  hex         io  input: pairs of hex digits, which may have blanks , : 0x \\x
+                  between them, and comments after #; output: a dump
   digits       o  hex on one line
   bytes, cbor io  CBOR
   base64      i   either alphabet, with padding or without
@@ -86,8 +87,9 @@ Forms, i for input and o for output:
   raw          o  the content of a byte or text string
   paths        o  a line for each item that holds no other: its path, and EDN
   stats        o  which paths take the bytes: sizes, counts, kinds and bounds
-  index=SIZE   o  pieces of whole items of at least SIZE bytes (64M, say), to
-                  convert a large file in parts: place, length, items
+  index=SIZE   o  a line for each run of whole items that has SIZE bytes or
+                  more (64M, say), to convert a large file in parts: its place,
+                  its length, and how many items
 
 Without -f the form is recognized. Input with a byte that no text can have is
 taken as bytes, and shown as it arrives. Text is read to its end before any of
