@@ -13,11 +13,11 @@ use cbor_inspect::Form;
 use cbor_stats::Stats;
 use cborcat_arguments::{Job, View};
 use std::fs::File;
-use std::io;
 use std::io::{IsTerminal, Read};
+use std::{io, mem};
 
 /// Does what the arguments ask for, and returns the exit status.
-pub fn run(rt: &HostRuntime, job: &Job) -> u8 {
+pub fn run<'a>(rt: &'a HostRuntime, job: &'a Job<'a>) -> u8 {
     if job.view == View::Items
         && job.show.style.form == Form::Bytes
         && job.output.is_none()
@@ -49,36 +49,24 @@ pub fn run(rt: &HostRuntime, job: &Job) -> u8 {
             Status::Trouble.number()
         };
     }
-    let mut stats = Stats::new(rt.alloc());
     let mut run = Runner {
         rt,
         job,
         target: &mut target,
-        stats: &mut stats,
+        stats: Stats::new(rt.alloc()),
         tables,
         status: Status::Fine,
     };
     run.inputs();
-    let mut status = run.status;
     if job.view == View::Stats {
-        status = status.or(write_stats(rt, &mut target, &stats));
+        run.write_stats();
     }
+    let status = run.status;
+    drop(run);
     if close(rt, target, asked, status == Status::Fine) {
         status.number()
     } else {
         Status::Trouble.number()
-    }
-}
-
-/// Writes which paths take the bytes.
-fn write_stats(rt: &HostRuntime, target: &mut Target, stats: &Stats) -> Status {
-    let mut text = String::new(rt.alloc());
-    if stats.push_text(&mut text).is_err() {
-        return say_out_of_memory(rt, "-");
-    }
-    match write(rt, target, text.as_bytes()) {
-        Written::Failed => Status::Trouble,
-        Written::Whole | Written::Closed => Status::Fine,
     }
 }
 
@@ -92,7 +80,7 @@ pub struct Runner<'a> {
     /// Where the output goes.
     pub target: &'a mut Target,
     /// The values of all items by their paths, for `-t stats`.
-    pub stats: &'a mut Stats,
+    pub stats: Stats,
     /// The names that are shown.
     pub tables: Option<Tables<'a>>,
     /// How it went so far.
@@ -103,6 +91,19 @@ impl Runner<'_> {
     /// Records the status of a part.
     fn ended(&mut self, status: Status) {
         self.status = self.status.or(status);
+    }
+
+    /// Writes which paths take the bytes.
+    fn write_stats(&mut self) {
+        let mut text = String::new(self.rt.alloc());
+        let status = match self.stats.push_text(&mut text) {
+            Ok(()) => match write(self.rt, self.target, text.as_bytes()) {
+                Written::Failed => Status::Trouble,
+                Written::Whole | Written::Closed => Status::Fine,
+            },
+            Err(_) => say_out_of_memory(self.rt, "-"),
+        };
+        self.ended(status);
     }
 
     /// Converts each input.
@@ -176,10 +177,13 @@ impl Runner<'_> {
     /// Converts the items of these bytes, and of those that the input still has. Also returns how
     /// that ended.
     fn items<R: Read>(&mut self, place: &Place, first: Vec<u8>, input: &mut R) -> (Next, Ended) {
-        let mut conversion = Conversion::new(self, place, first);
+        let stats = mem::replace(&mut self.stats, Stats::new(self.rt.alloc()));
+        let mut conversion = Conversion::new(self, place, first, stats);
         let next = conversion.all(input);
         let (status, any) = (conversion.status, conversion.any || conversion.long);
+        let stats = conversion.take_stats();
         drop(conversion);
+        self.stats = stats;
         self.ended(status);
         let end = match status {
             Status::Bad if any => Ended::Bad,
