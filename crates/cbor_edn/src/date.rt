@@ -58,7 +58,7 @@ fn seconds_item(alloc: Global, seconds: &[u8], inner: u8) -> Result<DataItem, St
 }
 
 /// The bytes as a text, if they are UTF-8.
-#[tactic(auto, using(crate::proofs::Dates::utf8_laws))]
+#[tactic(auto, using(cbor_edn_reader::proofs::Dates::utf8_laws))]
 fn utf8_text(content: &[u8]) -> Option<&str>
     ensures { option_map (λ x. x.now) result ≡ utf8_text content.now }
 {

@@ -18,7 +18,7 @@ ghost use Rattle.cbor_edn_grammar.specs.Items.{item_turn, pair_turn, chunk_turn}
 ghost use Rattle.cbor_edn_grammar.specs.Items.{first_kind, read_array, read_map, read_chunks};
 ghost use Rattle.cbor_edn_grammar.specs.Items.{read_tagged};
 ghost use Rattle.cbor_edn_grammar.specs.Items.{read_number, other_item, read_item};
-ghost use Rattle.cbor_edn_grammar.specs.Edn.{items_of_edn, item_of_edn, bytes_of_edn, Answers};
+ghost use Rattle.cbor_edn_grammar.specs.Edn.{items_of_edn, item_of_edn, Answers};
 ghost use Rattle.cbor_edn_grammar.specs.Edn.{IsErrorAt};
 ghost use Rattle.cbor_grammar.specs.Facts.{IsWellFormed};
 
@@ -36,7 +36,7 @@ use cbor_grammar::level::DEEPEST;
 use cbor_grammar::strings::StringKind;
 use cbor_grammar::width::count_fits;
 use cbor_grammar::{IntegerWidth, Tag};
-use pieces::{encoded, read_content, read_string};
+use pieces::{read_content, read_string};
 use std::alloc::Global;
 
 /// Adds the next member of a list. Returns whether another one follows.
@@ -420,20 +420,5 @@ pub fn parse_edn(alloc: Global, text: &str) -> Result<DataItem, EdnError>
             place: text.len(),
             expected: Expected::Item,
         }),
-    }
-}
-
-/// Reads zero or more items from EDN, and returns their concatenated encodings.
-///
-/// Returns `Wrong`, with the byte offset of the error, if the text is not EDN. Returns `Memory` if
-/// an allocation fails.
-pub fn edn_to_bytes(alloc: Global, text: &str) -> Result<Vec<u8>, EdnError>
-    // The bytes of the items that the text denotes, and an error only for a text that is not EDN.
-    ensures gives { Answers (λ x. x.items) text.now (bytes_of_edn text.now) result }
-{
-    let items = items_of(alloc, text)?;
-    match encoded(alloc, &items) {
-        Ok(bytes) => Ok(bytes),
-        Err(_) => Err(EdnError::Memory),
     }
 }

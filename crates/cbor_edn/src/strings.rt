@@ -6,63 +6,16 @@ ghost use Rattle.cbor_grammar.specs.Item.{atom, chunked_string};
 ghost use Rattle.cbor_grammar.specs.WellFormed.{deepest, IsChunk, WellFormed};
 ghost use Rattle.cbor_diag.specs.View.{view};
 ghost use Rattle.cbor_edn_grammar.specs.Reading.{Gives};
-ghost use Rattle.cbor_edn_grammar.specs.Strings.{is_sign_of, joined, width_after, chunk_of};
+ghost use Rattle.cbor_edn_grammar.specs.Strings.{chunk_of};
 ghost use Rattle.cbor_edn_grammar.specs.Strings.{string_item};
 ghost use Rattle.cbor_edn.specs.Chunks.{chunk_list, list_kind, PushGives};
 ghost use Rattle.cbor_edn_grammar.specs.Items.{chunk_from};
 
 use cbor_diag::DataItem;
 use cbor_edn_grammar::error::{Expected, Stop};
-use cbor_edn_grammar::word::{is_digit, stated_by};
-use cbor_edn_tokens::cursor::Cursor;
 use cbor_grammar::strings::{DefiniteString, StringKind};
 use cbor_grammar::{ByteString, Error, IntegerWidth, TextString};
 use std::alloc::Global;
-
-/// Whether a `+` before this text is the sign of a number.
-fn is_sign_of(text: &[u8]) -> bool
-    ensures { result ≡ is_sign_of text.now }
-{
-    match text {
-        [first, ..] => is_digit(*first) || *first == b'.',
-        [] => false,
-    }
-}
-
-/// Takes a `+` that joins the next piece to the one before, and the blanks around it.
-pub(crate) fn take_plus(text: &mut Cursor<'_>) -> bool
-    ensures takes { (result, text.new) ≡ joined text.old }
-    ensures within { length text.new ≤ length text.old }
-{
-    let mut next = Cursor::new(text.rest());
-    next.skip_blank();
-    if let [b'+', rest @ ..] = next.rest() {
-        if !is_sign_of(rest) {
-            *text = Cursor::new(rest);
-            text.skip_blank();
-            return true;
-        }
-    }
-    false
-}
-
-/// Takes the width indicator right after a string, if there is one. Without one the width is
-/// unstated. For `_` alone the result is `None`.
-pub(crate) fn width_after(text: &mut Cursor<'_>) -> Result<Option<IntegerWidth>, Stop>
-    ensures gives { Gives (λ x. (x, text.new)) result (width_after text.old) }
-    ensures within { length text.new ≤ length text.old }
-{
-    let [b'_', ..] = text.rest() else {
-        return Ok(Some(IntegerWidth::Unknown));
-    };
-    match stated_by(text.word()) {
-        Some(width) => {
-            text.skip_word();
-            Ok(width)
-        }
-        None => Err(Stop::At(Expected::Indicator)),
-    }
-}
 
 /// The definite-length string with these bytes.
 pub(crate) fn make_chunk<S: DefiniteString>(bytes: Vec<u8>, width: IntegerWidth) -> Result<S, Stop>

@@ -9,11 +9,12 @@ ghost use Rattle.cbor_edn_grammar.specs.Items.{read_embedded};
 ghost use Rattle.cbor_edn_grammar.specs.Items.{read_item};
 
 use super::read_items;
-use crate::strings::{string_item, take_plus, width_after};
+use crate::strings::string_item;
 use cbor_diag::DataItem;
 use cbor_edn_grammar::close::Close;
 use cbor_edn_grammar::error::{Expected, Stop};
 use cbor_edn_grammar::opening::Opening;
+use cbor_edn_reader::strings::{take_plus, width_after};
 use cbor_edn_tokens::cursor::Cursor;
 use cbor_edn_tokens::digits::read_digits;
 use cbor_edn_tokens::opening::opening_at;
@@ -35,7 +36,7 @@ fn append(content: &mut Vec<u8>, bytes: Vec<u8>) -> Result<(), AllocError>
 }
 
 /// The concatenated encodings of items.
-pub(super) fn encoded(alloc: Global, items: &Vec<DataItem>) -> Result<Vec<u8>, AllocError>
+fn encoded(alloc: Global, items: &Vec<DataItem>) -> Result<Vec<u8>, AllocError>
     requires { (level : ℕ) × (1 ≤ level) × WellFormedItems level (items_view items.now.items) }
     ensures { IfOk result (λ bytes. bytes.items ≡ encoded_items (items_view items.now.items)) }
 {

@@ -6,7 +6,7 @@ use Rattle.cbor_grammar.specs.declared.width.IntegerWidth.TheVariants.{Unknown}
 use Rattle.cbor_grammar.specs.Item.{Item, tagged}
 use Rattle.cbor_edn_grammar.specs.Reading.{◌>>=◌}
 use Rattle.cbor_edn_grammar.proofs.Turns.{refused_step}
-use Rattle.cbor_edn.proofs.Dates.{tagged_none, tagged_left}
+use Rattle.cbor_edn_reader.proofs.Dates.{tagged_none, tagged_left}
 use Rattle.cbor_edn.proofs.date.tagged_date.Goals as goal
 
 pub returns-then-inner-gt-DEEPEST-clause-gives : goal.returns-then-inner-gt-DEEPEST-clause-gives

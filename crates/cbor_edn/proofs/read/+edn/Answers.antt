@@ -8,7 +8,7 @@ use Rattle.cbor_edn_grammar.specs.Lists.{after_close}
 use Rattle.cbor_edn.specs.Chunks.{chunk_list}
 use Rattle.cbor_edn_grammar.specs.Items.{item_turn, pair_turn, chunk_turn, read_item}
 use Rattle.cbor_edn_grammar.proofs.Turns.{turn_fails, turn_last, turn_more}
-use Rattle.cbor_edn.proofs.Members.{members_closed, members_begin}
+use Rattle.cbor_edn_reader.proofs.Members.{members_closed, members_begin}
 use Rattle.cbor_diag.specs.View.{items_view, pairs_view}
 use Rattle.cbor_grammar.specs.Item.{item_count, pair_count}
 use Rattle.cbor_grammar.specs.WellFormed.{FitsCount}

@@ -1,3 +1,0 @@
-pub mod Bigs
-pub mod Dates
-pub mod Members
