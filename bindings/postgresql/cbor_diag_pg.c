@@ -260,14 +260,28 @@ static text *value_at(const struct cbor_sql_given *given)
     if (value.kind == CBOR_DIAG_KIND_TEXT && !value.indefinite) {
         return text_of(bytes + value.start, value.end - value.start);
     }
-    if (cbor_sql_is_null(&value) || !find_part(given, &part)) {
+    if (cbor_sql_is_null(&value)) {
         return NULL;
     }
-    if (value.kind == CBOR_DIAG_KIND_TEXT) {
-        return joined(&part);
+    if (value.kind == CBOR_DIAG_KIND_UNSIGNED || value.kind == CBOR_DIAG_KIND_NEGATIVE) {
+        char digits[CBOR_SQL_DIGITS];
+        size_t length = cbor_sql_digits(&value, digits);
+        return cstring_to_text_with_len(digits, (int)length);
     }
     if (value.kind == CBOR_DIAG_KIND_FLOAT && (value.number != value.number || value.number - value.number != 0)) {
         return cstring_to_text(value.number != value.number ? "NaN" : value.number > 0 ? "Infinity" : "-Infinity");
+    }
+    if ((value.tagged && value.kind != CBOR_DIAG_KIND_FLOAT) || (value.kind == CBOR_DIAG_KIND_BYTES && !value.indefinite)) {
+        if (!find_part(given, &part)) {
+            return NULL;
+        }
+    } else {
+        /* the value is where the part is, but for tags, and JSON has a number without them */
+        part.input = bytes + value.start;
+        part.length = value.end - value.start;
+    }
+    if (value.kind == CBOR_DIAG_KIND_TEXT) {
+        return joined(&part);
     }
     if (value.kind == CBOR_DIAG_KIND_ARRAY || value.kind == CBOR_DIAG_KIND_MAP ||
         (value.kind == CBOR_DIAG_KIND_SIMPLE && value.argument != 20 && value.argument != 21)) {

@@ -140,6 +140,21 @@ static inline int cbor_sql_is_big_number(const struct cbor_diag_value *value)
     return value->kind == CBOR_DIAG_KIND_BYTES && value->tagged && (value->tag == 2 || value->tag == 3);
 }
 
+/* Room for the digits of an integer, with a sign and a zero byte. */
+#define CBOR_SQL_DIGITS 32
+
+/* Writes the digits of an integer. Returns how many characters they are. */
+static inline size_t cbor_sql_digits(const struct cbor_diag_value *value, char *digits)
+{
+    if (value->kind == CBOR_DIAG_KIND_UNSIGNED) {
+        return (size_t)snprintf(digits, CBOR_SQL_DIGITS, "%llu", (unsigned long long)value->argument);
+    }
+    if (value->argument == UINT64_MAX) {
+        return (size_t)snprintf(digits, CBOR_SQL_DIGITS, "-18446744073709551616");
+    }
+    return (size_t)snprintf(digits, CBOR_SQL_DIGITS, "-%llu", (unsigned long long)value->argument + 1);
+}
+
 /* Whether a value is null or undefined. */
 static inline int cbor_sql_is_null(const struct cbor_diag_value *value)
 {

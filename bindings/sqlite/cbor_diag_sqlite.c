@@ -189,20 +189,14 @@ static void result_bytes(sqlite3_context *context, const void *input, size_t sta
 /* An integer; past 2^63 a text of its digits. */
 static void result_integer(sqlite3_context *context, const struct cbor_diag_value *value)
 {
-    char digits[32];
+    char digits[CBOR_SQL_DIGITS];
     if (value->argument <= INT64_MAX) {
         int64_t number = (int64_t)value->argument;
         sqlite3_result_int64(context, value->kind == CBOR_DIAG_KIND_NEGATIVE ? -1 - number : number);
         return;
     }
-    if (value->kind == CBOR_DIAG_KIND_UNSIGNED) {
-        snprintf(digits, sizeof digits, "%llu", (unsigned long long)value->argument);
-    } else if (value->argument == UINT64_MAX) {
-        snprintf(digits, sizeof digits, "-18446744073709551616");
-    } else {
-        snprintf(digits, sizeof digits, "-%llu", (unsigned long long)value->argument + 1);
-    }
-    sqlite3_result_text(context, digits, -1, SQLITE_TRANSIENT);
+    size_t length = cbor_sql_digits(value, digits);
+    sqlite3_result_text(context, digits, (int)length, SQLITE_TRANSIENT);
 }
 
 /* The content of a string in chunks, which are one in another encoding of it. */
