@@ -56,7 +56,7 @@ BELOW := $(filter-out %_tests cbor_diag_c $(PROGRAMS),$(shell sed -n 's/^\(cbor[
 
 .PHONY: all program library install try quick test gate planted check check-pages check-commands check-docs check-cat \
     check-editing check-allocations check-bindings check-packages tarball deb wheel vectors arm64 arm64-packages \
-    check-arm64 release compare bench clean sqlite postgresql install-postgresql
+    check-arm64 release compare bench clean sqlite postgresql install-sqlite install-postgresql deb-sqlite deb-postgresql deb-sql
 
 all: program library $(SCRIPT_FILES) $(MANUALS) $(COMPLETIONS)
 
@@ -102,6 +102,9 @@ $(SQLITE): bindings/sqlite/cbor_diag_sqlite.c $(STATIC) bindings/sql/cbor_sql.h 
 $(POSTGRESQL): bindings/postgresql/cbor_diag_pg.c $(STATIC) bindings/sql/cbor_sql.h bindings/c/cbor_diag.h
 	mkdir -p $(@D)
 	$(EXTENSION) -I"$$($(PG_CONFIG) --includedir-server)" -o $@ $< $(STATIC)
+
+install-sqlite: sqlite
+	install -D -m 755 -t $(DESTDIR)$(PREFIX)/$(LIBDIR) $(SQLITE)
 
 install-postgresql: postgresql
 	install -D -m 755 $(POSTGRESQL) "$(DESTDIR)$$($(PG_CONFIG) --pkglibdir)/cbor_diag.so"
@@ -227,6 +230,21 @@ tarball: all
 deb: all
 	packages/deb $(PACKAGES)
 
+deb-sqlite: sqlite
+	packages/deb-sql sqlite $(PACKAGES)
+
+deb-postgresql: postgresql
+	PG_CONFIG='$(PG_CONFIG)' packages/deb-sql postgresql $(PACKAGES)
+
+# Those whose headers are installed.
+deb-sql:
+	@if printf '#include <sqlite3ext.h>\n' | $(CC) -E - > /dev/null 2>&1; then \
+	    $(MAKE) --no-print-directory deb-sqlite; \
+	else echo "no package for SQLite, because its header is not installed (libsqlite3-dev)"; fi
+	@if test -e "$$($(PG_CONFIG) --includedir-server 2> /dev/null)/postgres.h"; then \
+	    $(MAKE) --no-print-directory deb-postgresql; \
+	else echo "no package for PostgreSQL, because its headers are not installed (postgresql-server-dev-all)"; fi
+
 wheel: library
 	mkdir -p $(PACKAGES)
 	cd bindings/python && CBOR_DIAG_LIBRARY=$(abspath $(SHARED)) \
@@ -237,7 +255,7 @@ vectors:
 	packages/vectors $(PACKAGES)
 
 # Installs each package outside of the repository, runs the commands of its pages, and removes it again.
-check-packages: tarball deb wheel
+check-packages: tarball deb wheel deb-sql
 	CC='$(CC)' CARGO='$(CARGO)' packages/check $(PACKAGES)
 
 # The same for ARM64, built here by a cross compiler over the libraries that the gate proved.
