@@ -221,7 +221,7 @@ check-bindings: library
 
 # Packages, for whoever has no kit. Their files have the date of the last commit, so they are the same byte for byte.
 PACKAGES = $(DIST)/packages
-export STRIP OBJDUMP MACHINE DEBIAN
+export STRIP OBJDUMP MACHINE DEBIAN PG_CONFIG
 export SOURCE_DATE_EPOCH ?= $(shell git log -1 --format=%ct 2> /dev/null || date +%s)
 
 tarball: all
@@ -234,16 +234,16 @@ deb-sqlite: sqlite
 	packages/deb-sql sqlite $(PACKAGES)
 
 deb-postgresql: postgresql
-	PG_CONFIG='$(PG_CONFIG)' packages/deb-sql postgresql $(PACKAGES)
+	packages/deb-sql postgresql $(PACKAGES)
 
 # Those whose headers are installed.
 deb-sql:
 	@if printf '#include <sqlite3ext.h>\n' | $(CC) -E - > /dev/null 2>&1; then \
 	    $(MAKE) --no-print-directory deb-sqlite; \
-	else echo "no package for SQLite, because its header is not installed (libsqlite3-dev)"; fi
+	else echo "no package for SQLite, because its header is not installed (apt install libsqlite3-dev)"; fi
 	@if test -e "$$($(PG_CONFIG) --includedir-server 2> /dev/null)/postgres.h"; then \
 	    $(MAKE) --no-print-directory deb-postgresql; \
-	else echo "no package for PostgreSQL, because its headers are not installed (postgresql-server-dev-all)"; fi
+	else echo "no package for PostgreSQL, because its headers are not installed (apt install postgresql-server-dev-all)"; fi
 
 wheel: library
 	mkdir -p $(PACKAGES)
