@@ -28,8 +28,8 @@ use cbor_places::Piece;
 use cbor_stats::Stats;
 use cborcat_arguments::{Job, View};
 use std::alloc::AllocError;
+use std::io;
 use std::io::{IsTerminal, Read};
-use std::{io, mem};
 
 /// The conversion of the items of one input.
 #[derive(Drop)]
@@ -70,7 +70,7 @@ pub struct Conversion<'a> {
     number: usize,
     /// The piece of items that is not written yet, for `-t index`.
     piece: Indexed,
-    /// The values of all items by their paths, for `-t stats`.
+    /// The values of the items by their paths, for `-t stats`.
     stats: Stats,
     /// How the output is shown.
     screen: Screen<'a>,
@@ -79,13 +79,8 @@ pub struct Conversion<'a> {
 }
 
 impl<'a> Conversion<'a> {
-    /// A conversion of an input that begins with these bytes, after inputs with these statistics.
-    pub fn new(
-        run: &'a mut Runner<'_>,
-        place: &'a Place<'a>,
-        first: Vec<u8>,
-        stats: Stats,
-    ) -> Conversion<'a> {
+    /// A conversion of an input that begins with these bytes.
+    pub fn new(run: &'a mut Runner<'_>, place: &'a Place<'a>, first: Vec<u8>) -> Conversion<'a> {
         let (rt, job, tables) = (run.rt, run.job, run.tables);
         let came = first.len();
         let mut first = first;
@@ -95,7 +90,7 @@ impl<'a> Conversion<'a> {
             rt,
             job,
             target: run.target,
-            stats,
+            stats: Stats::new(rt.alloc()),
             piece: Indexed::from(job.offset),
             place,
             tables,
@@ -116,11 +111,6 @@ impl<'a> Conversion<'a> {
             screen: Screen::new(rt, job),
             out: Vec::new(rt.alloc()),
         }
-    }
-
-    /// Returns the statistics, also of this input.
-    pub fn take_stats(&mut self) -> Stats {
-        mem::replace(&mut self.stats, Stats::new(self.rt.alloc()))
     }
 
     /// Records the status of a part.
@@ -147,6 +137,9 @@ impl<'a> Conversion<'a> {
                     Next::NextInput
                 }
             };
+        }
+        if self.job.view == View::Stats {
+            self.write_stats();
         }
         next
     }

@@ -3,21 +3,20 @@
 use crate::conversion::Conversion;
 use crate::diff::Diff;
 use crate::input::{block_len, read_first};
-use crate::messages::{Place, say, say_no_text, say_out_of_memory, say_pasted};
+use crate::messages::{Place, say, say_no_text, say_pasted};
 use crate::naming::{Tables, shown_of, tables_of};
-use crate::output::{Target, Written, close, open, write};
+use crate::output::{Target, close, open};
 use crate::recognized::{data_of, form_of, say_notation};
 use crate::status::{Next, Status};
 use cbor_inputs::{Input, looks_like};
 use cbor_inspect::Form;
-use cbor_stats::Stats;
 use cborcat_arguments::{Job, View};
 use std::fs::File;
+use std::io;
 use std::io::{IsTerminal, Read};
-use std::{io, mem};
 
 /// Does what the arguments ask for, and returns the exit status.
-pub fn run<'a>(rt: &'a HostRuntime, job: &'a Job<'a>) -> u8 {
+pub fn run<'a>(rt: &'a HostRuntime, job: &'a Job<'_>) -> u8 {
     if job.view == View::Items
         && job.show.style.form == Form::Bytes
         && job.output.is_none()
@@ -41,29 +40,18 @@ pub fn run<'a>(rt: &'a HostRuntime, job: &'a Job<'a>) -> u8 {
     let Some(mut target) = open(rt, asked) else {
         return Status::Trouble.number();
     };
-    if job.view == View::Diff {
-        let status = Diff { rt, job, tables }.run(&mut target);
-        return if close(rt, target, asked, status != Status::Trouble) {
-            status.number()
-        } else {
-            Status::Trouble.number()
-        };
-    }
     let mut run = Runner {
-        rt,
-        job,
+        rt: &*rt,
+        job: &*job,
         target: &mut target,
-        stats: Stats::new(rt.alloc()),
         tables,
         status: Status::Fine,
     };
     run.inputs();
-    if job.view == View::Stats {
-        run.write_stats();
-    }
     let status = run.status;
-    drop(run);
-    if close(rt, target, asked, status == Status::Fine) {
+    // Two inputs that differ are no failure.
+    let whole = status == Status::Fine || (job.view == View::Diff && status == Status::Bad);
+    if close(rt, target, asked, whole) {
         status.number()
     } else {
         Status::Trouble.number()
@@ -79,8 +67,6 @@ pub struct Runner<'a> {
     pub job: &'a Job<'a>,
     /// Where the output goes.
     pub target: &'a mut Target,
-    /// The values of all items by their paths, for `-t stats`.
-    pub stats: Stats,
     /// The names that are shown.
     pub tables: Option<Tables<'a>>,
     /// How it went so far.
@@ -93,21 +79,23 @@ impl Runner<'_> {
         self.status = self.status.or(status);
     }
 
-    /// Writes which paths take the bytes.
-    fn write_stats(&mut self) {
-        let mut text = String::new(self.rt.alloc());
-        let status = match self.stats.push_text(&mut text) {
-            Ok(()) => match write(self.rt, self.target, text.as_bytes()) {
-                Written::Failed => Status::Trouble,
-                Written::Whole | Written::Closed => Status::Fine,
-            },
-            Err(_) => say_out_of_memory(self.rt, "-"),
+    /// Writes what differs between the two inputs.
+    fn diff(&mut self) {
+        let diff = Diff {
+            rt: self.rt,
+            job: self.job,
+            tables: self.tables,
         };
+        let status = diff.run(self.target);
         self.ended(status);
     }
 
-    /// Converts each input.
+    /// Converts each input, or compares them.
     fn inputs(&mut self) {
+        if self.job.view == View::Diff {
+            self.diff();
+            return;
+        }
         if let Some(text) = self.job.text {
             let mut bytes = text.as_bytes();
             let _ = self.input("-x", &mut bytes);
@@ -177,13 +165,10 @@ impl Runner<'_> {
     /// Converts the items of these bytes, and of those that the input still has. Also returns how
     /// that ended.
     fn items<R: Read>(&mut self, place: &Place, first: Vec<u8>, input: &mut R) -> (Next, Ended) {
-        let stats = mem::replace(&mut self.stats, Stats::new(self.rt.alloc()));
-        let mut conversion = Conversion::new(self, place, first, stats);
+        let mut conversion = Conversion::new(self, place, first);
         let next = conversion.all(input);
         let (status, any) = (conversion.status, conversion.any || conversion.long);
-        let stats = conversion.take_stats();
         drop(conversion);
-        self.stats = stats;
         self.ended(status);
         let end = match status {
             Status::Bad if any => Ended::Bad,

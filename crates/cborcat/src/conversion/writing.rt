@@ -2,9 +2,11 @@
 
 use super::Conversion;
 use crate::dumps::Dumps;
+use crate::messages::say_out_of_memory;
 use crate::naming::encoded_in;
 use crate::output::{Written, write};
 use crate::screen::language_of;
+use crate::status::Status;
 use cbor_bytes::{Extent, extent};
 use cbor_grammar::Error;
 use cbor_inspect::{End, Form};
@@ -71,6 +73,19 @@ impl Conversion<'_> {
         }
         self.number = leaves.number();
         Ok(Written::Whole)
+    }
+
+    /// Writes which paths take the bytes of the input.
+    pub(super) fn write_stats(&mut self) {
+        let mut text = String::new(self.rt.alloc());
+        let status = match self.stats.push_text(&mut text) {
+            Ok(()) => match write(self.rt, self.target, text.as_bytes()) {
+                Written::Failed => Status::Trouble,
+                Written::Whole | Written::Closed => Status::Fine,
+            },
+            Err(_) => say_out_of_memory(self.rt, self.place.name),
+        };
+        self.ended(status);
     }
 
     /// Counts the values of the items that were passed last.
