@@ -69,9 +69,12 @@ def check(run, same, folder):
         with open(name, "w", encoding="utf-8") as file:
             file.write(text)
     same("of two files", run("-t", "stats", first, second),
-         (b"2 items, 4 bytes\n"
-          b"           2  50.0%          2  *  integer 1 to 2\n"
-          b"           2  50.0%            (heads of containers, and keys)\n", "", 0))
+         (b"1 item, 2 bytes\n"
+          b"           1  50.0%          1  *  integer 1\n"
+          b"           1  50.0%            (heads of containers, and keys)\n"
+          b"1 item, 2 bytes\n"
+          b"           1  50.0%          1  *  integer 2\n"
+          b"           1  50.0%            (heads of containers, and keys)\n", "", 0))
 
     # 10,000 paths have a line each, and the others share one. The item has 3 bytes of its head, 12,000 of values, and
     # 72,890 of keys: 84,893, of which 2,000 are 2.35 in a hundred.
