@@ -111,7 +111,7 @@ static text *text_of(const char *utf8, size_t length)
     return cstring_to_text(words);
 }
 
-/* The output of a call as a text, without so many bytes at its end. */
+/* The output of a call as a text, without the last `ending` bytes. */
 static text *text_output(cbor_sql_call call, const struct cbor_sql_given *given, size_t ending)
 {
     struct varlena *output = output_of(call, given);

@@ -45,7 +45,7 @@ static inline const char *cbor_sql_message(int64_t answer, uint32_t from, uint32
 {
     size_t place, detail;
     if (answer <= -CBOR_DIAG_ERROR_CUT_SHORT && answer >= -CBOR_DIAG_ERROR_PAST_WIDTH) {
-        int64_t written = cbor_diag_fault_message(from, input, length, message, CBOR_SQL_MESSAGE - 1);
+        int64_t written = cbor_diag_fault_message(from, input, length, message, CBOR_SQL_MESSAGE);
         if (written > 0 && from == CBOR_DIAG_FORM_EDN && cbor_diag_fault(from, input, length, &place) < 0 &&
             place != CBOR_DIAG_NO_PLACE) {
             char words[CBOR_DIAG_FAULT_TEXT_SIZE + 1];

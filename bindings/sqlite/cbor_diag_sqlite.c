@@ -84,7 +84,7 @@ static void result_failure(sqlite3_context *context, const struct cbor_sql_given
     sqlite3_result_error(context, message, -1);
 }
 
-/* The output of a call as a text, without so many bytes at its end. */
+/* The output of a call as a text, without the last `ending` bytes. */
 static void result_text(sqlite3_context *context, cbor_sql_call call, const struct cbor_sql_given *given, int ending)
 {
     int64_t length;
