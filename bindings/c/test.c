@@ -1547,13 +1547,15 @@ static void test_failing_memory(int from, int to, struct text input, struct text
 {
     unsigned char buffer[400], as_before[400];
     int64_t came = -CBOR_DIAG_ERROR_MEMORY;
+    int failed = 1; /* whether that allocation was asked for; the call may do without it, as that for JSON does */
     memset(as_before, UNTOUCHED, sizeof as_before);
-    for (failing = 0; came < 0 && failing < 1000; failing++) {
+    for (failing = 0; failed && failing < 1000; failing++) {
         memset(buffer, UNTOUCHED, sizeof buffer);
         allocations = held = 0;
         counting = 1;
         came = cbor_diag_convert(from, to, input.bytes, input.length, buffer, sizeof buffer);
         counting = 0;
+        failed = allocations > failing;
         check(held == 0, "allocation %ld fails: expected no block held, came %ld", failing, held);
         if (came < 0) {
             check_answer("an allocation fails", -CBOR_DIAG_ERROR_MEMORY, came);
