@@ -1,47 +1,23 @@
-//! Reads dates of EDN with a time of day, as seconds since 1970-01-01T00:00:00Z.
-ghost use Rattle.std.specs.Prelude.{◌≡◌, ◌==◌, ◌-◌, ◌<◌, ◌≤◌, ℕ, length, option_map, slice_index};
-ghost use Rattle.std.specs.Prelude.{◌+◌, IfOk, IfErr};
-ghost use Rattle.std.specs.List.{list_any};
+//! Reads the content of `dt'..'` and `DT'..'`: a date with a time of day and an offset becomes the
+//! seconds since 1970-01-01T00:00:00Z; after `DT'`, below tag 1.
+ghost use Rattle.std.specs.Prelude.{◌≡◌, ◌+◌, ◌-◌, ◌<◌, ◌≤◌, ℕ, length, IfOk, IfErr};
 ghost use Rattle.cbor_diag.specs.View.{view};
 ghost use Rattle.cbor_grammar.specs.WellFormed.{deepest, levels_left, WellFormed};
 ghost use Rattle.cbor_grammar.specs.Item.{tagged};
 ghost use Rattle.cbor_grammar.specs.declared.width.IntegerWidth.TheVariants.{Unknown};
 ghost use Rattle.cbor_edn_grammar.specs.declared.error.Stop.TheVariants.{Memory};
 ghost use Rattle.cbor_edn_grammar.specs.Reading.{Gives};
-ghost use Rattle.cbor_edn_grammar.specs.Items.{is_split, seconds_item, utf8_text, date_item};
-ghost use Rattle.cbor_edn_grammar.specs.Items.{tagged_date};
-ghost use Rattle.cbor_edn_grammar.specs.Items.{quoted_item};
+ghost use Rattle.cbor_edn_grammar.specs.Items.{seconds_item, date_item, tagged_date, quoted_item};
 
 use crate::scalars::number_item;
 use cbor_diag::DataItem;
 use cbor_edn_grammar::error::{Expected, Stop};
+use cbor_edn_reader::date::{is_split, utf8_text};
 use cbor_edn_tokens::cursor::Cursor;
 use cbor_edn_tokens::digits::find_apostrophe;
 use cbor_grammar::level::DEEPEST;
 use cbor_grammar::{IntegerWidth, Tag};
 use std::alloc::Global;
-use std::str;
-
-/// Whether a text begins with a minus.
-fn is_negative(seconds: &[u8]) -> bool
-    ensures { result ≡ (slice_index seconds.now 0 == 45) }
-{
-    matches!(seconds, [b'-', ..])
-}
-
-/// Whether a text has a point.
-fn has_point(seconds: &[u8]) -> bool
-    ensures { result ≡ list_any (λ b. b == 46) seconds.now }
-{
-    seconds.iter().any(|byte| *byte == b'.')
-}
-
-/// Whether seconds are before 1970 and have a fraction, which counts forward from them.
-fn is_split(seconds: &[u8]) -> bool
-    ensures { result ≡ is_split seconds.now }
-{
-    is_negative(seconds) && has_point(seconds)
-}
 
 /// The number that the text of some seconds writes.
 #[tactic(auto, unfolding(cbor_edn_grammar::specs::Items::seconds_item))]
@@ -55,17 +31,6 @@ fn seconds_item(alloc: Global, seconds: &[u8], inner: u8) -> Result<DataItem, St
         return Err(Stop::At(Expected::LaterDate));
     }
     number_item(alloc, seconds, inner)
-}
-
-/// The bytes as a text, if they are UTF-8.
-#[tactic(auto, using(cbor_edn_reader::proofs::Dates::utf8_laws))]
-fn utf8_text(content: &[u8]) -> Option<&str>
-    ensures { option_map (λ x. x.now) result ≡ utf8_text content.now }
-{
-    match str::from_utf8(content) {
-        Ok(text) => Some(text),
-        Err(_) => None,
-    }
 }
 
 /// The seconds of a date with a time of day and an offset.

@@ -1,19 +1,19 @@
-//! Reads network addresses of EDN between apostrophes, and address prefixes.
-ghost use Rattle.std.specs.Prelude.{◌≡◌, ◌==◌, ◌+◌, ◌-◌, ◌<◌, ◌≤◌, ℕ, length, position, IfOk};
-ghost use Rattle.std.specs.Prelude.{IfErr, IfSome};
+//! Reads the content of `ip'..'` and `IP'..'`: an IPv4 or IPv6 address becomes a byte string, and
+//! an address prefix an array of its length and bytes; after `IP'`, below tag 52 or 54.
+ghost use Rattle.std.specs.Prelude.{◌≡◌, ◌+◌, ◌-◌, ◌<◌, ◌≤◌, ℕ, length, IfOk, IfErr};
 ghost use Rattle.cbor_edn_grammar.specs.declared.error.Stop.TheVariants.{Memory};
 ghost use Rattle.cbor_diag.specs.View.{view};
 ghost use Rattle.cbor_grammar.specs.WellFormed.{deepest, levels_left, WellFormed};
 ghost use Rattle.cbor_edn_grammar.specs.Reading.{Gives};
 ghost use Rattle.cbor_edn_grammar.specs.Address.{bytes_item, address_item, pair_of, prefix_array};
-ghost use Rattle.cbor_edn_grammar.specs.Address.{prefix_of, prefix_item, ip_item, ip_tag};
-ghost use Rattle.cbor_edn_grammar.specs.Address.{tagged_ip};
+ghost use Rattle.cbor_edn_grammar.specs.Address.{prefix_of, prefix_item, ip_item, tagged_ip};
 ghost use Rattle.cbor_edn_grammar.specs.Items.{quoted_item};
 
 use crate::date::below_tag;
 use crate::strings::string_item;
 use cbor_diag::DataItem;
 use cbor_edn_grammar::error::{Expected, Stop};
+use cbor_edn_reader::network::{find_slash, ip_tag};
 use cbor_edn_tokens::address::{address_bytes, bit_count, is_clear_after, is_ipv6, used};
 use cbor_edn_tokens::cursor::Cursor;
 use cbor_edn_tokens::digits::find_apostrophe;
@@ -94,14 +94,6 @@ fn prefix_item(alloc: Global, six: bool, text: &[u8], digits: &[u8]) -> Result<D
     prefix_of(alloc, bytes, bits)
 }
 
-/// The index of the first slash.
-fn find_slash(content: &[u8]) -> Option<usize>
-    ensures at { result ≡ position (λ b. b == 47) content.now }
-    ensures within { IfSome result (λ n. n < length content.now) }
-{
-    content.iter().position(|byte| *byte == b'/')
-}
-
 /// An address, or a prefix of one, if a level is left for the items in it.
 #[tactic(auto, unfolding(cbor_edn_grammar::specs::Address::ip_item))]
 fn ip_item(alloc: Global, content: &[u8], inner: u8) -> Result<DataItem, Stop>
@@ -118,13 +110,6 @@ fn ip_item(alloc: Global, content: &[u8], inner: u8) -> Result<DataItem, Stop>
         return Err(Stop::At(Expected::Levels));
     }
     prefix_item(alloc, six, &content[..end], &content[end + 1..])
-}
-
-/// The tag of an address.
-fn ip_tag(content: &[u8]) -> u64
-    ensures { result ≡ ip_tag content.now }
-{
-    if is_ipv6(content) { 54 } else { 52 }
 }
 
 /// An address or a prefix of one, below its tag.

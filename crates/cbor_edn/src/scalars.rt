@@ -1,4 +1,5 @@
-//! Reads numbers and simple values of EDN.
+//! Reads numbers, simple values, and what follows the prefixes `float'`, `dt'`, `DT'`, `ip'` and
+//! `IP'`.
 ghost use Rattle.std.specs.Prelude.{◌≡◌, ◌-◌, ◌<◌, ◌≤◌, ℕ, length, option_map, IfOk, IfSome};
 ghost use Rattle.cbor_diag.specs.View.{view};
 ghost use Rattle.cbor_grammar.specs.WellFormed.{deepest, levels_left, WellFormed};

@@ -1,4 +1,5 @@
-//! Appends what is between quotes: text with JSON's escapes, or digits.
+//! Appends the bytes of what stands between quotes: text with JSON's escapes, or digits such as
+//! those of `h'`.
 ghost use Rattle.std.specs.Prelude.{◌≡◌, ◌<◌, ◌≤◌, length, Some, IfSome};
 ghost use Rattle.cbor_tokens.specs.Token.{is_special};
 ghost use Rattle.cbor_edn_grammar.specs.Quoted.{plain_len, quoted};

@@ -1,4 +1,5 @@
-//! Reads dates of EDN with a time of day, as seconds since 1970-01-01T00:00:00Z.
+//! Reads the content of `dt'..'` and `DT'..'`: a date with a time of day and an offset becomes the
+//! seconds since 1970-01-01T00:00:00Z; after `DT'`, below tag 1.
 ghost use Rattle.std.specs.Prelude.{◌≡◌, ◌==◌, ◌≤◌, length, option_map, slice_index};
 ghost use Rattle.std.specs.List.{list_any};
 ghost use Rattle.cbor_grammar.specs.WellFormed.{levels_left};
@@ -32,7 +33,7 @@ fn has_point(seconds: &[u8]) -> bool
 }
 
 /// Whether seconds are before 1970 and have a fraction, which counts forward from them.
-fn is_split(seconds: &[u8]) -> bool
+pub fn is_split(seconds: &[u8]) -> bool
     ensures { result ≡ is_split seconds.now }
 {
     is_negative(seconds) && has_point(seconds)
@@ -54,7 +55,7 @@ fn seconds_item(out: &mut Vec<u8>, seconds: &[u8], inner: u8) -> Result<bool, St
 
 /// The bytes as a text, if they are UTF-8.
 #[tactic(auto, using(crate::proofs::Dates::utf8_laws))]
-fn utf8_text(content: &[u8]) -> Option<&str>
+pub fn utf8_text(content: &[u8]) -> Option<&str>
     ensures { option_map (λ x. x.now) result ≡ utf8_text content.now }
 {
     match str::from_utf8(content) {

@@ -1,5 +1,5 @@
-//! Appends heads, where what comes after them is known; and puts them into their place, where it
-//! was not.
+//! Puts the head of a container or of an indefinite string before what it holds, once the count is
+//! known: in place of a byte that was left for it.
 ghost use Rattle.std.specs.Prelude.{◌≡◌, ◌+◌, ◌<◌, ◌++◌, ◌∷◌, length, take, drop, OnOk};
 ghost use Rattle.cbor_grammar.specs.mirror.MajorNumber.{major_number};
 ghost use Rattle.cbor_grammar.specs.WellFormed.{FitsCount};

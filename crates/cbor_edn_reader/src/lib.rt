@@ -7,9 +7,9 @@
 
 pub mod big;
 mod content;
-mod date;
+pub mod date;
 mod heads;
-mod network;
+pub mod network;
 mod read;
 mod scalars;
 pub mod strings;

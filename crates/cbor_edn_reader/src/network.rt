@@ -1,4 +1,5 @@
-//! Reads network addresses of EDN between apostrophes, and address prefixes.
+//! Reads the content of `ip'..'` and `IP'..'`: an IPv4 or IPv6 address becomes a byte string, and
+//! an address prefix an array of its length and bytes; after `IP'`, below tag 52 or 54.
 ghost use Rattle.std.specs.Prelude.{◌≡◌, ◌==◌, ◌<◌, ◌≤◌, length, position, IfSome};
 ghost use Rattle.cbor_grammar.specs.WellFormed.{levels_left};
 ghost use Rattle.cbor_edn_grammar.specs.Address.{bytes_item, address_item, prefix_array};
@@ -65,7 +66,7 @@ fn prefix_item(out: &mut Vec<u8>, six: bool, text: &[u8], digits: &[u8]) -> Resu
 }
 
 /// The index of the first slash.
-fn find_slash(content: &[u8]) -> Option<usize>
+pub fn find_slash(content: &[u8]) -> Option<usize>
     ensures at { result ≡ position (λ b. b == 47) content.now }
     ensures within { IfSome result (λ n. n < length content.now) }
 {
@@ -91,7 +92,7 @@ fn ip_item(out: &mut Vec<u8>, content: &[u8], inner: u8) -> Result<bool, Stop>
 }
 
 /// The tag of an address.
-fn ip_tag(content: &[u8]) -> u64
+pub fn ip_tag(content: &[u8]) -> u64
     ensures { result ≡ ip_tag content.now }
 {
     if is_ipv6(content) { 54 } else { 52 }

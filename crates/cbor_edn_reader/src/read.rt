@@ -1,4 +1,4 @@
-//! Reads items of EDN, by recursion over the levels of nesting.
+//! Reads items of EDN straight to bytes, by recursion over the levels of nesting.
 //!
 //! Each private function reads at a cursor. It appends the encoding of what it reads, and moves the
 //! cursor past that. After an error, the cursor is at the place where the text cannot go on, and

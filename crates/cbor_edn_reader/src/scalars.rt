@@ -1,4 +1,5 @@
-//! Reads numbers and simple values of EDN.
+//! Reads numbers, simple values, and what follows the prefixes `float'`, `dt'`, `DT'`, `ip'` and
+//! `IP'`.
 ghost use Rattle.std.specs.Prelude.{◌≡◌, ◌<◌, ◌≤◌, length, option_map, IfOk, IfSome};
 ghost use Rattle.cbor_grammar.specs.WellFormed.{levels_left};
 ghost use Rattle.std.specs.Prelude.{Some};

@@ -1,6 +1,6 @@
 -- EDN as a dialect of notation: how numbers and strings are written, and what is written around members.
 use Rattle.std.specs.Prelude.{◌≡◌, ◌⊎◌, ◌+◌, ◌-◌, ℕ, ◌^◌, List, [], ◌∷◌, ◌++◌, length, codes, Bool, true, false}
-use Rattle.std.specs.Prelude.{Option, Some, None, ◌&&◌, ◌||◌, if◌then◌else◌, nat_lt, nat_le, ◌==◌, not, max}
+use Rattle.std.specs.Prelude.{Option, Some, None, ◌&&◌, ◌||◌, if◌then◌else◌, nat_lt, nat_le, ◌==◌, not}
 use Rattle.std.specs.Borrow.{Bor}
 use Rattle.std.specs.List.{list_any, Contains}
 use Rattle.hex.specs.Hex.{encode_lower}
@@ -23,13 +23,14 @@ use Rattle.cbor_grammar.specs.declared.width.FloatWidth.TheVariants as float_wid
 use Rattle.cbor_grammar.specs.declared.width.IntegerWidth.{IntegerWidth}
 use Rattle.cbor_grammar.specs.declared.width.IntegerWidth.TheVariants as width
 use Rattle.cbor_grammar.specs.Item.{Chunk, Atom, integer, negative, float, simple}
-use Rattle.cbor_grammar.specs.NotationText.{number, indicator, float_text, simple_text, last_line, indent_of}
+use Rattle.cbor_grammar.specs.NotationText.{number, indicator, float_text, simple_text, last_line}
 use Rattle.cbor_grammar.specs.StringKind.{no_chunks}
 use Rattle.cbor_notation_writer.specs.Dialect.{Leaves, Texts}
 use Rattle.cbor_notation_writer.specs.declared.parts.Container.{Container}
 use Rattle.cbor_notation_writer.specs.declared.parts.Container.TheVariants.{Array, Map, Chunks, Embedded}
 use Rattle.cbor_notation_writer.specs.mirror.LayoutView.{before_member, after_member}
 use Rattle.cbor_edn_writer.specs.declared.note.Note.{Note}
+use Rattle.cbor_edn_writer.specs.declared.print.line.Line.{Line}
 use Rattle.cbor_edn_writer.specs.declared.print.place.EdnPlace.{EdnPlace}
 use Rattle.cbor_tokens.specs.Escapes.{escaped_text}
 use Rattle.cbor_edn_writer.specs.Same.{is_empty, is_strict, is_sequence}
@@ -129,9 +130,10 @@ abbrev pub FoundAt : EdnPlace → ℕ → EdnPlace → Type 0
 FoundAt p here q = (found : Option (Bor Note)) × IsGiven p.notes.now here found
     × (passed : ℕ) × (q ≡ record p { found = found; here = here; passed = passed })
 
--- what the place of an item becomes, which has no note yet; without notes it is the same
-abbrev pub SameButNote : EdnPlace → EdnPlace → Type 0
-SameButNote p q = ((q ≡ p) ⊎ ((here : ℕ) × FoundAt p here q)) × (p.notes.now ≡ [] → q ≡ p)
+-- What the place of an item becomes, which has no note yet: it may get one, and what is known of its line. That is any,
+-- so a container may be on one line or on several.
+abbrev pub LaidOut : EdnPlace → EdnPlace → Type 0
+LaidOut p q = (line : Line) × ((q ≡ record p { line = line }) ⊎ ((here : ℕ) × FoundAt (record p { line = line }) here q))
 
 -- How many bytes the width of an argument is, after the first byte of its head.
 abbrev pub argument_bytes : IntegerWidth → ℕ
@@ -272,20 +274,17 @@ content_under embedded level (Some tag) b = content_below embedded level tag b
 abbrev pub layout_of : Bool → Layout
 layout_of lines = if lines then Pretty 0 else Compact
 
--- the columns that a container may take on one line, however far it is indented
-abbrev pub least_columns : ℕ
-least_columns = 20
-
--- the estimated length from which a container takes a line for each member: the columns that its indentation leaves
-abbrev pub limit_within : ℕ → ℕ → ℕ
-limit_within columns indent = max (columns - indent) least_columns
+-- the style of a container where this is known of its line
+abbrev pub style_on : Line → Layout → ContainerStyle
+style_on line Compact = style.Compact
+style_on line (Pretty indent) = if line.breaks then style.MultiLine indent else style.OneLine indent
 
 abbrev pub edn_leaves : Leaves EdnPlace
 edn_leaves = record {
-  At = SameButNote;
+  At = LaidOut;
   level = λ p. p.level;
   layout = λ p. p.layout;
-  limit = λ p. limit_within p.style.columns (indent_of p.layout);
+  style = λ p size. style_on p.line p.layout;
   content = λ p b. content_under (p.style.embedded || is_encoded p.found) p.level p.tag b;
   joins = λ p kind. false;
   inside = λ c layout p. record {
@@ -299,6 +298,7 @@ edn_leaves = record {
     here = p.here;
     passed = p.passed;
     found = None;
+    line = p.line;
   };
   next = λ p. p;
   value = λ k p. p;
@@ -313,6 +313,7 @@ edn_leaves = record {
     here = p.here;
     passed = p.passed;
     found = None;
+    line = p.line;
   };
   leaf = λ p a. Beside p (EdnLeaf p a);
   string = λ p kind c. Beside p (Noted p (quoted_string kind c));

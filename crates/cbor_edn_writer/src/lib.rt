@@ -1,7 +1,8 @@
 //! Writes EDN, the extended diagnostic notation of CBOR that people write (RFC 8949 section 8, RFC
 //! 8610 appendix G), straight from bytes. docs/EDN.md has the rules.
 //!
-//! What is written is read back as the same bytes, unless a simple value below 32 is in two bytes.
+//! What is written is read back as the same bytes, unless a simple value is in a non-minimal
+//! encoding (`f8 00` to `f8 1f`).
 #![tactic(auto)]
 
 mod laws;

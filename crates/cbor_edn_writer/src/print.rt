@@ -1,9 +1,12 @@
 //! EDN as a dialect of notation: how each part of it is written straight from bytes.
 #![tactic(auto, using(cbor_tokens::proofs::texts::Appending::appending_steps))]
 
+mod columns;
 mod elements;
 mod leaf;
+pub(crate) mod line;
 mod lists;
+mod measure;
 pub(crate) mod noted;
 mod notes;
 mod numbers;
@@ -24,11 +27,12 @@ use crate::print::place::EdnPlace;
 use crate::print::same::content_under;
 use crate::print::text::{push_no_parts, push_part};
 use cbor_grammar::IntegerWidth;
+use cbor_grammar::argument::Argument;
 use cbor_grammar::layout::{ContainerStyle, Content, Layout};
 use cbor_grammar::strings::{StringContent, StringKind};
 use cbor_notation_writer::dialect::Dialect;
 use cbor_notation_writer::members::{push_end, push_start};
-use cbor_notation_writer::parts::{Container, Leaf};
+use cbor_notation_writer::parts::{Container, Front, Leaf};
 use std::alloc::{AllocError, Global};
 
 /// EDN where no notes of a caller are looked for. They are borrowed for `'a`.
@@ -42,8 +46,12 @@ impl<'a> Dialect for Edn<'a> {
     ghost leaves = { edn_leaves };
 
     #[inline(always)]
-    fn at(_place: &EdnPlace<'a>, _remaining: usize) -> Option<EdnPlace<'a>> {
-        None
+    fn at(
+        place: &EdnPlace<'a>,
+        out: &String,
+        front: Front<'_>,
+    ) -> Result<Option<EdnPlace<'a>>, AllocError> {
+        place.laid_out(out, front)
     }
 
     #[inline(always)]
@@ -57,8 +65,23 @@ impl<'a> Dialect for Edn<'a> {
     }
 
     #[inline(always)]
-    fn limit(place: &EdnPlace<'a>) -> usize {
-        place.limit()
+    fn array_style(place: &EdnPlace<'a>, _count: Argument, _bytes: &[u8]) -> ContainerStyle {
+        place.container_style()
+    }
+
+    #[inline(always)]
+    fn map_style(place: &EdnPlace<'a>, _count: Argument, _bytes: &[u8]) -> ContainerStyle {
+        place.container_style()
+    }
+
+    #[inline(always)]
+    fn chunks_style(place: &EdnPlace<'a>, _kind: StringKind, _bytes: &[u8]) -> ContainerStyle {
+        place.container_style()
+    }
+
+    #[inline(always)]
+    fn sequence_style(place: &EdnPlace<'a>, _bytes: &[u8]) -> ContainerStyle {
+        place.container_style()
     }
 
     #[inline(always)]

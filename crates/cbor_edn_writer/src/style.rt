@@ -18,7 +18,7 @@ use crate::note::Note;
 /// ```
 #[derive(Clone, Copy, PartialEq, Eq, Debug)]
 pub struct EdnStyle {
-    /// Whether a long container takes a line for each member.
+    /// Whether a container that does not fit on one line takes a line for each member.
     pub lines: bool,
     /// Whether comments say what dates, addresses and big numbers are, and which characters bytes
     /// are.
@@ -28,15 +28,16 @@ pub struct EdnStyle {
     /// Whether each float, and each number above 23, has its width beside it, even the shortest
     /// width.
     pub widths: bool,
-    /// The columns of a line, if `lines` is set. A container is on one line if its estimated length
-    /// is below the columns that its indentation leaves. These are at least [`LEAST_COLUMNS`].
+    /// The columns of a line, if `lines` is set. A container is on one line if it fits there, with
+    /// all that stands before and after it. A line may always have [`LEAST_COLUMNS`] after its
+    /// indentation.
     ///
     /// [`LEAST_COLUMNS`]: EdnStyle::LEAST_COLUMNS
     pub columns: u16,
 }
 
 impl EdnStyle {
-    /// The columns that a container may take on one line, however deep its indentation is.
+    /// The columns that a line may have after its indentation, however deep that is.
     pub const LEAST_COLUMNS: u16 = 20;
 
     /// On one line, without notes.

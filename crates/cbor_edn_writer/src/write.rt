@@ -46,7 +46,7 @@ pub fn bytes_to_edn(alloc: Global, bytes: &[u8]) -> cbor_grammar::Result<String>
     ensures every_item { (i : Item) → IsItem bytes.now i → MatchResult result
         (λ s. IsEdnText line_style i (string_bytes s)) (λ e. e ≡ Error.Memory) }
 
-    // The same bytes are read back, if no simple value below 32 is in two bytes.
+    // The same bytes are read back, if no simple value is in a non-minimal encoding (f8 00).
     ensures lossless { (i : Item) → IsItem8949 bytes.now i
         → IfOk result (λ s. bytes_of_edn (string_bytes s) ≡ Some bytes.now) }
 
@@ -76,7 +76,7 @@ pub fn bytes_to_edn_pretty(alloc: Global, bytes: &[u8]) -> cbor_grammar::Result<
     ensures every_item { (i : Item) → IsItem bytes.now i → MatchResult result
         (λ s. IsEdnText pretty_style i (string_bytes s)) (λ e. e ≡ Error.Memory) }
 
-    // The same bytes are read back, if no simple value below 32 is in two bytes.
+    // The same bytes are read back, if no simple value is in a non-minimal encoding (f8 00).
     ensures lossless { (i : Item) → IsItem8949 bytes.now i
         → IfOk result (λ s. bytes_of_edn (string_bytes s) ≡ Some bytes.now) }
 

@@ -25,7 +25,7 @@ use Rattle.cbor_grammar.specs.declared.width.IntegerWidth.TheVariants.{Unknown}
 use Rattle.cbor_grammar.specs.Estimate.{one_line_limit}
 use Rattle.cbor_grammar.specs.Item.{Chunk, Atom, integer, negative, float, simple}
 use Rattle.cbor_grammar.specs.NotationText.{number, float_text, simple_text, quoted, encoded_bytes, encoding_below}
-use Rattle.cbor_notation_writer.specs.Dialect.{Leaves, Texts}
+use Rattle.cbor_notation_writer.specs.Dialect.{Leaves, Texts, style_within}
 use Rattle.cbor_notation_writer.specs.declared.parts.Container.{Container}
 use Rattle.cbor_notation_writer.specs.declared.parts.Container.TheVariants.{Array, Map, Chunks, Embedded}
 use Rattle.cbor_json.specs.Spots.{inside_spot, next_spot, value_spot, below_spot}
@@ -283,7 +283,7 @@ json_leaves = record {
   At = λ p q. q ≡ p;
   level = λ p. p.level;
   layout = λ p. p.layout;
-  limit = λ p. one_line_limit;
+  style = λ p size. style_within one_line_limit p.layout size;
   content = content_at;
   joins = λ p k. joins_at p.spot k;
   inside = λ c layout p. record {

@@ -1,4 +1,4 @@
-//! Finds two keys of a map that become the same in JSON.
+//! Finds two keys of a map that become the same in JSON, as `1` and `"1"` do.
 #![tactic(auto)]
 
 ghost use Rattle.std.specs.Prelude.{◌≡◌, ◌+◌, ◌≤◌, [], IfOk, IfSome, IsTrue, Ok};

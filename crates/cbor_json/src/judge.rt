@@ -1,4 +1,5 @@
-//! Writes an item as JSON, and looks whether two keys of a map became the same.
+//! Writes an item as JSON, and finds out whether two keys of a map became the same or, in a strict
+//! style, whether something is not kept.
 #![tactic(auto, using(cbor_tokens::proofs::texts::Appending::appending_steps))]
 
 ghost use Rattle.std.specs.Prelude.{◌≡◌, ◌↔◌, ℕ, List, [], IfOk, IfErr, IfSome, IfNone};

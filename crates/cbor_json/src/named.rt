@@ -1,5 +1,5 @@
-//! JSON with names as keys. A text takes the place of each integer key that has a name, and what
-//! the bytes are then is written.
+//! JSON with names as keys: the name takes the place of each integer key that has one, and the
+//! bytes that this gives are written.
 
 ghost use Rattle.std.specs.Prelude.{◌≡◌, ◌+◌, ◌≤◌, IfOk};
 ghost use Rattle.std.specs.String.{string_bytes};

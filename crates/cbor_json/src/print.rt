@@ -16,11 +16,15 @@ use crate::print::lists::{
 use crate::print::place::{JsonPlace, Spot};
 use crate::print::text::{content_at, push_part, push_string};
 use cbor_grammar::IntegerWidth;
+use cbor_grammar::argument::Argument;
 use cbor_grammar::layout::{ContainerStyle, Content, Layout};
 use cbor_grammar::strings::{StringContent, StringKind};
+use cbor_notation_writer::ahead::{
+    array_style_ahead, chunks_style_ahead, map_style_ahead, sequence_style_ahead,
+};
 use cbor_notation_writer::budget::ONE_LINE_LIMIT;
 use cbor_notation_writer::dialect::Dialect;
-use cbor_notation_writer::parts::{Container, Leaf};
+use cbor_notation_writer::parts::{Container, Front, Leaf};
 use std::alloc::{AllocError, Global};
 
 /// JSON.
@@ -32,8 +36,12 @@ impl Dialect for Json {
     ghost leaves = { json_leaves };
 
     #[inline(always)]
-    fn at(_place: &JsonPlace, _remaining: usize) -> Option<JsonPlace> {
-        None
+    fn at(
+        _place: &JsonPlace,
+        _out: &String,
+        _front: Front<'_>,
+    ) -> Result<Option<JsonPlace>, AllocError> {
+        Ok(None)
     }
 
     #[inline(always)]
@@ -46,10 +54,24 @@ impl Dialect for Json {
         place.layout
     }
 
-    /// Any, since JSON has no lines.
     #[inline(always)]
-    fn limit(_place: &JsonPlace) -> usize {
-        ONE_LINE_LIMIT
+    fn array_style(place: &JsonPlace, count: Argument, bytes: &[u8]) -> ContainerStyle {
+        array_style_ahead(place.layout, ONE_LINE_LIMIT, count, bytes)
+    }
+
+    #[inline(always)]
+    fn map_style(place: &JsonPlace, count: Argument, bytes: &[u8]) -> ContainerStyle {
+        map_style_ahead(place.layout, ONE_LINE_LIMIT, count, bytes)
+    }
+
+    #[inline(always)]
+    fn chunks_style(place: &JsonPlace, kind: StringKind, bytes: &[u8]) -> ContainerStyle {
+        chunks_style_ahead(place.layout, ONE_LINE_LIMIT, kind, bytes)
+    }
+
+    #[inline(always)]
+    fn sequence_style(place: &JsonPlace, bytes: &[u8]) -> ContainerStyle {
+        sequence_style_ahead(place.layout, ONE_LINE_LIMIT, place.level + 1, bytes)
     }
 
     #[inline(always)]

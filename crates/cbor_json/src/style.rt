@@ -1,4 +1,5 @@
-//! How JSON is written.
+//! `JsonStyle`: whether byte strings are shown as the item in them, and whether what JSON does not
+//! keep is an error.
 
 /// How JSON is written.
 #[derive(Clone, Copy, PartialEq, Eq, Debug)]

@@ -36,13 +36,13 @@ Texts = List ℕ → Type 0
 -- A place is what decides how an item there is written, beside the item itself. A text that is written for a leaf, an
 -- opening or a closing is one of several, as a dialect may add notes; what is between members is one text.
 pub record Leaves (Place : Type 0) : Type 1 where
-  -- what the place of an item may become, once it is known how many bytes remain from the item on
+  -- what the place of an item may become, once its head is read
   pub At : Place → Place → Type 0
-  -- the level there, the outermost being 1; how containers are laid out; the estimated length from which one takes a
-  -- line for each member; what a byte string of these bytes is shown as
+  -- the level there, the outermost being 1; how containers are laid out; the style of one that is estimated as this
+  -- long; what a byte string of these bytes is shown as
   pub level : Place → ℕ
   pub layout : Place → Layout
-  pub limit : Place → ℕ
+  pub style : Place → ℕ → ContainerStyle
   pub content : Place → List ℕ → Content
   -- whether the chunks of a string of this kind are joined there, and written as one string
   pub joins : Place → StringKind → Bool
@@ -135,12 +135,9 @@ abbrev pub style_within : ℕ → Layout → ℕ → ContainerStyle
 style_within limit layout.Compact size = Compact
 style_within limit (layout.Pretty indent) size = if nat_lt size limit then OneLine indent else MultiLine indent
 
--- the style of a container there that is estimated as this long, and of this one
-abbrev pub sized_style : {Place : Type 0} → Leaves Place → Place → ℕ → ContainerStyle
-sized_style d p size = style_within (d.limit p) (d.layout p) size
-
+-- the style of this container there
 abbrev pub style_at : {Place : Type 0} → Leaves Place → Place → Item → ContainerStyle
-style_at d p i = sized_style d p (estimated_length i)
+style_at d p i = d.style p (estimated_length i)
 
 abbrev pub ItemsText : {Place : Type 0} → Leaves Place → Writer Place → Place → Container → ContainerStyle → Items
     → Texts
@@ -170,7 +167,7 @@ EmbeddedText d write p b (x ∷ xs) e t = OneText d write p b e t
 -- items in order, laid out as an array, and the rest of the bytes, which begins with no item
 abbrev pub SequenceText : {Place : Type 0} → Leaves Place → Writer Place → Place → Chunk → Items × List ℕ → Texts
 SequenceText d write p b s t =
-    (u r : List ℕ) × ItemsText d write p (embedding b) (sized_style d p (sequence_size s)) s.0 u
+    (u r : List ℕ) × ItemsText d write p (embedding b) (d.style p (sequence_size s)) s.0 u
     × d.rest p (embedding b) s.1 r × (t ≡ u ++ r)
 
 -- a byte string of definite length, with this many levels left below it

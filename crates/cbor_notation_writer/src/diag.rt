@@ -8,6 +8,7 @@ ghost use Rattle.cbor_tokens.specs.Appends.{AppendsText};
 ghost use Rattle.cbor_notation_writer.specs.mirror.LayoutView.{IsIndented, content_there};
 ghost use Rattle.cbor_notation_writer.specs.mirror.DiagLeaves.{diag_leaves};
 
+use crate::ahead::{array_style_ahead, chunks_style_ahead, map_style_ahead, sequence_style_ahead};
 use crate::budget::ONE_LINE_LIMIT;
 use crate::context::NotationContext;
 use crate::dialect::Dialect;
@@ -15,8 +16,9 @@ use crate::from_bytes;
 use crate::members::{
     push_closing, push_colon, push_end, push_no_chunks, push_opening, push_rest, push_start,
 };
-use crate::parts::{Container, Leaf};
+use crate::parts::{Container, Front, Leaf};
 use crate::scalars::{push_float, push_negative, push_number, push_simple, push_string};
+use cbor_grammar::argument::Argument;
 use cbor_grammar::layout::{ContainerStyle, Content, Layout};
 use cbor_grammar::strings::{StringContent, StringKind};
 use cbor_grammar::{IntegerWidth, Simple, Tag};
@@ -31,8 +33,12 @@ impl Dialect for Diag {
     ghost leaves = { diag_leaves };
 
     #[inline(always)]
-    fn at(_place: &NotationContext, _remaining: usize) -> Option<NotationContext> {
-        None
+    fn at(
+        _place: &NotationContext,
+        _out: &String,
+        _front: Front<'_>,
+    ) -> Result<Option<NotationContext>, AllocError> {
+        Ok(None)
     }
 
     #[inline(always)]
@@ -46,8 +52,23 @@ impl Dialect for Diag {
     }
 
     #[inline(always)]
-    fn limit(_place: &NotationContext) -> usize {
-        ONE_LINE_LIMIT
+    fn array_style(place: &NotationContext, count: Argument, bytes: &[u8]) -> ContainerStyle {
+        array_style_ahead(place.layout, ONE_LINE_LIMIT, count, bytes)
+    }
+
+    #[inline(always)]
+    fn map_style(place: &NotationContext, count: Argument, bytes: &[u8]) -> ContainerStyle {
+        map_style_ahead(place.layout, ONE_LINE_LIMIT, count, bytes)
+    }
+
+    #[inline(always)]
+    fn chunks_style(place: &NotationContext, kind: StringKind, bytes: &[u8]) -> ContainerStyle {
+        chunks_style_ahead(place.layout, ONE_LINE_LIMIT, kind, bytes)
+    }
+
+    #[inline(always)]
+    fn sequence_style(place: &NotationContext, bytes: &[u8]) -> ContainerStyle {
+        sequence_style_ahead(place.layout, ONE_LINE_LIMIT, place.level + 1, bytes)
     }
 
     #[inline(always)]

@@ -2,20 +2,28 @@
 //! it reads, goes from item to item, and lays out containers. A dialect writes the leaves, and the
 //! text around members.
 
-ghost use Rattle.std.specs.Prelude.{◌≡◌, ◌+◌, ◌<◌, ◌≤◌, ◌^◌, ℕ, Ok, IfSome, is_some, unwrap_or};
+ghost use Rattle.std.specs.Prelude.{◌≡◌, ◌+◌, ◌<◌, ◌≤◌, ◌^◌, ℕ, List, Option, Ok, IfOk, IfSome};
+ghost use Rattle.std.specs.Prelude.{is_some, unwrap_or};
 ghost use Rattle.std.specs.Io.{StartsWith};
 ghost use Rattle.std.specs.String.{string_bytes};
-ghost use Rattle.cbor_grammar.specs.Item.{Item};
-ghost use Rattle.cbor_grammar.specs.NotationText.{style_indent};
+ghost use Rattle.cbor_grammar.specs.Embedded.{sequence_at};
+ghost use Rattle.cbor_grammar.specs.Estimate.{estimated_chunks, estimated_items, estimated_pairs};
+ghost use Rattle.cbor_grammar.specs.Item as spec;
+ghost use Rattle.cbor_grammar.specs.Item.{Chunk, Item, Items, Pairs};
+ghost use Rattle.cbor_grammar.specs.Item.{atom, array, chunked_string};
+ghost use Rattle.cbor_grammar.specs.NotationText.{indent_of, style_indent};
 ghost use Rattle.cbor_grammar.specs.Reading.{read_item};
-ghost use Rattle.cbor_grammar.specs.WellFormed.{deepest};
+ghost use Rattle.cbor_grammar.specs.WellFormed.{deepest, levels_left};
+ghost use Rattle.cbor_grammar.specs.mirror.AtLevel.{body_read};
 ghost use Rattle.cbor_grammar.specs.mirror.StringView.{kind_of, borrowed_chunk};
 ghost use Rattle.cbor_tokens.specs.Appends.{AppendsText};
 ghost use Rattle.cbor_notation_writer.specs.Dialect.{Leaves, Writes};
 ghost use Rattle.cbor_notation_writer.specs.mirror.LeafView.{atom_of, FitsLeaf};
 
-use crate::parts::{Container, Leaf};
+use crate::parts::{Container, Front, Leaf};
 use cbor_grammar::IntegerWidth;
+use cbor_grammar::argument::Argument;
+use cbor_grammar::head::ItemHead;
 use cbor_grammar::layout::{ContainerStyle, Content, Layout};
 use cbor_grammar::strings::{StringContent, StringKind};
 use std::alloc::{AllocError, Global};
@@ -28,13 +36,19 @@ pub trait Dialect {
 
     ghost leaves: { Leaves Self.Place };
 
-    /// The place of an item, once it is known how many bytes remain from its first byte on. These
-    /// are bytes of the input, or of the byte string that embeds the item. `None` if the place
+    /// The place of an item, once its head is read. Its bytes are those of the input, or of the
+    /// byte string that embeds the item. `out` has the text before the item. `None` if the place
     /// stays the same.
-    fn at(place: &Self::Place, remaining: usize) -> Option<Self::Place>
-        ensures place { leaves.At place.now (unwrap_or result place.now) }
-        ensures level { leaves.level (unwrap_or result place.now) ≡ leaves.level place.now }
-        ensures layout { leaves.layout (unwrap_or result place.now) ≡ leaves.layout place.now };
+    fn at(
+        place: &Self::Place,
+        out: &String,
+        front: Front<'_>,
+    ) -> Result<Option<Self::Place>, AllocError>
+        ensures place { IfOk result (λ moved. leaves.At place.now (unwrap_or moved place.now)) }
+        ensures level { IfOk result
+            (λ moved. leaves.level (unwrap_or moved place.now) ≡ leaves.level place.now) }
+        ensures layout { IfOk result
+            (λ moved. leaves.layout (unwrap_or moved place.now) ≡ leaves.layout place.now) };
 
     /// The level of an item there; the outermost is at level 1.
     fn level(place: &Self::Place) -> u8
@@ -44,10 +58,35 @@ pub trait Dialect {
     fn layout(place: &Self::Place) -> Layout
         ensures { result ≡ leaves.layout place.now };
 
-    /// The estimated length from which a container there gives each member its own line, if the
-    /// layout has lines.
-    fn limit(place: &Self::Place) -> usize
-        ensures { result ≡ leaves.limit place.now };
+    /// The style of an array there with this count of items, from the bytes after its head.
+    fn array_style(place: &Self::Place, count: Argument, bytes: &[u8]) -> ContainerStyle
+        ensures style { (levels : ℕ) (is : Items) (w : Option IntegerWidth) (rest : List ℕ)
+            → body_read (ItemHead.Array count) bytes.now levels ≡ Ok (array is w, rest)
+            → result ≡ leaves.style place.now (4 + estimated_items is) }
+        ensures indent { style_indent result ≡ indent_of (leaves.layout place.now) };
+
+    /// The style of a map there with this count of pairs, from the bytes after its head.
+    fn map_style(place: &Self::Place, count: Argument, bytes: &[u8]) -> ContainerStyle
+        ensures style { (levels : ℕ) (ps : Pairs) (w : Option IntegerWidth) (rest : List ℕ)
+            → body_read (ItemHead.Map count) bytes.now levels ≡ Ok (spec.map ps w, rest)
+            → result ≡ leaves.style place.now (4 + estimated_pairs ps) }
+        ensures indent { style_indent result ≡ indent_of (leaves.layout place.now) };
+
+    /// The style of an indefinite string there, from the bytes after its opening byte.
+    fn chunks_style(place: &Self::Place, kind: StringKind, bytes: &[u8]) -> ContainerStyle
+        ensures style { (levels : ℕ) (cs : List Chunk) (rest : List ℕ)
+            → body_read (ItemHead.String kind Argument.Indefinite) bytes.now levels
+            ≡ Ok (atom (chunked_string kind cs), rest)
+            → result ≡ leaves.style place.now (4 + estimated_chunks kind cs) }
+        ensures indent { style_indent result ≡ indent_of (leaves.layout place.now) };
+
+    /// The style of the items that a byte string there is shown as: all that can be read from the
+    /// front of the bytes.
+    fn sequence_style(place: &Self::Place, bytes: &[u8]) -> ContainerStyle
+        requires { leaves.level place.now ≤ deepest }
+        ensures style { result ≡ leaves.style place.now (4 + estimated_items
+            (sequence_at (levels_left (leaves.level place.now + 1)) bytes.now).0) }
+        ensures indent { style_indent result ≡ indent_of (leaves.layout place.now) };
 
     /// What this byte string there is shown as.
     fn content(place: &Self::Place, bytes: &[u8]) -> Content

@@ -1,6 +1,5 @@
 //! Writes an item straight from its bytes, in any dialect of notation. Each part is written as soon
-//! as it is read, and no item is built. A look ahead (`ahead.rt`) estimates how long a container
-//! would be on one line.
+//! as it is read, and no item is built. The dialect decides which containers are on one line.
 //!
 //! Each function takes the remaining bytes and returns those after what it wrote. What was written
 //! before an error stays. The same functions write the items that are embedded in a byte string. If
@@ -21,9 +20,8 @@ ghost use Rattle.cbor_notation_writer.specs.mirror.Straight.{Written, TextsHere,
 ghost use Rattle.cbor_notation_writer.specs.mirror.Straight.{chunk, ContentThere, StringThere};
 ghost use Rattle.cbor_notation_writer.specs.mirror.Straight.{BeforeChunk, AfterChunks};
 
-use crate::ahead::{array_style_ahead, chunks_style_ahead, map_style_ahead, sequence_style_ahead};
 use crate::dialect::Dialect;
-use crate::parts::{Container, Leaf};
+use crate::parts::{Container, Front, Leaf};
 use cbor_bytes::borrowed::{next_chunk, read_borrowed};
 use cbor_bytes::head::{no_level_left, read_head};
 use cbor_grammar::argument::Argument;
@@ -71,7 +69,7 @@ pub fn push_front<'a, D: Dialect>(
         return Err(no_level_left(bytes));
     }
     let (head, rest) = read_head(bytes)?;
-    let moved = D::at(place, bytes.len());
+    let moved = D::at(place, out, Front { head, bytes, rest })?;
     let here = place_of::<D>(&moved, place);
     match head {
         ItemHead::Integer(value, width) => {
@@ -116,7 +114,7 @@ fn push_array_front<'a, D: Dialect>(
     ensures begun { OnErr result (StartsWith (string_bytes out.new) (string_bytes out.old)) }
 {
     let container = Container::Array(count);
-    let style = array_style_ahead(D::layout(place), D::limit(place), count, bytes);
+    let style = D::array_style(place, count, bytes);
     let mut inner = D::inside(place, container, style.members_layout());
     D::opening(out, container, style, place)?;
     let mut rest = bytes;
@@ -153,7 +151,7 @@ fn push_map_front<'a, D: Dialect>(
     ensures begun { OnErr result (StartsWith (string_bytes out.new) (string_bytes out.old)) }
 {
     let container = Container::Map(count);
-    let style = map_style_ahead(D::layout(place), D::limit(place), count, bytes);
+    let style = D::map_style(place, count, bytes);
     let mut inner = D::inside(place, container, style.members_layout());
     D::opening(out, container, style, place)?;
     let mut rest = bytes;
@@ -321,12 +319,7 @@ fn push_sequence<D: Dialect>(
         (chunk width bytes.now)) }
 {
     let container = Container::Embedded(Argument::Number(bytes.len() as u64, width));
-    let style = sequence_style_ahead(
-        D::layout(place),
-        D::limit(place),
-        D::level(place) + 1,
-        bytes,
-    );
+    let style = D::sequence_style(place, bytes);
     let mut inner = D::inside(place, container, style.members_layout());
     D::opening(out, container, style, place)?;
     let mut rest = bytes;
@@ -429,7 +422,7 @@ fn push_parts_front<'a, D: Dialect>(
     ensures begun { OnErr result (StartsWith (string_bytes out.new) (string_bytes out.old)) }
 {
     let container = Container::Chunks(kind);
-    let style = chunks_style_ahead(D::layout(place), D::limit(place), kind, bytes);
+    let style = D::chunks_style(place, kind, bytes);
     let mut rest = bytes;
     let mut held = 0;
     'chunks: loop {

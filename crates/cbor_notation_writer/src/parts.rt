@@ -1,9 +1,21 @@
-//! The parts that a dialect of notation writes: leaves, and containers by the text around their
-//! members.
+//! The types of what a dialect of notation writes: `Front`, where an item begins; `Leaf`, a number,
+//! float or simple value; and `Container`, an item that has members.
 
 use cbor_grammar::argument::Argument;
+use cbor_grammar::head::ItemHead;
 use cbor_grammar::strings::StringKind;
 use cbor_grammar::{FloatWidth, IntegerWidth};
+
+/// The front of bytes, where an item begins.
+#[derive(Clone, Copy)]
+pub struct Front<'a> {
+    /// The head of the item.
+    pub head: ItemHead,
+    /// The bytes, from the first byte of the item on.
+    pub bytes: &'a [u8],
+    /// The bytes after the head.
+    pub rest: &'a [u8],
+}
 
 /// An item without members: a number, a float or a simple value, but no string.
 #[derive(Clone, Copy)]

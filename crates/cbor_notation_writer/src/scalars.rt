@@ -1,5 +1,5 @@
 //! Writes numbers, strings, floats and simple values in notation (RFC 7049 section 6). Each kind
-//! has its own function, which is not inlined where the kinds are told apart.
+//! has its own function, which is not inlined into the `match` on the kind of an item.
 #![tactic(auto, using(cbor_tokens::proofs::texts::Appending::appending_steps))]
 
 ghost use Rattle.std.specs.Prelude.{◌≡◌, ◌+◌, ◌++◌, codes};

@@ -1,4 +1,4 @@
-//! Results of several lines.
+//! Results of several lines: appends a line, and puts a word where there is none.
 
 use std::alloc::AllocError;
 

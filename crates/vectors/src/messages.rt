@@ -1,6 +1,7 @@
-//! What is said of items, where these begin at byte 10 of an input: `first_violation SET`,
-//! `not_encoded SET`, `not_json`, `not_json strict`, `lost_words PATH`. Lines of an input with a
-//! mark below a place: `excerpt_of_bytes PLACE`, `excerpt_of_text PLACE MARK`, `position_of PLACE`.
+//! Messages on items that begin at byte 10 of an input: `first_violation SET`, `not_encoded SET`,
+//! `not_json`, `not_json strict`, `lost_words PATH`. Lines of an input with a mark below a place:
+//! `excerpt_of_bytes PLACE`, `excerpt_of_text PLACE MARK`; and `position_of PLACE`, the line and
+//! column.
 
 use crate::row::Row;
 use crate::texts::{number_of, refused_text};

@@ -1,7 +1,7 @@
-//! Where a byte of an item is, which begins at byte 10 of an input: `words` and `cut_words` of the
-//! end of the bytes, `fault_words`, `words PLACE` of a place in a whole item. Of items from byte 10
-//! on: `lines_at BYTE` and `leaves`, also with `embedded`, and `leaves places`. What is shown of an
-//! item that is not whole: `partial_edn`, `partial_edn COLUMNS`.
+//! Words on places in an item that begins at byte 10 of an input: `words` and `cut_words` on the
+//! end of the bytes, `fault_words`, `words PLACE` on a place in a whole item. Of items from byte 10
+//! on: `lines_at BYTE` and `leaves`, also with `embedded`, and `leaves places`. EDN of a truncated
+//! or malformed item: `partial_edn`, `partial_edn COLUMNS`.
 
 use crate::row::Row;
 use crate::texts::{lines_text, number_of, refused_text};

@@ -1,4 +1,4 @@
-//! Items that are encoded again: `reencode RULES`, with RULES as in `rules`. The result is bytes in
+//! Items that are re-encoded: `reencode RULES`, with RULES as in `rules`. The result is bytes in
 //! hex, or why there are none, with places: of the input, or after `Written` of what was written.
 
 use crate::row::Row;

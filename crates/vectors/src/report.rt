@@ -1,4 +1,5 @@
-//! What is printed of the rows of a file.
+//! Prints each row of a file whose result differs, with that result, and how many rows the file
+//! has.
 
 use crate::row::Row;
 use std::io;

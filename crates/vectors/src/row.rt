@@ -1,4 +1,4 @@
-//! Rows of a file of vectors, as they are read.
+//! Reads a file of vectors as its rows, and compares a result with that of its row.
 
 use std::alloc::{AllocError, Global};
 

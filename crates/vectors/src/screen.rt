@@ -1,8 +1,8 @@
 //! What a screen shows of EDN and of dumps: `push_colored edn` and `push_colored dump`, where an
 //! escape character is `\e` in the result; `push_elided MOST` and `push_without_widths` of EDN;
-//! `push_dump` of the items that bytes are, with the words `embedded`, `elide=MOST`, and `names` or
-//! `names=TYPE` by the tables of [`tables`]; `push_partial_dump`, with the same words, of an item that
-//! is not whole.
+//! `push_dump` of the items that the bytes encode, with the words `embedded`, `elide=MOST`, and
+//! `names` or `names=TYPE` by the tables of [`tables`]; `push_partial_dump`, with the same words,
+//! of bytes in which an item is truncated or malformed.
 
 use crate::row::Row;
 use crate::texts::{lines_text, number_of, refused_text, text_of};

@@ -1,4 +1,5 @@
-//! Results as texts.
+//! Turns results into texts: bytes into hex, lines, and errors into `refused:` and what is wrong.
+//! Also reads the numbers of rows.
 
 use cbor_diag::Error;
 use std::alloc::{AllocError, Global};

@@ -30,7 +30,7 @@ use Rattle.cbor_grammar.proofs.shared.EmbeddedItems.{embedded_spells, sequence_s
 use Rattle.cbor_bytes.proofs.bytes.WellFormed.{items_well}
 use Rattle.cbor_notation_writer.specs.Dialect.{ItemTexts, PairTexts, ChunksText, OneText, EmbeddedText}
 use Rattle.cbor_notation_writer.specs.Dialect.{SequenceText, ContentText, AtomText, TagText, TextWith, TextsOf, TextsAt}
-use Rattle.cbor_notation_writer.specs.Dialect.{Writer, count_of, embedding, listed, sized_style, style_at}
+use Rattle.cbor_notation_writer.specs.Dialect.{Writer, count_of, embedding, listed, style_at}
 use Rattle.cbor_notation_writer.specs.declared.parts.Container.TheVariants.{Array, Map, Chunks}
 use Rattle.cbor_notation_writer.specs.mirror.LayoutView.{before_member, after_member}
 use Rattle.cbor_edn_grammar.specs.declared.close.Close.{Close}
@@ -201,7 +201,7 @@ module _ (level left : ℕ) (levels : level + left ≡ 129) (write : Writer EdnP
       let here : left ≡ levels_left (p.level + 1) = omega (arith, at, levels) in
       let same : SameItems left b.bytes =
       subst (λ n. SameItems n b.bytes) (sym here) (sequence_same p.level b.bytes well.bytes is strict) in
-      let l = sized_style edn_leaves p (sequence_size found) in
+      let l = edn_leaves.style p (sequence_size found) in
       let rs = item_texts Angles _ found.0 ms at items_are.0 same.none texts in
       subst (ReadsNoted (suc left) (atom (string kind.Bytes b))) (sym (e ∙ ap (λ r. u ++ r) rest ∙ append-nil u))
       (enclosed_reads (suc left) p (atom (string kind.Bytes b)) (embedding b) l (edn_list l ms) u

@@ -1,7 +1,6 @@
 -- In EDN that is written of an item, no character is hidden, and line feeds are outside of quotes and comments.
 use Rattle.std.proofs.Common.{◌≡◌, ℕ, zero, suc, ◌+◌, ◌<◌, ◌≤◌, List, [], ◌∷◌, ◌++◌, length, codes}
 use Rattle.std.proofs.Common.{Bool, true, false, Option, Some, None, if◌then◌else◌, refl, sym, subst, arith, ◌^◌}
-use Rattle.std.specs.Prelude.{nat_lt}
 use Rattle.cbor_grammar.specs.NotationText.{line}
 use Rattle.cbor_grammar.specs.declared.width.IntegerWidth.TheVariants.{Unknown, Zero, Eight, Sixteen, ThirtyTwo}
 use Rattle.cbor_grammar.specs.declared.width.IntegerWidth.TheVariants.{SixtyFour}
@@ -35,10 +34,10 @@ use Rattle.cbor_notation_writer.specs.mirror.LayoutView.{before_member, after_me
 use Rattle.cbor_notation_writer.specs.Dialect.{listed, ItemTexts, PairTexts, ChunkTexts, Between, ItemsText, PairsText}
 use Rattle.cbor_notation_writer.specs.Dialect.{OneText, EmbeddedText, SequenceText, ContentText, ChunksText, AtomText}
 use Rattle.cbor_notation_writer.specs.Dialect.{TagText, TextWith, TextsOf, Writer, embedding, count_of, style_at}
-use Rattle.cbor_notation_writer.specs.Dialect.{style_within}
 use Rattle.cbor_edn_writer.specs.Breaks.{Nothing}
-use Rattle.cbor_edn_writer.specs.EdnLeaves.{edn_leaves, EdnLeaf, longer, marked, spaced, count_mark, with_gap, gap}
+use Rattle.cbor_edn_writer.specs.EdnLeaves.{edn_leaves, EdnLeaf, style_on, longer, marked, spaced, count_mark, with_gap, gap}
 use Rattle.cbor_edn_writer.specs.EdnLeaves.{edn_opening, edn_closing, embedded_mark, Noted, quoted_string}
+use Rattle.cbor_edn_writer.specs.declared.print.line.Line.{Line}
 use Rattle.cbor_edn_writer.specs.declared.print.place.EdnPlace.{EdnPlace}
 use Rattle.cbor_edn_writer.proofs.Places.{same_layout}
 use Rattle.cbor_edn_writer.proofs.writing.Runs.{Runs, runs_nothing, runs_then, scanned, steady, line_runs}
@@ -60,13 +59,12 @@ abbrev pub AllowsLayout : Bool → Layout → Type 0
 AllowsLayout lines layout.Compact = Unit {0}
 AllowsLayout lines (layout.Pretty indent) = lines ≡ true
 
-style_allowed : (lines : Bool) (limit : ℕ) (l : Layout) (size : ℕ) → AllowsLayout lines l
-    → Allows lines (style_within limit l size)
-style_allowed lines limit layout.Compact size h = tt
-style_allowed lines limit (layout.Pretty indent) size h = either (nat_lt size limit) h
+style_allowed : (lines : Bool) (line : Line) (l : Layout) → AllowsLayout lines l → Allows lines (style_on line l)
+style_allowed lines line layout.Compact h = tt
+style_allowed lines line (layout.Pretty indent) h = either line.breaks h
   where
     either : (test : Bool) → lines ≡ true
-        → Allows lines (if test then style.OneLine indent else style.MultiLine indent)
+        → Allows lines (if test then style.MultiLine indent else style.OneLine indent)
     either true h = h
     either false h = h
 
@@ -270,7 +268,7 @@ module _ (lines : Bool) (level left : ℕ) (levels : level + left ≡ 129) (writ
       let items_are = items_well level (sequence_at left b.bytes).0 b.bytes (sequence_at left b.bytes).1 well.bytes
       s.spelled_so in
       subst (Apart lines) (sym is) (runs_then
-      (items_apart p (embedding b) _ (sequence_at left b.bytes).0 u (style_allowed lines _ p.layout _ allows)
+      (items_apart p (embedding b) _ (sequence_at left b.bytes).0 u (style_allowed lines p.line p.layout allows)
       items_are.0
       items) (subst (Apart lines) (sym rest) runs_nothing))
 
@@ -285,7 +283,7 @@ module _ (lines : Bool) (level left : ℕ) (levels : level + left ≡ 129) (writ
   atom_apart p (string kind.Bytes b) t allows well h = content_apart p _ b t allows well h
   atom_apart p (string kind.Text s) t allows well h = string_apart lines p kind.Text s t well h
   atom_apart p (chunked_string kind cs) t allows well h =
-      chunks_apart lines p kind _ cs t (style_allowed lines _ p.layout _ allows) well h
+      chunks_apart lines p kind _ cs t (style_allowed lines p.line p.layout allows) well h
   atom_apart p (integer n w) t allows well h = leaf_text_apart lines p (integer n w) t well h
   atom_apart p (negative n w) t allows well h = leaf_text_apart lines p (negative n w) t well h
   atom_apart p (float bits w) t allows well h = leaf_text_apart lines p (float bits w) t well h
@@ -308,11 +306,11 @@ module _ (lines : Bool) (level left : ℕ) (levels : level + left ≡ 129) (writ
   with_apart p (atom a) t here e allows well h = atom_apart p a t allows well.1 h
   with_apart p (array is w) t here e allows well h =
       items_apart p (Array (count_of w (item_count is))) (style_at edn_leaves p (array is w)) is t
-      (style_allowed lines _ p.layout _ allows)
+      (style_allowed lines p.line p.layout allows)
       (subst (λ l. WellFormedItems l is) (sym e) well.2) h
   with_apart p (spec.map ps w) t here e allows well h =
       pairs_apart p (Map (count_of w (pair_count ps))) (style_at edn_leaves p (spec.map ps w)) ps t
-      (style_allowed lines _ p.layout _ allows)
+      (style_allowed lines p.line p.layout allows)
       (subst (λ l. WellFormedPairs l ps) (sym e) well.2) h
   with_apart p (tagged n w i) t here e allows well h =
       tag_apart p n w i t allows well.1 (subst (λ l. WellFormed l i) (sym e) well.2) h

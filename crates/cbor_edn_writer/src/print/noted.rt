@@ -15,10 +15,11 @@ use crate::print::numbers::shown_width;
 use crate::print::place::EdnPlace;
 use crate::print::text::push_no_parts;
 use cbor_grammar::IntegerWidth;
+use cbor_grammar::argument::Argument;
 use cbor_grammar::layout::{ContainerStyle, Content, Layout};
 use cbor_grammar::strings::{StringContent, StringKind};
 use cbor_notation_writer::dialect::Dialect;
-use cbor_notation_writer::parts::{Container, Leaf};
+use cbor_notation_writer::parts::{Container, Front, Leaf};
 use std::alloc::{AllocError, Global};
 
 /// EDN where a note of the caller is looked for at each item. It is separate from [`Edn`], since a
@@ -33,8 +34,12 @@ impl<'a> Dialect for NotedEdn<'a> {
     ghost leaves = { edn_leaves };
 
     #[inline(always)]
-    fn at(place: &EdnPlace<'a>, remaining: usize) -> Option<EdnPlace<'a>> {
-        place.at(remaining)
+    fn at(
+        place: &EdnPlace<'a>,
+        out: &String,
+        front: Front<'_>,
+    ) -> Result<Option<EdnPlace<'a>>, AllocError> {
+        place.noted(out, front)
     }
 
     #[inline(always)]
@@ -48,8 +53,23 @@ impl<'a> Dialect for NotedEdn<'a> {
     }
 
     #[inline(always)]
-    fn limit(place: &EdnPlace<'a>) -> usize {
-        Edn::limit(place)
+    fn array_style(place: &EdnPlace<'a>, count: Argument, bytes: &[u8]) -> ContainerStyle {
+        Edn::array_style(place, count, bytes)
+    }
+
+    #[inline(always)]
+    fn map_style(place: &EdnPlace<'a>, count: Argument, bytes: &[u8]) -> ContainerStyle {
+        Edn::map_style(place, count, bytes)
+    }
+
+    #[inline(always)]
+    fn chunks_style(place: &EdnPlace<'a>, kind: StringKind, bytes: &[u8]) -> ContainerStyle {
+        Edn::chunks_style(place, kind, bytes)
+    }
+
+    #[inline(always)]
+    fn sequence_style(place: &EdnPlace<'a>, bytes: &[u8]) -> ContainerStyle {
+        Edn::sequence_style(place, bytes)
     }
 
     #[inline(always)]

@@ -134,7 +134,7 @@ fn push_comment_after(out: &mut String, note: &str) -> Result<(), AllocError>
 }
 
 /// Whether a note may have this text.
-fn is_note(note: &str) -> bool
+pub(super) fn is_note(note: &str) -> bool
     ensures { result ≡ may_be_note note.now }
 {
     may_begin(note) && !has_other(note)
@@ -180,7 +180,7 @@ fn ends_note(byte: u8) -> bool
 
 /// Writes the date that a tagged number stands for.
 #[inline(never)]
-fn push_time(
+pub(super) fn push_time(
     out: &mut String,
     tag: u64,
     number: (u64, bool),
@@ -206,7 +206,12 @@ fn signed(value: u64, negative: bool) -> Option<i64> {
 
 /// Writes the seconds or days since 1970 that a tagged date stands for.
 #[inline(never)]
-fn push_text_note(out: &mut String, tag: u64, text: &str, alloc: Global) -> Result<(), AllocError>
+pub(super) fn push_text_note(
+    out: &mut String,
+    tag: u64,
+    text: &str,
+    alloc: Global,
+) -> Result<(), AllocError>
     ensures { Writes result out.old out.new AnyNote }
 {
     match tag {
@@ -230,7 +235,7 @@ fn push_epoch(out: &mut String, number: Option<String>, alloc: Global) -> Result
 
 /// Writes what tagged bytes stand for: an address, a UUID, a big number or a typed array.
 #[inline(never)]
-fn push_bytes_note(
+pub(super) fn push_bytes_note(
     out: &mut String,
     tag: u64,
     bytes: &[u8],
@@ -257,7 +262,7 @@ fn push_characters(out: &mut String, bytes: &[u8], place: &EdnPlace<'_>) -> Resu
 }
 
 /// Whether bytes are printable ASCII, at least one and at most as many as a note shows.
-fn are_characters(bytes: &[u8]) -> bool {
+pub(super) fn are_characters(bytes: &[u8]) -> bool {
     !bytes.is_empty()
         && bytes.len() <= MOST_CHARACTERS
         && bytes.iter().all(|byte| (32..127).contains(byte))

@@ -1,21 +1,22 @@
 //! Where an item is in a text of EDN. Its place decides how it is written, beside the item itself.
-ghost use Rattle.std.specs.Prelude.{◌≡◌, ◌≤◌, ◌||◌, unwrap_or};
+ghost use Rattle.std.specs.Prelude.{◌≡◌, ◌≤◌, ◌||◌, IfOk, unwrap_or};
 ghost use Rattle.cbor_grammar.specs.WellFormed.{deepest};
-ghost use Rattle.cbor_grammar.specs.NotationText.{indent_of};
-ghost use Rattle.cbor_edn_writer.specs.EdnLeaves.{edn_leaves, is_encoded, limit_within};
-ghost use Rattle.cbor_edn_writer.specs.EdnLeaves.{FoundAt, IsGiven, SameButNote};
+ghost use Rattle.cbor_grammar.specs.NotationText.{indent_of, style_indent};
+ghost use Rattle.cbor_edn_writer.specs.EdnLeaves.{edn_leaves, is_encoded, style_on};
+ghost use Rattle.cbor_edn_writer.specs.EdnLeaves.{FoundAt, IsGiven, LaidOut};
 ghost use Rattle.cbor_edn_writer.specs.EdnLeaves.{argument_bytes as bytes_of_width};
 ghost use Rattle.cbor_edn_writer.specs.EdnLeaves.{after_string as behind_string};
 ghost use Rattle.cbor_edn_writer.specs.EdnLeaves.{behind_in as behind_members};
 ghost use Rattle.cbor_edn_writer.specs.Written.{IsOutermost};
 
 use crate::note::Note;
+use crate::print::line::{Line, new_line};
 use crate::style::EdnStyle;
 use cbor_grammar::IntegerWidth;
 use cbor_grammar::argument::Argument;
-use cbor_grammar::layout::Layout;
-use cbor_notation_writer::parts::Container;
-use std::alloc::Global;
+use cbor_grammar::layout::{ContainerStyle, Layout};
+use cbor_notation_writer::parts::{Container, Front};
+use std::alloc::{AllocError, Global};
 
 /// Where an item is.
 #[derive(Clone, Copy)]
@@ -40,6 +41,8 @@ pub(crate) struct EdnPlace<'a> {
     pub(crate) passed: usize,
     /// The note on the item.
     pub(crate) found: Option<&'a Note<'a>>,
+    /// What is known of the line of the item.
+    pub(crate) line: Line,
 }
 
 impl<'a> EdnPlace<'a> {
@@ -63,19 +66,39 @@ impl<'a> EdnPlace<'a> {
             here: 0,
             passed: 0,
             found: None,
+            line: Line::outermost(style),
         }
     }
 
-    /// The same place with the note on the item. `remaining` is the number of bytes from the start
-    /// of the item on. `None` if there are no notes.
+    /// The same place with what is known of the line of the item, which comes after the text `out`.
+    /// `None` if that stays the same.
     #[inline(always)]
-    pub(crate) fn at(&self, remaining: usize) -> Option<EdnPlace<'a>>
-        ensures { SameButNote self.now (unwrap_or result self.now) }
+    pub(crate) fn laid_out(
+        &self,
+        out: &String,
+        front: Front<'_>,
+    ) -> Result<Option<EdnPlace<'a>>, AllocError>
+        ensures { IfOk result (λ moved. LaidOut self.now (unwrap_or moved self.now)) }
     {
-        if self.notes.is_empty() {
-            return None;
+        match new_line(self, out, front)? {
+            Some(line) => Ok(Some(EdnPlace { line, ..*self })),
+            None => Ok(None),
         }
-        Some(self.with_note(self.behind.saturating_add(remaining as u64)))
+    }
+
+    /// The same place with the note on the item, too.
+    #[inline(always)]
+    pub(crate) fn noted(
+        &self,
+        out: &String,
+        front: Front<'_>,
+    ) -> Result<Option<EdnPlace<'a>>, AllocError>
+        ensures { IfOk result (λ moved. LaidOut self.now (unwrap_or moved self.now)) }
+    {
+        let here = self.behind.saturating_add(front.bytes.len() as u64);
+        let place = self.with_note(here);
+        let line = new_line(&place, out, front)?.unwrap_or(self.line);
+        Ok(Some(EdnPlace { line, ..place }))
     }
 
     /// The same place with the note on the item. `here` is the number of the outermost bytes from
@@ -92,18 +115,17 @@ impl<'a> EdnPlace<'a> {
         }
     }
 
-    /// The estimated length from which a container takes a line for each member: the columns that
-    /// its indentation leaves.
+    /// How a container there is laid out.
     #[inline(always)]
-    pub(crate) fn limit(&self) -> usize
-        ensures { result ≡ limit_within self.now.style.columns (indent_of self.now.layout) }
+    pub(crate) fn container_style(&self) -> ContainerStyle
+        ensures style { result ≡ style_on self.now.line self.now.layout }
+        ensures indent { style_indent result ≡ indent_of self.now.layout }
     {
-        let indent = match self.layout {
-            Layout::Compact => 0,
-            Layout::Pretty { indent } => indent,
-        };
-        let left = usize::from(self.style.columns).saturating_sub(indent);
-        left.max(usize::from(EdnStyle::LEAST_COLUMNS))
+        match self.layout {
+            Layout::Compact => ContainerStyle::Compact,
+            Layout::Pretty { indent } if self.line.breaks => ContainerStyle::MultiLine { indent },
+            Layout::Pretty { indent } => ContainerStyle::OneLine { indent },
+        }
     }
 
     /// Whether a byte string is shown as the items in it, if its tag does not decide that.
@@ -185,7 +207,7 @@ fn argument_bytes(width: IntegerWidth) -> u64
 
 /// The note at this index, if its item has `here` bytes from its start on.
 #[inline(always)]
-fn note_at<'a>(notes: &'a [Note<'a>], index: usize, here: u64) -> Option<&'a Note<'a>>
+pub(super) fn note_at<'a>(notes: &'a [Note<'a>], index: usize, here: u64) -> Option<&'a Note<'a>>
     ensures { IsGiven notes.now here result }
 {
     match notes.get(index) {
@@ -200,7 +222,7 @@ const NEAR: usize = 16;
 /// How many notes are on items before the item with `here` bytes from its start on. The first
 /// `passed` notes are. The notes have the order of the items, so the wanted one is mostly near.
 #[inline(never)]
-fn notes_before(notes: &[Note<'_>], passed: usize, here: u64) -> usize {
+pub(super) fn notes_before(notes: &[Note<'_>], passed: usize, here: u64) -> usize {
     let behind = notes.get(passed..).unwrap_or(&[]);
     let mut near = behind.iter().take(NEAR);
     let more = match near.position(|note| note.at as u64 <= here) {

@@ -1,4 +1,5 @@
-//! In JSON, what is written round the members of a list, and of a tag.
+//! Writes what stands around members in JSON: brackets, commas and quotes; and tags, which only
+//! keys have.
 #![tactic(auto, using(cbor_tokens::proofs::texts::Appending::appending_steps))]
 
 ghost use Rattle.cbor_tokens.specs.Appends.{AppendsText};

@@ -1,4 +1,5 @@
-//! Where an item is in a text of JSON: what decides how it is written, beside the item itself.
+//! `JsonPlace`: where an item stands in JSON (a value, a key, inside a key; below which tag), and
+//! the style. It decides, beside the item, what is written.
 ghost use Rattle.std.specs.Prelude.{◌≡◌, ◌+◌, ◌≤◌};
 ghost use Rattle.cbor_grammar.specs.NotationText.{indent_of, encoding_below as encoding_under};
 ghost use Rattle.cbor_grammar.specs.WellFormed.{deepest};

@@ -1,4 +1,5 @@
-//! In JSON, strings.
+//! Writes strings in JSON: texts; and byte strings as digits, as the item in them, or as a big
+//! number.
 #![tactic(auto, using(cbor_tokens::proofs::texts::Appending::appending_steps))]
 
 ghost use Rattle.std.specs.Prelude.{◌≡◌};

@@ -9,7 +9,7 @@ use Rattle.cbor_grammar.specs.Item.{Chunk, atom, chunked_string}
 use Rattle.cbor_notation_writer.specs.declared.parts.Container.TheVariants.{Chunks}
 use Rattle.cbor_grammar.specs.declared.strings.StringKind.TheVariants.{Bytes}
 use Rattle.cbor_grammar.specs.declared.width.IntegerWidth.TheVariants.{Unknown}
-use Rattle.cbor_notation_writer.specs.Dialect.{Leaves, listed, ChunkTexts, ChunksText, ChunkedText, joined, sized_style}
+use Rattle.cbor_notation_writer.specs.Dialect.{Leaves, listed, ChunkTexts, ChunksText, ChunkedText, joined}
 use Rattle.cbor_notation_writer.specs.mirror.Straight.{TextsHere, BeforeChunk, AfterChunks}
 use Rattle.cbor_notation_writer.proofs.straight.Texts.{listed_more}
 
@@ -109,12 +109,12 @@ ended d p kind l old out new (c ∷ cs) held (n ∷ ms) each count begun e =
 
 pub chunks_written : {P : Type 0} (d : Leaves P) (p : P) (kind : StringKind) (l : ContainerStyle) (old out new : List ℕ)
     (cs : List Chunk) (held : ℕ) → d.joins p kind ≡ false
-    → l ≡ sized_style d p (4 + estimated_chunks kind cs)
+    → l ≡ d.style p (4 + estimated_chunks kind cs)
     → ChunksWritten d p kind l old out cs held → (e : List ℕ) × AfterChunks d p kind l held e × (new ≡ out ++ e)
     → (t : List ℕ) × TextsHere d p (atom (chunked_string kind cs)) t × (new ≡ old ++ t)
 chunks_written d p kind l old out new cs held parts same w e =
     let whole = ended d p kind l old out new cs held w.texts w.each w.count w.text e in
-    let at = sized_style d p (4 + estimated_chunks kind cs) in
+    let at = d.style p (4 + estimated_chunks kind cs) in
     let styled = subst (λ x. ChunkedText d p kind at x cs whole.0) (sym parts)
     (subst (λ x. ChunksText d p kind x cs whole.0) same whole.1) in
     (whole.0, styled, whole.2)
@@ -133,7 +133,7 @@ pub joined_written : {P : Type 0} (d : Leaves P) (p : P) (old new : List ℕ) (c
     → (t : List ℕ) × TextsHere d p (atom (chunked_string Bytes cs)) t × (new ≡ old ++ t)
 joined_written d p old new cs all joins is (t, text, written) =
     let whole : Chunk = record { bytes = all; width = Unknown } in
-    let l = sized_style d p (4 + estimated_chunks Bytes cs) in
+    let l = d.style p (4 + estimated_chunks Bytes cs) in
     let same : whole ≡ joined cs = ap (λ b. record { bytes = b; width = Unknown }) is in
     let as_one = subst (λ x. ChunkedText d p Bytes l x cs t) (sym joins)
     (subst (λ x. d.string p Bytes x t) same text) in

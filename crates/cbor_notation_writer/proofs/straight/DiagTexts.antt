@@ -28,7 +28,7 @@ use Rattle.cbor_notation_writer.specs.declared.parts.Container.TheVariants.{Arra
 use Rattle.cbor_notation_writer.specs.Dialect.{Writer, listed, ItemTexts, PairTexts, ChunkTexts, Between, count_of}
 use Rattle.cbor_notation_writer.specs.Dialect.{style_at, ItemsText, PairsText, embedding, OneText, EmbeddedText}
 use Rattle.cbor_notation_writer.specs.Dialect.{ContentText, ChunksText, AtomText, TagText, TextWith, TextsOf}
-use Rattle.cbor_notation_writer.specs.Dialect.{TextsAt, Wrote, sized_style, SequenceText}
+use Rattle.cbor_notation_writer.specs.Dialect.{TextsAt, Wrote, SequenceText}
 use Rattle.cbor_notation_writer.specs.mirror.DiagLeaves.{opening, closing, diag_leaves}
 use Rattle.cbor_notation_writer.specs.mirror.LayoutView.{context_view, before_member, after_member, content_there}
 use Rattle.cbor_notation_writer.specs.mirror.Straight.{Printed, Written, TextsBelow, ContentThere, text_in}
@@ -127,7 +127,7 @@ sequence_so : (write : Writer NotationContext) (so : text.Writer) → Same write
     → t ≡ text.sequence_text so (context_view c) s
 sequence_so write so same c b s t h =
     let k = embedding b in
-    let l = sized_style diag_leaves c (text.sequence_size s) in
+    let l = diag_leaves.style c (text.sequence_size s) in
     let inner = diag_leaves.inside k (text.members_layout l) c in
     let items = h.2 in
     let each = items_so write so same inner s.0 items.0 items.1 in

@@ -5,7 +5,6 @@ use Rattle.std.specs.Io.{StartsWith}
 use Rattle.cbor_grammar.specs.declared.error.Error.{Error}
 use Rattle.cbor_grammar.specs.declared.error.Error.TheVariants as refusal
 use Rattle.cbor_grammar.specs.declared.layout.ContainerStyle.{ContainerStyle}
-use Rattle.cbor_grammar.specs.declared.layout.Layout.{Layout}
 use Rattle.cbor_grammar.specs.Embedded.{before, if_whole, embedded_at, sequence_of, sequence_at}
 use Rattle.cbor_grammar.specs.Estimate.{estimated_items}
 use Rattle.cbor_grammar.specs.Item.{Chunk, Item, Items, no_items, item}
@@ -15,12 +14,11 @@ use Rattle.cbor_grammar.specs.declared.layout.ContainerStyle.TheVariants.{Compac
 use Rattle.cbor_grammar.specs.Reading.{Fails, joined, read_item}
 use Rattle.cbor_grammar.specs.WellFormed.{levels_left}
 use Rattle.cbor_notation_writer.specs.Dialect.{Leaves, Writer, ItemsText, SequenceText, Between, embedding, OneText}
-use Rattle.cbor_notation_writer.specs.Dialect.{EmbeddedText, Wrote, style_within, sized_style}
+use Rattle.cbor_notation_writer.specs.Dialect.{EmbeddedText, Wrote}
 use Rattle.cbor_notation_writer.specs.mirror.Straight.{TextsBelow, ContentThere}
 use Rattle.cbor_grammar.proofs.bytes.FoundAgain.{joined-none, joined_one}
 use Rattle.cbor_grammar.proofs.bytes.Shorter.{item_shorter}
 use Rattle.cbor_tokens.proofs.texts.Appending.{begins_same, begins_still, begins_two, begins_through}
-use Rattle.cbor_notation_writer.proofs.straight.Styles.{style_there}
 use Rattle.cbor_notation_writer.proofs.straight.Wrote.{wrote_begins, wrote_last}
 use Rattle.cbor_notation_writer.proofs.straight.Texts.{ItemsWritten, items_written}
 
@@ -86,7 +84,7 @@ begun_member out started new between r h =
 
 pub sequence_written : {P : Type 0} (d : Leaves P) (p first now : P) (l : ContainerStyle) (b : Chunk) (is : Items)
     (rest old out mid new : List ℕ) (held : ℕ)
-    → l ≡ sized_style d p (4 + estimated_items is)
+    → l ≡ d.style p (4 + estimated_items is)
     → (is, rest) ≡ sequence_at (levels_left (d.level p + 1)) b.bytes
     → ItemsWritten d (TextsBelow d p) p first (embedding b) l old out is now held
     → first ≡ d.inside (embedding b) (members_layout l) p
@@ -104,15 +102,11 @@ sequence_written d p first now l b is rest old out mid new held same whole w ins
     )
 
 -- the style of a sequence there
-pub sequence_style : {P : Type 0} (d : Leaves P) (p : P) (r : ContainerStyle) (layout : Layout) (limit n : ℕ)
-    (b : List ℕ) (is : Items) (rest : List ℕ)
-    → r ≡ style_within limit layout (4 + estimated_items (sequence_at (levels_left (n + 1)) b).0)
-    → layout ≡ d.layout p → limit ≡ d.limit p → n ≡ d.level p
-    → (is, rest) ≡ sequence_at (levels_left (d.level p + 1)) b → r ≡ sized_style d p (4 + estimated_items is)
-sequence_style d p r layout limit n b is rest styled laid long level whole = styled
-    ∙ style_there d p layout limit (4 + estimated_items (sequence_at (levels_left (n + 1)) b).0) laid long
-    ∙ ap (λ m. sized_style d p (4 + estimated_items (sequence_at (levels_left (m + 1)) b).0)) level
-    ∙ ap (λ (s : Items × List ℕ). sized_style d p (4 + estimated_items s.0)) (sym whole)
+pub sequence_style : {P : Type 0} (d : Leaves P) (p : P) (r : ContainerStyle) (b : List ℕ) (is : Items) (rest : List ℕ)
+    → r ≡ d.style p (4 + estimated_items (sequence_at (levels_left (d.level p + 1)) b).0)
+    → (is, rest) ≡ sequence_at (levels_left (d.level p + 1)) b → r ≡ d.style p (4 + estimated_items is)
+sequence_style d p r b is rest styled whole =
+    styled ∙ ap (λ (s : Items × List ℕ). d.style p (4 + estimated_items s.0)) (sym whole)
 
 -- ---- one item
 

@@ -23,7 +23,7 @@ use Rattle.cbor_grammar.specs.mirror.StringView.{borrowed_chunk, kind_of}
 use Rattle.cbor_notation_writer.specs.declared.parts.Container.{Container}
 use Rattle.cbor_notation_writer.specs.declared.parts.Container.TheVariants.{Array, Map}
 use Rattle.cbor_notation_writer.specs.Dialect.{Leaves, Writer, listed, ItemTexts, PairText, PairTexts}
-use Rattle.cbor_notation_writer.specs.Dialect.{count_of, sized_style, TextsOf, TextsAt, ItemsText, PairsText}
+use Rattle.cbor_notation_writer.specs.Dialect.{count_of, TextsOf, TextsAt, ItemsText, PairsText}
 use Rattle.cbor_notation_writer.specs.mirror.Straight.{TextsBelow, TextsHere, StringThere}
 
 -- ---- items
@@ -298,7 +298,7 @@ pairs_written d write p first now c l old out new ps held w inside_it ends =
 
 -- an array of these items there, and a map of these pairs
 pub array_written : {P : Type 0} (d : Leaves P) (p : P) (l : ContainerStyle) (count : Argument) (is : Items) (held : ℕ)
-    (old new : List ℕ) → l ≡ sized_style d p (4 + estimated_items is)
+    (old new : List ℕ) → l ≡ d.style p (4 + estimated_items is)
     → item_count is ≡ held → count ≡ count_of (count_width count) held
     → (t : List ℕ) × ItemsText d (TextsBelow d p) p (Array count) l is t × (new ≡ old ++ t)
     → (t : List ℕ) × TextsHere d p (array is (count_width count)) t × (new ≡ old ++ t)
@@ -307,11 +307,11 @@ array_written d p l count is held old new same holds counted w =
     let whole : count ≡ count_of w' (item_count is) = counted ∙ ap (count_of w') (sym holds) in
     let styled = subst (λ x. ItemsText d (TextsBelow d p) p (Array count) x is w.0) same w.1 in
     let so = subst (λ a. ItemsText d (TextsBelow d p) p (Array a)
-    (sized_style d p (4 + estimated_items is)) is w.0) whole styled in
+    (d.style p (4 + estimated_items is)) is w.0) whole styled in
     (w.0, so, w.2)
 
 pub map_written : {P : Type 0} (d : Leaves P) (p : P) (l : ContainerStyle) (count : Argument) (ps : Pairs) (held : ℕ)
-    (old new : List ℕ) → l ≡ sized_style d p (4 + estimated_pairs ps)
+    (old new : List ℕ) → l ≡ d.style p (4 + estimated_pairs ps)
     → pair_count ps ≡ held → count ≡ count_of (count_width count) held
     → (t : List ℕ) × PairsText d (TextsBelow d p) p (Map count) l ps t × (new ≡ old ++ t)
     → (t : List ℕ) × TextsHere d p (spec.map ps (count_width count)) t × (new ≡ old ++ t)
@@ -320,11 +320,11 @@ map_written d p l count ps held old new same holds counted w =
     let whole : count ≡ count_of w' (pair_count ps) = counted ∙ ap (count_of w') (sym holds) in
     let styled = subst (λ x. PairsText d (TextsBelow d p) p (Map count) x ps w.0) same w.1 in
     let so = subst (λ a. PairsText d (TextsBelow d p) p (Map a)
-    (sized_style d p (4 + estimated_pairs ps)) ps w.0) whole styled in
+    (d.style p (4 + estimated_pairs ps)) ps w.0) whole styled in
     (w.0, so, w.2)
 
 pub array_closed : {P : Type 0} (d : Leaves P) (p now : P) (l : ContainerStyle) (count : Argument) (is : Items)
-    (held : ℕ) (old out new rest after : List ℕ) → l ≡ sized_style d p (4 + estimated_items is)
+    (held : ℕ) (old out new rest after : List ℕ) → l ≡ d.style p (4 + estimated_items is)
     → ItemsWritten d (TextsBelow d p) p (d.inside (Array count) (members_layout l) p) (Array count) l old out is now
     held
     → Reached count held → Some after ≡ after_members (left_of count held) rest
@@ -336,7 +336,7 @@ array_closed d p now l count is held old out new rest after same w reached some 
     held w refl ends)
 
 pub map_closed : {P : Type 0} (d : Leaves P) (p now : P) (l : ContainerStyle) (count : Argument) (ps : Pairs)
-    (held : ℕ) (old out new rest after : List ℕ) → l ≡ sized_style d p (4 + estimated_pairs ps)
+    (held : ℕ) (old out new rest after : List ℕ) → l ≡ d.style p (4 + estimated_pairs ps)
     → PairsWritten d (TextsBelow d p) p (d.inside (Map count) (members_layout l) p) (Map count) l old out ps now held
     → Reached count held → Some after ≡ after_members (left_of count held) rest
     → (e : List ℕ) × d.closing p (Map count) l e × (new ≡ out ++ e)

@@ -11,7 +11,7 @@ use Rattle.cbor_grammar.specs.StringKind.{no_chunks}
 use Rattle.cbor_notation_writer.specs.declared.context.NotationContext.{NotationContext}
 use Rattle.cbor_notation_writer.specs.declared.parts.Container.{Container}
 use Rattle.cbor_notation_writer.specs.declared.parts.Container.TheVariants.{Array, Map, Chunks, Embedded}
-use Rattle.cbor_notation_writer.specs.Dialect.{Leaves}
+use Rattle.cbor_notation_writer.specs.Dialect.{Leaves, style_within}
 use Rattle.cbor_notation_writer.specs.mirror.LayoutView.{context_view, before_member, after_member}
 
 abbrev pub leaf_text : Atom → List ℕ
@@ -38,7 +38,7 @@ diag_leaves = record {
   At = λ p q. q ≡ p;
   level = λ p. p.level;
   layout = λ p. p.layout;
-  limit = λ p. one_line_limit;
+  style = λ p size. style_within one_line_limit p.layout size;
   content = λ p b. p.content;
   joins = λ p kind. false;
   inside = λ c layout p. record {

@@ -1,4 +1,4 @@
--- The members that are left are equal exactly where all are.
+-- The members that are left are equal if and only if all members are.
 use Rattle.std.proofs.Common.{◌≡◌, ◌↔◌, length, drop}
 use Rattle.cbor_diag.specs.View.{items_view, pairs_view}
 use Rattle.cbor_diag.proofs.syntax.+equal.Given as goal

@@ -5,7 +5,6 @@ use Rattle.std.specs.String.{string_bytes}
 use Rattle.cbor_grammar.specs.Item as spec
 use Rattle.cbor_grammar.specs.Item.{atom, string, array, no_items, item, no_pairs, pair}
 use Rattle.cbor_grammar.specs.Embedded.{sequence_at}
-use Rattle.cbor_grammar.specs.Estimate.{estimated_items, estimated_pairs}
 use Rattle.cbor_grammar.specs.NotationText.{members_layout}
 use Rattle.cbor_grammar.specs.Reading.{items_in, pairs_in, tag_of, joined, joined_pairs, count_width, read_head}
 use Rattle.cbor_grammar.specs.Reading.{no_level_left}
@@ -31,7 +30,6 @@ use Rattle.cbor_notation_writer.proofs.straight.Texts.{texts_below, reached_none
 use Rattle.cbor_notation_writer.proofs.straight.Texts.{no_items_written, one_item_written, array_closed}
 use Rattle.cbor_notation_writer.proofs.straight.Texts.{no_pairs_written, pair_text, one_pair_written, map_closed}
 use Rattle.cbor_notation_writer.proofs.straight.Texts.{string_written, tag_written, width_left}
-use Rattle.cbor_notation_writer.proofs.straight.Styles.{style_there}
 use Rattle.cbor_notation_writer.proofs.straight.Wrote.{wrote_begins, wrote_last}
 use Rattle.cbor_notation_writer.proofs.from_bytes.+straight.Goals as goal
 
@@ -56,7 +54,7 @@ push_front-returns-in_err-head-clause-refused g t c =
 pub push_front-returns-in-String : goal.push_front-returns-in-String
 push_front-returns-in-String g t c =
     let so = front_so g.D.Dialect.leaves c.args.place.now c.args.bytes.now c.level.ensures
-    c.if-level-gt-DEEPEST.false c.place_of-here.ensures c.at-moved.ensures.place c.at-moved.ensures.level
+    c.if-level-gt-DEEPEST.false c.place_of-here.ensures c.in_ok-moved.ensures.place c.in_ok-moved.ensures.level
     (rw c.in-String.is at c.in_ok-head.ensures.gives) c.push_string_front.result (λ rest. rest.now) _ _
     c.push_string_front.ensures.printed c.push_string_front.ensures.refused in
     record { printed = so.0; refused = so.1; begun = c.push_string_front.ensures.begun }
@@ -64,7 +62,7 @@ push_front-returns-in-String g t c =
 pub push_front-returns-in-Array : goal.push_front-returns-in-Array
 push_front-returns-in-Array g t c =
     let so = front_so g.D.Dialect.leaves c.args.place.now c.args.bytes.now c.level.ensures
-    c.if-level-gt-DEEPEST.false c.place_of-here.ensures c.at-moved.ensures.place c.at-moved.ensures.level
+    c.if-level-gt-DEEPEST.false c.place_of-here.ensures c.in_ok-moved.ensures.place c.in_ok-moved.ensures.level
     (rw c.in-Array.is at c.in_ok-head.ensures.gives) c.push_array_front.result (λ rest. rest.now) _ _
     c.push_array_front.ensures.printed c.push_array_front.ensures.refused in
     record { printed = so.0; refused = so.1; begun = c.push_array_front.ensures.begun }
@@ -72,7 +70,7 @@ push_front-returns-in-Array g t c =
 pub push_front-returns-in-Map : goal.push_front-returns-in-Map
 push_front-returns-in-Map g t c =
     let so = front_so g.D.Dialect.leaves c.args.place.now c.args.bytes.now c.level.ensures
-    c.if-level-gt-DEEPEST.false c.place_of-here.ensures c.at-moved.ensures.place c.at-moved.ensures.level
+    c.if-level-gt-DEEPEST.false c.place_of-here.ensures c.in_ok-moved.ensures.place c.in_ok-moved.ensures.level
     (rw c.in-Map.is at c.in_ok-head.ensures.gives) c.push_map_front.result (λ rest. rest.now) _ _
     c.push_map_front.ensures.printed c.push_map_front.ensures.refused in
     record { printed = so.0; refused = so.1; begun = c.push_map_front.ensures.begun }
@@ -80,7 +78,7 @@ push_front-returns-in-Map g t c =
 pub push_front-returns-in-Tag : goal.push_front-returns-in-Tag
 push_front-returns-in-Tag g t c =
     let so = front_so g.D.Dialect.leaves c.args.place.now c.args.bytes.now c.level.ensures
-    c.if-level-gt-DEEPEST.false c.place_of-here.ensures c.at-moved.ensures.place c.at-moved.ensures.level
+    c.if-level-gt-DEEPEST.false c.place_of-here.ensures c.in_ok-moved.ensures.place c.in_ok-moved.ensures.level
     (rw c.in-Tag.is at c.in_ok-head.ensures.gives) c.push_tag_front.result (λ rest. rest.now) _ _
     c.push_tag_front.ensures.printed c.push_tag_front.ensures.refused in
     record { printed = so.0; refused = so.1; begun = c.push_tag_front.ensures.begun }
@@ -94,27 +92,27 @@ pub push_front-returns-in_ok-leaf-in-Integer-clause-printed
     : goal.push_front-returns-in_ok-leaf-in-Integer-clause-printed
 push_front-returns-in_ok-leaf-in-Integer-clause-printed g t c =
     leaf_written g.D.Dialect.leaves c.args.place.now c.args.bytes.now c.level.ensures c.if-level-gt-DEEPEST.false
-    c.place_of-here.ensures c.at-moved.ensures.place c.at-moved.ensures.level
+    c.place_of-here.ensures c.in_ok-moved.ensures.place c.in_ok-moved.ensures.level
     (rw c.in-Integer.is at c.in_ok-head.ensures.gives) _ _ _ refl c.in_ok-leaf-in-Integer.ensures
 
 pub push_front-returns-in_ok-leaf-in-Negative-clause-printed
     : goal.push_front-returns-in_ok-leaf-in-Negative-clause-printed
 push_front-returns-in_ok-leaf-in-Negative-clause-printed g t c =
     leaf_written g.D.Dialect.leaves c.args.place.now c.args.bytes.now c.level.ensures c.if-level-gt-DEEPEST.false
-    c.place_of-here.ensures c.at-moved.ensures.place c.at-moved.ensures.level
+    c.place_of-here.ensures c.in_ok-moved.ensures.place c.in_ok-moved.ensures.level
     (rw c.in-Negative.is at c.in_ok-head.ensures.gives) _ _ _ refl c.in_ok-leaf-in-Negative.ensures
 
 pub push_front-returns-in_ok-leaf-in-Float-clause-printed : goal.push_front-returns-in_ok-leaf-in-Float-clause-printed
 push_front-returns-in_ok-leaf-in-Float-clause-printed g t c =
     leaf_written g.D.Dialect.leaves c.args.place.now c.args.bytes.now c.level.ensures c.if-level-gt-DEEPEST.false
-    c.place_of-here.ensures c.at-moved.ensures.place c.at-moved.ensures.level
+    c.place_of-here.ensures c.in_ok-moved.ensures.place c.in_ok-moved.ensures.level
     (rw c.in-Float.is at c.in_ok-head.ensures.gives) _ _ _ refl c.in_ok-leaf-in-Float.ensures
 
 pub push_front-returns-in_ok-leaf-in-Simple-clause-printed
     : goal.push_front-returns-in_ok-leaf-in-Simple-clause-printed
 push_front-returns-in_ok-leaf-in-Simple-clause-printed g t c =
     leaf_written g.D.Dialect.leaves c.args.place.now c.args.bytes.now c.level.ensures c.if-level-gt-DEEPEST.false
-    c.place_of-here.ensures c.at-moved.ensures.place c.at-moved.ensures.level
+    c.place_of-here.ensures c.in_ok-moved.ensures.place c.in_ok-moved.ensures.level
     (rw c.in-Simple.is at c.in_ok-head.ensures.gives) _ _ _ refl c.in_ok-leaf-in-Simple.ensures
 
 -- ---- an array
@@ -150,8 +148,7 @@ push_array_front-returns-in-Some-clause-printed g t c =
     let after = c.in-Some.after.now in
     let read = sym i.so_far ∙ parts_ended left (items_in i.found (left_of count held)) c.items.rest.now after _
     (ap (λ x. Some (array i.found x)) (width_left count held)) (sym c.in-Some.ensures) in
-    let same = c.array_style_ahead-style.ensures.style left i.found width after read
-    ∙ style_there d place _ _ (4 + estimated_items i.found) c.layout.ensures c.limit.ensures in
+    let same = c.array_style-style.ensures.style left i.found width after read in
     let text = array_closed d place c.items.inner _ count i.found held _ _ _ c.items.rest.now after same i.written
     i.reached c.in-Some.ensures c.in_ok-closing.ensures in
     (array i.found width, read, text.0, text.1, text.2)
@@ -230,8 +227,7 @@ push_map_front-returns-in-Some-clause-printed g t c =
     let after = c.in-Some.after.now in
     let read = sym i.so_far ∙ parts_ended left (pairs_in i.found (left_of count held)) c.pairs.rest.now after _
     (ap (λ x. Some (spec.map i.found x)) (width_left count held)) (sym c.in-Some.ensures) in
-    let same = c.map_style_ahead-style.ensures.style left i.found width after read
-    ∙ style_there d place _ _ (4 + estimated_pairs i.found) c.layout.ensures c.limit.ensures in
+    let same = c.map_style-style.ensures.style left i.found width after read in
     let text = map_closed d place c.pairs.inner _ count i.found held _ _ _ c.pairs.rest.now after same i.written
     i.reached c.in-Some.ensures c.in_ok-closing.ensures in
     (spec.map i.found width, read, text.0, text.1, text.2)
@@ -274,7 +270,7 @@ push_map_front-pairs-preserved g t c =
     let i = c.pairs.invariant in
     let k = c.in_ok-value.ensures.printed in
     let v = c.in_ok-rest.ensures.printed in
-    let l = c.map_style_ahead-style.result in
+    let l = c.map_style-style.result in
     let count = c.args.count in
     let held = c.pairs.held in
     let level = d.level place + 1 in
@@ -448,7 +444,7 @@ push_sequence-returns-in_default g t c =
     let place = c.args.place.now in
     let old = string_bytes c.args.out.now in
     let b = chunk c.args.width c.args.bytes.now in
-    let l = c.sequence_style_ahead-style.result in
+    let l = c.sequence_style-style.result in
     let first = d.inside (embedding b) (members_layout l) place in
     let i = c.items.invariant in
     let level = d.level place + 1 in
@@ -460,8 +456,7 @@ push_sequence-returns-in_default g t c =
     let new = string_bytes c.rest.new.out in
     let whole = sequence_ends left i.found rest c.in-Err.error (sequence_at left bytes) c.in_default.not-Memory
     (same_fails c.in-Err.error (d.level c.items.inner) level rest i.level c.in-Err.ensures.refused) i.so_far in
-    let same = sequence_style d place l c.layout.result c.limit.result c.level.result bytes i.found rest
-    c.sequence_style_ahead-style.ensures.style c.layout.ensures c.limit.ensures c.level.ensures whole in
+    let same = sequence_style d place l bytes i.found rest c.sequence_style-style.ensures.style whole in
     let back = c.truncate.ensures.bytes ∙ (cut_back c.items.out c.push_front.new.out c.len-start.result
     c.len-start.ensures (begun_member (string_bytes c.items.out) (string_bytes c.start.new.out)
     (string_bytes c.push_front.new.out) _

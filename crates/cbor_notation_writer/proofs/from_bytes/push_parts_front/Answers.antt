@@ -3,11 +3,9 @@ use Rattle.std.proofs.Common.{◌+◌, subst, ◌∙◌, arith}
 use Rattle.std.proofs.lemmas.Result.{err_from_is_err_and}
 use Rattle.std.specs.String.{string_bytes}
 use Rattle.cbor_grammar.specs.Item.{atom, chunked_string}
-use Rattle.cbor_grammar.specs.Estimate.{estimated_chunks}
 use Rattle.cbor_grammar.specs.mirror.StringView.{borrowed_chunk}
 use Rattle.cbor_tokens.proofs.texts.Appending.{begins_same, begins_after_member}
 use Rattle.cbor_bytes.proofs.reading.Readings.{fails_then, ok_then}
-use Rattle.cbor_notation_writer.proofs.straight.Styles.{style_there}
 use Rattle.cbor_notation_writer.proofs.straight.ChunkTexts.{no_chunks_written, one_chunk_written, chunks_written}
 use Rattle.cbor_bytes.proofs.reading.ChunksRead.{none_read, one_read, all_read, not_read}
 use Rattle.cbor_notation_writer.proofs.from_bytes.push_parts_front.Goals as goal
@@ -17,7 +15,7 @@ chunks-init g c =
     let old = string_bytes c.args.out.now in
     record {
       read = none_read c.args.kind c.args.bytes.now;
-      written = no_chunks_written g.D.Dialect.leaves c.args.place.now c.args.kind c.chunks_style_ahead-style.result old;
+      written = no_chunks_written g.D.Dialect.leaves c.args.place.now c.args.kind c.chunks_style-style.result old;
       begun = begins_same old;
       room = omega arith;
     }
@@ -40,9 +38,8 @@ returns-in_default-clause-printed g c =
     let whole = all_read kind c.args.bytes.now c.chunks.rest.now after i.read
     (rw c.in_default.is at c.in_ok-chunk.ensures.gives) c.in_ok-chunk.ensures.shorter in
     let read = ok_then _ (cs, after) _ whole in
-    let styled = c.chunks_style_ahead-style.ensures.style 0 cs after read
-    ∙ style_there d place _ _ (4 + estimated_chunks kind cs) c.layout.ensures c.limit.ensures in
-    let text = chunks_written d place kind c.chunks_style_ahead-style.result (string_bytes c.args.out.now)
+    let styled = c.chunks_style-style.ensures.style 0 cs after read in
+    let text = chunks_written d place kind c.chunks_style-style.result (string_bytes c.args.out.now)
     (string_bytes c.chunks.out) (string_bytes c.push_chunks_end.new.out) cs c.chunks.held
     c.requires.parts styled
     i.written c.in_ok-push_chunks_end.ensures in
@@ -67,7 +64,7 @@ chunks-preserved g c =
     let part = subst (λ k. d.part place k chunk m.0) same m.1 in
     record {
       read = one_read kind c.args.bytes.now c.chunks.rest.now chunk after i.read read c.in_ok-chunk.ensures.shorter;
-      written = one_chunk_written d place kind c.chunks_style_ahead-style.result old out started written
+      written = one_chunk_written d place kind c.chunks_style-style.result old out started written
           (string_bytes c.end.new.out) i.read.chunks chunk c.chunks.held i.written b (m.0, part, m.2)
           c.in_ok-end.ensures;
       begun = begins_after_member old out started written (string_bytes c.end.new.out) b.0 m.0 _ i.begun b.2 m.2

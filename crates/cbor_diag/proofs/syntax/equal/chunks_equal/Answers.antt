@@ -1,4 +1,4 @@
--- Strings in chunks are equal exactly where their lists of chunks are.
+-- Strings in chunks are equal if and only if their lists of chunks are.
 use Rattle.cbor_grammar.proofs.shared.Compared.{lists_compared}
 use Rattle.cbor_diag.proofs.syntax.equal.chunks_equal.Goals as goal
 

@@ -1,4 +1,4 @@
--- A container is well formed exactly where its count fits its width and its members are well formed.
+-- A container is well formed if and only if its count fits its width and its members are well formed.
 use Rattle.std.proofs.Common.{◌≡◌, ◌↔◌, ℕ, ◌+◌, ◌≤◌, Bool, false, IsTrue, Option, sym, ap, subst, ◌∙◌, arith}
 use Rattle.std.proofs.lemmas.Bool.{false≢true}
 use Rattle.cbor_grammar.specs.declared.width.IntegerWidth.{IntegerWidth}

@@ -1,4 +1,4 @@
--- The members that are left are well formed exactly where all are.
+-- The members that are left are well formed if and only if all members are.
 use Rattle.std.proofs.Common.{◌↔◌, drop}
 use Rattle.cbor_diag.specs.View.{items_view, pairs_view}
 use Rattle.cbor_grammar.specs.WellFormed.{WellFormedItems, WellFormedPairs}

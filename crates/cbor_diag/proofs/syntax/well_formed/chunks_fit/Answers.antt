@@ -1,4 +1,4 @@
--- The test of all chunks holds exactly where each length fits its width.
+-- The test of all chunks holds if and only if each length fits its width.
 use Rattle.std.proofs.Common.{rules}
 use Rattle.std.proofs.lemmas.Iterator.{cases_from_all, YieldsList-from_slice}
 use Rattle.cbor_grammar.specs.WellFormed.{IsChunk}
