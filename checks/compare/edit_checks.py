@@ -7,7 +7,7 @@ from cases import any_item
 from edn_cases import strict
 from item import Array, Integer, Map
 
-WANTED = "cborcat: --set: a path, = and EDN are wanted, as in 1/exp=1700000000\n"
+WANTED = "cborcat: --set: expected a path, = and EDN, as in 1/exp=1700000000\n"
 
 
 def check(run, same, examples):
@@ -61,7 +61,10 @@ def deleted(run, same):
         (["--delete", "0/a"], "82 a1 6161 c1 02 03", "82 a0 03"),
         (["--delete", "1", "--delete", "1"], "83 01 02 03", "81 01"),
         (["--delete", "@0"], "c2 44 01 02 03 04", "c2 43 02 03 04"),
+        (["-1", "--delete", "0:"], "01 02", "02"),
     ])
+    same("no item is left", run("-1", "--delete", "0:", "-f", "hex", "-x", "01"),
+         (b"", "cborcat: -x: no item is left after --delete, but -1 asks for one\n", 1))
 
 
 def added(run, same):
@@ -190,10 +193,10 @@ def wrong(run, same):
         same(f"--set of {text}", run("--set", text, "-x", "01"), (b"", WANTED, 2))
     for text in ("", "/"):
         same(f"--delete of {text}", run("--delete", text, "-x", "01"),
-             (b"", "cborcat: --delete: a path is wanted, as in 1/exp\n", 2))
+             (b"", "cborcat: --delete: expected a path, as in 1/exp\n", 2))
     for text in ("a=", "a=1 2"):
         same(f"--set of {text}", run("--set", text, "-x", "01"),
-             (b"", "cborcat: --set a: exactly one item is wanted after the =\n", 2))
+             (b"", "cborcat: --set a: expected exactly one item after the =\n", 2))
     same("no EDN", run("--set", "a=[1", "-x", "01")[::2], (b"", 2))
     rows = [
         (["--set", "3=1"], "[5, 6]", "3: no such index; the array has 2 items"),

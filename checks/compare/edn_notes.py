@@ -114,15 +114,17 @@ class NotedWriter(Writer):
 
     def __init__(self, left, notes=(), shown=True, **style):
         super().__init__(**style)
-        self.left, self.notes, self.shown = left, list(notes), shown
+        self.left, self.notes, self.shown = left, tuple(notes), shown
         self.encoded = False
 
     def note(self):
         """The note of the item that comes now. One that is passed is lost."""
         while self.notes and self.notes[0].left > self.left:
-            self.notes.pop(0)
+            self.notes = self.notes[1:]
         if self.notes and self.notes[0].left == self.left:
-            return self.notes.pop(0)
+            note, *others = self.notes
+            self.notes = tuple(others)
+            return note
         return NO_NOTE
 
     def comment(self, text):
@@ -132,12 +134,14 @@ class NotedWriter(Writer):
         begun, note = self.left, self.note()
         self.left -= head_size(item)
         self.encoded = note.encoded
+        before = self.comment(note.before)
+        before += before and " "
+        self.wrote(before)
         text = super().item(item, level, tag)
         self.left = begun - size(item)
-        before = self.comment(note.before)
-        return (before and before + " ") + text + self.after(item, tag, note)
+        return before + text + self.comments(item, tag, note)
 
-    def after(self, item, tag, note):
+    def comments(self, item, tag, note):
         """The comments after an item: its own, and that of the caller, which stands in place of characters."""
         own, said = None, self.comment(note.after)
         if isinstance(item, (Integer, Negative)):

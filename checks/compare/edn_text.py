@@ -3,7 +3,6 @@
 import math
 
 from bytes_form import sequence, to_bytes
-from diag_text import estimate
 from edn_numbers import FORMATS, nearest_or_none, value_of
 from fractions import Fraction
 from item import (
@@ -20,7 +19,7 @@ HIDDEN = {
     *range(0x20), *range(0x7F, 0xA0), 0x61C, 0x200E, 0x200F, 0x2028, 0x2029, *range(0x202A, 0x202F),
     *range(0x2066, 0x206A), 0xFEFF,
 }
-# the columns that a container may take on one line, however far it is indented
+# the columns that a line may have after its indentation, however far that is
 LEAST = 20
 
 
@@ -40,17 +39,42 @@ class Writer:
     are broken, without notes."""
 
     def __init__(self, widths=False, embedded=False, columns=None):
-        self.widths, self.embedded, self.columns, self.indent = widths, embedded, columns, 0
+        self.widths, self.embedded, self.columns = widths, embedded, columns
+        # the blanks that the line begins with, the characters of the line before what comes now, and those after it
+        self.indent, self.column, self.after = 0, 0, 0
 
-    def laid_out(self, opening, mark, members, closing, item):
-        """Members, each a function to its text, of an item that is estimated as the container, after a mark."""
-        opening += mark
-        if self.columns is None or estimate(item) < max(self.columns - self.indent, LEAST):
-            return opening + (mark and " ") + ", ".join(member() for member in members) + closing
+    def wrote(self, text):
+        """This text is before what comes next."""
+        _, feed, line = text.rpartition("\n")
+        self.column = len(line) if feed else self.column + len(line)
+
+    def laid_out(self, opening, mark, members, closing):
+        """Members, each a function to its text, after a mark: on one line if that fits into the columns."""
+        line = self.on_one_line(opening + mark + (mark and " "), members, closing)
+        if line is not None:
+            return line
+        kept, self.after = self.after, 1
         self.indent += 4
-        lines = ["\n" + " " * self.indent + member() + "," for member in members]
+        lines = [self.on_line(member) for member in members]
         self.indent -= 4
-        return opening + "".join(lines) + "\n" + " " * self.indent + closing
+        self.after = kept
+        return opening + mark + "".join(lines) + "\n" + " " * self.indent + closing
+
+    def on_line(self, member):
+        self.column = self.indent
+        return "\n" + " " * self.indent + member() + ","
+
+    def on_one_line(self, opening, members, closing):
+        """The text on one line, or None if that has too many columns. Then nothing was written."""
+        kept, columns = vars(self).copy(), self.columns
+        self.columns = None
+        text = opening + ", ".join(member() for member in members) + closing
+        self.columns = columns
+        most = columns is None or max(columns, kept["indent"] + LEAST)
+        if columns is None or not members or kept["column"] + len(text) + kept["after"] <= most:
+            return text
+        vars(self).update(kept)
+        return None
 
     def number(self, value, number, width):
         shown = self.widths and shortest(number) > 0
@@ -78,16 +102,25 @@ class Writer:
         """A byte string right below a tag, or below none."""
         found = self.items_in(item.content, level, tag)
         text = "h'" + item.content.hex() + "'"
+        mark = longer(len(item.content), item.width)
         if found is not None:
-            text = self.items(found, level, tag)
-        return text + longer(len(item.content), item.width)
+            return self.items(found, level, tag, mark)
+        return text + mark
 
-    def items(self, found, level, tag):
+    def items(self, found, level, tag, mark):
         """Items between `<<` and `>>`. One alone is not on a line of its own, but below tag 63."""
         if tag != 63:
-            return "<<" + self.item(found[0], level + 1) + ">>"
+            return self.around("<<", ">>" + mark, lambda: self.item(found[0], level + 1))
         members = [lambda inner=inner: self.item(inner, level + 1) for inner in found]
-        return self.laid_out("<<", "", members, ">>", Array(found, 0))
+        return self.laid_out("<<", "", members, ">>" + mark)
+
+    def around(self, opening, closing, inner):
+        """An item, a function to its text, with what is before and after it on its line."""
+        self.wrote(opening)
+        self.after += len(closing)
+        text = opening + inner() + closing
+        self.after -= len(closing)
+        return text
 
     def items_in(self, content, level, tag):
         """The items that are written between `<<` and `>>`, if these give the same bytes."""
@@ -106,13 +139,13 @@ class Writer:
 
     def listed(self, item, brackets, members):
         mark = "_" if item.width is None else longer(len(members), item.width)
-        return self.laid_out(brackets[0], mark, members, brackets[1], item)
+        return self.laid_out(brackets[0], mark, members, brackets[1])
 
     def chunks(self, item):
         if not item.chunks:
             return "''_" if isinstance(item, IndefiniteBytes) else '""_'
         chunks = [lambda chunk=chunk: self.chunk(chunk) for chunk in item.chunks]
-        return self.laid_out("(", "_", chunks, ")", item)
+        return self.laid_out("(", "_", chunks, ")")
 
     def chunk(self, item):
         if isinstance(item, Text):
@@ -136,13 +169,19 @@ class Writer:
             return self.chunks(item)
         if isinstance(item, Tagged):
             number = self.number(item.number, item.number, item.width)
-            return number + "(" + self.item(item.value, level + 1, item.number) + ")"
+            return self.around(number + "(", ")", lambda: self.item(item.value, level + 1, item.number))
         if isinstance(item, Array):
             members = [lambda member=member: self.item(member, level + 1) for member in item.members]
             return self.listed(item, "[]", members)
-        pairs = [lambda pair=pair: self.item(pair[0], level + 1) + ": " + self.item(pair[1], level + 1)
-                 for pair in item.pairs]
+        pairs = [lambda pair=pair: self.pair(*pair, level + 1) for pair in item.pairs]
         return self.listed(item, "{}", pairs)
+
+    def pair(self, key, value, level):
+        begun = self.column
+        text = self.item(key, level) + ": "
+        self.column = begun
+        self.wrote(text)
+        return text + self.item(value, level)
 
 
 def longer(number, width):

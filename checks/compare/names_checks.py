@@ -7,7 +7,9 @@ import re
 TOKEN = """\
 /COSE_Sign1/ 18([
     /protected/ <<{/alg/ 1: -7 /ES256/}>>,
-    /unprotected/ {/kid/ 4: h'4173796d6d65747269634543445341323536' /'AsymmetricECDSA256'/},
+    /unprotected/ {
+        /kid/ 4: h'4173796d6d65747269634543445341323536' /'AsymmetricECDSA256'/,
+    },
     /payload/ <<{
         /iss/ 1: "coap://as.example.com",
         /sub/ 2: "erikw",
@@ -52,14 +54,19 @@ SHOWN = [
     (["-x", "{1: 4, -1: h'00'}"], "{1: 4, -1: h'00'}\n"),
     (["--as=COSE_Key", "-p", "2", "-x", "[0, 1, {1: 4}]"], "/COSE_Key/ {/kty/ 1: 4 /Symmetric/}\n"),
     (["--as=SenML", "-x", "[{0: 'a', 2: 1.5}]"], "/SenML/ [{/n/ 0: h'61' /'a'/, /v/ 2: 1.5}]\n"),
-    # RFC 9052 C.3.1: the names of the layers of an encrypted message. A line's length is counted without names.
+    # RFC 9052 C.3.1: the names of the layers of an encrypted message. Names count for the length of a line.
     (["-x", "96([h'a10101', {5: h'c9cf4df2fe6c632bf7886413'}, h'7a', [[h'a1013818', {4: 'm'}, h'']]])"],
      "/COSE_Encrypt/ 96([\n"
      "    /protected/ <<{/alg/ 1: 1 /A128GCM/}>>,\n"
      "    /unprotected/ {/IV/ 5: h'c9cf4df2fe6c632bf7886413'},\n"
      "    /ciphertext/ h'7a' /'z'/,\n"
-     "    /recipients/ [[/protected/ <<{/alg/ 1: -25 /ECDH-ES + HKDF-256/}>>, /unprotected/ {/kid/ 4: h'6d' /'m'/}, "
-     "/ciphertext/ h'']],\n"
+     "    /recipients/ [\n"
+     "        [\n"
+     "            /protected/ <<{/alg/ 1: -25 /ECDH-ES + HKDF-256/}>>,\n"
+     "            /unprotected/ {/kid/ 4: h'6d' /'m'/},\n"
+     "            /ciphertext/ h'',\n"
+     "        ],\n"
+     "    ],\n"
      "])\n"),
     (["--no-names", "-x", "18([h'a10126', {}, h'', h''])"], "18([h'a10126', {}, h'', h''])\n"),
     # A type is found by a name that is alike, and its own name asks for its shape.
@@ -70,8 +77,17 @@ SHOWN = [
     (["--as=COSE_Sign1", "-x", "[1, 2, 3]"], "[/protected/ 1, /unprotected/ 2, /payload/ 3]\n"),
     (["-x", "18([1, 2, 3, 4]), 18(\"a\")"], "18([1, 2, 3, 4])\n18(\"a\")\n"),
     (["--as=CWT", "-x", "{266: {\"a\": {1: \"x\"}, \"b\": h'd28440a04040'}}"],
-     "/CWT/ {/submods/ 266: {\"a\": {/iss/ 1: \"x\"}, \"b\": <</COSE_Sign1/ 18([/protected/ h'', /unprotected/ {}, "
-     "/payload/ h'', /signature/ h''])>>}}\n"),
+     "/CWT/ {\n"
+     "    /submods/ 266: {\n"
+     "        \"a\": {/iss/ 1: \"x\"},\n"
+     "        \"b\": <</COSE_Sign1/ 18([\n"
+     "            /protected/ h'',\n"
+     "            /unprotected/ {},\n"
+     "            /payload/ h'',\n"
+     "            /signature/ h'',\n"
+     "        ])>>,\n"
+     "    },\n"
+     "}\n"),
     # Values that have a meaning, near the front of an item and far from it, and in a text none.
     (["-x", "1(1363896240.5) 4([-2, 27315]) 5([-1, 3])"],
      "1(1363896240.5 /2013-03-21T20:04:00.5Z/)\n4([-2, 27315 /273.15/])\n5([-1, 3 /1.5/])\n"),

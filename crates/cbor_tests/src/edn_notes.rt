@@ -1,4 +1,5 @@
-//! Notes on items of EDN that no comment has: of texts that no line of the vectors shows.
+//! EDN is written without a note whose text no comment can have, such as one with a slash or a line
+//! feed. The rows of the vectors cannot state such texts.
 
 use cbor_edn::{EdnStyle, Note, NotedStyle, push_bytes_to_edn_noted};
 

@@ -23,6 +23,8 @@ mod doc_names;
 #[cfg(test)]
 mod doc_notes;
 #[cfg(test)]
+mod doc_page;
+#[cfg(test)]
 mod doc_paths;
 #[cfg(test)]
 mod doc_places;

@@ -4,7 +4,7 @@ use cbor_diag::{DataItem, Error, Extent, extent, parse_bytes_partial};
 use std::alloc::Global;
 use std::test::Fail;
 
-/// The items of a log of CBOR items, one after the other, as far as they are whole.
+/// The items at the start of a log of CBOR items, up to one that is truncated.
 fn items(alloc: Global, log: &[u8]) -> Result<Vec<DataItem>, Error> {
     let mut items = Vec::new(alloc);
     let mut rest = log;

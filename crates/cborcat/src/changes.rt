@@ -1,4 +1,5 @@
-//! In the program, items that are changed before they are looked at, as they come.
+//! Makes the changes of `--set` and `--delete` in the items of an input as they arrive, before
+//! anything else reads them.
 
 use crate::messages::{Place, label};
 use crate::naming::Tables;

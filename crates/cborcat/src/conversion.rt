@@ -1,17 +1,21 @@
-//! In the program, the conversion of one input, as its bytes come.
+//! The conversion of one input as its bytes come: which items are shown, checked or skipped, and
+//! what is said when it ends.
+mod checks;
 mod fronts;
 mod index;
+mod page;
 mod writing;
 
 use self::fronts::{drop_front, first_bytes, short_items};
 use self::index::Indexed;
+use self::page::Page;
 use crate::changes::Changes;
 use crate::dumps::Dumps;
 use crate::each::show_each;
 use crate::encode::Encoding;
 use crate::input::{MORE, block_len, read_into};
 use crate::messages::{
-    Place, label, report_byte, report_end, report_few, report_long, report_lost, say,
+    Place, label, report_end, report_few, report_long, report_lost, report_none_left, say,
 };
 use crate::naming::Tables;
 use crate::output::{Target, Written};
@@ -21,9 +25,7 @@ use crate::screen::Screen;
 use crate::shape::shape_of;
 use crate::shown::show_of;
 use crate::status::{Next, Status};
-use cbor_grammar::Error;
-use cbor_inspect::{End, Form, Stream, two_byte_simple};
-use cbor_messages::{TWO_BYTES, first_violation};
+use cbor_inspect::{End, Form, Stream};
 use cbor_places::Piece;
 use cbor_stats::Stats;
 use cborcat_arguments::{Job, View};
@@ -72,6 +74,8 @@ pub struct Conversion<'a> {
     piece: Indexed,
     /// The values of the items by their paths, for `-t stats`.
     stats: Stats,
+    /// The page of the items, for `-t html`.
+    page: Page,
     /// How the output is shown.
     screen: Screen<'a>,
     /// What is written next.
@@ -92,6 +96,7 @@ impl<'a> Conversion<'a> {
             target: run.target,
             stats: Stats::new(rt.alloc()),
             piece: Indexed::from(job.offset),
+            page: Page::new(rt.alloc()),
             place,
             tables,
             status: Status::Fine,
@@ -138,8 +143,10 @@ impl<'a> Conversion<'a> {
                 }
             };
         }
-        if self.job.view == View::Stats {
-            self.write_stats();
+        match self.job.view {
+            View::Stats => self.write_stats(),
+            View::Html(_) => self.write_page(),
+            _ => {}
         }
         next
     }
@@ -217,7 +224,7 @@ impl<'a> Conversion<'a> {
                 Err(_) => return self.stop(End::Memory),
             }
             match end {
-                _ if self.found => return Next::NextInput,
+                _ if self.found || self.page.is_over => return Next::NextInput,
                 End::Full => {}
                 End::Done if self.long => return self.stop_long(),
                 End::Done | End::Cut if !at_end => return Next::More,
@@ -275,7 +282,7 @@ impl<'a> Conversion<'a> {
         End::Full
     }
 
-    /// Converts some items, or the next one if only that is wanted.
+    /// Converts the items that have arrived, or only the next one.
     fn show_next(&mut self, one: bool) -> End {
         let before = self.stream.rest().len();
         let end = match self.job.view {
@@ -286,6 +293,7 @@ impl<'a> Conversion<'a> {
             View::Json | View::Raw => self.show_plain(),
             View::Paths | View::At(_) | View::Diff | View::Stats => self.stream.skip(one),
             View::Index(size) => self.index_items(size),
+            View::Html(most) => self.page_items(most, one),
         };
         if self.stream.rest().len() < before {
             self.index = self.index.saturating_add(1);
@@ -357,43 +365,6 @@ impl<'a> Conversion<'a> {
         }
     }
 
-    /// Says where the first simple value below 32 in two bytes is, if it is in the bytes that were
-    /// passed last.
-    fn note_simple(&mut self, passed: usize) {
-        if self.noted || self.job.check || self.job.encode.is_some() || passed == 0 {
-            return;
-        }
-        if let Some(at) = two_byte_simple(self.stream.passed(passed)) {
-            let byte = self
-                .begins()
-                .saturating_sub(passed)
-                .saturating_add(at)
-                .saturating_add(1);
-            self.place.say_at_byte(self.rt, byte, TWO_BYTES);
-            self.noted = true;
-        }
-    }
-
-    /// Says where the bytes that were passed last first break a rule that the check names, unless
-    /// that was said.
-    fn note_violation(&mut self, passed: usize) -> Result<(), Error> {
-        let Some(set) = self.job.rules else {
-            return Ok(());
-        };
-        if self.broken || passed == 0 {
-            return Ok(());
-        }
-        let begins = self.begins().saturating_sub(passed);
-        let bytes = self.stream.passed(passed);
-        let items = Piece { begins, bytes };
-        if let Some(message) = first_violation(self.rt.alloc(), set, items)? {
-            report_byte(self.rt, self.place, items, (message.place, &message.text))?;
-            self.broken = true;
-            self.ended(Status::Bad);
-        }
-        Ok(())
-    }
-
     /// Says why no further item is converted.
     fn stop(&mut self, end: End) -> Next {
         let end = match self.write_left(end) {
@@ -409,10 +380,20 @@ impl<'a> Conversion<'a> {
         Next::NextInput
     }
 
-    /// All bytes were converted. An input that is to be an item and is none is cut.
+    /// No item came of an input that has to be one: all were deleted, or none was there.
+    fn none_came(&mut self) -> Next {
+        if self.changes.count == 0 {
+            return self.stop(End::Cut);
+        }
+        report_none_left(self.rt, self.place);
+        self.ended(Status::Bad);
+        Next::NextInput
+    }
+
+    /// All bytes were converted.
     fn done(&mut self) -> Next {
         if self.job.show.one && !self.any {
-            return self.stop(End::Cut);
+            return self.none_came();
         }
         if let Some(item) = self.job.item
             && self.index <= item

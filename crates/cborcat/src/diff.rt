@@ -1,4 +1,4 @@
-//! In the program, what differs between two inputs.
+//! `--diff`: reads two inputs whole, compares their items, and writes a line for each difference.
 
 use crate::input::{block_len, read_all, read_first};
 use crate::messages::{Place, report_end, say, say_out_of_memory};

@@ -1,4 +1,5 @@
-//! In the program, items that are shown one by one, each from its bytes.
+//! Shows items one by one, for the outputs that need the bytes of each item: `ShowsItem` and
+//! `show_each`.
 
 use crate::status::Status;
 use cbor_grammar::Error;

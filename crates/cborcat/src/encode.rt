@@ -1,4 +1,5 @@
-//! In the program, items that are encoded again before they are shown.
+//! `--encode`: re-encodes each item by rules before it is shown, or says why it has no such
+//! encoding.
 
 use crate::dumps::Dumps;
 use crate::each::ShowsItem;

@@ -1,4 +1,5 @@
-//! In the program, inputs, which are files or standard input, as they are read.
+//! Reads inputs, which are files or standard input: block by block, or until they are known to be
+//! text or bytes.
 
 use cbor_inputs::{Input, text_fault};
 use std::io::{ErrorKind, Read};

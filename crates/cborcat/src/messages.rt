@@ -1,4 +1,4 @@
-//! Messages on standard error.
+//! Writes the messages on standard error: what is wrong with an input, where, and what to do.
 
 use crate::naming::Tables;
 use crate::screen::say_excerpt;
@@ -284,6 +284,12 @@ pub fn report_few(rt: &HostRuntime, place: &Place, item: usize, count: usize) {
     let name = label(place.name);
     let what = if count == 1 { "item" } else { "items" };
     let _ = eprintln!(rt; "cborcat: {name}: {item}: no such item; {count} {what} came, from 0 on");
+}
+
+/// Says that no item is left of an input that has to be one.
+pub fn report_none_left(rt: &HostRuntime, place: &Place) {
+    let name = label(place.name);
+    let _ = eprintln!(rt; "cborcat: {name}: no item is left after --delete, but -1 asks for one");
 }
 
 /// Says that an item is longer than is allowed.

@@ -1,4 +1,5 @@
-//! The names that the program shows, by the tables of `cbor_names` and those of a file.
+//! The tables of names that the program uses: those of `cbor_names`, and those of the file of
+//! `--names`. Also which byte strings hold an item by their names, and the names of keys for JSON.
 
 use crate::messages::{label, say};
 use crate::status::Status;

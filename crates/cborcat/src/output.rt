@@ -1,9 +1,14 @@
-//! Where the output of the program goes.
+//! Opens, writes and closes the output: standard output, or a file, which gets its name only once
+//! all input is converted.
 
 use crate::messages::say;
-use std::fs::{File, OpenOptions};
+use std::fs::{File, OpenOptions, Permissions};
 use std::io::{ErrorKind, Write};
+use std::path::PathBuf;
 use std::{fs, io};
+
+/// How many links one after the other are followed, as Linux does.
+const MOST_LINKS: usize = 40;
 
 /// Where the output goes.
 #[derive(Drop)]
@@ -12,8 +17,18 @@ pub enum Target {
     Screen,
     /// To a file that is no regular one, such as a device.
     Direct(File),
-    /// To a file beside the one that is to be written, which takes its name at the end.
-    Beside(File, String),
+    /// To a file that takes the place of another at the end.
+    Beside(Beside),
+}
+
+/// A file beside the one that is to be written.
+#[derive(Drop)]
+pub struct Beside {
+    file: File,
+    /// The path of this file.
+    path: String,
+    /// The path of the file that is to be written.
+    wanted: PathBuf,
 }
 
 /// How a write went.
@@ -41,20 +56,60 @@ pub fn open(rt: &HostRuntime, output: Option<&str>) -> Option<Target> {
     }
 }
 
-/// Opens a file for the output.
+/// Opens a file for the output. A file that is there already keeps its mode.
 fn open_file(rt: &HostRuntime, name: &str) -> io::Result<Target> {
-    match fs::metadata(rt, name) {
+    let permissions = match fs::metadata(rt, name) {
         Ok(known) if !known.is_file() => {
             let file = OpenOptions::new().write(true).open(rt, name)?;
             return Ok(Target::Direct(file));
         }
+        Ok(known) => Some(known.permissions()),
         Err(error) if error.kind() == ErrorKind::OutOfMemory => return Err(error),
-        _ => {}
+        Err(_) => None,
+    };
+    let beside = create_beside(rt, destination(rt, name)?)?;
+    match keep(&beside.file, permissions) {
+        Ok(()) => Ok(Target::Beside(beside)),
+        Err(error) => {
+            remove(rt, &beside);
+            Err(error)
+        }
     }
+}
+
+/// Gives a file these permissions, if there are some.
+fn keep(file: &File, permissions: Option<Permissions>) -> io::Result<()> {
+    match permissions {
+        Some(permissions) => file.set_permissions(permissions),
+        None => Ok(()),
+    }
+}
+
+/// The path of the file that a name leads to: links are followed, also one to a file that is not
+/// there yet.
+fn destination(rt: &HostRuntime, name: &str) -> io::Result<PathBuf> {
+    let mut path = PathBuf::from_str(rt.alloc(), name)?;
+    for _ in 0..MOST_LINKS {
+        match fs::symlink_metadata(rt, path.as_str()) {
+            Ok(known) if known.is_symlink() => {}
+            Err(error) if error.kind() == ErrorKind::OutOfMemory => return Err(error),
+            _ => break,
+        }
+        let next = fs::read_link(rt, path.as_str())?;
+        path = match path.parent() {
+            Some(folder) => folder.join(rt.alloc(), next.as_str())?,
+            None => next,
+        };
+    }
+    Ok(path)
+}
+
+/// Creates a file beside the one that is to be written.
+fn create_beside(rt: &HostRuntime, wanted: PathBuf) -> io::Result<Beside> {
     for number in 0..1000u32 {
-        let beside = format!(in rt.alloc(); "{name}.{number}.part")?;
-        match File::create_new(rt, beside.as_str()) {
-            Ok(file) => return Ok(Target::Beside(file, beside)),
+        let path = format!(in rt.alloc(); "{}.{number}.part", wanted.as_str())?;
+        match File::create_new(rt, path.as_str()) {
+            Ok(file) => return Ok(Beside { file, path, wanted }),
             Err(error) if error.kind() == ErrorKind::AlreadyExists => {}
             Err(error) => return Err(error),
         }
@@ -62,12 +117,17 @@ fn open_file(rt: &HostRuntime, name: &str) -> io::Result<Target> {
     Err(io::Error::from(ErrorKind::AlreadyExists))
 }
 
+/// Removes a file that does not take the place of another.
+fn remove(rt: &HostRuntime, beside: &Beside) {
+    let _ = fs::remove_file(rt, beside.path.as_str());
+}
+
 /// Writes bytes, all of them.
 pub fn write(rt: &HostRuntime, target: &mut Target, bytes: &[u8]) -> Written {
     let end = match target {
         Target::Screen => rt.stdout().write_all(bytes),
         Target::Direct(file) => file.write_all(bytes),
-        Target::Beside(file, _) => file.write_all(bytes),
+        Target::Beside(beside) => beside.file.write_all(bytes),
     };
     match end {
         Ok(()) => Written::Whole,
@@ -79,25 +139,21 @@ pub fn write(rt: &HostRuntime, target: &mut Target, bytes: &[u8]) -> Written {
     }
 }
 
-/// Gives the file its name, if all input was converted; otherwise it is removed, and the file of
-/// that name stays as it was. Returns whether all is well.
+/// Puts the file in its place, if all input was converted; otherwise it is removed, and what was
+/// there stays as it was. Returns whether all is well.
 pub fn close(rt: &HostRuntime, target: Target, name: Option<&str>, whole: bool) -> bool {
-    let Target::Beside(file, beside) = target else {
-        return true;
-    };
-    drop(file);
-    let Some(name) = name else {
+    let Target::Beside(beside) = target else {
         return true;
     };
     if !whole {
-        let _ = fs::remove_file(rt, beside.as_str());
+        remove(rt, &beside);
         return true;
     }
-    match fs::rename(rt, beside.as_str(), name) {
+    match fs::rename(rt, beside.path.as_str(), beside.wanted.as_str()) {
         Ok(()) => true,
         Err(error) => {
-            let _ = fs::remove_file(rt, beside.as_str());
-            say(rt, name, &error);
+            remove(rt, &beside);
+            say(rt, name.unwrap_or("-o"), &error);
             false
         }
     }

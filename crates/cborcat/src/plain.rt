@@ -1,4 +1,4 @@
-//! In the program, items as JSON, and the content of strings.
+//! Writes items, or their parts, as JSON (`-t json`), or as the content of a string (`-t raw`).
 
 use crate::each::ShowsItem;
 use crate::messages::{Place, label, report_byte, report_lost};

@@ -1,4 +1,5 @@
-//! In the program, the form of an input, if the arguments do not name it.
+//! Finds the form of an input, by the arguments, the name of the file, or the text itself, and
+//! reads the text in it.
 
 use crate::messages::{label, report_refusal, say_out_of_memory, word_of};
 use crate::status::Status;

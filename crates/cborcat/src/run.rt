@@ -1,4 +1,4 @@
-//! A run of the program: each input, one after the other.
+//! A run of the program: reads each input, one after the other, and converts it; or compares two.
 
 use crate::conversion::Conversion;
 use crate::diff::Diff;
@@ -49,12 +49,21 @@ pub fn run<'a>(rt: &'a HostRuntime, job: &'a Job<'_>) -> u8 {
     };
     run.inputs();
     let status = run.status;
-    // Two inputs that differ are no failure.
-    let whole = status == Status::Fine || (job.view == View::Diff && status == Status::Bad);
+    let whole = status == Status::Fine || (status == Status::Bad && is_whole_if_bad(job));
     if close(rt, target, asked, whole) {
         status.number()
     } else {
         Status::Trouble.number()
+    }
+}
+
+/// Whether the output is whole though the status is bad: two inputs that differ are no failure, and
+/// a page that is to show a fault has it.
+fn is_whole_if_bad(job: &Job<'_>) -> bool {
+    match job.view {
+        View::Diff => true,
+        View::Html(_) => job.partial,
+        _ => false,
     }
 }
 

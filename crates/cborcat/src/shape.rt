@@ -1,5 +1,5 @@
-//! In the program, what an item without a tag looks like: a COSE message, a key, or the claims of a
-//! token.
+//! Guesses the type of an item that has no tag, for a message in a terminal: a COSE message, a key,
+//! or the claims of a token.
 
 use cbor_bytes::{Extent, extent};
 use cbor_grammar::argument::Argument;

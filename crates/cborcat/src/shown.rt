@@ -1,4 +1,5 @@
-//! What the program writes for items, in the terms of `cbor_inspect`.
+//! What `cbor_inspect` is asked to show, by the arguments: the style, the names, the path, and
+//! whether one item alone.
 
 use crate::naming::Tables;
 use cbor_grammar::Error;

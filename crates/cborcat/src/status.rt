@@ -1,4 +1,5 @@
-//! How a run of the program goes.
+//! `Status`, how a run or a part of it ended, which gives the exit status; and `Next`, what comes
+//! after a part.
 
 /// How a run ended, or a part of it; each is worse than those before it.
 #[derive(Clone, Copy, PartialEq, Eq)]

@@ -1,4 +1,4 @@
-//! The changes that `--set` and `--delete` ask for.
+//! Reads the values of `--set` and `--delete` as changes of items, or says what is wrong with one.
 
 use crate::words::item_of;
 use cbor_inputs::{Input, Refusal};
@@ -93,7 +93,7 @@ fn set_of<'a>(rt: &HostRuntime, text: &'a str) -> Result<Change<'a>, Wrong> {
         let part = Some(item_in(rt, path, edn)?);
         return Ok(Change { part, ..change });
     }
-    let _ = eprintln!(rt; "cborcat: --set: a path, = and EDN are wanted, as in 1/exp=1700000000");
+    let _ = eprintln!(rt; "cborcat: --set: expected a path, = and EDN, as in 1/exp=1700000000");
     Err(Wrong::Said)
 }
 
@@ -102,7 +102,7 @@ fn delete_of<'a>(rt: &HostRuntime, path: &'a str) -> Result<Change<'a>, Wrong> {
     if let Some(change) = change_at(rt.alloc(), path)? {
         return Ok(change);
     }
-    let _ = eprintln!(rt; "cborcat: --delete: a path is wanted, as in 1/exp");
+    let _ = eprintln!(rt; "cborcat: --delete: expected a path, as in 1/exp");
     Err(Wrong::Said)
 }
 
@@ -151,7 +151,7 @@ fn item_in(rt: &HostRuntime, path: &str, edn: &str) -> Result<Vec<u8>, Wrong> {
     if shown.end == End::Full && shown.used == bytes.len() {
         return Ok(bytes);
     }
-    let _ = eprintln!(rt; "cborcat: --set {path}: exactly one item is wanted after the =");
+    let _ = eprintln!(rt; "cborcat: --set {path}: expected exactly one item after the =");
     Err(Wrong::Said)
 }
 

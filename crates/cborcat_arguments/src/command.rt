@@ -11,8 +11,9 @@ use std::alloc::{AllocError, Global};
 static FROM: [&str; 7] = ["bytes", "cbor", "hex", "diag", "edn", "json", "base64"];
 
 /// The forms of the output, some by two names; `index` also takes a size, as in `index=64M`.
-pub(crate) static TO: [&str; 11] = [
-    "pretty", "diag", "edn", "hex", "digits", "bytes", "cbor", "json", "raw", "paths", "stats",
+pub(crate) static TO: [&str; 12] = [
+    "pretty", "diag", "edn", "hex", "html", "digits", "bytes", "cbor", "json", "raw", "paths",
+    "stats",
 ];
 
 /// What an option takes.

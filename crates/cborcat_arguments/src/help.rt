@@ -85,6 +85,8 @@ Forms, i for input and o for output:
   base64      i   either alphabet, with padding or without
   json        io  output: JSON, one line for each item; input: the same as diag
   raw          o  the content of a byte or text string
+  html         o  one page, to look at in a browser: each line of pretty beside its
+                  bytes; of at most 262144 bytes, or --limit
   paths        o  a line for each item that holds no other: its path, and EDN
   stats        o  which paths take the bytes: sizes, counts, kinds and bounds
   index=SIZE   o  a line for each run of whole items that has SIZE bytes or
@@ -124,6 +126,7 @@ Examples:
   tail -c +1 -f log.cbor | cborcat -t diag
   cborcat -p 2/@ token.hex
   cborcat -p 2 -t raw message.cbor > payload
+  cborcat -t html token.cbor > token.html
   cborcat --as=COSE_Key key.cbor
   cborcat --at=0x5b message.cbor
   cborcat --diff a.cbor b.cbor

@@ -1,4 +1,4 @@
-//! What the arguments of `cborcat` ask for.
+//! `Job`: what the arguments of `cborcat` ask for, once they are read.
 
 use crate::changes::Change;
 use cbor_inputs::Input;
@@ -41,6 +41,8 @@ pub enum View {
     Raw,
     /// The items that hold no other, and the paths to them.
     Paths,
+    /// The same as one page, of at most this many bytes of data.
+    Html(usize),
     /// The item to which this byte of the data belongs.
     At(usize),
     /// What differs between two inputs.
@@ -142,7 +144,7 @@ impl Job<'_> {
         let style = self.show.style;
         let has_comments = matches!(style.form, Form::Pretty | Form::Hex) && style.notes;
         let is_named = match self.view {
-            View::Items => has_comments && !self.check,
+            View::Items | View::Html(_) => has_comments && !self.check,
             View::Json => self.names_as_keys,
             // Names say which byte strings paths enter.
             View::Paths | View::At(_) | View::Diff | View::Stats => style.notes,

@@ -1,10 +1,12 @@
-//! The arguments, read: the job that they ask for, or why they ask for none.
+//! Reads the arguments of `cborcat`: returns the job that they ask for, or says what is wrong with
+//! them.
 
 use crate::changes::{Wrong, changes_of};
 use crate::command::{TO, command};
 use crate::job::{Color, Job, View, Wanted};
 use cbor_inputs::Input;
 use cbor_inspect::{Form, Style, steps_of};
+use cbor_page::MOST;
 use cbor_rules::RuleSet;
 use clap::ArgMatches;
 use clap::error::ErrorKind;
@@ -149,10 +151,16 @@ fn view_of(matches: &ArgMatches) -> View {
         Some("json") => View::Json,
         Some("raw") => View::Raw,
         Some("paths") => View::Paths,
+        Some("html") => View::Html(most_of(matches)),
         Some("stats") => View::Stats,
         Some(word) if let Some(size) = index_size(word) => View::Index(size),
         _ => View::Items,
     }
+}
+
+/// How many bytes of data a page may show.
+fn most_of(matches: &ArgMatches) -> usize {
+    matches.get_str("limit").and_then(number_of).unwrap_or(MOST)
 }
 
 /// Why what the arguments ask for is not to be had, if it is not.
@@ -167,6 +175,10 @@ fn refusal(job: &Job, matches: &ArgMatches) -> Option<&'static str> {
                 "--as and --names are for names, which pretty notation, dumps and paths have, \
                  without --no-notes, and -t json with --names-as-keys",
             )
+        }
+        View::Html(_) if job.files.len() > 1 => Some("-t html makes one page, of one input"),
+        View::Html(_) if encoded || job.elide.is_some() || job.widthless => {
+            Some("-t html shows items as they are, and has no --encode, --elide or --no-widths")
         }
         View::Diff if job.files.len() != 2 => Some("--diff compares two files"),
         _ if job.exact && job.view != View::Diff => Some("--exact is for --diff"),

@@ -1,4 +1,5 @@
-//! In the program, the first of some bytes: dropped, copied, or as far as they are short items.
+//! The front of a buffer: drops or copies its first bytes, and finds the items at the front that
+//! `--limit` allows.
 
 use cbor_bytes::{Extent, extent};
 use std::alloc::{AllocError, Global};

@@ -1,4 +1,5 @@
-//! In the program, where pieces of whole items begin and end.
+//! `-t index=SIZE`: gathers whole items to pieces of at least this size, and writes where each
+//! piece begins, its length, and how many items it has.
 
 use super::Conversion;
 use crate::output::{Written, write};

@@ -1,4 +1,5 @@
-//! In the program, what a conversion writes: of items, of a byte, and of an item that is not whole.
+//! What a conversion writes: items, paths, statistics, the item at a byte (`--at`), and the part of
+//! a truncated item (`--partial`).
 
 use super::Conversion;
 use crate::dumps::Dumps;
@@ -24,6 +25,7 @@ impl Conversion<'_> {
             View::At(byte) => self.write_at(byte),
             View::Items => self.write_items(),
             View::Index(_) => Ok(write(self.rt, self.target, &self.out)),
+            View::Html(_) => Ok(Written::Whole),
             View::Json => Ok(self.screen.write(self.target, &self.out, Language::Edn)?),
             View::Raw => Ok(write(self.rt, self.target, &self.out)),
         }
@@ -155,6 +157,7 @@ impl Conversion<'_> {
             View::At(byte) => self.write_at_left(byte),
             View::Items if self.job.partial => self.write_partial(end),
             View::Index(_) => self.write_last_piece(),
+            View::Html(most) if self.job.partial => self.page_left(most),
             _ => Ok(Written::Whole),
         }
     }

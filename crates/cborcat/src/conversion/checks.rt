@@ -1,0 +1,48 @@
+//! The checks that go with every conversion: simple values in two bytes, and violations of rules.
+
+use super::Conversion;
+use crate::messages::report_byte;
+use crate::status::Status;
+use cbor_grammar::Error;
+use cbor_inspect::two_byte_simple;
+use cbor_messages::{TWO_BYTES, first_violation};
+use cbor_places::Piece;
+
+impl<'a> Conversion<'a> {
+    /// Says where the first simple value below 32 in two bytes is, if it is in the bytes that were
+    /// passed last.
+    pub(super) fn note_simple(&mut self, passed: usize) {
+        if self.noted || self.job.check || self.job.encode.is_some() || passed == 0 {
+            return;
+        }
+        if let Some(at) = two_byte_simple(self.stream.passed(passed)) {
+            let byte = self
+                .begins()
+                .saturating_sub(passed)
+                .saturating_add(at)
+                .saturating_add(1);
+            self.place.say_at_byte(self.rt, byte, TWO_BYTES);
+            self.noted = true;
+        }
+    }
+
+    /// Says where the bytes that were passed last first break a rule that the check names, unless
+    /// that was said.
+    pub(super) fn note_violation(&mut self, passed: usize) -> Result<(), Error> {
+        let Some(set) = self.job.rules else {
+            return Ok(());
+        };
+        if self.broken || passed == 0 {
+            return Ok(());
+        }
+        let begins = self.begins().saturating_sub(passed);
+        let bytes = self.stream.passed(passed);
+        let items = Piece { begins, bytes };
+        if let Some(message) = first_violation(self.rt.alloc(), set, items)? {
+            report_byte(self.rt, self.place, items, (message.place, &message.text))?;
+            self.broken = true;
+            self.ended(Status::Bad);
+        }
+        Ok(())
+    }
+}
