@@ -14,6 +14,7 @@
 #![tactic(auto)]
 
 mod compare;
+mod keys;
 mod level;
 mod same;
 

@@ -1,4 +1,4 @@
-//! Whether items are the same.
+//! Whether items are the same: byte for byte, or in their core deterministic encodings.
 ghost use Rattle.std.specs.Prelude.{◌≡◌, ◌↔◌, ℕ, true, false, List, None, IfOk, IfSome};
 ghost use Rattle.cbor_rules.specs.declared.rules.TheConstants.Rules.{CORE};
 ghost use Rattle.cbor_reencode.specs.Reencoded.{IsReencoded};
@@ -9,11 +9,13 @@ use cbor_rules::Rules;
 use std::alloc::{AllocError, Global};
 
 /// The core deterministic encoding of items, or `None` if they have none: the bytes are not items,
-/// or a map has two equal keys. Before `None` is returned, the bytes are checked again. If the check
-/// finds no violation, the error is that of memory. Tests show that this never happens.
+/// or a map has two equal keys. Before `None` is returned, the bytes are checked again. If the
+/// check finds no violation, the error is that of memory. Tests show that this never happens.
 fn core_of(alloc: Global, items: &[u8]) -> Result<Option<Vec<u8>>, AllocError>
-    ensures some { IfOk result (λ found. IfSome found (λ core. IsReencoded CORE items.now core.items)) }
-    ensures none { IfOk result (λ found. found ≡ None → (core : List ℕ) → ¬ (IsReencoded CORE items.now core)) }
+    ensures some { IfOk result (λ found. IfSome found
+        (λ core. IsReencoded CORE items.now core.items)) }
+    ensures none { IfOk result (λ found. found ≡ None
+        → (core : List ℕ) → ¬ (IsReencoded CORE items.now core)) }
 {
     match reencoded(alloc, items, Rules::CORE) {
         Ok(core) => return Ok(Some(core)),

@@ -1,4 +1,4 @@
-//! Containers without some of their members, or with one more.
+//! Drops members from an array or a map, or adds one at its end, with the new count in its head.
 ghost use Rattle.std.specs.Prelude.{◌≡◌, ℕ, ◌-◌, ◌≤◌, List, ◌++◌, take, drop, length};
 ghost use Rattle.std.specs.Prelude.{IfOk, IfSome};
 ghost use Rattle.cbor_edit.specs.Edited.{bytes_of};

@@ -1,4 +1,5 @@
-//! Edits of an item: at each place that a path leads to, from the last to the first.
+//! Edits an item: sets, drops or adds what a path leads to. The places are changed from the last to
+//! the first.
 ghost use Rattle.std.specs.Prelude.{ℕ, IfOk};
 ghost use Rattle.cbor_grammar.specs.Item.{Item};
 ghost use Rattle.cbor_grammar.specs.Facts.{IsItem};

@@ -1,4 +1,5 @@
-//! Other bytes in place of a part, where the byte strings around it get their new lengths.
+//! Puts other bytes in place of a part, and the new lengths into the heads of the byte strings
+//! around it.
 ghost use Rattle.std.specs.Prelude.{◌≡◌, ℕ, ◌≤◌, List, IfOk, IfSome};
 ghost use Rattle.cbor_grammar.specs.declared.argument.Argument.{Argument};
 ghost use Rattle.cbor_edit.specs.Edited.{Edited, bytes_of};

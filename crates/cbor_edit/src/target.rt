@@ -1,4 +1,5 @@
-//! Where the steps of a path lead to something that is changed, or to where something is added.
+//! Finds what an edit changes: the parts that the steps of a path lead to, or the container that
+//! gets a new member.
 
 use crate::place::Place;
 use cbor_bytes::head::read_head;

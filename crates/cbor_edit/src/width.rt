@@ -1,4 +1,5 @@
-//! The widths of counts and lengths that change.
+//! The widths of counts and lengths that change: a width stays if the new number fits, and is else
+//! the shortest.
 ghost use Rattle.std.specs.Prelude.{◌≡◌, IfOk};
 ghost use Rattle.cbor_grammar.specs.Head.{FitsStated, head};
 ghost use Rattle.cbor_grammar.specs.mirror.MajorNumber.{major_number};

@@ -1,4 +1,4 @@
-//! Why no further item is written or passed.
+//! `End`: why reading a sequence of items stopped: at its end, or at a truncated or malformed item.
 
 use cbor_grammar::Error;
 

@@ -1,4 +1,5 @@
-//! Where the steps of a path lead, in the bytes of an item.
+//! Follows the steps of a path from an item: `follow` returns the span of the part that they lead
+//! to, and `lost_at` the first step that leads nowhere.
 ghost use Rattle.std.specs.Prelude.{IfOk, IfSome};
 ghost use Rattle.std.specs.List.{AllByRecursion};
 ghost use Rattle.cbor_paths.specs.Followed.{IsItemSpan, IsPart};

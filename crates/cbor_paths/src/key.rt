@@ -1,4 +1,5 @@
-//! Keys of a path, compared with those of a map.
+//! Compares a key in a path with a key of a map, and reads a key as the index of an array or as a
+//! name.
 
 use cbor_bytes::head::read_head;
 use cbor_bytes::strings::split_at;
@@ -32,8 +33,8 @@ pub fn is_key(wanted: &[u8], key: &[u8]) -> bool {
     }
 }
 
-/// Whether a key has the bytes of the one that is wanted, but for simple values below 24 in two
-/// bytes.
+/// Whether a key has the bytes of the wanted one, but for simple values below 24 in a non-minimal
+/// encoding.
 fn is_spelled_longer(wanted: &[u8], key: &[u8]) -> bool {
     let (mut at, mut place) = (0usize, 0usize);
     for _ in 0..key.len() {

@@ -1,4 +1,5 @@
-//! Items of the bytes of an item: below their tags, and the members of containers.
+//! `Members`: goes over the members of an array or a map in the bytes. `Below`: an item without the
+//! tags around it.
 
 use crate::skip::bytes_from;
 use cbor_bytes::skip::after_front;

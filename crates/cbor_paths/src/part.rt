@@ -1,4 +1,5 @@
-//! Where one step of a path leads from an item.
+//! Follows one step of a path: to a member of an array, the value of a key, or the item in a byte
+//! string.
 
 use crate::key::{index_of, is_key, text_of};
 use crate::members::{At, Below, Members};

@@ -1,4 +1,4 @@
-//! What is shown of an item beside its bytes, which paths may use.
+//! `Picture`: the names that are shown beside items. A step of a path may be such a name.
 
 /// Something of an item that is shown.
 #[derive(Clone, Copy, PartialEq, Eq, Debug)]

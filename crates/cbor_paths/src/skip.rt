@@ -1,4 +1,4 @@
-//! Items one after the other, which are passed and not written.
+//! Skips the items of a sequence, and reports where and why that ends.
 ghost use Rattle.std.specs.Prelude.{◌≡◌, ◌↔◌, ℕ, ◌≤◌, List, length, drop, IsTrue, false};
 ghost use Rattle.cbor_grammar.specs.Item.{Item};
 ghost use Rattle.cbor_paths.specs.Sequence.{IsSequence, ItemsThen, OneAtMost};

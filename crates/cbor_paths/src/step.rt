@@ -1,4 +1,4 @@
-//! Steps of a path.
+//! `Step`: one step of a path, such as a key of a map.
 
 /// A step of a path. Tags need no step.
 #[derive(Drop)]

@@ -1,4 +1,5 @@
-//! What is around a byte of the data: the path, the open containers, the innermost item.
+//! What is around a byte of the data, or around the end of a truncated item: the path, the open
+//! containers and the innermost item; and these in words, for messages.
 
 use crate::entered::{ByteString, Entered, content_at};
 use crate::nouns::{count_of, noun_of_open, push_there};

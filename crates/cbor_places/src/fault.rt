@@ -1,4 +1,5 @@
-//! Where in an item its error is: the path, and what is said there.
+//! `fault_of` returns why bytes are no item: the error, the byte that shows it, the path to the
+//! truncated or malformed item, and a message.
 ghost use Rattle.std.specs.Prelude.{◌≡◌, IfOk, IfErr, IfSome, None};
 ghost use Rattle.cbor_grammar.specs.Item.{Item};
 ghost use Rattle.cbor_grammar.specs.Facts.{IsItem, IsNoItem};

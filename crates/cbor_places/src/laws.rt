@@ -1,4 +1,4 @@
-//! Laws of what is shown of an item that is cut, as contracts of functions that nobody calls.
+//! Laws of what is shown of a truncated item, as contracts of functions that nobody calls.
 ghost use Rattle.std.specs.Prelude.{◌≡◌, ◌++◌, ◌<◌, ℕ, List, Option, length, slice_index, take};
 ghost use Rattle.cbor_edn_writer.specs.declared.style.EdnStyle.{EdnStyle};
 ghost use Rattle.cbor_grammar.specs.Item.{Item, Items, Pairs, array, parts, map};

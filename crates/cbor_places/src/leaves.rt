@@ -1,4 +1,5 @@
-//! Where each item is that holds no other: a line for each, with its path.
+//! `Leaves` goes from one item that holds no other to the next, with the path to each. It also
+//! writes them as lines: the path, and the item in EDN.
 
 use crate::entered::{ByteString, Entered, content_behind};
 use crate::path::{Path, push_number};

@@ -1,4 +1,5 @@
-//! For texts on places, what containers, strings and their parts are called.
+//! The nouns of messages: what containers, strings and their parts are called, and how many parts
+//! of a container are there.
 
 use cbor_grammar::argument::Argument;
 use cbor_grammar::strings::StringKind;

@@ -1,4 +1,5 @@
-//! Places in pieces of data, and how a message names their bytes.
+//! `Piece`: bytes of the data, with the number of bytes before them. `Places`: how a message names
+//! a byte of the data.
 
 use std::alloc::AllocError;
 use std::fmt::Write;

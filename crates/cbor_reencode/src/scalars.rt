@@ -3,14 +3,12 @@ ghost use Rattle.std.specs.Prelude.{◌≡◌, ◌⊎◌, ◌<◌, ◌≤◌, �
 ghost use Rattle.std.specs.Prelude.{IfOk, MatchOption};
 ghost use Rattle.cbor_grammar.specs.Head.{FitsStated, break_byte};
 ghost use Rattle.cbor_grammar.specs.StringKind.{major_of};
-ghost use Rattle.cbor_grammar.specs.WellFormed.{FitsFloat};
 ghost use Rattle.cbor_grammar.specs.Written.{encoded_head, encoded_float, encoded_simple};
 ghost use Rattle.cbor_grammar.specs.mirror.MajorNumber.{major_number};
 ghost use Rattle.cbor_grammar.specs.Reading.{read_head};
 ghost use Rattle.cbor_grammar.specs.declared.head.ItemHead.TheVariants as item_head;
 ghost use Rattle.cbor_floats.specs.Preferred.{FitsWidth};
 ghost use Rattle.cbor_floats.specs.Value.{bits_of};
-ghost use Rattle.cbor_rules.specs.Keeps.{float_of};
 ghost use Rattle.cbor_rules.specs.FirstViolation.{opened, two_byte_violation};
 ghost use Rattle.cbor_reencode.specs.mirror.Chosen.{chosen_width, float_width_of};
 ghost use Rattle.cbor_reencode.specs.mirror.Rewritten.{ContentAt, ChunkAt, Joined};
@@ -26,20 +24,8 @@ use cbor_grammar::head::ItemHead;
 use cbor_grammar::major::Major;
 use cbor_grammar::strings::StringKind;
 use cbor_grammar::{Error, FloatWidth, IntegerWidth};
+use cbor_rules::float_of;
 use std::alloc::{AllocError, Global};
-
-/// The float of these bits.
-fn float_of(bits: u64, width: FloatWidth) -> EncodedFloat
-    requires { FitsFloat width bits }
-    ensures is { result ≡ float_of bits width }
-    ensures fits { FitsWidth result }
-{
-    match width {
-        FloatWidth::Sixteen => EncodedFloat::Half(bits as u16),
-        FloatWidth::ThirtyTwo => EncodedFloat::Single(bits as u32),
-        FloatWidth::SixtyFour | FloatWidth::Unknown => EncodedFloat::Double(bits),
-    }
-}
 
 /// Writes a float in its width.
 pub fn push_encoded(out: &mut Vec<u8>, float: EncodedFloat) -> Result<(), AllocError>

@@ -1,4 +1,5 @@
-//! What is known of the values at a path.
+//! What is counted of the values at one path: how many there are, their bytes and kinds, and the
+//! bounds of their numbers and lengths.
 
 use cbor_floats::{EncodedFloat, push_number};
 use cbor_grammar::argument::Argument;

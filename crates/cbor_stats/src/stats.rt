@@ -1,4 +1,5 @@
-//! The values of items, gathered by their paths.
+//! Counts the values of items by their paths, and writes a line for each path, the one that takes
+//! most bytes first.
 
 use crate::entry::Entry;
 use cbor_edn_writer::EdnStyle;

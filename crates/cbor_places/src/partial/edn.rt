@@ -1,4 +1,5 @@
-//! An item that is cut or has a fault, in EDN.
+//! Writes a truncated or malformed item as EDN: its whole parts and, in place of the rest, a
+//! comment with the error and some of the bytes that remain.
 #![tactic(auto, using(cbor_tokens::proofs::texts::Appending::appending_steps))]
 
 ghost use Rattle.std.specs.Prelude.{◌≡◌, ◌-◌, ◌*◌, ◌<◌, ◌≤◌, ◌^◌, ◌++◌, ℕ, List, length};
