@@ -41,6 +41,8 @@ STATIC = $(DIST)/lib/libcbor_diag.a
 SHARED = $(DIST)/lib/libcbor_diag.so.0
 SQLITE = $(DIST)/lib/cbor_diag_sqlite.so
 POSTGRESQL = $(DIST)/postgresql/cbor_diag.so
+WASM = $(DIST)/wasm/cbor_diag.wasm
+PAGE = $(DIST)/semphluk.html
 HEADER = $(DIST)/include/cbor_diag.h
 PKGCONFIG = $(DIST)/lib/pkgconfig/cbor_diag.pc
 PROGRAM_FILES = $(PROGRAMS:%=$(DIST)/bin/%)
@@ -56,7 +58,7 @@ BELOW := $(filter-out %_tests cbor_diag_c $(PROGRAMS),$(shell sed -n 's/^\(cbor[
 
 .PHONY: all program library install try quick test gate planted check check-pages check-commands check-docs check-cat \
     check-editing check-allocations check-bindings check-packages tarball deb wheel vectors arm64 arm64-packages \
-    check-arm64 release compare bench clean sqlite postgresql install-sqlite install-postgresql deb-sqlite deb-postgresql deb-sql
+    check-arm64 page check-page release compare bench clean sqlite postgresql install-sqlite install-postgresql deb-sqlite deb-postgresql deb-sql
 
 all: program library $(SCRIPT_FILES) $(MANUALS) $(COMPLETIONS)
 
@@ -191,6 +193,7 @@ check-pages:
 	checks/names
 	checks/words
 	checks/examples
+	checks/page_files
 	packages/version
 	checks/compare/run --self-test
 	checks/compare/edn --self-test
@@ -273,6 +276,20 @@ arm64-packages: arm64
 # What is in dist/arm64, under an emulator: the vectors, the checks of cborcat, the tests in C, the packages.
 check-arm64:
 	machines/check_arm64 $(DIST)/arm64 $(PACKAGES)
+
+# The page for whoever has a browser and nothing else: the library for C as WebAssembly, in one file of HTML.
+page: $(PAGE)
+
+$(WASM): $(ARCHIVE) $(wildcard machines/wasm/*)
+	machines/wasm/build $(@D)
+
+$(PAGE): $(WASM) VERSION $(wildcard page/* crates/cbor_page/page/* examples/*)
+	page/make $(WASM) $@
+
+# Both pages in browsers, and the library in semphluk.html against the native one.
+check-page: $(SHARED) $(DIST)/bin/cborcat
+	checks/page $(DIST)/bin/cborcat
+	page/check
 
 release: check-packages vectors arm64-packages
 	@$(MAKE) --no-print-directory check-arm64
