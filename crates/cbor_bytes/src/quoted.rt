@@ -1,4 +1,4 @@
-//! Writes bytes between quotes, in hex or in base 64.
+//! Writes a byte string as diagnostic notation shows it: between quotes, in hex or in base 64.
 #![tactic(auto, using(cbor_tokens::proofs::texts::Appending::appending_steps))]
 
 ghost use Rattle.cbor_tokens.specs.Appends.{AppendsText};

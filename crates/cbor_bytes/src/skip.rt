@@ -4,7 +4,6 @@
 //!
 //! Each private function takes the remaining bytes. It returns the bytes after what it skips, or
 //! why it stops.
-//! stops.
 mod answer;
 mod containers;
 mod due;

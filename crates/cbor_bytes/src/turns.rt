@@ -1,4 +1,5 @@
-//! `Turns`: counts the work of a reader.
+//! `Turns`: counts the steps that a reader takes. Its contract uses the count to state that the
+//! work is linear.
 ghost use Rattle.std.specs.Prelude.{◌≡◌, ℕ, ◌+◌, ◌<◌, ◌^◌};
 
 use std::marker::Model;

@@ -1,8 +1,6 @@
 -- What C gets of a head, and of a break.
 use Rattle.std.specs.Prelude.{◌≡◌, ℕ, ◌+◌, List, length, Ok, Err, Some, None}
 use Rattle.std.specs.Prelude.{◌⊎◌}
-use Rattle.cbor_floats.specs.declared.float.EncodedFloat.{EncodedFloat}
-use Rattle.cbor_floats.specs.declared.float.EncodedFloat.TheVariants.{Half, Single, Double}
 use Rattle.cbor_floats.specs.Value.{value_of}
 use Rattle.cbor_grammar.specs.declared.argument.Argument.{Argument}
 use Rattle.cbor_grammar.specs.declared.argument.Argument.TheVariants.{Number, Indefinite}
@@ -10,19 +8,11 @@ use Rattle.cbor_grammar.specs.declared.error.Error.{Error}
 use Rattle.cbor_grammar.specs.declared.head.ItemHead.{ItemHead}
 use Rattle.cbor_grammar.specs.declared.head.ItemHead.TheVariants as item_head
 use Rattle.cbor_grammar.specs.declared.strings.StringKind.TheVariants.{Bytes, Text}
-use Rattle.cbor_grammar.specs.declared.width.FloatWidth.{FloatWidth}
-use Rattle.cbor_grammar.specs.declared.width.FloatWidth.TheVariants as float_width
 use Rattle.cbor_grammar.specs.Reading.{read_head, after_break}
 use Rattle.cbor_grammar.specs.Refusals.{number_of}
 use Rattle.cbor_grammar.specs.WellFormed.{FitsFloat}
+use Rattle.cbor_rules.specs.Keeps.{float_of}
 use Rattle.cbor_diag_c.specs.declared.heads.Head.{Head}
-
--- the float of these bits
-abbrev pub float_of : ℕ → FloatWidth → EncodedFloat
-float_of bits float_width.Sixteen = Half bits
-float_of bits float_width.ThirtyTwo = Single bits
-float_of bits float_width.SixtyFour = Double bits
-float_of bits float_width.Unknown = Double bits
 
 -- the bits of a float fit its width
 abbrev pub FitsHead : ItemHead → Type 0

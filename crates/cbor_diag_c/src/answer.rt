@@ -1,4 +1,5 @@
-//! What a call returns to C, and what it writes for the caller.
+//! How each call returns to C: the length of its text, as much of that as fits, or minus the number
+//! of an error.
 ghost use Rattle.std.specs.Prelude.{◌≡◌, pos, length};
 ghost use Rattle.cbor_grammar.specs.Refusals.{number_of};
 ghost use Rattle.cbor_diag_c.specs.Answers.{IsMinus, written};

@@ -1,4 +1,5 @@
-//! The calls for C that convert, and that say why an item has no output.
+//! For C, `cbor_diag_convert`, which converts an input from one form to another, and
+//! `cbor_diag_output_fault`, which says why it has no output.
 ghost use Rattle.std.specs.Prelude.{◌≡◌, ◌≢◌, ◌⊎◌, ◌<◌, negsuc, IfOk};
 ghost use Rattle.cbor_diag_c.specs.declared.form.Text.{Text as Texts};
 ghost use Rattle.cbor_diag_c.specs.Forms.{IsNoForm, IsOutputIn};

@@ -1,4 +1,4 @@
-//! EDN, as an input and an output of the calls for C.
+//! Reads and writes EDN for the calls from C, with the errors that they return.
 ghost use Rattle.std.specs.Prelude.{◌≡◌, IfOk, IfErr, MatchResult};
 ghost use Rattle.cbor_diag.specs.View.{view};
 ghost use Rattle.cbor_grammar.specs.Answer.{RefusedSo};

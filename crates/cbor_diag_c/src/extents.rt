@@ -1,4 +1,4 @@
-//! The call for C that reports how bytes begin.
+//! For C, `cbor_diag_extent`: whether bytes begin with an item, are truncated, or malformed.
 ghost use Rattle.std.specs.Prelude.{◌≡◌, ◌<◌, ◌^◌, ℕ, List, length};
 ghost use Rattle.cbor_bytes.specs.Extent.{IfItem, IsExtent};
 ghost use Rattle.cbor_bytes.specs.declared.skip.answer.Extent.{Extent as Beginning};

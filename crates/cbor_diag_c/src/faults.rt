@@ -1,4 +1,4 @@
-//! The call for C that reports where an input is no item.
+//! For C, `cbor_diag_fault`: the error of an input that is no item, and its place, in any form.
 ghost use Rattle.std.specs.Prelude.{◌≡◌, ◌≢◌, negsuc, None, IfSome, IfOk, IfErr};
 ghost use Rattle.cbor_grammar.specs.Item.{Item};
 ghost use Rattle.cbor_grammar.specs.Facts.{IsItem, IsNoItem};

@@ -1,4 +1,4 @@
-//! The forms of inputs and outputs of the calls for C, and their numbers.
+//! The forms of inputs and outputs, by their numbers in C.
 ghost use Rattle.std.specs.Prelude.{◌≡◌, None, IfSome};
 ghost use Rattle.cbor_diag_c.specs.Forms.{form_number, read_as, edn_style, json_style, IsNoForm};
 

@@ -1,18 +1,17 @@
-//! The call for C that reads a head.
+//! For C, `cbor_diag_head`: the kind, the argument and the length of the head at the front.
 ghost use Rattle.std.specs.Prelude.{◌≡◌, IfOk, IfErr};
 ghost use Rattle.cbor_grammar.specs.Refusals.{number_of};
-ghost use Rattle.cbor_grammar.specs.WellFormed.{FitsFloat};
 ghost use Rattle.cbor_diag_c.specs.Answers.{IfLength, IfError};
-ghost use Rattle.cbor_diag_c.specs.Heads.{float_of, FitsHead, IsCounted, IsToldOf};
+ghost use Rattle.cbor_diag_c.specs.Heads.{FitsHead, IsCounted, IsToldOf};
 ghost use Rattle.cbor_diag_c.specs.Heads.{IsHeadOf, IsNoHead, IsNoHeadBy};
 
 use crate::answer::refused;
 use cbor_bytes::head::read_head;
-use cbor_floats::EncodedFloat;
+use cbor_grammar::Error;
 use cbor_grammar::argument::{Argument, after_break};
 use cbor_grammar::head::ItemHead;
 use cbor_grammar::strings::StringKind;
-use cbor_grammar::{Error, FloatWidth};
+use cbor_rules::float_of;
 
 /// The kind of a tag.
 pub(crate) const TAG: u8 = 6;
@@ -29,18 +28,6 @@ pub struct Head {
     pub argument: u64,
     /// The number of a float.
     pub number: f64,
-}
-
-/// The float of these bits.
-fn float_of(bits: u64, width: FloatWidth) -> EncodedFloat
-    requires { FitsFloat width bits }
-    ensures { result ≡ float_of bits width }
-{
-    match width {
-        FloatWidth::Sixteen => EncodedFloat::Half(bits as u16),
-        FloatWidth::ThirtyTwo => EncodedFloat::Single(bits as u32),
-        FloatWidth::SixtyFour | FloatWidth::Unknown => EncodedFloat::Double(bits),
-    }
 }
 
 /// A head of this kind with an argument.

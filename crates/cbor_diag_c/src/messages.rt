@@ -1,4 +1,5 @@
-//! The calls for C that say where in an item a fault is.
+//! For C, `cbor_diag_fault_path` and `cbor_diag_fault_message`: in which item the error of an input
+//! is, and what is wrong, in words.
 ghost use Rattle.std.specs.Prelude.{◌≡◌, ℕ, List, negsuc, length, IfOk, IfErr, IfSome};
 ghost use Rattle.cbor_diag_c.specs.Forms.{IsNoForm, IsRefusedIn};
 ghost use Rattle.cbor_diag_c.specs.Answers.{IfLength, IfError, written};

@@ -1,4 +1,4 @@
-//! The call for C that says what a part of an item is called.
+//! For C, `cbor_diag_name_at`: the name of the part that a path leads to.
 ghost use Rattle.std.specs.Prelude.{◌≡◌, ℕ, List, length, IfOk, IfErr};
 ghost use Rattle.cbor_diag_c.specs.Answers.{IfLength, IfError, written};
 ghost use Rattle.cbor_diag_c.specs.Names.{IsOneItem, IsNoName, IsNoNamed};

@@ -1,4 +1,5 @@
-//! The calls for C that find parts of an item by a path.
+//! For C, `cbor_diag_part` and `cbor_diag_parts`: where the parts of an item are that a path leads
+//! to.
 ghost use Rattle.std.specs.Prelude.{◌≡◌, ◌<◌, ◌^◌, length, IfOk, IfErr};
 ghost use Rattle.std.specs.List.{AllByRecursion};
 ghost use Rattle.cbor_paths.specs.Followed.{IsPart};

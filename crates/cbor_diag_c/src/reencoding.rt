@@ -1,4 +1,5 @@
-//! The calls for C that encode items again, and that say why there is no such encoding.
+//! For C, `cbor_diag_reencode`, which re-encodes items by rules, and `cbor_diag_reencode_fault`,
+//! which says why they have no such encoding.
 ghost use Rattle.std.specs.Prelude.{◌≡◌, ◌≢◌, ◌⊎◌, negsuc, None};
 ghost use Rattle.cbor_rules.specs.Keeps.{KeepsRules};
 ghost use Rattle.cbor_reencode.specs.Reencoded.{FixesKeys, KeysOnce};

@@ -1,4 +1,5 @@
-//! The calls for C on bytes that come in pieces.
+//! For C, `cbor_diag_scanner_init` and `cbor_diag_scanner_feed`: how bytes begin that come in
+//! pieces.
 //!
 //! C has the memory for the scanner, as a [`ScannerRoom`]. Each call casts its pointer, so these
 //! two are proved by hand; the rest is in [`CountedScanner`].

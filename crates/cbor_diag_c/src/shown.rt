@@ -1,4 +1,5 @@
-//! The calls for C that show an item as `cborcat` does: with names, and as a list of paths.
+//! For C, `cbor_diag_named` and `cbor_diag_paths`: an item in EDN with names and notes, and as a
+//! list of paths.
 ghost use Rattle.std.specs.Prelude.{◌≡◌, ℕ, List, [], length, IfOk, IfErr};
 ghost use Rattle.cbor_diag_c.specs.Answers.{IfLength, IfError, written};
 ghost use Rattle.cbor_diag_c.specs.Names.{IsOneItem, IsNoItemOrMemory, IsNotShown};

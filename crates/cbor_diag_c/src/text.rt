@@ -1,4 +1,4 @@
-//! Items in EDN and in JSON, for C.
+//! Writes items as lines of EDN or JSON for the calls from C.
 ghost use Rattle.std.specs.Prelude.{◌≡◌, ◌∷◌, ◌++◌, [], IfOk, IfErr, MatchResult};
 ghost use Rattle.std.specs.String.{string_bytes};
 ghost use Rattle.cbor_diag.specs.View.{view};

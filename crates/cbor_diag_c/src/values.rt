@@ -1,4 +1,5 @@
-//! The call for C that finds the value of a part.
+//! For C, `cbor_diag_value`: the kind and the value of the part that a path leads to, below its
+//! tags.
 ghost use Rattle.std.specs.Prelude.{◌≡◌, ◌≤◌, length, IfSome};
 ghost use Rattle.cbor_diag_c.specs.Answers.{IfLength, IfError};
 ghost use Rattle.cbor_diag_c.specs.Names.{IsOneItem};

@@ -1,4 +1,5 @@
-//! The calls for C that report where bytes break rules.
+//! For C, `cbor_diag_violation`, the first violation of a set of rules, and
+//! `cbor_diag_violation_text`, the text of its kind.
 ghost use Rattle.std.specs.Prelude.{◌≡◌, ◌⊎◌, ◌↔◌, ◌<◌, negsuc, None, length, IfOk, IsErr};
 ghost use Rattle.cbor_messages.specs.Kinds.{kind_text};
 ghost use Rattle.cbor_reencode.specs.OneKey.{IsViolation, KeepsWithKeys};

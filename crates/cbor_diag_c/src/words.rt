@@ -1,4 +1,4 @@
-//! The call for C that says in words why an input is no item.
+//! For C, `cbor_diag_fault_text`: in words, why an input is no item.
 ghost use Rattle.std.specs.Prelude.{◌≡◌, ℕ, List, length};
 ghost use Rattle.cbor_diag_c.specs.Answers.{IfLength, IfError, written};
 ghost use Rattle.cbor_diag_c.specs.Words.{IsEdnWords, IsOrMemory, IsWordsIn, IsWords};

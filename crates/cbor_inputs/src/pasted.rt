@@ -1,4 +1,5 @@
-//! What else people paste, told by how it begins. It serves messages alone.
+//! Guesses what an input is that no form reads, by how it begins: a data URL, PEM, UTF-16, hex with
+//! dashes, an array or a string of a program, or a hex dump of another tool. Only messages use it.
 
 use crate::text::unmarked;
 

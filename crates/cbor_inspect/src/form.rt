@@ -1,4 +1,4 @@
-//! For viewers, the forms in which an item is written.
+//! The forms in which a viewer writes items, and the style of their texts: layout, widths, notes.
 ghost use Rattle.std.specs.Prelude.{◌≡◌};
 ghost use Rattle.cbor_inspect.specs.Forms.{edn_style};
 

@@ -1,4 +1,5 @@
-//! For viewers, the name of an item at a path.
+//! `name_at` returns the name of the part that a path leads to: that of its key, its member, its
+//! tag or its type.
 ghost use Rattle.std.specs.Prelude.{IfOk, IfErr};
 ghost use Rattle.cbor_grammar.specs.Item.{Item};
 ghost use Rattle.cbor_grammar.specs.Facts.{IsItem};

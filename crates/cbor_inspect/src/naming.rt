@@ -1,4 +1,5 @@
-//! For viewers, names beside items, and where in bytes items begin that may have one.
+//! `Naming`: the tables that give items their names in a viewer, and the type of the outermost
+//! item. Also a quick look for items that cannot have names.
 
 use cbor_edn_writer::Note;
 use cbor_names::{Names, Notes, Type, notes};

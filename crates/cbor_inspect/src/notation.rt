@@ -1,4 +1,4 @@
-//! For viewers, items as EDN, with their names.
+//! Writes items as EDN on behalf of a viewer, with their names if it shows them.
 ghost use Rattle.std.specs.Prelude.{◌≡◌, ◌++◌, [], List, IfOk, IfErr, IfSome};
 ghost use Rattle.std.specs.String.{string_bytes};
 ghost use Rattle.cbor_grammar.specs.Item.{Item};

@@ -1,4 +1,5 @@
-//! What is written of the parts of an item that a path leads to.
+//! Writes the parts of an item that a path leads to. Output as bytes and as digits is not
+//! re-encoded.
 ghost use Rattle.std.specs.Prelude.{◌≡◌, ◌++◌, ◌∷◌, ℕ, [], List, IfOk, IfErr, IfSome, OnOk, OnErr};
 ghost use Rattle.std.specs.String.{string_bytes};
 ghost use Rattle.hex.specs.Hex.{encode_lower};

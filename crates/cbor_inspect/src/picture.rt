@@ -1,4 +1,5 @@
-//! Where paths lead in an item as it is shown: with its names, and in the items in byte strings.
+//! Finds the parts that a path leads to in an item as it is shown: also by its names, and inside
+//! byte strings that are shown as items.
 
 use crate::items::Show;
 use cbor_names::Notes;

@@ -1,5 +1,5 @@
-//! Items by the rules of RFC 8949: those without a simple value below 32 in two bytes, which RFC
-//! 8949 forbids (section 3.3) and RFC 7049 allows.
+//! Finds the first simple value below 32 in two bytes, which RFC 8949 forbids (section 3.3) and RFC
+//! 7049 allows.
 ghost use Rattle.std.specs.Prelude.{◌↔◌, ◌+◌, ◌<◌, ◌≤◌, length, drop, IsTrue};
 ghost use Rattle.std.specs.Prelude.{IfSome, IfNone};
 ghost use Rattle.cbor_grammar.specs.Item.{Item};

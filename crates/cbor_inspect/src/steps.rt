@@ -1,4 +1,4 @@
-//! Paths as they are read: the steps that a text names.
+//! Reads the text of a path as its steps: indices and keys, `@` and `*`.
 ghost use Rattle.std.specs.Prelude.{◌≡◌, IfErr};
 
 use cbor_bytes::write::push_head;

@@ -1,4 +1,5 @@
-//! For viewers, items one after the other that come in pieces.
+//! `Stream` takes the bytes of a sequence in pieces, as from a pipe. It writes, skips or checks
+//! each item once that is whole.
 ghost use Rattle.std.specs.Prelude.{◌≡◌, ◌↔◌, ℕ, ◌<◌, ◌≤◌, ◌++◌, List, length, take, drop};
 ghost use Rattle.std.specs.Prelude.{false, IfErr, IfSome, IfNone, OnOk, OnErr, IsTrue};
 ghost use Rattle.cbor_grammar.specs.Facts.{BeginsWithItem};

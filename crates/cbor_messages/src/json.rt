@@ -1,4 +1,5 @@
-//! What is said, in words, of items that are not written as JSON.
+//! The message for items that are not written as JSON: which keys become the same, or what JSON
+//! does not keep.
 
 use crate::words::{Message, Words};
 use cbor_grammar::Error;

@@ -1,4 +1,4 @@
-//! The number of each kind of violation, and what is said of it in few words.
+//! The number of each kind of violation, and its text in a few words.
 ghost use Rattle.std.specs.Prelude.{◌≡◌};
 ghost use Rattle.cbor_messages.specs.Kinds.{kind_number, kind_text};
 

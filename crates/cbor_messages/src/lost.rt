@@ -1,4 +1,5 @@
-//! What is said, in words, where a path leads nowhere.
+//! The message for a path that leads nowhere: at which step, and what is there, such as the first
+//! keys of the map.
 
 use crate::way::way_to;
 use cbor_bytes::{Extent, extent};

@@ -1,4 +1,5 @@
-//! What is wrong, in words, where a set of rules is first broken.
+//! The message for the first violation of a set of rules, and for items that cannot be re-encoded
+//! by it.
 
 use crate::kind::{kind_number, kind_text};
 use crate::widths::{major_of, push_integer_float, push_long_float, push_long_head};

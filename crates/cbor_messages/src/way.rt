@@ -1,4 +1,5 @@
-//! The path to an item, as it is read without names: with `@` for the item in a byte string.
+//! The path to an item as it is read without names: with `@` for the item in a byte string.
+//! `lost.rt` uses it.
 
 use cbor_bytes::{Extent, extent};
 use cbor_edn_writer::{EdnStyle, push_bytes_to_edn};

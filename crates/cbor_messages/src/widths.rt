@@ -1,4 +1,5 @@
-//! Heads and floats in a width too large, and floats that are integers, in words.
+//! The words for violations of widths: heads and floats that are longer than they have to be, and
+//! floats that are integers.
 
 use cbor_floats::{EncodedFloat, push_number};
 use cbor_grammar::IntegerWidth;

@@ -1,4 +1,5 @@
-//! A message on items, as it is written.
+//! `Message`, a text and its place in the items; and `Words`, which writes such a text with items,
+//! keys and byte numbers.
 
 use cbor_bytes::{Extent, extent};
 use cbor_edn_writer::bytes_to_edn;

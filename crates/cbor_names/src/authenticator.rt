@@ -1,5 +1,5 @@
-//! WebAuthn's authenticator data (Web Authentication, level 3, section 6.1): what its parts are, in
-//! words.
+//! Describes WebAuthn's authenticator data (Web Authentication, level 3, section 6.1): the text of
+//! its flags and counter, and where its items are.
 
 use cbor_bytes::skip::after_front;
 use std::alloc::{AllocError, Global};

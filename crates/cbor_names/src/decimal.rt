@@ -1,4 +1,5 @@
-//! The numbers that decimal fractions and bigfloats are (RFC 8949, section 3.4.4), in decimal.
+//! Writes the value of a decimal fraction or a bigfloat (RFC 8949, section 3.4.4) as a decimal
+//! text.
 
 use crate::scalar::{Scalar, scalar_at};
 use cbor_bytes::head::read_head;

@@ -1,4 +1,4 @@
-//! Tables of names that are made: types and their parts become rows.
+//! Builds a table of names: adds types and their parts to `Names`.
 
 use crate::part::{Definition, Key, Part, Shape, What};
 use crate::table::{KeyRow, Names, PartRow, ShapeRow, TextRange, Type, WhatRow};

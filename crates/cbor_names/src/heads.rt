@@ -1,4 +1,4 @@
-//! Items passed head by head, without a look at how they are nested.
+//! Steps over heads and small items fast, by tables. It does not follow how items are nested.
 
 ghost use Rattle.std.specs.Prelude.{◌<◌, length, IfSome};
 

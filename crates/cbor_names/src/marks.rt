@@ -1,4 +1,5 @@
-//! A quick look at items for the tags that give notes.
+//! Finds quickly whether bytes may have a tag or a value that gets a note, before the slower pass
+//! for names.
 
 use crate::heads::{after_head, begins_tag};
 use crate::table::Names;

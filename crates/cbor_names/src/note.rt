@@ -1,4 +1,4 @@
-//! What is written beside items: their names before them, and their meanings after them.
+//! `Notes`: the names before items and the meanings after them, in the order of their places.
 
 ghost use Rattle.std.specs.Prelude.{◌≡◌, ℕ, IfOk};
 ghost use Rattle.cbor_names.specs.Falling.{AreInOrder, FallsTo, len_of};

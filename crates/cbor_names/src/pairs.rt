@@ -1,5 +1,5 @@
-//! For names, the pairs of a map, looked at before they are walked: what its keys are, and whether
-//! it has the signs of a type.
+//! Looks ahead at the pairs of a map: finds the value of a key, and whether the map has the keys
+//! that mark a type.
 
 ghost use Rattle.std.specs.Prelude.{◌<◌, length, IfSome};
 

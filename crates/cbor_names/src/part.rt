@@ -1,5 +1,5 @@
-//! Types as the author of a table of names writes them: what a type is, and what its parts are
-//! called.
+//! `Definition`, `Part` and their like: how the author of a table of names writes a type and its
+//! parts.
 
 /// A type of items. Its parts follow, as [`Names::push`](crate::Names::push) takes them.
 #[derive(Clone, Copy)]

@@ -1,4 +1,4 @@
-//! Where an item is, and what is known of it there before it is read.
+//! `Place`: what the tables say of an item before it is read: its name, its type and its meaning.
 
 ghost use Rattle.std.specs.Prelude.{◌≡◌, ◌+◌, ◌<◌};
 

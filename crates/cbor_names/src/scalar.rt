@@ -1,5 +1,5 @@
-//! Integers and texts at the front of bytes, and the keys and values of tables of names that they
-//! are.
+//! Reads an integer, a text or a float from bytes, and compares it with a key or a value of the
+//! tables.
 
 use crate::part::Kind;
 use crate::table::{KeyRow, Names, PartRow};

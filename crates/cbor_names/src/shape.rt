@@ -1,4 +1,4 @@
-//! Whether an item has the shape that its type says: a name asks for it.
+//! Checks whether an item has the shape that its type requires. An item that has not gets no names.
 
 use crate::decimal::Scaled;
 use crate::heads::after_small;

@@ -1,4 +1,5 @@
-//! Tables of names, which are rows of numbers beside one text, and what is found in them.
+//! `Names`: tables of names, which are rows of numbers beside one text, and how a type is found in
+//! them.
 
 ghost use Rattle.std.specs.Prelude.{◌≡◌, IfSome, Some};
 ghost use Rattle.cbor_names.specs.Texts.{text_of};

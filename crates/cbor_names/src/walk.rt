@@ -1,5 +1,5 @@
-//! The pass over an item that finds the notes with names. It goes from head to head; a container,
-//! a tag and a byte string that holds an item are a call each, at most 128 deep.
+//! Walks over an item and collects the notes: names and meanings. It goes from head to head; a
+//! container, a tag and a byte string that holds an item are a call each, at most 128 deep.
 
 ghost use Rattle.std.specs.Prelude.{◌≡◌, ◌+◌, ◌^◌, ◌<◌, ◌≤◌, length, IfOk};
 ghost use Rattle.cbor_names.specs.Falling.{len_of};

@@ -1,4 +1,4 @@
-//! Finding a violation: what a head opens, and how much of that is still to come.
+//! For `check.rt`: counts how many members of an open container are still to come.
 ghost use Rattle.std.specs.Prelude.{◌≡◌, ◌≤◌, length, IfSome, option_map};
 ghost use Rattle.cbor_grammar.specs.Reading.{after_members, one_less};
 ghost use Rattle.cbor_rules.specs.FirstViolation.{opened};

@@ -1,5 +1,6 @@
 //! Which rule one head breaks, by its number, its bits or the bytes after it.
 ghost use Rattle.std.specs.Prelude.{◌≡◌, ℕ, List, None, true};
+ghost use Rattle.cbor_floats.specs.Preferred.{FitsWidth};
 ghost use Rattle.cbor_grammar.specs.Reading.{read_head};
 ghost use Rattle.cbor_grammar.specs.WellFormed.{FitsFloat};
 ghost use Rattle.cbor_rules.specs.FirstViolation.{is_long, two_byte_violation, content_violation};
@@ -36,7 +37,8 @@ pub fn is_long(width: IntegerWidth, number: u64) -> bool
 /// The float of these bits.
 pub fn float_of(bits: u64, width: FloatWidth) -> EncodedFloat
     requires { FitsFloat width bits }
-    ensures { result ≡ float_of bits width }
+    ensures is { result ≡ float_of bits width }
+    ensures fits { FitsWidth result }
 {
     match width {
         FloatWidth::Sixteen => EncodedFloat::Half(bits as u16),

@@ -1,4 +1,4 @@
-//! Where an encoding breaks a rule, and how.
+//! `Violation`: where an encoding breaks a rule, and which rule it breaks how.
 use cbor_floats::EncodedFloat;
 use cbor_grammar::{Error, IntegerWidth};
 

@@ -26,6 +26,7 @@ mod rules;
 mod text;
 
 pub use check::{violation, violation_in};
+pub use head::float_of;
 pub use kind::{Violation, ViolationKind};
 pub use reduced::reduced_violation;
 pub use rule_set::{ENCODINGS, RULES, RuleSet};

@@ -1,4 +1,4 @@
-//! The integers that dCBOR writes in place of floats.
+//! Finds floats that dCBOR writes as integers, and NaNs that it writes otherwise.
 ghost use Rattle.std.specs.Prelude.{◌≡◌, ◌<◌, ◌^◌, from_bits};
 ghost use Rattle.std.specs.Float.Ieee.{binary64};
 ghost use Rattle.cbor_rules.specs.Reduced.{in_range, integer_of, reduced};

@@ -1,4 +1,4 @@
-//! For a rule, whether a text is in the normal form NFC.
+//! Checks whether a text is in the Unicode normal form NFC.
 ghost use Rattle.std.specs.Prelude.{◌≡◌, IfOk, IsUtf8, chars};
 ghost use Rattle.unicode_normalization.specs.Forms.{is_nfc};
 

@@ -1,4 +1,5 @@
-//! Texts in colours.
+//! Writes texts of EDN and dumps with colours: each token between two escape sequences of
+//! terminals.
 ghost use Rattle.std.specs.Prelude.{◌≡◌, ℕ, ◌≤◌, ◌<◌, ◌++◌, List, length, take, slice_range};
 ghost use Rattle.std.specs.Prelude.{OnOk, IfOk};
 ghost use Rattle.cbor_screen.specs.Colored.{IsColored, Lacks, in_color};

@@ -1,6 +1,6 @@
-//! Dumps for people: with names in their comments, with the items that are in byte strings, with
-//! long strings cut, and with the bytes that are there, also where a simple value takes one too
-//! many.
+//! Dumps for people: with names in their comments, the items in byte strings, and long strings cut.
+//! Each byte is shown as it is, also that of a simple value which takes one byte more than it has
+//! to.
 //!
 //! Lines, comments and notes are those of `cbor_dump`. One walk over the bytes finds the column of
 //! the digits, and a second one writes each line.

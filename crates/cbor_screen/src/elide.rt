@@ -1,4 +1,5 @@
-//! Long strings, cut.
+//! Cuts long strings in EDN: the first characters stay, followed by `...` and a note of how many
+//! bytes the string has.
 ghost use Rattle.std.specs.Prelude.{◌≡◌, ℕ, ◌+◌, ◌≤◌, ◌<◌, ◌++◌, List, length, take, drop, codes};
 ghost use Rattle.std.specs.Fmt.{decimal};
 ghost use Rattle.std.specs.Prelude.{OnOk, IfOk, IfSome};

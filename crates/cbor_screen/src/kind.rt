@@ -1,4 +1,4 @@
-//! What tokens are, and their colours.
+//! The kinds of tokens, and the escape sequences that begin and end the colour of each.
 ghost use Rattle.std.specs.Prelude.{◌≡◌};
 ghost use Rattle.cbor_screen.specs.Colored.{start_of, end_of};
 

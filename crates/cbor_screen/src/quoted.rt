@@ -1,4 +1,5 @@
-//! For colours, strings between quotes, and comments, where they are in a line.
+//! Where a string between quotes, or a comment, ends in a line. The tokens of `token.rt` and the
+//! cuts of `elide.rt` use it.
 ghost use Rattle.std.specs.Prelude.{◌≡◌, ◌+◌, ◌≤◌, length};
 
 /// The byte at a place, or 0 past the end.

@@ -1,4 +1,5 @@
-//! For colours, the tokens of a line.
+//! Splits a line of EDN, of a dump, or of paths with EDN into tokens, each with its kind. The files
+//! that colour texts, cut strings and drop widths use it.
 ghost use Rattle.std.specs.Prelude.{◌≡◌, ◌+◌, ◌<◌, ◌≤◌, length};
 
 use crate::kind::Kind;

@@ -1,4 +1,4 @@
-//! In a `Scanner`, the open containers of an item whose bytes come in pieces.
+//! For `Scanner`: the containers that are open in an item whose bytes come in pieces.
 ghost use Rattle.std.specs.Prelude.{◌≡◌, ◌<◌, ◌+◌, ◌*◌, [], length, Some, None, IfOk, IfErr};
 ghost use Rattle.cbor_bytes.specs.mirror.Scanning.{Pauses, skip_from};
 ghost use Rattle.cbor_grammar.specs.Item.{no_items};

@@ -1,4 +1,4 @@
-//! In `extent`, the stack of the open containers around the innermost one. Its size is fixed.
+//! For `extent`: the stack of the open containers around the innermost one. Its size is fixed.
 ghost use Rattle.std.specs.Prelude.{◌≡◌, ◌<◌, ◌≤◌, [], ◌∷◌, ◌++◌, length, replicate};
 ghost use Rattle.std.specs.Prelude.{IfSome, Some, None};
 ghost use Rattle.cbor_grammar.specs.WellFormed.{deepest};

@@ -1,4 +1,4 @@
-//! What is still to come in an open container, for `extent` and `Scanner`.
+//! For `extent` and `Scanner`: how many parts of an open container are still to come.
 ghost use Rattle.std.specs.Prelude.{◌≡◌, Some, option_map};
 ghost use Rattle.cbor_grammar.specs.Item.{no_items};
 ghost use Rattle.cbor_grammar.specs.Reading.{items_in, put, after_members, after_end, one_less};

@@ -1,4 +1,4 @@
--- Reading answers with a fault exactly where there is one, and a fault is there whatever bytes follow.
+-- Reading answers with an error if and only if there is one, and it stays whatever bytes follow.
 use Rattle.std.proofs.Common.{◌≡◌, ℕ, ◌+◌, ◌≢◌, List, [], ◌∷◌, ◌++◌, Err, refl, ap, ◌-◌, ◌≤◌, ◌∙◌, append_assoc, arith}
 use Rattle.cbor_grammar.specs.declared.error.Error.{Error}
 use Rattle.cbor_grammar.specs.declared.error.Error.TheVariants as refusal

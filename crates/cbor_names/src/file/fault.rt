@@ -1,4 +1,4 @@
-//! What is wrong with a file of names.
+//! `FileError`: what is wrong with a file of names, and where.
 
 use std::alloc::AllocError;
 use std::fmt;

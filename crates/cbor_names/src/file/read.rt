@@ -1,4 +1,4 @@
-//! The words, names and keys of a file of names.
+//! Reads single values of a file of names: words, names, keys, tags and parts.
 
 use crate::file::fault::Fault;
 use crate::{Key, Kind, Part, What};

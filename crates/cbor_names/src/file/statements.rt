@@ -1,4 +1,5 @@
-//! The statements of a text in TOML. Each may take several lines.
+//! Splits a text in TOML into its statements, so that an error has a place. A statement may take
+//! several lines.
 
 use std::alloc::{AllocError, Global};
 

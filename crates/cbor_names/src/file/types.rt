@@ -1,4 +1,4 @@
-//! The types of a file of names, added to tables.
+//! Adds the types of a file of names to `Names`.
 
 use crate::file::fault::Fault;
 use crate::file::read::{by, key, member, name, part, tag, text};

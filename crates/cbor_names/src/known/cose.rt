@@ -1,4 +1,4 @@
-//! COSE (RFC 9052): messages, their headers, and keys.
+//! The names of COSE (RFC 9052): its messages, their headers, and keys.
 
 use crate::known::rows::{entry, member, value};
 use crate::{Definition, Key, Names, Part, Shape, What};

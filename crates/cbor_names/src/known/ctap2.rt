@@ -1,4 +1,4 @@
-//! CTAP 2.1: what authenticators answer; and WebAuthn: what a credential is attested with.
+//! The names of CTAP 2.1, for what authenticators answer, and of WebAuthn, for attestations.
 
 use crate::known::rows::{entry, said};
 use crate::{Definition, Key, Kind, Names, Part, Shape, What};

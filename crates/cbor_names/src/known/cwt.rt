@@ -1,4 +1,4 @@
-//! CWT (RFC 8392), what it is bound to (RFC 8747), and EAT (RFC 9711).
+//! The names of claims in CWT (RFC 8392), of confirmations (RFC 8747) and of EAT (RFC 9711).
 
 use crate::known::rows::entry;
 use crate::{Definition, Key, Kind, Names, Part, Shape, What};

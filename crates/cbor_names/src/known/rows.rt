@@ -1,4 +1,4 @@
-//! Rows of the tables of COSE and its like: a member, a key or a value is one line.
+//! Macros for the tables of the standards: a member, a key or a value is one line.
 
 /// A member of an array; one that may be missing at its end is `optional`.
 macro_rules! member {

@@ -1,4 +1,4 @@
-//! SenML (RFC 8428 section 6).
+//! The names of SenML's records (RFC 8428 section 6).
 
 use crate::known::rows::entry;
 use crate::{Definition, Key, Names, Part, Shape, What};

@@ -1,4 +1,4 @@
-//! What stands beside the heads of a dump.
+//! The names and meanings in the comments of a dump: which of them stand at the next head.
 
 use cbor_names::Note;
 use std::alloc::AllocError;

@@ -1,4 +1,4 @@
-//! The first lines of a string that is cut.
+//! The lines of a long string in a dump that shows only its first bytes.
 
 use crate::dump::lines::{Lines, Piece};
 use cbor_dump::comment::Comment;

@@ -1,4 +1,5 @@
-//! What is done with the lines of a dump, which a walk over the bytes finds.
+//! The trait `Lines`, which receives the lines of a dump from the walk over the bytes. `measure.rt`
+//! and `write.rt` implement it.
 ghost use Rattle.std.specs.Prelude.{◌≤◌};
 
 use cbor_dump::comment::Comment;

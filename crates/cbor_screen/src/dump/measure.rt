@@ -1,4 +1,5 @@
-//! How wide the column of the digits is.
+//! Finds how wide the column of the digits of a dump has to be. It receives the lines and writes
+//! none.
 
 use crate::dump::lines::{Lines, MOST_DEPTH, Piece, at_most};
 use cbor_dump::context::DumpContext;

@@ -1,4 +1,5 @@
-//! What a dump shows of an item that is truncated or malformed.
+//! Writes the dump of bytes in which an item is truncated or malformed: the lines before it, what
+//! is wrong, and the first 64 bytes that remain.
 
 use crate::dump::measure::Measure;
 use crate::dump::walk::Walk;

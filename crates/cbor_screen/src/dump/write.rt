@@ -1,4 +1,5 @@
-//! The lines of a dump, as they are written.
+//! Receives the lines of a dump and writes them: hex digits in a column, comments with names, and
+//! notes.
 ghost use Rattle.std.specs.Prelude.{◌≤◌, length};
 
 use crate::dump::beside::{Beside, push_word};

@@ -1,4 +1,4 @@
--- An item is skipped at the front exactly where reading finds one.
+-- An item is skipped at the front if and only if reading finds one there.
 use Rattle.std.proofs.Common.{◌-◌, arith}
 use Rattle.cbor_bytes.proofs.skipping.Extents.{item_there, none_there}
 use Rattle.cbor_bytes.proofs.skip.after_front.Goals as goal

@@ -1,4 +1,4 @@
--- The error and its place are those of the kept bytes; there is none exactly where these are whole bytes in hex.
+-- The error and its place are those of the kept bytes; there is none if and only if these are whole bytes in hex.
 use Rattle.std.proofs.Common.{◌-◌, List, ℕ, arith, refl, sym, subst}
 use Rattle.cbor_grammar.specs.declared.error.Error.TheVariants as refusal
 use Rattle.cbor_grammar.specs.HexText.{AreHexDigits, IsHexFault}
