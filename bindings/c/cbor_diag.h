@@ -13,7 +13,7 @@
  * The library keeps nothing between calls, so any number of threads may call it at once. During a call nobody may
  * change its input or use its output. A call frees all memory that it takes. It calls malloc, so do not call it from a
  * signal handler, nor in the forked child of a process that has threads. CBOR_DIAG_STACK_SIZE bytes of stack are enough
- * for each call. A scanner belongs to the caller: one thread at a time may use it.
+ * for each call. A scanner (struct cbor_diag_scanner, below) belongs to the caller: one thread at a time may use it.
  */
 #ifndef CBOR_DIAG_H
 #define CBOR_DIAG_H
@@ -450,9 +450,9 @@ static inline int64_t cbor_diag_output_fault_checked(uint32_t from, uint32_t to,
  * truncated head or character.
  *
  * Returns what cbor_diag_extent does for all bytes that the scanner was fed since cbor_diag_scanner_init, and sets
- * `*end` so: minus CBOR_DIAG_ERROR_CUT_SHORT as long as more bytes are needed. Once it returns the length of the item
- * or another error, that stays, whatever is fed. It does not read the bytes after the item: feed them to a new scanner,
- * for the next item. The counts are right as long as fewer than 2^63 bytes were fed.
+ * `*end` in the same way: minus CBOR_DIAG_ERROR_CUT_SHORT as long as more bytes are needed. Once it returns the length
+ * of the item or another error, it returns that again, whatever is fed. It does not read the bytes after the item: feed
+ * them to a new scanner, for the next item. The counts are right as long as fewer than 2^63 bytes were fed.
  *
  *     struct cbor_diag_scanner scanner;
  *     cbor_diag_scanner_init(&scanner);
@@ -476,9 +476,9 @@ static inline int64_t cbor_diag_scanner_feed_checked(struct cbor_diag_scanner *s
 /*
  * Finds the first violation of a set of rules, for those who sign CBOR or compare it byte by byte.
  *
- * Returns 0 if the bytes are a sequence of items, or none, that keep the rules; and otherwise the number of the first
- * violation, an enum cbor_diag_violation_kind. `*place` is set to how many bytes come before the head or the key that
- * violates the rule. `*detail` is set to
+ * Returns 0 if the bytes are a sequence of zero or more items that keep the rules, and otherwise the number of the
+ * first violation, an enum cbor_diag_violation_kind. `*place` is set to how many bytes come before the head or the key
+ * that violates the rule. `*detail` is set to
  *
  * - the place of the key before, for CBOR_DIAG_VIOLATION_KEY_ORDER;
  * - the place of the first of the two keys, for _KEY_TWICE; by CBOR_DIAG_RULES_VALID their bytes may differ, as 01 and
@@ -512,9 +512,10 @@ static inline int64_t cbor_diag_violation_checked(uint32_t rules, const void *in
 #define cbor_diag_violation cbor_diag_violation_checked
 
 /*
- * Re-encodes a sequence of items, or none, so that they keep a set of rules. The output has the same items but for
- * widths, kinds of length, the order of pairs and the forms of numbers: a big number that fits an integer becomes that
- * integer, and by CBOR_DIAG_RULES_DCBOR a float that is an integer does. An input that keeps the rules stays as it is.
+ * Re-encodes a sequence of zero or more items so that they keep a set of rules. The output has the same items except
+ * for widths, kinds of length, the order of pairs and the forms of numbers: a big number that fits an integer becomes
+ * that integer, and by CBOR_DIAG_RULES_DCBOR a float that is an integer does. An input that keeps the rules stays as it
+ * is.
  *
  * Returns the length of the whole output, and writes as much of it as fits into `output`, as cbor_diag_convert does.
  *
@@ -588,9 +589,9 @@ static inline int64_t cbor_diag_reencode_fault_checked(uint32_t rules, const voi
  * Finds the name of a part of an item in COSE, CWT, EAT, SenML or CTAP2: that of its key in a map, of the member of an
  * array, of the tag before it, or of the type of the outermost item.
  *
- * `path` leads to the part: steps joined by /, as cborcat -p reads them. The empty path leads to the item itself. The
- * answer for a path with a * is that there is no name. `type` is the type of the outermost item where no tag says it,
- * such as COSE_Key; or empty.
+ * `path` leads to the part: steps joined by /, as cborcat -p reads them. The empty path leads to the item itself. A
+ * path with a * has no name, so the call returns 0. `type` is the type of the outermost item where no tag says it, such
+ * as COSE_Key; or empty.
  *
  * Returns the length of the name, which is ASCII, and writes as much of it as fits into `output`. Returns 0 if the part
  * has no name. On an error, returns minus a number of enum cbor_diag_error, and `output` is unchanged:
@@ -622,9 +623,9 @@ static inline int64_t cbor_diag_name_at_checked(const void *input, size_t input_
 #define cbor_diag_name_at cbor_diag_name_at_checked
 
 /*
- * Reads one head at the front of the bytes, or a break. It takes no memory and keeps no state, so a walk over an item
- * is this call and an offset: into an array, a map or a tag is the length of the head, and past an item is what
- * cbor_diag_extent returns.
+ * Reads one head at the front of the bytes, or a break. It takes no memory and keeps no state. So a walk over an item
+ * needs only an offset: add the length of the head to go into an array, a map or a tag, and what cbor_diag_extent
+ * returns to go past an item.
  *
  * Returns how many bytes the head takes, 1 to 9, and sets `*head`. The content of a string and the items that a head
  * announces are not looked at, and may be cut. On an error, returns minus CBOR_DIAG_ERROR_CUT_SHORT, if the bytes end
@@ -687,9 +688,9 @@ static inline int64_t cbor_diag_part_checked(const void *input, size_t input_len
  * Finds all parts that a path leads to, which are several with *: for example each member of an array, or each value of
  * a map with its key, by the path *.
  *
- * Returns how many there are, which is 0 if the path leads nowhere, and sets as many elements of `parts`, in order, as
- * there are; no more than `parts_len`. On an error, returns minus a number of enum cbor_diag_error, as cbor_diag_part
- * does, and `parts` is unchanged.
+ * Returns how many there are, which is 0 if the path leads nowhere. Sets as many elements of `parts`, in order, but no
+ * more than `parts_len`. On an error, returns minus a number of enum cbor_diag_error, as cbor_diag_part does, and
+ * `parts` is unchanged.
  *
  *     struct cbor_diag_part parts[8];
  *     cbor_diag_parts("\xa1\x61k\x82\x01\x02", 6, "k/" "*", 3, parts, 8);  // 2: the 1 at byte 4, the 2 at byte 5
@@ -712,8 +713,8 @@ static inline int64_t cbor_diag_parts_checked(const void *input, size_t input_le
     cbor_diag_parts_checked(input, input_len, path, path_len, parts, parts_len)
 
 /*
- * Finds the value of the part that a path leads to, below its tags: of an integer, a float and a simple value all of
- * it, and of a string of definite length where its content is.
+ * Finds the value of the part that a path leads to, below its tags: the whole value of an integer, a float or a simple
+ * value; for a string of definite length, where its content is.
  *
  * Returns 0, and sets `*value`. On an error, returns minus a number of enum cbor_diag_error, as cbor_diag_part does,
  * and `*value` is unchanged.
