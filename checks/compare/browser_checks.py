@@ -130,7 +130,9 @@ def check_finding(count, browser):
     browser.run("for (const fold of document.querySelectorAll('details')) fold.open = false;")
     browser.run(find, "0x5b")
     same("a byte", browser.run(LIT)[2], "2/@/4byte 91 (0x5b) of the item at 88 (0x58), 5 bytes")
-    same("what is folded opens", browser.run("return document.querySelectorAll('details:not([open])').length"), 0)
+    same("what is folded around it opens, and the unprotected header stays shut", browser.run(
+        "return [...document.querySelectorAll('details:not([open]) summary .t')].map((cell) => cell.textContent.trim())"),
+        ["/unprotected/ {"])
     browser.run(find, "@3")
     same("a byte in decimal", browser.run(LIT)[2], "0/@byte 3 (0x3) of the item at 3 (0x3), 3 bytes")
     browser.run(find, "2/@/2")
@@ -145,7 +147,7 @@ def check_copying(count, browser, text):
     same = count.same
     lines = text.split("\n")
     same("a line is copied", browser.run(COPY, [".t", 1], [".t", 1]), lines[1][:len(lines[1]) - len(lines[1].lstrip())])
-    same("lines are copied", browser.run(COPY, [".t", 4], [".t .s", 2]), "\n".join(lines[4:7])[:-1])
+    same("lines are copied", browser.run(COPY, [".t", 6], [".t .s", 2]), "\n".join(lines[6:9])[:-1])
     same("bytes are copied", browser.run(COPY, [".h b", 0], [".h b", 3]), "d2 84 43 a1")
 
 

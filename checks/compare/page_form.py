@@ -161,9 +161,16 @@ def sequence(data, enters):
         at, number = end_of(data, at), number + 1
 
 
+# The least number that needs a head of so many bytes.
+LEAST = {1: 0, 2: 24, 3: 1 << 8, 5: 1 << 16, 9: 1 << 32}
+
+
 def step_of(key):
-    """The step to the value of a key, as far as it is known here: of a number, or of a text that is a plain word."""
+    """The step to the value of a key, as far as it is known here: of a number in its shortest head, or of a text that is
+    a plain word."""
     major, number, end = head(key, 0)
+    if major < 2 and number < LEAST[end]:
+        return None
     if major == 0:
         return str(number)
     if major == 1:
