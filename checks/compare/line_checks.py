@@ -63,9 +63,19 @@ def bare(line):
     return re.sub(r"(?<=[\[{(])_\d? ?", "", re.sub("/[^/]*/ ?", "", line))
 
 
+def behind_key(line):
+    """What stands behind the key with which a line begins or which ends on it, or the line."""
+    depth = 0
+    for at, character in enumerate(line):
+        depth += (character in "[{(") - (character in ")}]")
+        if character == ":" and depth <= 0:
+            return line[at + 1:]
+    return line
+
+
 def may_break(line):
-    """Whether a container on the line has members there."""
-    return re.search(r"\[[^\]]|\{[^}]|\((?=s, )", bare(line)) is not None
+    """Whether a container on the line, other than a key, has members there."""
+    return re.search(r"\[[^\]]|\{[^}]|\((?=s, )", behind_key(bare(line))) is not None
 
 
 def is_in_columns(text, columns):
