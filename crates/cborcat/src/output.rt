@@ -64,8 +64,9 @@ fn open_file(rt: &HostRuntime, name: &str) -> io::Result<Target> {
             return Ok(Target::Direct(file));
         }
         Ok(known) => Some(known.permissions()),
-        Err(error) if error.kind() == ErrorKind::OutOfMemory => return Err(error),
-        Err(_) => None,
+        Err(error) if error.kind() == ErrorKind::NotFound => None,
+        // Such as a link to itself, or a folder that may not be searched.
+        Err(error) => return Err(error),
     };
     let beside = create_beside(rt, destination(rt, name)?)?;
     match keep(&beside.file, permissions) {
