@@ -77,7 +77,7 @@ def forms(run, same, text):
     """Each form stands in the help once, and is one of an input and of the output as it says there."""
     block = text.partition("Forms, ")[2].partition("\n\n")[0]
     rows = re.findall(r"^  ([a-z0-9]+)(?:=SIZE)?(?:, ([a-z]+))? +(io|i|o) ", block, re.MULTILINE)
-    same("how many forms", len(rows), 11)
+    same("how many forms", len(rows), 12)
     for name, other, ways in rows:
         for word in filter(None, (name, other)):
             same(f"-f {word}", run("-f", word, "-t", "digits")[2], 0 if "i" in ways else 2)
