@@ -37,7 +37,7 @@ def run(seed=1, count=2000):
         chance = random.Random(f"{seed} edn {number}")
         item = strict(cases.any_item(chance))
         for writer in (Writer(), Writer(widths=True), Writer(embedded=True), Writer(True, True), Writer(columns=20)):
-            text = writer.item(sequence(to_bytes(item), 1)[0][0])
+            text = writer.outermost(sequence(to_bytes(item), 1)[0][0])
             check(to_bytes(item).hex(), answer(text), text)
     print(f"self-test of EDN: {rows} rows, all examples, and {count} items by seed {seed}")
 

@@ -43,6 +43,11 @@ class Writer:
         # the blanks that the line begins with, the characters of the line before what comes now, and those after it
         self.indent, self.column, self.after = 0, 0, 0
 
+    def outermost(self, item):
+        """An item that is in no other, at the start of a line."""
+        self.indent, self.column, self.after = 0, 0, 0
+        return self.item(item)
+
     def wrote(self, text):
         """This text is before what comes next."""
         _, feed, line = text.rpartition("\n")
