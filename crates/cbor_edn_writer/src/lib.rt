@@ -7,11 +7,13 @@
 
 mod laws;
 mod note;
+mod part;
 mod print;
 mod style;
 mod write;
 
 pub use note::Note;
+pub use part::{PartPlace, push_note_before, push_part_to_edn};
 pub use style::{EdnStyle, NotedStyle};
 pub use write::{
     bytes_to_edn, bytes_to_edn_pretty, push_bytes_to_edn, push_bytes_to_edn_noted,

@@ -8,7 +8,7 @@ pub(crate) mod line;
 mod lists;
 mod measure;
 pub(crate) mod noted;
-mod notes;
+pub(crate) mod notes;
 mod numbers;
 pub(crate) mod place;
 mod same;

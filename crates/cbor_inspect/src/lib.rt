@@ -22,6 +22,7 @@ mod name;
 mod naming;
 mod notation;
 mod part;
+mod partial;
 mod picture;
 mod raw;
 mod rfc8949;

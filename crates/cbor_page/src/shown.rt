@@ -11,9 +11,8 @@ use crate::plan::Plan;
 use crate::source::{Done, Source};
 use crate::walk::Items;
 use cbor_bytes::{Extent, extent};
-use cbor_edn_writer::EdnStyle;
 use cbor_inspect::{End, Show, Shown, show_items};
-use cbor_places::{Around, ByteNumbers, Piece, partial_edn};
+use cbor_places::{Around, ByteNumbers, Piece};
 use cbor_trace::place_of_fault;
 use std::alloc::{AllocError, Global};
 
@@ -104,7 +103,7 @@ fn wrong_with(alloc: Global, piece: Piece<'_>) -> Result<Wrong, AllocError> {
 /// what is wrong.
 pub fn push_partial(
     out: &mut Vec<u8>,
-    style: EdnStyle,
+    show: &Show<'_>,
     piece: Piece<'_>,
     place: Place<'_>,
 ) -> Result<(), AllocError>
@@ -114,7 +113,7 @@ pub fn push_partial(
 {
     let alloc = *out.allocator();
     let wrong = wrong_with(alloc, piece)?;
-    let Ok(text) = partial_edn(alloc, style, piece.bytes, &wrong.note) else {
+    let Ok(text) = show.partial(alloc, piece.bytes, &wrong.note) else {
         return Err(AllocError);
     };
     let items = Items {
@@ -256,6 +255,6 @@ pub fn push_data(out: &mut Vec<u8>, show: &Show<'_>, piece: Piece<'_>) -> Result
         number: front.number,
         path: "",
     };
-    push_partial(out, show.style.edn(), rest, place)?;
+    push_partial(out, show, rest, place)?;
     Ok(())
 }

@@ -28,7 +28,6 @@ mod at;
 mod cut;
 mod entered;
 mod fault;
-mod laws;
 mod leaves;
 mod misplaced;
 mod nouns;

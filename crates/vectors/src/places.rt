@@ -6,7 +6,7 @@
 use crate::row::Row;
 use crate::texts::{lines_text, number_of, refused_text};
 use cbor_diag::{Error, Extent, extent};
-use cbor_edn::EdnStyle;
+use cbor_edn::{EdnStyle, NotedStyle};
 use cbor_places::{Around, ByteNumbers, Entered, Leaves, Piece, item_with, lines_at, partial_edn};
 use std::alloc::{AllocError, Global};
 
@@ -21,7 +21,7 @@ pub fn answer(alloc: Global, row: &Row) -> Result<Option<String>, AllocError> {
         "fault_words" => fault_words(alloc, row),
         "lines_at" => shown(alloc, lines_of_byte(alloc, row)),
         "leaves" => shown(alloc, leaves(alloc, row)),
-        "partial_edn" => shown(alloc, partial_edn(alloc, style(row), &row.bytes, SAID)),
+        "partial_edn" => shown(alloc, partial_edn(alloc, noted(row), &row.bytes, SAID)),
         _ => return Ok(None),
     };
     Ok(Some(found?))
@@ -99,11 +99,11 @@ fn leaves(alloc: Global, row: &Row) -> Result<String, Error> {
 }
 
 /// One line, or lines with notes of this many columns.
-fn style(row: &Row) -> EdnStyle {
+fn noted<'a>(row: &Row) -> NotedStyle<'a> {
     let mut style = EdnStyle::LINE;
     if let Ok(columns) = row.argument.parse::<u16>() {
         style = EdnStyle::PRETTY;
         style.columns = columns;
     }
-    style
+    NotedStyle { style, notes: &[] }
 }

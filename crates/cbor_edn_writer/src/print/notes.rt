@@ -26,7 +26,7 @@ const MOST_CHARACTERS: usize = 64;
 
 /// Writes the caller's note before an item.
 #[inline(always)]
-pub(super) fn push_before(out: &mut String, place: &EdnPlace<'_>) -> Result<(), AllocError>
+pub(crate) fn push_before(out: &mut String, place: &EdnPlace<'_>) -> Result<(), AllocError>
     ensures { AppendsText result out.old out.new (note_before place.now) }
 {
     match place.found {

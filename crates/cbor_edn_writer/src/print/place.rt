@@ -103,7 +103,7 @@ impl<'a> EdnPlace<'a> {
 
     /// The same place with the note on the item. `here` is the number of the outermost bytes from
     /// the start of the item on.
-    fn with_note(&self, here: u64) -> EdnPlace<'a>
+    pub(crate) fn with_note(&self, here: u64) -> EdnPlace<'a>
         ensures { FoundAt self.now here result }
     {
         let passed = notes_before(self.notes, self.passed, here);

@@ -1,24 +1,12 @@
 //! Writes a truncated or malformed item as EDN: its whole parts and, in place of the rest, a
 //! comment with the error and some of the bytes that remain.
-#![tactic(auto, using(cbor_tokens::proofs::texts::Appending::appending_steps))]
 
-ghost use Rattle.std.specs.Prelude.{◌≡◌, ◌-◌, ◌*◌, ◌<◌, ◌≤◌, ◌^◌, ◌++◌, ℕ, List, length};
-ghost use Rattle.std.specs.Prelude.{drop, OnOk};
-ghost use Rattle.std.specs.String.{string_bytes};
-ghost use Rattle.cbor_grammar.specs.Item.{Item};
-ghost use Rattle.cbor_grammar.specs.Facts.{IsItem};
+ghost use Rattle.std.specs.Prelude.{◌*◌, ◌<◌, ◌≤◌, ◌^◌, length};
 ghost use Rattle.cbor_grammar.specs.NotationText.{style_indent};
-ghost use Rattle.cbor_tokens.specs.Appends.{AppendsText};
-ghost use Rattle.cbor_trace.specs.Around.{parts_before as parts_of, IsPartAt};
-ghost use Rattle.cbor_places.specs.Partial.{IsPartialEdn, ArePartTexts, EdnPart, IsPartText};
-ghost use Rattle.cbor_places.specs.Partial.{opening_of, closing_of, before_part, after_part};
-ghost use Rattle.cbor_places.specs.Partial.{style_at, indent_inside, remaining, more_bytes};
-ghost use Rattle.cbor_edn_writer.specs.EdnLeaves.{longer as longer_width, count_mark, with_gap};
 
-use crate::partial::lines::push_indented;
-use crate::partial::{parts_before, shown_of, split_item};
+use crate::partial::{parts_before, shown_of};
 use cbor_bytes::head::read_head;
-use cbor_edn_writer::{EdnStyle, push_bytes_to_edn};
+use cbor_edn_writer::{NotedStyle, PartPlace, push_note_before, push_part_to_edn};
 use cbor_grammar::argument::Argument;
 use cbor_grammar::layout::ContainerStyle;
 use cbor_grammar::{Error, IntegerWidth};
@@ -34,7 +22,7 @@ use std::fmt::Write;
 pub(super) struct PartialEdn<'a> {
     pub(super) bytes: &'a [u8],
     pub(super) said: &'a str,
-    pub(super) style: EdnStyle,
+    pub(super) noted: NotedStyle<'a>,
 }
 
 impl PartialEdn<'_> {
@@ -43,11 +31,8 @@ impl PartialEdn<'_> {
     pub(super) fn push_item(&self, out: &mut String, spot: Spot, indent: usize) -> Result<(), Error>
         requires start { spot.start ≤ length self.now.bytes.now }
         requires indent { indent ≤ 4 * spot.level }
-        ensures { OnOk result ((text : List ℕ)
-            × IsPartialEdn self.now.style self.now.bytes.now self.now.bytes.now self.now.said.now
-            indent spot text
-            × (string_bytes out.new ≡ string_bytes out.old ++ text)) }
     {
+        push_note_before(out, self.noted, self.bytes.len() - spot.start)?;
         let Some(part) = part_at(self.bytes, spot, self.bytes.len()) else {
             self.push_remaining(out, spot.start)?;
             return Ok(());
@@ -61,10 +46,8 @@ impl PartialEdn<'_> {
     }
 
     /// How a container is laid out.
-    fn container_style(&self, indent: usize) -> ContainerStyle
-        ensures { result ≡ style_at self.now.style.lines indent }
-    {
-        if self.style.lines {
+    fn container_style(&self, indent: usize) -> ContainerStyle {
+        if self.noted.style.lines {
             ContainerStyle::MultiLine { indent }
         } else {
             ContainerStyle::OneLine { indent: 0 }
@@ -77,10 +60,7 @@ impl PartialEdn<'_> {
         out: &mut String,
         container: Open,
         style: ContainerStyle,
-    ) -> Result<(), AllocError>
-        ensures { AppendsText result out.old out.new
-            (opening_of self.now.style.widths style container) }
-    {
+    ) -> Result<(), AllocError> {
         match container {
             Open::Array { count, .. } => {
                 out.push('[')?;
@@ -91,7 +71,7 @@ impl PartialEdn<'_> {
                 push_count(out, count, style)
             }
             Open::Tag { number, width } => {
-                let shown = if self.style.widths {
+                let shown = if self.noted.style.widths {
                     width
                 } else {
                     longer(number, width)
@@ -110,66 +90,31 @@ impl PartialEdn<'_> {
         part: Part,
         style: ContainerStyle,
     ) -> Result<(), Error>
-        requires part { IsPartAt self.now.bytes.now spot (length self.now.bytes.now) part }
+        requires start { spot.start ≤ length self.now.bytes.now }
         requires indent { style_indent style < 2 ^ 31 }
-        ensures { OnOk result ((items : List Item) × (text : List ℕ)
-            × ArePartTexts (EdnPart self.now.style style part.«open») part.«open»
-            self.now.bytes.now spot part.start items text
-            × (string_bytes out.new ≡ string_bytes out.old
-            ++ (text ++ before_part style part.«open» (parts_of part.«open»)))) }
     {
         let (_, item) = self.bytes.split_at(spot.start);
         let Ok((_, mut rest)) = read_head(item) else {
             return Ok(());
         };
         let count = parts_before(part.open);
-        'parts: for index in 0..count {
-            let Some((whole, after)) = split_item(rest, spot.level + 1) else {
-                return Ok(());
-            };
+        for index in 0..count {
             push_before(out, part.open, index, style)?;
-            self.push_whole(out, whole, style)?;
+            let place = PartPlace {
+                noted: self.noted,
+                level: spot.level.saturating_add(1),
+                indent: lines_inside(style),
+            };
+            rest = push_part_to_edn(out, rest, place)?;
             push_after(out, part.open, index, style)?;
-            rest = after;
         }
         push_before(out, part.open, count, style)?;
         Ok(())
     }
 
-    /// Appends a whole part.
-    fn push_whole(&self, out: &mut String, item: &[u8], style: ContainerStyle) -> Result<(), Error>
-        requires { style_indent style < 2 ^ 31 }
-        ensures { OnOk result ((i : Item) × (text : List ℕ) × IsItem item.now i
-            × IsPartText self.now.style style i text
-            × (string_bytes out.new ≡ string_bytes out.old ++ text)) }
-    {
-        let alloc = *out.allocator();
-        match style {
-            ContainerStyle::MultiLine { indent } => {
-                let mut text = String::new(alloc);
-                push_bytes_to_edn(alloc, item, self.part_style(indent + 4), &mut text)?;
-                push_indented(out, &text, indent + 4)?;
-                Ok(())
-            }
-            _ => push_bytes_to_edn(alloc, item, self.style, out),
-        }
-    }
-
-    /// How a part is written whose lines begin with this many blanks: they leave it fewer columns.
-    fn part_style(&self, blanks: usize) -> EdnStyle
-        ensures { result ≡ record self.now.style { columns = self.now.style.columns - blanks } }
-    {
-        EdnStyle {
-            columns: columns_after(self.style.columns, blanks),
-            ..self.style
-        }
-    }
-
     /// Appends what is said of the bytes from a place on, and the first of them.
     fn push_remaining(&self, out: &mut String, start: usize) -> Result<(), AllocError>
         requires { start ≤ length self.now.bytes.now }
-        ensures { OnOk result (string_bytes out.new ≡ string_bytes out.old
-            ++ remaining self.now.said.now (drop start self.now.bytes.now)) }
     {
         let (_, rest) = self.bytes.split_at(start);
         let (shown, more) = shown_of(rest);
@@ -182,17 +127,18 @@ impl PartialEdn<'_> {
     }
 }
 
-/// The columns that this many blanks leave.
-fn columns_after(columns: u16, blanks: usize) -> u16
-    ensures { result ≡ columns - blanks }
+/// How many blanks the lines of a member of a container begin with.
+fn lines_inside(style: ContainerStyle) -> usize
+    requires { style_indent style < 2 ^ 31 }
 {
-    (columns as usize).saturating_sub(blanks) as u16
+    match style {
+        ContainerStyle::MultiLine { indent } => indent + 4,
+        _ => 0,
+    }
 }
 
 /// Appends how many more bytes there are.
-fn push_more(out: &mut String, more: usize) -> Result<(), AllocError>
-    ensures { OnOk result (string_bytes out.new ≡ string_bytes out.old ++ more_bytes more) }
-{
+fn push_more(out: &mut String, more: usize) -> Result<(), AllocError> {
     if more == 0 {
         return Ok(());
     }
@@ -202,7 +148,6 @@ fn push_more(out: &mut String, more: usize) -> Result<(), AllocError>
 /// How many blanks the lines of a part begin with: those below a tag as many as its own.
 fn indent_in(container: Open, indent: usize) -> usize
     requires { indent < 2 ^ 31 }
-    ensures { result ≡ indent_inside container indent }
 {
     match container {
         Open::Tag { .. } => indent,
@@ -211,9 +156,7 @@ fn indent_in(container: Open, indent: usize) -> usize
 }
 
 /// The width of a number where it is longer than the number needs, and else `Unknown`.
-fn longer(number: u64, width: IntegerWidth) -> IntegerWidth
-    ensures { result ≡ longer_width number width }
-{
+fn longer(number: u64, width: IntegerWidth) -> IntegerWidth {
     let is_longer = match width {
         IntegerWidth::Unknown | IntegerWidth::Zero => false,
         IntegerWidth::Eight => number < 24,
@@ -229,9 +172,7 @@ fn longer(number: u64, width: IntegerWidth) -> IntegerWidth
 }
 
 /// Appends what EDN states of a length, and a blank after it on one line.
-fn push_count(out: &mut String, count: Argument, style: ContainerStyle) -> Result<(), AllocError>
-    ensures { AppendsText result out.old out.new (with_gap style (count_mark count)) }
-{
+fn push_count(out: &mut String, count: Argument, style: ContainerStyle) -> Result<(), AllocError> {
     let mark = mark_of(count);
     out.push_str(mark)?;
     match style {
@@ -242,9 +183,7 @@ fn push_count(out: &mut String, count: Argument, style: ContainerStyle) -> Resul
 }
 
 /// What EDN states of the length of a container: nothing of the shortest width.
-fn mark_of(count: Argument) -> &'static str
-    ensures { result.now ≡ count_mark count }
-{
+fn mark_of(count: Argument) -> &'static str {
     match count {
         Argument::Indefinite => "_",
         Argument::Number(number, width) => match longer(number, width) {
@@ -265,7 +204,6 @@ fn push_before(
     style: ContainerStyle,
 ) -> Result<(), AllocError>
     requires { style_indent style < 2 ^ 31 }
-    ensures { AppendsText result out.old out.new (before_part style container index) }
 {
     match container {
         Open::Tag { .. } => Ok(()),
@@ -280,9 +218,7 @@ fn push_after(
     container: Open,
     index: usize,
     style: ContainerStyle,
-) -> Result<(), AllocError>
-    ensures { AppendsText result out.old out.new (after_part style container index) }
-{
+) -> Result<(), AllocError> {
     match container {
         Open::Tag { .. } => Ok(()),
         Open::Key { .. } | Open::Value { .. } if index % 2 == 0 => Ok(()),
@@ -291,9 +227,7 @@ fn push_after(
 }
 
 /// Appends what closes a container.
-fn push_closer(out: &mut String, container: Open, style: ContainerStyle) -> Result<(), AllocError>
-    ensures { AppendsText result out.old out.new (closing_of style container) }
-{
+fn push_closer(out: &mut String, container: Open, style: ContainerStyle) -> Result<(), AllocError> {
     match container {
         Open::Array { .. } => push_closing(out, style, ']'),
         Open::Key { .. } | Open::Value { .. } => push_closing(out, style, '}'),

@@ -134,12 +134,12 @@ impl Conversion<'_> {
             self.say_over(most);
             return Ok(Written::Whole);
         }
-        let style = self.job.show.style.edn();
+        let show = show_of(self.rt.alloc(), self.job, self.tables)?;
         let place = Place {
             number: self.page.number,
             path: "",
         };
-        push_partial(&mut self.page.lines, style, left, place)?;
+        push_partial(&mut self.page.lines, &show, left, place)?;
         self.page.count(left.bytes.len());
         Ok(Written::Whole)
     }

@@ -7,11 +7,12 @@ use crate::messages::say_out_of_memory;
 use crate::naming::encoded_in;
 use crate::output::{Written, write};
 use crate::screen::language_of;
+use crate::shown::show_of;
 use crate::status::Status;
 use cbor_bytes::{Extent, extent};
 use cbor_grammar::Error;
 use cbor_inspect::{End, Form};
-use cbor_places::{Around, Entered, Leaves, Piece, item_with, lines_at, partial_edn};
+use cbor_places::{Around, Entered, Leaves, Piece, item_with, lines_at};
 use cbor_screen::Language;
 use cborcat_arguments::View;
 
@@ -190,7 +191,10 @@ impl Conversion<'_> {
             return Ok(None);
         }
         let text = match style.form {
-            Form::Pretty | Form::Diag => partial_edn(self.rt.alloc(), style.edn(), bytes, said)?,
+            Form::Pretty | Form::Diag => {
+                let show = show_of(self.rt.alloc(), self.job, self.tables)?;
+                show.partial(self.rt.alloc(), bytes, said)?
+            }
             Form::Hex => {
                 let dumps = Dumps::new(self.rt, self.job, self.place, self.tables);
                 dumps.partial(bytes, said)?

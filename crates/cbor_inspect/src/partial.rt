@@ -1,0 +1,28 @@
+//! Writes a truncated or malformed item as EDN with its names, as far as it is there.
+
+use crate::items::Show;
+use crate::naming::edn_notes;
+use cbor_edn_writer::NotedStyle;
+use cbor_grammar::Error;
+use cbor_places::partial_edn;
+use std::alloc::Global;
+
+impl Show<'_> {
+    /// Returns the EDN of the whole parts of the item at the front, which is truncated or
+    /// malformed, with their names. In place of the rest stand what is `said` of it and its first
+    /// bytes.
+    pub fn partial(&self, alloc: Global, bytes: &[u8], said: &str) -> Result<String, Error> {
+        let style = self.style.edn();
+        let naming = match self.names {
+            Some(naming) if self.style.has_notes() => naming,
+            _ => return partial_edn(alloc, NotedStyle { style, notes: &[] }, bytes, said),
+        };
+        let found = naming.notes(alloc, bytes)?;
+        let notes = edn_notes(alloc, &found)?;
+        let noted = NotedStyle {
+            style,
+            notes: &notes,
+        };
+        partial_edn(alloc, noted, bytes, said)
+    }
+}

@@ -1,3 +1,0 @@
-pub mod PartialLemmas
-pub mod GoesOn
-pub mod FirstParts
