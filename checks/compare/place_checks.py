@@ -154,6 +154,14 @@ def partial(program):
     same_partial("a cut", "diag", b"\x82\x01\x62a", "[1, /truncated/ h'6261']\n")
     same_partial("between items", "diag", b"\x82\x01", "[1, /truncated/ h'']\n")
     same_partial("in lines", "pretty", b"\x82\x01\x1f", f"[\n    1,\n    {fault} h'1f'\n]\n")
+    same_partial("with names", "pretty", bytes.fromhex("d28443a10126a104"), """\
+/COSE_Sign1/ 18([
+    /protected/ <<{/alg/ 1: -7 /ES256/}>>,
+    /unprotected/ {
+        /kid/ 4: /truncated/ h''
+    }
+])
+""")
     same_partial("a dump", "hex", b"\x82\x01\x1f\x00",
                  f"82    # array(2)\n   01 #   unsigned(1)\n   # malformed: {WRONG}\n   1f00\n")
     same_partial("digits", "digits", b"\x01\x82\x01", "01\n")
@@ -193,7 +201,8 @@ def examples_in_part(program, name):
 
         front, _, after = written("-t", "diag").partition(said)
         program.same(f"{name} to {end}: the front of the whole", (whole.startswith(front), after != ""), (True, True))
-        before = [text for (at, text), next_at in zip(leaves, [it[0] for it in leaves[1:]] + [len(data)]) if next_at <= end]
+        ends = [at for at, _ in leaves[1:]] + [len(data)]
+        before = [text for (_, text), leaf_end in zip(leaves, ends) if leaf_end <= end]
         pretty, at = written("-t", "pretty", "--no-notes"), 0
         for text in before:
             at = pretty.find(text, at)

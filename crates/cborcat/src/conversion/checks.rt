@@ -1,4 +1,5 @@
-//! The checks that go with every conversion: simple values in two bytes, and violations of rules.
+//! The checks that go with every conversion: of simple values in a non-minimal encoding (`f8 00`),
+//! and of rules.
 
 use super::Conversion;
 use crate::messages::report_byte;
