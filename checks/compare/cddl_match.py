@@ -40,7 +40,7 @@ class Misfit:
         if (other.reach, other.place) == (self.reach, self.place):
             self.wants += [want for want in other.wants if want not in self.wants]
             return self
-        return other if other.reach > self.reach or other.place < self.place else self
+        return other if other.reach > self.reach or other.place > self.place else self
 
 
 @dataclass
@@ -274,11 +274,15 @@ class Matcher:
         pairs = tuple(item.pairs())
         inside = Inside(item, reach, sum(part.end - part.start for part in item.parts))
         outcome, rest = self.take(node.group, pairs, inside)
-        if outcome == TAKES and rest:
+        if outcome == TAKES and rest and not self.is_blamed(rest):
             extra = min((key for key, _ in rest), key=lambda key: key.start)
             words = f"the key {extra.shown()}, which is in no entry" + self.entry_like(node.group, extra)
             self.note(inside.reached(rest), extra, "the end of the map", words)
         return outcome == TAKES and not rest
+
+    def is_blamed(self, pairs):
+        """Whether the value of one of these pairs is blamed: its key is in an entry."""
+        return self.best and any(value.start <= self.best.place < value.end for _, value in pairs)
 
     def entry_like(self, group, key):
         """The key of an entry that looks like this one, for a message."""
@@ -307,6 +311,8 @@ class Matcher:
     def repeated(self, entry, rest, inside):
         group = self.schema.group_of(entry.value) if entry.key is None else None
         if group is not None:
+            if not group.alternatives and entry.low:
+                self.note(inside.reached(rest), inside.item, self.wanted(entry.value))
             return self.turns(entry, rest, lambda left: self.take(group, left, inside))
         named = self.name_of(entry)
         self.names.append(named)
