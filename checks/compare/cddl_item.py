@@ -57,15 +57,14 @@ class Item:
         shift = self.inside or 0
         around = self if self.inside is None else self.around
         data = self.data[:shift] + self.value
-        found, at = [], shift
+        starts = [shift]
         try:
-            while at < len(data):
-                step = f"@{at - shift}" if found else "@"
-                found.append(placed(data, at, (*self.path, step), around))
-                at = found[-1].end
+            while starts[-1] < len(data):
+                starts.append(item_at(data, starts[-1], 1)[1])
         except Refused:
             return None
-        return found
+        steps = ["@"] if len(starts) == 2 else [f"@{start - shift}" for start in starts[:-1]]
+        return [placed(data, start, (*self.path, step), around) for start, step in zip(starts, steps)]
 
 
 def placed(data, at=0, path=(), around=None):

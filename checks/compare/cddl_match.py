@@ -261,7 +261,7 @@ class Matcher:
             return False
         inside = Inside(item, reach, sum(part.end - part.start for part in item.parts))
         outcome, rest = self.take(node.group, item.parts, inside)
-        if outcome == TAKES and rest:
+        if outcome == TAKES and rest and not self.is_blamed(rest[:1]):
             count = len(item.parts) - len(rest)
             want = f"the end of the array after {count} item" + "s" * (count != 1)
             self.note(inside.reached(rest), rest[0], want)
@@ -274,15 +274,15 @@ class Matcher:
         pairs = tuple(item.pairs())
         inside = Inside(item, reach, sum(part.end - part.start for part in item.parts))
         outcome, rest = self.take(node.group, pairs, inside)
-        if outcome == TAKES and rest and not self.is_blamed(rest):
+        if outcome == TAKES and rest and not self.is_blamed([value for _, value in rest]):
             extra = min((key for key, _ in rest), key=lambda key: key.start)
             words = f"the key {extra.shown()}, which is in no entry" + self.entry_like(node.group, extra)
             self.note(inside.reached(rest), extra, "the end of the map", words)
         return outcome == TAKES and not rest
 
-    def is_blamed(self, pairs):
-        """Whether the value of one of these pairs is blamed: its key is in an entry."""
-        return self.best and any(value.start <= self.best.place < value.end for _, value in pairs)
+    def is_blamed(self, items):
+        """Whether one of these items is blamed, since an entry wanted something else there."""
+        return self.best and any(one.start <= self.best.place < one.end for one in items)
 
     def entry_like(self, group, key):
         """The key of an entry that looks like this one, for a message."""
