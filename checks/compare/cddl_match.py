@@ -145,6 +145,9 @@ class Matcher:
         best = tried[0]
         for one in tried[1:]:
             best = best.add(one)
+        tied = {(one.name, one.line) for one in tried if (one.reach, one.place) == (best.reach, best.place)}
+        if len(tied) > 1:
+            best.name, best.line = self.names[-1]
         less = sum(one.reach < best.reach for one in tried)
         if less:
             best.others = (less, *self.names[-1])
