@@ -65,7 +65,10 @@ class Matcher:
 
     def misfit(self, item):
         """The misfit of an item, or None."""
-        return None if self.fits(self.schema.root, item, 0) else self.best
+        if self.fits(self.schema.root, item, 0):
+            return None
+        assert self.best, "a misfit that nobody noted"
+        return self.best
 
     def note(self, reach, item, want, found=None):
         """Notes what was wanted at an item."""

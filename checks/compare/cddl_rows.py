@@ -7,17 +7,16 @@ from cddl_text import Fault
 from edn_form import edn_to_bytes
 
 
-def item_of(line):
-    """The item of a line."""
-    data = bytes.fromhex(line[4:]) if line.startswith("hex ") else edn_to_bytes(line.encode())
-    return placed(data)
+def data_of(line):
+    """The bytes of the item of a line."""
+    return bytes.fromhex(line[4:]) if line.startswith("hex ") else edn_to_bytes(line.encode())
 
 
 def each_item(row, answer):
     """What is said of each item, a line each. The word of the row names the rule; otherwise it is the first one."""
     text, _, lines = row.text().rpartition("\n\n")
     schema = Schema(text, row.argument or None)
-    return "\n".join(answer(cddl_match.Matcher(schema).misfit(item_of(line))) for line in lines.split("\n"))
+    return "\n".join(answer(cddl_match.Matcher(schema).misfit(placed(data_of(line)))) for line in lines.split("\n"))
 
 
 def fits(row):
@@ -29,16 +28,13 @@ def message(row):
 
 
 def fault(row):
-    """The fault of a text, or `none`. Of one that is read otherwise than as a type, only the place is known."""
+    """The fault of a text, or `none`."""
     try:
         Schema(row.text())
         return "none"
     except Fault as found:
         lines = row.text()[:found.at].split("\n")
-        place = f"{len(lines)}:{len(lines[-1]) + 1} "
-        if not found.words.startswith("expected ") or found.words.startswith("expected a type, "):
-            return place + found.words
-        return row.refused(lambda text: text.startswith(place), place + found.words)
+        return f"{len(lines)}:{len(lines[-1]) + 1} {found.words}"
 
 
 CALLS = {"cddl_fits": fits, "cddl_message": message, "cddl_fault": fault}

@@ -163,6 +163,8 @@ class Reader:
     def __init__(self, text):
         self.text, self.at = text, 0
         self.furthest, self.wanted = -1, None
+        # what stands at a place, and its end: a key is read as a type first, and then again as one without a key
+        self.types = {}
 
     def no_match(self, wanted):
         if self.at > self.furthest:
@@ -183,6 +185,11 @@ class Reader:
     def want(self, text):
         if not self.take(text):
             self.no_match(text)
+
+    def need(self, text):
+        """Takes a text. If it is not there, that is no fault: something else may stand here."""
+        if not self.take(text):
+            raise NoMatch
 
     def match(self, pattern):
         found = pattern.match(self.text, self.at)
@@ -260,6 +267,16 @@ class Reader:
         return types[0] if len(types) == 1 else Choice(types, span=(begun, self.at))
 
     def type1(self):
+        begun = self.at
+        if begun not in self.types:
+            found = self.attempt(self.type1_anew)
+            self.types[begun] = found, self.at
+        found, self.at = self.types[begun]
+        if found is None:
+            raise NoMatch
+        return found
+
+    def type1_anew(self):
         begun = self.at
         target = self.type2()
         ended = self.at
@@ -411,10 +428,10 @@ class Reader:
         begun = self.at
         key = self.value()
         if key is None:
-            key = Value("text", self.name("a key"))
+            key = Value("text", self.name("a type"))
         key = with_span(key, (begun, self.at))
         self.blank()
-        self.want(":")
+        self.need(":")
         self.blank()
         return key, True
 
@@ -423,7 +440,7 @@ class Reader:
         self.blank()
         cut = self.take("^")
         self.blank()
-        self.want("=>")
+        self.need("=>")
         self.blank()
         return key, cut
 
