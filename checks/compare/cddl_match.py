@@ -249,7 +249,7 @@ class Matcher:
 
     def control_regexp(self, node, item):
         pattern = self.schema.literal(node.controller).value
-        return None if re.compile(pattern, re.DOTALL).fullmatch(item.value) else item.shown()
+        return None if re.fullmatch(pattern, item.value) else item.shown()
 
     control_pcre = control_regexp
 
