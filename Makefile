@@ -197,6 +197,7 @@ check-pages:
 	packages/version
 	checks/compare/run --self-test
 	checks/compare/edn --self-test
+	checks/compare/cddl --self-test --count 300
 
 # The commands of all pages, and both.
 check-commands: program

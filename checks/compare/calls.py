@@ -9,8 +9,9 @@ import calls_inputs
 import calls_notes
 import calls_places
 import calls_rules
+import cddl_rows
 
-SUBJECTS = [calls_bytes, calls_edn, calls_inputs, calls_notes, calls_places, calls_rules]
+SUBJECTS = [calls_bytes, calls_edn, calls_inputs, calls_notes, calls_places, calls_rules, cddl_rows]
 CALLS = {name: call for subject in SUBJECTS for name, call in subject.CALLS.items()}
 
 # The calls that it does not have, so that a call that nobody knows is found: tables of names, what a screen shows, and
