@@ -4,6 +4,15 @@
 //! A [`Fault`] says what is wrong with a text, and where.
 #![tactic(auto)]
 
+mod ast;
+mod fault;
+mod grammar;
+mod lexer;
+mod literal;
+mod parser;
 mod schema;
+#[cfg(test)]
+mod tests;
 
+pub use fault::{Fault, FaultKind, Position, SaidFault, position_of};
 pub use schema::{Comparison, Floats, List, Node, Occurrence, Pending, Rule, Schema, Span, Value};
