@@ -29,12 +29,14 @@ pub enum FaultKind {
     NoRule(Option<Span>),
     /// A name has two rules with `=`; the first is at this place.
     Twice(Span),
-    /// A rule is defined by itself: the rule, and the next one on the way back to it.
-    Cycle(Span),
+    /// A rule is defined by itself: the next one on the way back to it, and how many these are.
+    Cycle { next: Span, count: usize },
     /// A generic rule takes another number of arguments.
     Arguments(usize),
     /// More than 10,000 instances of generic rules.
     Instances,
+    /// A value is defined by itself.
+    Endless,
     /// A group where a type is wanted.
     Group,
     /// `~` before what is no map, array or tag.
@@ -131,15 +133,16 @@ pub struct SaidFault<'a> {
 impl SaidFault<'_> {
     /// The part of the source.
     fn text(&self, span: Span) -> &str {
-        self.source.get(span.start..span.end).unwrap_or("")
+        match self.source.get(span.start..span.end) {
+            Some(text) => text,
+            None => "",
+        }
     }
 
     /// What is there, in words.
     fn found(&self) -> &str {
-        match self.text(self.fault.span) {
-            "" => "the end",
-            text => text,
-        }
+        let text = self.text(self.fault.span);
+        if text.is_empty() { "the end" } else { text }
     }
 
     /// The message of a kind that says nothing else.
@@ -153,6 +156,7 @@ impl SaidFault<'_> {
             FaultKind::Number => "the number is too large",
             FaultKind::Deep => "the brackets are nested too deeply",
             FaultKind::Instances => "there are more than 10,000 instances of generic rules",
+            FaultKind::Endless => "the value is defined by itself",
             FaultKind::Unwrap => "~ needs the name of a map, an array or a tag",
             FaultKind::Enumerate => "& needs a group",
             FaultKind::Range => "a range needs two integers or two floats",
@@ -180,12 +184,14 @@ impl fmt::Display for SaidFault<'_> {
                 let line = position_of(self.source, first.start).line;
                 write!(f, "the rule {found} is there already, in line {line}")
             }
-            FaultKind::Cycle(next) => {
+            FaultKind::Cycle { next, count } => {
                 let next = self.text(next);
-                write!(
-                    f,
-                    "the rule {found} is defined by itself: {found} -> {next}"
-                )
+                write!(f, "the rule {found} is defined by itself: {found}")?;
+                match count {
+                    0 | 1 => write!(f, " -> {found}"),
+                    2 => write!(f, " -> {next} -> {found}"),
+                    _ => write!(f, " -> {next} -> .. -> {found}"),
+                }
             }
             FaultKind::Arguments(wanted) => write!(f, "{found} takes {wanted} arguments"),
             FaultKind::Group => write!(f, "{found} is a group, and a type is wanted"),

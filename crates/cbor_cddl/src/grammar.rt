@@ -9,7 +9,7 @@ use crate::schema::{List, Occurrence, Span, Value};
 use std::alloc::Global;
 
 /// At most so many brackets are open at a place.
-const DEEPEST: u32 = 100;
+const DEEPEST: u32 = 50;
 
 /// The key of an entry.
 #[derive(Clone, Copy)]

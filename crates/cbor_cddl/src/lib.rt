@@ -1,18 +1,37 @@
 //! Reads CDDL (RFC 8610, with the changes of RFC 9682), the language that says which CBOR items a
 //! protocol has, and loads it: the result, [`Schema`], has no names and no parameters left.
 //!
+//! ```rust
+//! use cbor_cddl::load;
+//!
+//! let schema = load(alloc, "event = { at: uint, ? kind: text }", None)?;
+//! assert_eq!(rt; schema.text(schema.rules[0].name), "event");
+//! ```
+//!
 //! A [`Fault`] says what is wrong with a text, and where.
 #![tactic(auto)]
 
 mod ast;
+mod compute;
+mod control;
 mod fault;
 mod grammar;
+mod kinds;
 mod lexer;
 mod literal;
+mod load;
+mod names;
+mod near;
 mod parser;
+mod prelude;
+mod rank;
 mod schema;
 #[cfg(test)]
 mod tests;
+mod text;
 
+pub use compute::float_of;
 pub use fault::{Fault, FaultKind, Position, SaidFault, position_of};
+pub use near::likeness;
 pub use schema::{Comparison, Floats, List, Node, Occurrence, Pending, Rule, Schema, Span, Value};
+pub use text::{load, source_of};

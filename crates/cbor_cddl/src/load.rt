@@ -1,0 +1,619 @@
+//! Loads a text: each rule in use becomes nodes of a `Schema`, with its names resolved.
+
+use crate::ast::{Ast, Expr, Number};
+use crate::fault::{Fault, FaultKind};
+use crate::names::{NONE, Names, bytes_of};
+use crate::schema::{List, Node, Occurrence, Pending, Rule, Span, Value};
+use cbor_floats::Width;
+use std::alloc::Global;
+use std::collections::BTreeMap;
+
+/// At most so many rules are made of generic ones.
+const MOST_INSTANCES: usize = 10_000;
+
+/// So many parts may be nested in each other.
+const DEEPEST: u32 = 400;
+
+/// What is taken of a rule.
+#[derive(Clone, Copy, PartialEq, Eq, Debug)]
+pub(crate) enum Mode {
+    /// Its type or group.
+    Plain,
+    /// `~`: the group of its array or map, or the item of its tag.
+    Unwrapped,
+    /// `&`: one of the types of its group.
+    Enumerated,
+}
+
+/// A rule with its arguments, whose parts may not be loaded yet.
+#[derive(Clone, Copy)]
+pub(crate) struct Instance {
+    pub(crate) definition: usize,
+    /// The nodes of the arguments, in the loaded lists.
+    pub(crate) arguments: List,
+    pub(crate) mode: Mode,
+    /// The node that first referred to it.
+    node: usize,
+}
+
+/// A text that is being loaded.
+#[derive(Drop)]
+pub(crate) struct Loader<'a> {
+    pub(crate) alloc: Global,
+    pub(crate) source: &'a [u8],
+    pub(crate) ast: Ast,
+    names: Names,
+    pub(crate) instances: Vec<Instance>,
+    by_parts: BTreeMap<Vec<usize>, usize>,
+    /// How many instances have arguments.
+    generic: usize,
+    pub(crate) nodes: Vec<Node>,
+    pub(crate) spans: Vec<Span>,
+    pub(crate) lists: Vec<usize>,
+    pub(crate) rules: Vec<Rule>,
+}
+
+/// No members.
+const EMPTY: List = List { start: 0, end: 0 };
+
+impl<'a> Loader<'a> {
+    /// Nothing is loaded yet.
+    pub(crate) fn new(
+        alloc: Global,
+        source: &'a [u8],
+        text_len: usize,
+        ast: Ast,
+    ) -> Result<Loader<'a>, Fault> {
+        let names = Names::new(alloc, &ast, source, text_len)?;
+        Ok(Loader {
+            alloc,
+            source,
+            ast,
+            names,
+            instances: Vec::new(alloc),
+            by_parts: BTreeMap::new(alloc),
+            generic: 0,
+            nodes: Vec::new(alloc),
+            spans: Vec::new(alloc),
+            lists: Vec::new(alloc),
+            rules: Vec::new(alloc),
+        })
+    }
+
+    /// Adds a node.
+    pub(crate) fn add(&mut self, node: Node, span: Span) -> Result<usize, Fault> {
+        let index = self.nodes.len();
+        self.nodes.push(node)?;
+        self.spans.push(span)?;
+        Ok(index)
+    }
+
+    /// Adds a list of nodes.
+    fn add_list(&mut self, nodes: &[usize]) -> Result<List, Fault> {
+        let start = self.lists.len();
+        for node in nodes {
+            self.lists.push(*node)?;
+        }
+        let end = self.lists.len();
+        Ok(List { start, end })
+    }
+
+    /// The node at an index.
+    pub(crate) fn node(&self, index: usize) -> Node {
+        match self.nodes.get(index) {
+            Some(node) => *node,
+            None => Node::Any,
+        }
+    }
+
+    /// Where a node is in the source.
+    pub(crate) fn span(&self, index: usize) -> Span {
+        match self.spans.get(index) {
+            Some(span) => *span,
+            None => Span { start: 0, end: 0 },
+        }
+    }
+
+    /// The node that stands for an argument: one for each rule.
+    fn canonical(&self, node: usize) -> usize {
+        match self.node(node) {
+            Node::Rule(rule) => match self.instances.get(rule) {
+                Some(instance) => instance.node,
+                None => node,
+            },
+            _ => node,
+        }
+    }
+
+    /// The instance of a definition, made if it is not there, as a node at a place.
+    fn instance(
+        &mut self,
+        definition: usize,
+        mode: Mode,
+        arguments: &[usize],
+        span: Span,
+    ) -> Result<usize, Fault> {
+        let mut parts = Vec::new(self.alloc);
+        parts.push(definition)?;
+        parts.push(mode as usize)?;
+        for argument in arguments {
+            parts.push(self.canonical(*argument))?;
+        }
+        if let Some(rule) = self.by_parts.get(&parts) {
+            let node = Node::Rule(*rule);
+            return self.add(node, span);
+        }
+        self.add_instance(definition, mode, parts, span)
+    }
+
+    /// Makes an instance.
+    fn add_instance(
+        &mut self,
+        definition: usize,
+        mode: Mode,
+        parts: Vec<usize>,
+        span: Span,
+    ) -> Result<usize, Fault> {
+        if parts.len() > 2 {
+            self.generic = self.generic.saturating_add(1);
+            if self.generic > MOST_INSTANCES {
+                return Err(Fault::new(span, FaultKind::Instances));
+            }
+        }
+        let rule = self.rules.len();
+        let node = self.add(Node::Rule(rule), span)?;
+        let arguments = self.add_list(parts.get(2..).unwrap_or(&[]))?;
+        self.instances.push(Instance {
+            definition,
+            arguments,
+            mode,
+            node,
+        })?;
+        let name = match self.names.definition(definition) {
+            Some(definition) => definition.name,
+            None => span,
+        };
+        self.rules.push(Rule {
+            name,
+            node: NONE,
+            rank: 0,
+        })?;
+        self.by_parts.insert(parts, rule)?;
+        Ok(node)
+    }
+
+    /// The argument of an instance for the parameter with a name.
+    fn argument(&self, instance: usize, name: &[u8]) -> Option<usize> {
+        let instance = self.instances.get(instance)?;
+        let parameters = self.names.definition(instance.definition)?.parameters;
+        let listed = self.ast.lists.get(parameters.start..parameters.end)?;
+        for (place, parameter) in listed.iter().enumerate() {
+            if bytes_of(self.source, self.ast.span(*parameter)) == name {
+                let place = instance.arguments.start.saturating_add(place);
+                return self.lists.get(place).copied();
+            }
+        }
+        None
+    }
+
+    /// The node for a name that no rule has: an empty choice for a socket.
+    fn unknown(&mut self, name: Span) -> Result<usize, Fault> {
+        let bytes = bytes_of(self.source, name);
+        if bytes.starts_with(b"$$") {
+            return self.add(Node::GroupChoice(EMPTY), name);
+        }
+        if bytes.starts_with(b"$") {
+            return self.add(Node::Choice(EMPTY), name);
+        }
+        let near = self.names.near(self.source, bytes);
+        Err(Fault::new(name, FaultKind::NoRule(near)))
+    }
+
+    /// The node of a name, in an instance of the rule that it is in.
+    #[cycle(lower)]
+    fn named(
+        &mut self,
+        name: Span,
+        arguments: List,
+        mode: Mode,
+        env: usize,
+        depth: u32,
+    ) -> Result<usize, Fault> {
+        if let Some(node) = self.argument(env, bytes_of(self.source, name)) {
+            return match mode {
+                Mode::Plain => Ok(node),
+                _ => self.of_node(node, mode, name),
+            };
+        }
+        let Some(index) = self.names.find(bytes_of(self.source, name)) else {
+            return self.unknown(name);
+        };
+        let wanted = match self.names.definition(index) {
+            Some(definition) => definition.parameters.end - definition.parameters.start,
+            None => 0,
+        };
+        let given = self.lower_all(arguments, env, depth)?;
+        if given.len() != wanted {
+            return Err(Fault::new(name, FaultKind::Arguments(wanted)));
+        }
+        self.instance(index, mode, &given, name)
+    }
+
+    /// What is unwrapped or enumerated of the node of an argument.
+    fn of_node(&mut self, node: usize, mode: Mode, span: Span) -> Result<usize, Fault> {
+        match self.node(node) {
+            Node::Rule(rule) => {
+                let Some(instance) = self.instances.get(rule).copied() else {
+                    return Err(Fault::new(span, FaultKind::Unwrap));
+                };
+                let arguments = instance.arguments;
+                let given = self.lists.get(arguments.start..arguments.end);
+                let given = Vec::from_slice(self.alloc, given.unwrap_or(&[]))?;
+                self.instance(instance.definition, mode, &given, span)
+            }
+            Node::Array(group) | Node::Map(group) if mode == Mode::Unwrapped => Ok(group),
+            Node::Tag { item, .. } | Node::AnyTag { item, .. } if mode == Mode::Unwrapped => {
+                Ok(item)
+            }
+            _ if mode == Mode::Unwrapped => Err(Fault::new(span, FaultKind::Unwrap)),
+            _ => Err(Fault::new(span, FaultKind::Enumerate)),
+        }
+    }
+
+    /// The nodes of a list.
+    #[cycle(lower)]
+    fn lower_all(&mut self, list: List, env: usize, depth: u32) -> Result<Vec<usize>, Fault> {
+        let mut nodes = Vec::new(self.alloc);
+        for place in list.start..list.end {
+            let expr = self.ast.listed(place);
+            nodes.push(self.lower(expr, env, depth)?)?;
+        }
+        Ok(nodes)
+    }
+
+    /// The list of the nodes of a list.
+    #[cycle(lower)]
+    fn lower_list(&mut self, list: List, env: usize, depth: u32) -> Result<List, Fault> {
+        let nodes = self.lower_all(list, env, depth)?;
+        self.add_list(&nodes)
+    }
+
+    /// The node of a type or a group.
+    #[cycle(lower)]
+    pub(crate) fn lower(&mut self, expr: usize, env: usize, depth: u32) -> Result<usize, Fault> {
+        let span = self.ast.span(expr);
+        if depth == 0 {
+            return Err(Fault::new(span, FaultKind::Deep));
+        }
+        let inner = depth - 1;
+        let node = match self.ast.expr(expr) {
+            Expr::Literal(value) => literal_node(value),
+            Expr::Any => Node::Any,
+            Expr::Name { name, arguments } => {
+                return self.named(name, arguments, Mode::Plain, env, inner);
+            }
+            Expr::Unwrap(of) => return self.lower_mode(of, Mode::Unwrapped, env, inner),
+            Expr::Enumerate(of) => return self.lower_mode(of, Mode::Enumerated, env, inner),
+            Expr::Array(group) => Node::Array(self.lower(group, env, inner)?),
+            Expr::Map(group) => Node::Map(self.lower(group, env, inner)?),
+            Expr::Choice(list) => Node::Choice(self.lower_list(list, env, inner)?),
+            Expr::Group(_) | Expr::Sequence(_) => return self.lower_group(expr, env, inner),
+            Expr::Entry { .. } | Expr::Repeated { .. } => self.lower_entry(expr, env, inner)?,
+            Expr::Head { .. } | Expr::Tag { .. } => self.lower_head(expr, env, inner)?,
+            Expr::Range { .. } | Expr::Control { .. } => {
+                return self.lower_operator(expr, env, inner);
+            }
+        };
+        self.add(node, span)
+    }
+
+    /// What is unwrapped or enumerated of a name, or of a group in parentheses.
+    #[cycle(lower)]
+    fn lower_mode(
+        &mut self,
+        of: usize,
+        mode: Mode,
+        env: usize,
+        depth: u32,
+    ) -> Result<usize, Fault> {
+        match self.ast.expr(of) {
+            Expr::Name { name, arguments } => self.named(name, arguments, mode, env, depth),
+            _ => self.enumerate(of, env, depth),
+        }
+    }
+
+    /// The choice of the types of a group.
+    #[cycle(lower)]
+    pub(crate) fn enumerate(&mut self, of: usize, env: usize, depth: u32) -> Result<usize, Fault> {
+        let span = self.ast.span(of);
+        if depth == 0 {
+            return Err(Fault::new(span, FaultKind::Deep));
+        }
+        let inner = depth - 1;
+        match self.ast.expr(of) {
+            Expr::Group(list) | Expr::Sequence(list) => {
+                let mut nodes = Vec::new(self.alloc);
+                for place in list.start..list.end {
+                    let member = self.ast.listed(place);
+                    nodes.push(self.enumerate(member, env, inner)?)?;
+                }
+                let list = self.add_list(&nodes)?;
+                self.add(Node::Choice(list), span)
+            }
+            Expr::Entry { value, .. } => self.lower(value, env, inner),
+            Expr::Repeated { item, .. } => self.enumerate(item, env, inner),
+            Expr::Name { name, arguments } => {
+                let mode = if self.names.is_group(&self.ast, self.source, name) {
+                    Mode::Enumerated
+                } else {
+                    Mode::Plain
+                };
+                self.named(name, arguments, mode, env, inner)
+            }
+            _ => self.lower(of, env, inner),
+        }
+    }
+
+    /// The node of a group in brackets or parentheses.
+    #[cycle(lower)]
+    fn lower_group(&mut self, expr: usize, env: usize, depth: u32) -> Result<usize, Fault> {
+        if depth == 0 {
+            return Err(Fault::new(self.ast.span(expr), FaultKind::Deep));
+        }
+        let inner = depth - 1;
+        let plain = self.ast.plain(expr);
+        if plain != expr {
+            return self.lower(plain, env, inner);
+        }
+        let (list, is_choice) = match self.ast.expr(expr) {
+            Expr::Group(list) => (list, true),
+            Expr::Sequence(list) => (list, false),
+            _ => (EMPTY, false),
+        };
+        let nodes = self.lower_all(list, env, inner)?;
+        if let [only] = nodes.as_slice() {
+            return Ok(*only);
+        }
+        let list = self.add_list(&nodes)?;
+        let node = if is_choice {
+            Node::GroupChoice(list)
+        } else {
+            Node::Sequence(list)
+        };
+        self.add(node, self.ast.span(expr))
+    }
+
+    /// The node of an entry.
+    #[cycle(lower)]
+    fn lower_entry(&mut self, expr: usize, env: usize, depth: u32) -> Result<Node, Fault> {
+        match self.ast.expr(expr) {
+            Expr::Entry {
+                key,
+                cut,
+                value,
+                occurrence,
+            } => Ok(Node::Entry {
+                key: self.lower(key, env, depth)?,
+                cut,
+                value: self.lower(value, env, depth)?,
+                occurrence,
+            }),
+            Expr::Repeated { item, occurrence } => Ok(Node::Repeated {
+                item: self.lower(item, env, depth)?,
+                occurrence,
+            }),
+            _ => Ok(Node::Any),
+        }
+    }
+
+    /// The node of a head by its major type, or of a tag.
+    #[cycle(lower)]
+    fn lower_head(&mut self, expr: usize, env: usize, depth: u32) -> Result<Node, Fault> {
+        let span = self.ast.span(expr);
+        match self.ast.expr(expr) {
+            Expr::Head {
+                major: 7,
+                number: Number::Type(number),
+            } => Ok(Node::Simples(self.lower(number, env, depth)?)),
+            Expr::Head {
+                major,
+                number: Number::Literal(number),
+            } => head_node(major, number).ok_or(Fault::new(span, FaultKind::Head)),
+            Expr::Head {
+                major,
+                number: Number::None,
+            } => Ok(Node::Major(major)),
+            Expr::Head { .. } => Err(Fault::new(span, FaultKind::Head)),
+            Expr::Tag { number, item } => {
+                let item = self.lower(item, env, depth)?;
+                match number {
+                    Number::Literal(number) => Ok(Node::Tag { number, item }),
+                    Number::None => Ok(Node::AnyTag {
+                        numbers: None,
+                        item,
+                    }),
+                    Number::Type(number) => Ok(Node::AnyTag {
+                        numbers: Some(self.lower(number, env, depth)?),
+                        item,
+                    }),
+                }
+            }
+            _ => Ok(Node::Any),
+        }
+    }
+
+    /// The node of a range or a control.
+    #[cycle(lower)]
+    fn lower_operator(&mut self, expr: usize, env: usize, depth: u32) -> Result<usize, Fault> {
+        let span = self.ast.span(expr);
+        match self.ast.expr(expr) {
+            Expr::Range { from, to, below } => {
+                let from = self.lower(from, env, depth)?;
+                let to = self.lower(to, env, depth)?;
+                let range = Pending::Range { from, to, below };
+                self.add(Node::Pending(range), span)
+            }
+            Expr::Control {
+                name,
+                target,
+                operand,
+            } => {
+                let target = self.lower(target, env, depth)?;
+                let operand = self.lower(operand, env, depth)?;
+                self.add_control(name, target, operand, span)
+            }
+            _ => Ok(0),
+        }
+    }
+
+    /// The rules of an instance, as one node.
+    fn lower_rules(&mut self, index: usize, first: usize) -> Result<usize, Fault> {
+        let mut nodes = Vec::new(self.alloc);
+        let mut rule = first;
+        let mut span = Span { start: 0, end: 0 };
+        for _ in 0..self.ast.rules.len() {
+            let Some(text) = self.ast.rules.get(rule).copied() else {
+                break;
+            };
+            span = self.ast.span(text.body);
+            nodes.push(self.lower(text.body, index, DEEPEST)?)?;
+            rule = self.names.next(rule);
+        }
+        if let [only] = nodes.as_slice() {
+            return Ok(*only);
+        }
+        let list = self.add_list(&nodes)?;
+        let is_group = match self.instances.get(index) {
+            Some(instance) => match self.names.definition(instance.definition) {
+                Some(definition) => definition.is_group,
+                None => false,
+            },
+            None => false,
+        };
+        if is_group {
+            self.add(Node::GroupChoice(list), span)
+        } else {
+            self.add(Node::Choice(list), span)
+        }
+    }
+
+    /// What `~` takes of the only rule of an instance.
+    fn lower_unwrapped(&mut self, index: usize, first: usize) -> Result<usize, Fault> {
+        let Some(text) = self.ast.rules.get(first).copied() else {
+            return Ok(0);
+        };
+        let body = self.ast.plain(text.body);
+        match self.ast.expr(body) {
+            Expr::Array(group) | Expr::Map(group) => self.lower(group, index, DEEPEST),
+            Expr::Tag { item, .. } => self.lower(item, index, DEEPEST),
+            Expr::Name { name, arguments } => {
+                self.named(name, arguments, Mode::Unwrapped, index, DEEPEST)
+            }
+            _ => Err(Fault::new(text.name, FaultKind::Unwrap)),
+        }
+    }
+
+    /// What `&` takes of the only rule of an instance.
+    fn lower_enumerated(&mut self, index: usize, first: usize) -> Result<usize, Fault> {
+        let Some(text) = self.ast.rules.get(first).copied() else {
+            return Ok(0);
+        };
+        self.enumerate(text.body, index, DEEPEST)
+    }
+
+    /// Loads the instance at an index.
+    fn load_instance(&mut self, index: usize) -> Result<(), Fault> {
+        let Some(instance) = self.instances.get(index).copied() else {
+            return Ok(());
+        };
+        let first = match self.names.definition(instance.definition) {
+            Some(definition) => definition.first,
+            None => NONE,
+        };
+        let node = match instance.mode {
+            Mode::Plain => self.lower_rules(index, first)?,
+            Mode::Unwrapped => self.lower_unwrapped(index, first)?,
+            Mode::Enumerated => self.lower_enumerated(index, first)?,
+        };
+        if let Some(rule) = self.rules.get_mut(index) {
+            rule.node = node;
+        }
+        Ok(())
+    }
+
+    /// Loads the rules that are not generic and stand before the byte `text_len`, and those that
+    /// they name.
+    pub(crate) fn load_all(&mut self, text_len: usize) -> Result<(), Fault> {
+        for index in 0..self.names.definitions.len() {
+            let Some(definition) = self.names.definition(index) else {
+                break;
+            };
+            let is_plain = definition.parameters.start == definition.parameters.end;
+            if is_plain && definition.name.start < text_len {
+                self.instance(index, Mode::Plain, &[], definition.name)?;
+            }
+        }
+        for index in 0..usize::MAX {
+            if index >= self.instances.len() {
+                break;
+            }
+            self.load_instance(index)?;
+        }
+        Ok(())
+    }
+
+    /// The node of the rule with a name, or of the first one.
+    pub(crate) fn root(&mut self, name: Option<&[u8]>) -> Result<usize, Fault> {
+        let nowhere = Span { start: 0, end: 0 };
+        let definition = match name {
+            Some(name) => self.names.find(name),
+            None => Some(0),
+        };
+        let Some(index) = definition else {
+            return Err(Fault::new(nowhere, FaultKind::Root));
+        };
+        let Some(definition) = self.names.definition(index) else {
+            return Err(Fault::new(nowhere, FaultKind::Root));
+        };
+        let count = definition
+            .parameters
+            .end
+            .saturating_sub(definition.parameters.start);
+        if count > 0 {
+            return Err(Fault::new(definition.name, FaultKind::Arguments(count)));
+        }
+        self.instance(index, Mode::Plain, &[], definition.name)
+    }
+}
+
+/// The node of a literal.
+pub(crate) fn literal_node(value: Value) -> Node {
+    match value {
+        Value::Integer(number) => Node::Integers {
+            least: number,
+            most: number,
+        },
+        Value::Float(number) => Node::Floats(crate::schema::Floats {
+            least: number,
+            most: number,
+            below: false,
+        }),
+        Value::Text(span) => Node::Text(span),
+        Value::Bytes(span) => Node::Bytes(span),
+    }
+}
+
+/// The node of a head with a number.
+fn head_node(major: u8, number: u64) -> Option<Node> {
+    match (major, number) {
+        (7, 25) => Some(Node::FloatsOf(Width::Sixteen)),
+        (7, 26) => Some(Node::FloatsOf(Width::ThirtyTwo)),
+        (7, 27) => Some(Node::FloatsOf(Width::SixtyFour)),
+        (7, 0..=23 | 32..=255) => Some(Node::Simple(u8::try_from(number).ok()?)),
+        (0..=5, _) => Some(Node::Argument {
+            major,
+            argument: number,
+        }),
+        _ => None,
+    }
+}
