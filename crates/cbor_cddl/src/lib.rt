@@ -2,10 +2,10 @@
 //! protocol has, and loads it: the result, [`Schema`], has no names and no parameters left.
 //!
 //! ```rust
-//! use cbor_cddl::load;
+//! use cbor_cddl::Schema;
 //!
-//! let schema = load(alloc, "event = { at: uint, ? kind: text }", None)?;
-//! assert_eq!(rt; schema.text(schema.rules[0].name), "event");
+//! let schema = Schema::load(alloc, "event = { at: uint, ? kind: text }", None)?;
+//! assert!(rt; schema.source.as_str().starts_with("event"));
 //! ```
 //!
 //! A [`Fault`] says what is wrong with a text, and where.
@@ -34,4 +34,4 @@ pub use compute::float_of;
 pub use fault::{Fault, FaultKind, Position, SaidFault, position_of};
 pub use near::likeness;
 pub use schema::{Comparison, Floats, List, Node, Occurrence, Pending, Rule, Schema, Span, Value};
-pub use text::{load, source_of};
+pub use text::source_of;

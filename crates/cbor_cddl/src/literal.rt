@@ -8,23 +8,23 @@ use cbor_tokens::base64_any_decode;
 use std::alloc::{AllocError, Global};
 use std::num::nearest_u64_to_f64;
 
-/// The integer that these digits are, if it is below 2^64.
-fn integer_of(digits: &[u8], base: u8) -> Option<u64> {
-    let mut number = 0u64;
+/// The integer that these digits are, if it is below 2^128.
+fn integer_of(digits: &[u8], base: u8) -> Option<u128> {
+    let mut number = 0u128;
     for digit in digits {
         let value = digit_of(*digit);
         if value >= base {
             return None;
         }
         number = number
-            .checked_mul(u64::from(base))?
-            .checked_add(u64::from(value))?;
+            .checked_mul(u128::from(base))?
+            .checked_add(u128::from(value))?;
     }
     Some(number)
 }
 
-/// The integer without a sign that a token is, if it is below 2^64.
-pub(crate) fn unsigned_of(text: &[u8]) -> Option<u64> {
+/// The integer without a sign that a token is.
+fn size_of(text: &[u8]) -> Option<u128> {
     match text {
         [b'0', b'x', digits @ ..] if !digits.is_empty() => integer_of(digits, 16),
         [b'0', b'b', digits @ ..] if !digits.is_empty() => integer_of(digits, 2),
@@ -33,10 +33,19 @@ pub(crate) fn unsigned_of(text: &[u8]) -> Option<u64> {
     }
 }
 
-/// The integer that a token is.
+/// The integer without a sign that a token is, if it is below 2^64.
+pub(crate) fn unsigned_of(text: &[u8]) -> Option<u64> {
+    u64::try_from(size_of(text)?).ok()
+}
+
+/// The integer that a token is, if an item can be it.
 fn signed_of(text: &[u8]) -> Option<i128> {
     match text {
-        [b'-', digits @ ..] => Some(-i128::from(unsigned_of(digits)?)),
+        [b'-', digits @ ..] => {
+            let below = size_of(digits)?.saturating_sub(1);
+            let number = -1 - i128::from(u64::try_from(below).ok()?);
+            Some(if size_of(digits)? == 0 { 0 } else { number })
+        }
         _ => Some(i128::from(unsigned_of(text)?)),
     }
 }

@@ -229,7 +229,7 @@ impl<'a> Loader<'a> {
             return self.unknown(name);
         };
         let wanted = match self.names.definition(index) {
-            Some(definition) => definition.parameters.end - definition.parameters.start,
+            Some(definition) => definition.parameters.len(),
             None => 0,
         };
         let given = self.lower_all(arguments, env, depth)?;
@@ -371,8 +371,8 @@ impl<'a> Loader<'a> {
             _ => (EMPTY, false),
         };
         let nodes = self.lower_all(list, env, inner)?;
-        if let [only] = nodes.as_slice() {
-            return Ok(*only);
+        if let Some(only) = only_of(&nodes) {
+            return Ok(only);
         }
         let list = self.add_list(&nodes)?;
         let node = if is_choice {
@@ -380,7 +380,8 @@ impl<'a> Loader<'a> {
         } else {
             Node::Sequence(list)
         };
-        self.add(node, self.ast.span(expr))
+        let span = self.ast.span(expr);
+        self.add(node, span)
     }
 
     /// The node of an entry.
@@ -479,8 +480,8 @@ impl<'a> Loader<'a> {
             nodes.push(self.lower(text.body, index, DEEPEST)?)?;
             rule = self.names.next(rule);
         }
-        if let [only] = nodes.as_slice() {
-            return Ok(*only);
+        if let Some(only) = only_of(&nodes) {
+            return Ok(only);
         }
         let list = self.add_list(&nodes)?;
         let is_group = match self.instances.get(index) {
@@ -548,7 +549,7 @@ impl<'a> Loader<'a> {
             let Some(definition) = self.names.definition(index) else {
                 break;
             };
-            let is_plain = definition.parameters.start == definition.parameters.end;
+            let is_plain = definition.parameters.len() == 0;
             if is_plain && definition.name.start < text_len {
                 self.instance(index, Mode::Plain, &[], definition.name)?;
             }
@@ -575,14 +576,19 @@ impl<'a> Loader<'a> {
         let Some(definition) = self.names.definition(index) else {
             return Err(Fault::new(nowhere, FaultKind::Root));
         };
-        let count = definition
-            .parameters
-            .end
-            .saturating_sub(definition.parameters.start);
+        let count = definition.parameters.len();
         if count > 0 {
             return Err(Fault::new(definition.name, FaultKind::Arguments(count)));
         }
         self.instance(index, Mode::Plain, &[], definition.name)
+    }
+}
+
+/// The only node of some.
+fn only_of(nodes: &[usize]) -> Option<usize> {
+    match nodes {
+        [only] => Some(*only),
+        _ => None,
     }
 }
 

@@ -21,6 +21,13 @@ pub struct List {
     pub end: usize,
 }
 
+impl List {
+    /// How many members it has.
+    pub fn len(self) -> usize {
+        self.end.saturating_sub(self.start)
+    }
+}
+
 /// How often an entry of a group occurs.
 #[derive(Clone, Copy, PartialEq, Eq, Debug)]
 pub struct Occurrence {

@@ -1,11 +1,9 @@
 //! Tests of reading and loading.
 
-use crate::fault::Fault;
 use crate::grammar::parse;
 use crate::schema::Schema;
-use crate::text::{load, source_of};
+use crate::text::source_of;
 use std::alloc::Global;
-use std::process::Abort;
 use std::test::Fail;
 
 #[test]
@@ -20,7 +18,7 @@ fn reads_texts(rt: HostRuntime) -> Result<(), Fail> {
 /// The place and the message of the fault of a text.
 fn said(alloc: Global, text: &str) -> Result<String, Fail> {
     let source = source_of(alloc, text)?;
-    match load(alloc, text, None) {
+    match Schema::load(alloc, text, None) {
         Ok(_) => Ok(String::from_str(alloc, "loads")?),
         Err(fault) => Ok(format!(in alloc; "{}: {}", fault.span.start, fault.said(&source))?),
     }

@@ -4,7 +4,7 @@ use crate::fault::Fault;
 use crate::grammar::parse;
 use crate::load::Loader;
 use crate::prelude::PRELUDE;
-use crate::schema::Schema;
+use crate::schema::{Node, Rule, Schema, Span};
 use std::alloc::{AllocError, Global};
 
 /// A text with the prelude behind it. The spans of a [`Fault`] are in this source.
@@ -14,34 +14,68 @@ pub fn source_of(alloc: Global, text: &str) -> Result<String, AllocError> {
     Ok(source)
 }
 
-/// Loads a text. An item has to fit the rule `root`, or the first rule.
-pub fn load(alloc: Global, text: &str, root: Option<&str>) -> Result<Schema, Fault> {
-    let source = source_of(alloc, text)?;
-    let text_len = text.len();
-    let ast = parse(alloc, source.as_bytes())?;
-    let mut loader = Loader::new(alloc, source.as_bytes(), text_len, ast)?;
-    loader.load_all(text_len)?;
-    let root = loader.root(root.map(|name| name.as_bytes()))?;
-    loader.compute_all()?;
-    loader.need_type(root)?;
-    loader.check_kinds()?;
-    loader.rank_all()?;
-    let Loader {
-        ast,
-        nodes,
-        spans,
-        lists,
-        rules,
-        ..
-    } = loader;
-    Ok(Schema {
-        source,
-        text_len,
-        nodes,
-        spans,
-        lists,
-        rules,
-        pool: ast.pool,
+/// What is made of a text.
+#[derive(Drop)]
+struct Parts {
+    nodes: Vec<Node>,
+    spans: Vec<Span>,
+    lists: Vec<usize>,
+    rules: Vec<Rule>,
+    pool: Vec<u8>,
+    root: usize,
+}
+
+/// Loads a source, of which so many bytes are the text.
+fn parts_of(
+    alloc: Global,
+    source: &[u8],
+    text_len: usize,
+    root: Option<&str>,
+) -> Result<Parts, Fault> {
+    let ast = parse(alloc, source)?;
+    let mut loader = Loader::new(alloc, source, text_len, ast)?;
+    let root = loader.load(text_len, root)?;
+    Ok(Parts {
+        nodes: loader.nodes,
+        spans: loader.spans,
+        lists: loader.lists,
+        rules: loader.rules,
+        pool: loader.ast.pool,
         root,
     })
+}
+
+impl Schema {
+    /// Loads a text. An item has to fit the rule `root`, or the first rule.
+    pub fn load(alloc: Global, text: &str, root: Option<&str>) -> Result<Schema, Fault> {
+        let source = source_of(alloc, text)?;
+        let text_len = text.len();
+        let parts = parts_of(alloc, source.as_bytes(), text_len, root)?;
+        Ok(Schema {
+            source,
+            text_len,
+            nodes: parts.nodes,
+            spans: parts.spans,
+            lists: parts.lists,
+            rules: parts.rules,
+            pool: parts.pool,
+            root: parts.root,
+        })
+    }
+}
+
+impl Loader<'_> {
+    /// Loads all that a text needs, and returns the node of the root.
+    fn load(&mut self, text_len: usize, root: Option<&str>) -> Result<usize, Fault> {
+        self.load_all(text_len)?;
+        let root = match root {
+            Some(name) => self.root(Some(name.as_bytes()))?,
+            None => self.root(None)?,
+        };
+        self.compute_all()?;
+        self.need_type(root)?;
+        self.check_kinds()?;
+        self.rank_all()?;
+        Ok(root)
+    }
 }
