@@ -1,7 +1,8 @@
 //! Computes what depends on values: ranges, `.plus`, `.cat`, `.det`, comparisons and patterns.
 
 use crate::fault::{Fault, FaultKind};
-use crate::load::{Loader, literal_node};
+use crate::load::Loader;
+use crate::lower::literal_node;
 use crate::schema::{Floats, Node, Pending, Span, Value};
 use std::alloc::{AllocError, Global};
 use std::num::{nearest_i64_to_f64, nearest_u64_to_f64, saturating_f64_to_i64};

@@ -20,6 +20,7 @@ mod kinds;
 mod lexer;
 mod literal;
 mod load;
+mod lower;
 mod names;
 mod near;
 mod parser;

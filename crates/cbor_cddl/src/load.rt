@@ -1,10 +1,9 @@
 //! Loads a text: each rule in use becomes nodes of a `Schema`, with its names resolved.
 
-use crate::ast::{Ast, Expr, Number};
+use crate::ast::{Ast, Expr};
 use crate::fault::{Fault, FaultKind};
 use crate::names::{NONE, Names, bytes_of};
-use crate::schema::{List, Node, Occurrence, Pending, Rule, Span, Value};
-use cbor_floats::Width;
+use crate::schema::{List, Node, Rule, Span};
 use std::alloc::Global;
 use std::collections::BTreeMap;
 
@@ -12,7 +11,7 @@ use std::collections::BTreeMap;
 const MOST_INSTANCES: usize = 10_000;
 
 /// So many parts may be nested in each other.
-const DEEPEST: u32 = 400;
+pub(crate) const DEEPEST: u32 = 400;
 
 /// What is taken of a rule.
 #[derive(Clone, Copy, PartialEq, Eq, Debug)]
@@ -42,7 +41,7 @@ pub(crate) struct Loader<'a> {
     pub(crate) alloc: Global,
     pub(crate) source: &'a [u8],
     pub(crate) ast: Ast,
-    names: Names,
+    pub(crate) names: Names,
     pub(crate) instances: Vec<Instance>,
     by_parts: BTreeMap<Vec<usize>, usize>,
     /// How many instances have arguments.
@@ -54,7 +53,7 @@ pub(crate) struct Loader<'a> {
 }
 
 /// No members.
-const EMPTY: List = List { start: 0, end: 0 };
+pub(crate) const EMPTY: List = List { start: 0, end: 0 };
 
 impl<'a> Loader<'a> {
     /// Nothing is loaded yet.
@@ -89,7 +88,7 @@ impl<'a> Loader<'a> {
     }
 
     /// Adds a list of nodes.
-    fn add_list(&mut self, nodes: &[usize]) -> Result<List, Fault> {
+    pub(crate) fn add_list(&mut self, nodes: &[usize]) -> Result<List, Fault> {
         let start = self.lists.len();
         for node in nodes {
             self.lists.push(*node)?;
@@ -126,7 +125,7 @@ impl<'a> Loader<'a> {
     }
 
     /// The instance of a definition, made if it is not there, as a node at a place.
-    fn instance(
+    pub(crate) fn instance(
         &mut self,
         definition: usize,
         mode: Mode,
@@ -183,7 +182,7 @@ impl<'a> Loader<'a> {
     }
 
     /// The argument of an instance for the parameter with a name.
-    fn argument(&self, instance: usize, name: &[u8]) -> Option<usize> {
+    pub(crate) fn argument(&self, instance: usize, name: &[u8]) -> Option<usize> {
         let instance = self.instances.get(instance)?;
         let parameters = self.names.definition(instance.definition)?.parameters;
         let listed = self.ast.lists.get(parameters.start..parameters.end)?;
@@ -197,7 +196,7 @@ impl<'a> Loader<'a> {
     }
 
     /// The node for a name that no rule has: an empty choice for a socket.
-    fn unknown(&mut self, name: Span) -> Result<usize, Fault> {
+    pub(crate) fn unknown(&mut self, name: Span) -> Result<usize, Fault> {
         let bytes = bytes_of(self.source, name);
         if bytes.starts_with(b"$$") {
             return self.add(Node::GroupChoice(EMPTY), name);
@@ -209,38 +208,8 @@ impl<'a> Loader<'a> {
         Err(Fault::new(name, FaultKind::NoRule(near)))
     }
 
-    /// The node of a name, in an instance of the rule that it is in.
-    #[cycle(lower)]
-    fn named(
-        &mut self,
-        name: Span,
-        arguments: List,
-        mode: Mode,
-        env: usize,
-        depth: u32,
-    ) -> Result<usize, Fault> {
-        if let Some(node) = self.argument(env, bytes_of(self.source, name)) {
-            return match mode {
-                Mode::Plain => Ok(node),
-                _ => self.of_node(node, mode, name),
-            };
-        }
-        let Some(index) = self.names.find(bytes_of(self.source, name)) else {
-            return self.unknown(name);
-        };
-        let wanted = match self.names.definition(index) {
-            Some(definition) => definition.parameters.len(),
-            None => 0,
-        };
-        let given = self.lower_all(arguments, env, depth)?;
-        if given.len() != wanted {
-            return Err(Fault::new(name, FaultKind::Arguments(wanted)));
-        }
-        self.instance(index, mode, &given, name)
-    }
-
     /// What is unwrapped or enumerated of the node of an argument.
-    fn of_node(&mut self, node: usize, mode: Mode, span: Span) -> Result<usize, Fault> {
+    pub(crate) fn of_node(&mut self, node: usize, mode: Mode, span: Span) -> Result<usize, Fault> {
         match self.node(node) {
             Node::Rule(rule) => {
                 let Some(instance) = self.instances.get(rule).copied() else {
@@ -257,213 +226,6 @@ impl<'a> Loader<'a> {
             }
             _ if mode == Mode::Unwrapped => Err(Fault::new(span, FaultKind::Unwrap)),
             _ => Err(Fault::new(span, FaultKind::Enumerate)),
-        }
-    }
-
-    /// The nodes of a list.
-    #[cycle(lower)]
-    fn lower_all(&mut self, list: List, env: usize, depth: u32) -> Result<Vec<usize>, Fault> {
-        let mut nodes = Vec::new(self.alloc);
-        for place in list.start..list.end {
-            let expr = self.ast.listed(place);
-            nodes.push(self.lower(expr, env, depth)?)?;
-        }
-        Ok(nodes)
-    }
-
-    /// The list of the nodes of a list.
-    #[cycle(lower)]
-    fn lower_list(&mut self, list: List, env: usize, depth: u32) -> Result<List, Fault> {
-        let nodes = self.lower_all(list, env, depth)?;
-        self.add_list(&nodes)
-    }
-
-    /// The node of a type or a group.
-    #[cycle(lower)]
-    pub(crate) fn lower(&mut self, expr: usize, env: usize, depth: u32) -> Result<usize, Fault> {
-        let span = self.ast.span(expr);
-        if depth == 0 {
-            return Err(Fault::new(span, FaultKind::Deep));
-        }
-        let inner = depth - 1;
-        let node = match self.ast.expr(expr) {
-            Expr::Literal(value) => literal_node(value),
-            Expr::Any => Node::Any,
-            Expr::Name { name, arguments } => {
-                return self.named(name, arguments, Mode::Plain, env, inner);
-            }
-            Expr::Unwrap(of) => return self.lower_mode(of, Mode::Unwrapped, env, inner),
-            Expr::Enumerate(of) => return self.lower_mode(of, Mode::Enumerated, env, inner),
-            Expr::Array(group) => Node::Array(self.lower(group, env, inner)?),
-            Expr::Map(group) => Node::Map(self.lower(group, env, inner)?),
-            Expr::Choice(list) => Node::Choice(self.lower_list(list, env, inner)?),
-            Expr::Group(_) | Expr::Sequence(_) => return self.lower_group(expr, env, inner),
-            Expr::Entry { .. } | Expr::Repeated { .. } => self.lower_entry(expr, env, inner)?,
-            Expr::Head { .. } | Expr::Tag { .. } => self.lower_head(expr, env, inner)?,
-            Expr::Range { .. } | Expr::Control { .. } => {
-                return self.lower_operator(expr, env, inner);
-            }
-        };
-        self.add(node, span)
-    }
-
-    /// What is unwrapped or enumerated of a name, or of a group in parentheses.
-    #[cycle(lower)]
-    fn lower_mode(
-        &mut self,
-        of: usize,
-        mode: Mode,
-        env: usize,
-        depth: u32,
-    ) -> Result<usize, Fault> {
-        match self.ast.expr(of) {
-            Expr::Name { name, arguments } => self.named(name, arguments, mode, env, depth),
-            _ => self.enumerate(of, env, depth),
-        }
-    }
-
-    /// The choice of the types of a group.
-    #[cycle(lower)]
-    pub(crate) fn enumerate(&mut self, of: usize, env: usize, depth: u32) -> Result<usize, Fault> {
-        let span = self.ast.span(of);
-        if depth == 0 {
-            return Err(Fault::new(span, FaultKind::Deep));
-        }
-        let inner = depth - 1;
-        match self.ast.expr(of) {
-            Expr::Group(list) | Expr::Sequence(list) => {
-                let mut nodes = Vec::new(self.alloc);
-                for place in list.start..list.end {
-                    let member = self.ast.listed(place);
-                    nodes.push(self.enumerate(member, env, inner)?)?;
-                }
-                let list = self.add_list(&nodes)?;
-                self.add(Node::Choice(list), span)
-            }
-            Expr::Entry { value, .. } => self.lower(value, env, inner),
-            Expr::Repeated { item, .. } => self.enumerate(item, env, inner),
-            Expr::Name { name, arguments } => {
-                let mode = if self.names.is_group(&self.ast, self.source, name) {
-                    Mode::Enumerated
-                } else {
-                    Mode::Plain
-                };
-                self.named(name, arguments, mode, env, inner)
-            }
-            _ => self.lower(of, env, inner),
-        }
-    }
-
-    /// The node of a group in brackets or parentheses.
-    #[cycle(lower)]
-    fn lower_group(&mut self, expr: usize, env: usize, depth: u32) -> Result<usize, Fault> {
-        if depth == 0 {
-            return Err(Fault::new(self.ast.span(expr), FaultKind::Deep));
-        }
-        let inner = depth - 1;
-        let plain = self.ast.plain(expr);
-        if plain != expr {
-            return self.lower(plain, env, inner);
-        }
-        let (list, is_choice) = match self.ast.expr(expr) {
-            Expr::Group(list) => (list, true),
-            Expr::Sequence(list) => (list, false),
-            _ => (EMPTY, false),
-        };
-        let nodes = self.lower_all(list, env, inner)?;
-        if let Some(only) = only_of(&nodes) {
-            return Ok(only);
-        }
-        let list = self.add_list(&nodes)?;
-        let node = if is_choice {
-            Node::GroupChoice(list)
-        } else {
-            Node::Sequence(list)
-        };
-        let span = self.ast.span(expr);
-        self.add(node, span)
-    }
-
-    /// The node of an entry.
-    #[cycle(lower)]
-    fn lower_entry(&mut self, expr: usize, env: usize, depth: u32) -> Result<Node, Fault> {
-        match self.ast.expr(expr) {
-            Expr::Entry {
-                key,
-                cut,
-                value,
-                occurrence,
-            } => Ok(Node::Entry {
-                key: self.lower(key, env, depth)?,
-                cut,
-                value: self.lower(value, env, depth)?,
-                occurrence,
-            }),
-            Expr::Repeated { item, occurrence } => Ok(Node::Repeated {
-                item: self.lower(item, env, depth)?,
-                occurrence,
-            }),
-            _ => Ok(Node::Any),
-        }
-    }
-
-    /// The node of a head by its major type, or of a tag.
-    #[cycle(lower)]
-    fn lower_head(&mut self, expr: usize, env: usize, depth: u32) -> Result<Node, Fault> {
-        let span = self.ast.span(expr);
-        match self.ast.expr(expr) {
-            Expr::Head {
-                major: 7,
-                number: Number::Type(number),
-            } => Ok(Node::Simples(self.lower(number, env, depth)?)),
-            Expr::Head {
-                major,
-                number: Number::Literal(number),
-            } => head_node(major, number).ok_or(Fault::new(span, FaultKind::Head)),
-            Expr::Head {
-                major,
-                number: Number::None,
-            } => Ok(Node::Major(major)),
-            Expr::Head { .. } => Err(Fault::new(span, FaultKind::Head)),
-            Expr::Tag { number, item } => {
-                let item = self.lower(item, env, depth)?;
-                match number {
-                    Number::Literal(number) => Ok(Node::Tag { number, item }),
-                    Number::None => Ok(Node::AnyTag {
-                        numbers: None,
-                        item,
-                    }),
-                    Number::Type(number) => Ok(Node::AnyTag {
-                        numbers: Some(self.lower(number, env, depth)?),
-                        item,
-                    }),
-                }
-            }
-            _ => Ok(Node::Any),
-        }
-    }
-
-    /// The node of a range or a control.
-    #[cycle(lower)]
-    fn lower_operator(&mut self, expr: usize, env: usize, depth: u32) -> Result<usize, Fault> {
-        let span = self.ast.span(expr);
-        match self.ast.expr(expr) {
-            Expr::Range { from, to, below } => {
-                let from = self.lower(from, env, depth)?;
-                let to = self.lower(to, env, depth)?;
-                let range = Pending::Range { from, to, below };
-                self.add(Node::Pending(range), span)
-            }
-            Expr::Control {
-                name,
-                target,
-                operand,
-            } => {
-                let target = self.lower(target, env, depth)?;
-                let operand = self.lower(operand, env, depth)?;
-                self.add_control(name, target, operand, span)
-            }
-            _ => Ok(0),
         }
     }
 
@@ -585,41 +347,9 @@ impl<'a> Loader<'a> {
 }
 
 /// The only node of some.
-fn only_of(nodes: &[usize]) -> Option<usize> {
+pub(crate) fn only_of(nodes: &[usize]) -> Option<usize> {
     match nodes {
         [only] => Some(*only),
-        _ => None,
-    }
-}
-
-/// The node of a literal.
-pub(crate) fn literal_node(value: Value) -> Node {
-    match value {
-        Value::Integer(number) => Node::Integers {
-            least: number,
-            most: number,
-        },
-        Value::Float(number) => Node::Floats(crate::schema::Floats {
-            least: number,
-            most: number,
-            below: false,
-        }),
-        Value::Text(span) => Node::Text(span),
-        Value::Bytes(span) => Node::Bytes(span),
-    }
-}
-
-/// The node of a head with a number.
-fn head_node(major: u8, number: u64) -> Option<Node> {
-    match (major, number) {
-        (7, 25) => Some(Node::FloatsOf(Width::Sixteen)),
-        (7, 26) => Some(Node::FloatsOf(Width::ThirtyTwo)),
-        (7, 27) => Some(Node::FloatsOf(Width::SixtyFour)),
-        (7, 0..=23 | 32..=255) => Some(Node::Simple(u8::try_from(number).ok()?)),
-        (0..=5, _) => Some(Node::Argument {
-            major,
-            argument: number,
-        }),
         _ => None,
     }
 }
