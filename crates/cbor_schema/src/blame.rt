@@ -10,7 +10,7 @@ pub(crate) enum Want {
     Type(usize),
     /// A key of a map, by its node.
     Key(usize),
-    /// The end of an array, after so many items.
+    /// The end of an array, after this many items.
     ArrayEnd(usize),
     /// The end of a map.
     MapEnd,
@@ -21,20 +21,20 @@ pub(crate) enum Want {
 pub(crate) enum Found {
     /// An item.
     Item(usize),
-    /// A string of so many bytes.
+    /// A string, with its length.
     Sized(usize),
     /// A bit that is set, of an item.
-    Bit(u64),
+    Bit(u64, usize),
     /// A byte string that is no CBOR.
     NoCbor,
-    /// The end of an array of so many items.
+    /// The end of an array of this many items.
     ArrayEnd(usize),
-    /// A map of so many pairs, without the key.
+    /// A map of this many pairs, without the key.
     Without(usize),
     /// A key that is like the one that is wanted.
     LikeKey(usize),
-    /// A key that no entry has.
-    OtherKey(usize),
+    /// A key that no entry has, of a map that has to fit a group.
+    OtherKey { key: usize, group: usize },
 }
 
 /// Other alternatives of a rule.
@@ -49,7 +49,7 @@ pub struct Others {
 /// A place where an item did not fit.
 #[derive(Clone, Copy)]
 pub(crate) struct Miss {
-    /// How many bytes fitted before.
+    /// How many bytes fit before.
     pub(crate) gained: usize,
     /// Where it is in the data.
     pub(crate) place: usize,
@@ -65,7 +65,7 @@ pub(crate) struct Blame {
     /// What was wanted there.
     pub(crate) wants: Vec<Want>,
     pub(crate) others: Option<Others>,
-    /// How far an alternative came: one more than the bytes that fitted, or 0 if nothing missed.
+    /// How far an alternative came: one more than the number of bytes that fit, or 0 for none.
     pub(crate) reach: usize,
     /// How many parts are being tried whose misses do not count.
     pub(crate) muted: usize,
@@ -144,7 +144,7 @@ impl Tried {
         at_top: 0,
     };
 
-    /// Adds an alternative that came so far.
+    /// Adds an alternative that came this far.
     pub(crate) fn add(&mut self, reach: usize) {
         self.count = self.count.saturating_add(1);
         if reach > self.top {

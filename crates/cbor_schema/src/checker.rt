@@ -8,7 +8,7 @@ use cbor_cddl::{Fault, Node, Schema, Span};
 use regex::{Matcher, Regex};
 use std::alloc::{AllocError, Global};
 
-/// So many calls for types and groups may be in each other.
+/// How deeply types and groups may be nested in each other, with the items that fit them.
 const DEEPEST: u32 = 500;
 
 /// A schema that is ready to be matched.

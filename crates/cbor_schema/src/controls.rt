@@ -9,15 +9,13 @@ use cbor_cddl::{Comparison, Node, Span, Value, float_of};
 /// How many bytes a number takes.
 fn bytes_of(number: i128) -> i128 {
     let mut rest = number;
-    let mut count = 0i128;
-    for _ in 0..16 {
+    for count in 0..16u8 {
         if rest <= 0 {
-            break;
+            return i128::from(count);
         }
         rest = rest >> 8;
-        count += 1;
     }
-    count
+    16
 }
 
 /// Whether two numbers compare so.
@@ -124,8 +122,9 @@ impl<'a> Run<'a> {
 
     /// Whether one of the sizes is at least a number of bytes.
     fn fits_width(&mut self, sizes: usize, least: i128, depth: u32) -> Result<bool, Stop> {
-        for more in 0..65i128 {
-            if self.fits_number(sizes, least.saturating_add(more), depth)? {
+        for more in 0..65u8 {
+            let size = least.saturating_add(i128::from(more));
+            if self.fits_number(sizes, size, depth)? {
                 return Ok(true);
             }
         }
@@ -152,7 +151,7 @@ impl<'a> Run<'a> {
         let Some(bit) = other else {
             return Ok(true);
         };
-        self.miss(Want::Type(node), item.place, Found::Bit(bit))?;
+        self.miss(Want::Type(node), item.place, Found::Bit(bit, index))?;
         Ok(false)
     }
 

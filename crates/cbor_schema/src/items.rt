@@ -108,7 +108,7 @@ impl<'a> Items<'a> {
         }
     }
 
-    /// The part of an item at a place, if it has so many.
+    /// The part of an item at a place, if there is one.
     pub(crate) fn part(&self, item: Item, place: usize) -> Option<usize> {
         if place >= item.count {
             return None;

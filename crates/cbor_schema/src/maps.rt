@@ -64,7 +64,7 @@ impl<'a> Run<'a> {
         let outer_bytes = self.taken_bytes;
         self.taken_bytes = 0;
         let outcome = self.map_takes(group, frame, depth)?;
-        let fits = outcome == Outcome::Takes && self.all_taken(frame, mark)?;
+        let fits = outcome == Outcome::Takes && self.all_taken(group, frame, mark)?;
         self.undo(mark);
         self.taken_bytes = outer_bytes;
         self.gained = frame.base;
@@ -72,7 +72,7 @@ impl<'a> Run<'a> {
     }
 
     /// Whether all pairs are taken; takes note of the first one that is not.
-    fn all_taken(&mut self, frame: Frame, mark: usize) -> Result<bool, Stop> {
+    fn all_taken(&mut self, group: usize, frame: Frame, mark: usize) -> Result<bool, Stop> {
         let pairs = frame.item.count / 2;
         if self.trail.len().saturating_sub(mark) == pairs {
             return Ok(true);
@@ -84,7 +84,11 @@ impl<'a> Run<'a> {
             };
             if !self.is_taken(pair) {
                 let key = self.items.item(pair.key);
-                self.miss(Want::MapEnd, key.place, Found::OtherKey(pair.key))?;
+                let found = Found::OtherKey {
+                    key: pair.key,
+                    group,
+                };
+                self.miss(Want::MapEnd, key.place, found)?;
                 break;
             }
         }

@@ -4,13 +4,16 @@ use crate::blame::{Found, Miss, Others, Want};
 use crate::items::{Item, Kind};
 use crate::run::Run;
 use crate::stop::Stop;
-use cbor_cddl::{Node, Span};
+use cbor_cddl::{Node, Span, likeness};
 use cbor_edn_writer::bytes_to_edn;
 use std::alloc::AllocError;
 use std::fmt::Write;
 
-/// A text of more bytes than this is cut.
+/// A text of more characters than this is cut.
 const LONGEST: usize = 60;
+
+/// The most nodes of a group that are looked at for a key that is like another.
+const MOST_NODES: usize = 1000;
 
 /// Why an item does not fit.
 #[derive(Drop)]
@@ -117,7 +120,10 @@ impl<'a> Run<'a> {
         match miss.found {
             Found::Item(index) => self.push_item(&mut out, index)?,
             Found::Sized(index) => self.push_sized(&mut out, index)?,
-            Found::Bit(bit) => write!(out, "bit {bit}")?,
+            Found::Bit(bit, index) => {
+                write!(out, "bit {bit} of ")?;
+                self.push_item(&mut out, index)?;
+            }
             Found::NoCbor => out.push_str("bytes that are no CBOR")?,
             Found::ArrayEnd(count) => write!(out, "the end of the array of {count}")?,
             Found::Without(count) => write!(out, "a map of {count} without it")?,
@@ -125,10 +131,11 @@ impl<'a> Run<'a> {
                 out.push_str("the key ")?;
                 self.push_item(&mut out, index)?;
             }
-            Found::OtherKey(index) => {
+            Found::OtherKey { key, group } => {
                 out.push_str("the key ")?;
-                self.push_item(&mut out, index)?;
+                self.push_item(&mut out, key)?;
                 out.push_str(", which is in no entry")?;
+                self.push_like(&mut out, key, group)?;
             }
         }
         Ok(out)
@@ -147,6 +154,64 @@ impl<'a> Run<'a> {
                 Err(_) => out.push_str("an item"),
             },
         }
+    }
+
+    /// Appends the key of an entry of a group that is like a key.
+    fn push_like(&self, out: &mut String, key: usize, group: usize) -> Result<(), AllocError> {
+        let Kind::Text(content) = self.items.item(key).kind else {
+            return Ok(());
+        };
+        let Some(like) = self.like_entry(group, content)? else {
+            return Ok(());
+        };
+        out.push_str("; \"")?;
+        out.push_str(str::from_utf8(self.schema.literal(like)).unwrap_or(""))?;
+        out.push_str("\" is one")
+    }
+
+    /// The literal key of an entry of a group that is like the content of a text.
+    fn like_entry(&self, group: usize, content: Span) -> Result<Option<Span>, AllocError> {
+        let mut found = None;
+        let mut least = usize::MAX;
+        let mut nodes = Vec::new(self.alloc);
+        nodes.push(group)?;
+        for _ in 0..MOST_NODES {
+            let Some(node) = nodes.pop() else {
+                break;
+            };
+            if let Node::Entry { key, .. } = self.schema.node(node)
+                && let Node::Text(literal) = self.schema.node(key)
+                && let Some(changed) = self.distance(literal, content)
+                && changed < least
+            {
+                least = changed;
+                found = Some(literal);
+            }
+            self.push_parts(&mut nodes, node)?;
+        }
+        Ok(found)
+    }
+
+    /// How far a literal is from the content of a text, if they are alike.
+    fn distance(&self, literal: Span, content: Span) -> Option<usize> {
+        let literal = self.schema.literal(literal);
+        let content = self.items.bytes(content);
+        likeness(literal, content)
+    }
+
+    /// Appends the parts of a group.
+    fn push_parts(&self, nodes: &mut Vec<usize>, node: usize) -> Result<(), AllocError> {
+        match self.schema.node(node) {
+            Node::Rule(rule) => nodes.push(self.rule_node(rule))?,
+            Node::Repeated { item, .. } => nodes.push(item)?,
+            Node::Sequence(list) | Node::GroupChoice(list) => {
+                for place in list.start..list.end {
+                    nodes.push(self.listed(place))?;
+                }
+            }
+            _ => {}
+        }
+        Ok(())
     }
 
     /// Appends a string with its length.

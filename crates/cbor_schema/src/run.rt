@@ -9,10 +9,10 @@ use regex::Matcher;
 use std::alloc::{AllocError, Global};
 use std::collections::BTreeMap;
 
-/// At most so many steps are made.
+/// The most steps that are made.
 const MOST_STEPS: u64 = 10_000_000;
 
-/// From so many steps on, what fits is kept.
+/// After this many steps, what fits is kept.
 const KEPT_FROM: u64 = 10_000;
 
 /// One item that is matched.
