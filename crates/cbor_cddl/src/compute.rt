@@ -7,7 +7,7 @@ use crate::schema::{Floats, Node, Pending, Span, Value};
 use std::alloc::{AllocError, Global};
 use std::num::{nearest_i64_to_f64, nearest_u64_to_f64, saturating_f64_to_i64};
 
-/// So many names may lead to a value.
+/// How many names may lead to a value.
 const DEEPEST: u32 = 200;
 
 /// The float nearest to an integer.

@@ -7,10 +7,10 @@ use crate::schema::{List, Node, Rule, Span};
 use std::alloc::Global;
 use std::collections::BTreeMap;
 
-/// At most so many rules are made of generic ones.
+/// The most rules that are made of generic ones.
 const MOST_INSTANCES: usize = 10_000;
 
-/// So many parts may be nested in each other.
+/// How deeply parts may be nested in each other.
 pub(crate) const DEEPEST: u32 = 400;
 
 /// What is taken of a rule.

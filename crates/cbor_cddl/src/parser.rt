@@ -35,7 +35,7 @@ impl<'a> Parser<'a> {
         self.ast
     }
 
-    /// The token that is so many behind the next one.
+    /// The token that is this many places behind the next one.
     pub(crate) fn ahead(&self, count: usize) -> Token {
         let last = self.text.len();
         match self.tokens.get(self.at.saturating_add(count)) {
@@ -104,7 +104,7 @@ impl<'a> Parser<'a> {
         self.text.get(span.start..span.end).unwrap_or(b"")
     }
 
-    /// The bytes of a string behind so many bytes of quotes and prefix.
+    /// The bytes of a string between its prefix, with the quote, and its last quote.
     pub(crate) fn content(&self, span: Span, prefix: usize) -> &'a [u8] {
         let start = span.start.saturating_add(prefix);
         let end = span.end.saturating_sub(1);

@@ -25,7 +25,7 @@ struct Parts {
     root: usize,
 }
 
-/// Loads a source, of which so many bytes are the text.
+/// Loads a source. The prelude begins at the byte `text_len`.
 fn parts_of(
     alloc: Global,
     source: &[u8],
