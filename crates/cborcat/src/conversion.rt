@@ -9,6 +9,7 @@ mod writing;
 use self::fronts::{drop_front, first_bytes, short_items};
 use self::index::Indexed;
 use self::page::Page;
+use crate::cddl::Cddl;
 use crate::changes::Changes;
 use crate::dumps::Dumps;
 use crate::each::show_each;
@@ -42,6 +43,8 @@ pub struct Conversion<'a> {
     place: &'a Place<'a>,
     /// The names that are shown.
     tables: Option<Tables<'a>>,
+    /// The CDDL that items have to fit.
+    cddl: Option<&'a Cddl<'a>>,
     /// How it went so far.
     pub status: Status,
     /// The bytes that came, but for those that are skipped or converted.
@@ -99,6 +102,7 @@ impl<'a> Conversion<'a> {
             page: Page::new(rt.alloc()),
             place,
             tables,
+            cddl: run.cddl,
             status: Status::Fine,
             stream: Stream::new(first),
             changes: Changes::new(rt, job, place, tables),
@@ -260,6 +264,9 @@ impl<'a> Conversion<'a> {
         }
         self.any |= passed > 0;
         self.note_simple(passed);
+        if self.note_misfit(passed).is_err() {
+            return End::Memory;
+        }
         match self.note_violation(passed) {
             Ok(()) => end,
             Err(_) => End::Memory,

@@ -5,6 +5,7 @@
 //! here are files, standard output and standard error.
 #![tactic(auto)]
 
+mod cddl;
 mod changes;
 mod conversion;
 mod diff;

@@ -167,11 +167,26 @@ pub fn report_byte(
     left: Piece,
     message: (usize, &str),
 ) -> Result<(), Error> {
+    report_byte_with(rt, place, left, message, "")
+}
+
+/// Says the same, and more behind where that is in the item.
+pub fn report_byte_with(
+    rt: &HostRuntime,
+    place: &Place,
+    left: Piece,
+    message: (usize, &str),
+    more: &str,
+) -> Result<(), Error> {
     let (at_fault, what) = message;
     let byte = left.number(at_fault);
     let (_, item) = item_with(left, byte);
     let around = Around::new(rt.alloc(), item, byte.saturating_sub(item.begins))?;
-    let words = around.words(place, true)?;
+    let mut words = around.words(place, true)?;
+    if !more.is_empty() && !words.is_empty() {
+        words.push_str("; ")?;
+    }
+    words.push_str(more)?;
     say_byte(rt, place, left, at_fault, (what, &words));
     Ok(())
 }

@@ -1,5 +1,6 @@
 //! A run of the program: reads each input, one after the other, and converts it; or compares two.
 
+use crate::cddl::{Cddl, cddl_of};
 use crate::conversion::Conversion;
 use crate::diff::Diff;
 use crate::input::{block_len, read_first};
@@ -36,6 +37,10 @@ pub fn run<'a>(rt: &'a HostRuntime, job: &'a Job<'_>) -> u8 {
         Ok(tables) => tables,
         Err(status) => return status.number(),
     };
+    let cddl = match cddl_of(rt, job) {
+        Ok(cddl) => cddl,
+        Err(status) => return status.number(),
+    };
     let asked = if job.check { None } else { job.output };
     let Some(mut target) = open(rt, asked) else {
         return Status::Trouble.number();
@@ -45,6 +50,7 @@ pub fn run<'a>(rt: &'a HostRuntime, job: &'a Job<'_>) -> u8 {
         job: &*job,
         target: &mut target,
         tables,
+        cddl: cddl.as_ref(),
         status: Status::Fine,
     };
     run.inputs();
@@ -78,6 +84,8 @@ pub struct Runner<'a> {
     pub target: &'a mut Target,
     /// The names that are shown.
     pub tables: Option<Tables<'a>>,
+    /// The CDDL that items have to fit.
+    pub cddl: Option<&'a Cddl<'a>>,
     /// How it went so far.
     pub status: Status,
 }

@@ -48,7 +48,7 @@ enum Takes {
 /// An option: its name, which `--` precedes, its letter, which `-` precedes, and what it takes.
 type Row<'a> = (&'a str, Option<char>, Takes);
 
-const OPTIONS: [Row<'static>; 29] = [
+const OPTIONS: [Row<'static>; 31] = [
     ("from", Some('f'), Takes::From),
     ("text", Some('x'), Takes::Text),
     ("one", Some('1'), Takes::Nothing),
@@ -66,6 +66,8 @@ const OPTIONS: [Row<'static>; 29] = [
     ("strict", None, Takes::Nothing),
     ("output", Some('o'), Takes::Name),
     ("check", Some('c'), Takes::Rules),
+    ("cddl", None, Takes::Texts),
+    ("rule", None, Takes::Name),
     ("encode", None, Takes::Encoding),
     ("at", None, Takes::Bytes),
     ("places", None, Takes::Nothing),
@@ -81,9 +83,15 @@ const OPTIONS: [Row<'static>; 29] = [
 ];
 
 /// Arguments that cannot stand together.
-const CONFLICTS: [(&str, &str); 25] = [
+const CONFLICTS: [(&str, &str); 31] = [
     ("text", "file"),
     ("encode", "check"),
+    ("cddl", "to"),
+    ("cddl", "at"),
+    ("cddl", "path"),
+    ("cddl", "encode"),
+    ("cddl", "partial"),
+    ("cddl", "diff"),
     ("at", "to"),
     ("at", "path"),
     ("at", "encode"),

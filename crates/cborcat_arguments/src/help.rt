@@ -66,6 +66,9 @@ Output:
                      write nothing; report the first error of each input, or
                      its first violation of RULES (default: the grammar of
                      RFC 8949)
+      --cddl=FILE    write nothing; report the first item of each input that does
+                     not fit the CDDL (RFC 8610) of FILE; several are one text
+      --rule=NAME    the rule that items have to fit (default: the first)
       --encode=RULES re-encode each item so that it keeps RULES
       --diff         compare two files: a line for each difference: ~ changed,
                      + only in the second, - only in the first
@@ -131,6 +134,7 @@ Examples:
   cborcat --at=0x5b message.cbor
   cborcat --diff a.cbor b.cbor
   cborcat --check=core *.cbor
+  cborcat --cddl=log.cddl log.cbor
   cborcat --encode=core -t bytes a.cbor > core.cbor
   git config diff.cbor.textconv cborcat
 ";

@@ -102,6 +102,10 @@ pub struct Job<'a> {
     pub check: bool,
     /// The rules that a check asks for beyond those of RFC 8949's grammar.
     pub rules: Option<RuleSet>,
+    /// The files of CDDL that each item has to fit.
+    pub schemas: Vec<&'a str>,
+    /// The rule of these that each item has to fit, if it is not the first.
+    pub rule: Option<&'a str>,
     /// The rules for re-encoding items.
     pub encode: Option<RuleSet>,
     /// The files that are read; `-` for standard input.

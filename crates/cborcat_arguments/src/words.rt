@@ -140,6 +140,11 @@ fn style_of(matches: &ArgMatches) -> Style {
     }
 }
 
+/// Whether items are checked by CDDL.
+fn has_schemas(matches: &ArgMatches) -> bool {
+    matches.get_strs("cddl").is_some()
+}
+
 /// What the arguments ask to look for. A check shows nothing.
 fn view_of(matches: &ArgMatches) -> View {
     if let Some(byte) = matches.get_str("at").and_then(number_of) {
@@ -147,7 +152,7 @@ fn view_of(matches: &ArgMatches) -> View {
     }
     match matches.get_str("to") {
         _ if matches.get_flag("diff") => View::Diff,
-        _ if matches.get_str("check").is_some() => View::Items,
+        _ if matches.get_str("check").is_some() || has_schemas(matches) => View::Items,
         Some("json") => View::Json,
         Some("raw") => View::Raw,
         Some("paths") => View::Paths,
@@ -180,6 +185,7 @@ fn refusal(job: &Job, matches: &ArgMatches) -> Option<&'static str> {
         View::Html(_) if encoded || job.elide.is_some() || job.widthless => {
             Some("-t html shows items as they are, and has no --encode, --elide or --no-widths")
         }
+        _ if job.rule.is_some() && job.schemas.is_empty() => Some("--rule is for --cddl"),
         View::Diff if job.files.len() != 2 => Some("--diff compares two files"),
         _ if job.exact && job.view != View::Diff => Some("--exact is for --diff"),
         _ if job.places && job.view != View::Paths => Some("--places is for -t paths"),
@@ -212,10 +218,14 @@ fn refusal(job: &Job, matches: &ArgMatches) -> Option<&'static str> {
     }
 }
 
-/// The files that the arguments name.
-fn files_of<'a>(alloc: Global, matches: &ArgMatches<'a>) -> Result<Vec<&'a str>, AllocError> {
+/// The files that the arguments name, or those of an option.
+fn files_of<'a>(
+    alloc: Global,
+    matches: &ArgMatches<'a>,
+    option: &str,
+) -> Result<Vec<&'a str>, AllocError> {
     let mut files = Vec::new(alloc);
-    if let Some(names) = matches.get_strs("file") {
+    if let Some(names) = matches.get_strs(option) {
         files.extend_from_slice(names)?;
     }
     Ok(files)
@@ -249,7 +259,10 @@ fn job_of<'a>(rt: &HostRuntime, matches: &ArgMatches<'a>) -> Asked<'a> {
         return Asked::Ended(2);
     }
     let (item, path) = item_of(matches.get_str("path").unwrap_or(""));
-    let (Ok(steps), Ok(files)) = (steps_of(alloc, path), files_of(alloc, matches)) else {
+    let (Ok(steps), Ok(files)) = (steps_of(alloc, path), files_of(alloc, matches, "file")) else {
+        return out_of_memory(rt);
+    };
+    let Ok(schemas) = files_of(alloc, matches, "cddl") else {
         return out_of_memory(rt);
     };
     let changes = match changes_of(rt, matches) {
@@ -288,7 +301,9 @@ fn job_of<'a>(rt: &HostRuntime, matches: &ArgMatches<'a>) -> Asked<'a> {
         partial: matches.get_flag("partial"),
         strict: matches.get_flag("strict"),
         output: matches.get_str("output"),
-        check: check.is_some(),
+        check: check.is_some() || has_schemas(matches),
+        schemas,
+        rule: matches.get_str("rule"),
         rules: check.and_then(RuleSet::named),
         encode: matches.get_str("encode").and_then(RuleSet::named),
         files,

@@ -2,12 +2,13 @@
 //! and of rules.
 
 use super::Conversion;
-use crate::messages::report_byte;
+use crate::messages::{label, report_byte, report_byte_with};
 use crate::status::Status;
 use cbor_grammar::Error;
 use cbor_inspect::two_byte_simple;
 use cbor_messages::{TWO_BYTES, first_violation};
 use cbor_places::Piece;
+use cbor_schema::Stop;
 
 impl<'a> Conversion<'a> {
     /// Says where the first simple value below 32 in two bytes is, if it is in the bytes that were
@@ -43,6 +44,37 @@ impl<'a> Conversion<'a> {
             report_byte(self.rt, self.place, items, (message.place, &message.text))?;
             self.broken = true;
             self.ended(Status::Bad);
+        }
+        Ok(())
+    }
+
+    /// Says where the items that were passed last do not fit the CDDL of `--cddl`, unless that was
+    /// said.
+    pub(super) fn note_misfit(&mut self, passed: usize) -> Result<(), Error> {
+        let Some(cddl) = self.cddl else {
+            return Ok(());
+        };
+        if self.broken || passed == 0 {
+            return Ok(());
+        }
+        let begins = self.begins().saturating_sub(passed);
+        let bytes = self.stream.passed(passed);
+        let items = Piece { begins, bytes };
+        match cddl.first_misfit(self.rt.alloc(), bytes) {
+            Ok(None) => {}
+            Ok(Some(said)) => {
+                let message = (said.place, said.text.as_str());
+                report_byte_with(self.rt, self.place, items, message, &said.more)?;
+                self.broken = true;
+                self.ended(Status::Bad);
+            }
+            Err(Stop::Memory) => return Err(Error::Memory),
+            Err(stop) => {
+                let name = label(self.place.name);
+                let _ = eprintln!(self.rt; "cborcat: {name}: --cddl: {stop}");
+                self.broken = true;
+                self.ended(Status::Trouble);
+            }
         }
         Ok(())
     }

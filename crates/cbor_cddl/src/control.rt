@@ -1,0 +1,93 @@
+//! The controls, such as `.size` (RFC 8610, section 3.8, and RFC 9165).
+
+use crate::fault::{Fault, FaultKind};
+use crate::load::Loader;
+use crate::names::bytes_of;
+use crate::schema::{Comparison, Node, Pending, Span};
+
+impl Loader<'_> {
+    /// Adds the node of a control.
+    pub(crate) fn add_control(
+        &mut self,
+        name: Span,
+        target: usize,
+        operand: usize,
+        span: Span,
+    ) -> Result<usize, Fault> {
+        let node = match bytes_of(self.source, name) {
+            b".default" | b".feature" => return Ok(target),
+            bytes => match plain_control(bytes, target, operand) {
+                Some(node) => node,
+                None => match pending_control(bytes, target, operand) {
+                    Some(pending) => Node::Pending(pending),
+                    None => return Err(Fault::new(name, FaultKind::Control)),
+                },
+            },
+        };
+        self.add(node, span)
+    }
+}
+
+/// A control between two types.
+fn plain_control(name: &[u8], target: usize, operand: usize) -> Option<Node> {
+    match name {
+        b".size" => Some(Node::Size {
+            target,
+            sizes: operand,
+        }),
+        b".bits" => Some(Node::Bits {
+            target,
+            bits: operand,
+        }),
+        b".cbor" => Some(Node::Encoded {
+            target,
+            item: operand,
+        }),
+        b".cborseq" => Some(Node::EncodedSequence {
+            target,
+            array: operand,
+        }),
+        b".and" | b".within" | b".eq" => Some(Node::Both {
+            target,
+            other: operand,
+        }),
+        b".ne" => Some(Node::Unequal {
+            target,
+            other: operand,
+        }),
+        _ => None,
+    }
+}
+
+/// A control with a value.
+fn pending_control(name: &[u8], target: usize, operand: usize) -> Option<Pending> {
+    if let Some(comparison) = comparison_of(name) {
+        return Some(Pending::Compared {
+            target,
+            comparison,
+            limit: operand,
+        });
+    }
+    match name {
+        b".plus" => Some(Pending::Plus(target, operand)),
+        b".cat" => Some(Pending::Cat(target, operand)),
+        b".det" => Some(Pending::Det(target, operand)),
+        b".regexp" | b".pcre" => Some(Pending::Pattern {
+            target,
+            pattern: operand,
+            anchored: matches!(name, b".regexp"),
+        }),
+        _ => None,
+    }
+}
+
+/// The comparison of a control.
+fn comparison_of(name: &[u8]) -> Option<Comparison> {
+    match name {
+        b".lt" => Some(Comparison::Less),
+        b".le" => Some(Comparison::LessOrEqual),
+        b".gt" => Some(Comparison::Greater),
+        b".ge" => Some(Comparison::GreaterOrEqual),
+        _ => None,
+    }
+}

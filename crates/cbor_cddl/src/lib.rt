@@ -1,0 +1,38 @@
+//! Reads CDDL (RFC 8610, with the changes of RFC 9682), the language that says which CBOR items a
+//! protocol has, and loads it: the result, [`Schema`], has no names and no parameters left.
+//!
+//! ```rust
+//! use cbor_cddl::Schema;
+//!
+//! let schema = Schema::load(alloc, "event = { at: uint, ? kind: text }", None)?;
+//! assert!(rt; schema.source.as_str().starts_with("event"));
+//! ```
+//!
+//! A [`Fault`] says what is wrong with a text, and where.
+#![tactic(auto)]
+
+mod ast;
+mod compute;
+mod control;
+mod fault;
+mod grammar;
+mod kinds;
+mod lexer;
+mod literal;
+mod load;
+mod lower;
+mod names;
+mod near;
+mod parser;
+mod prelude;
+mod rank;
+mod schema;
+#[cfg(test)]
+mod tests;
+mod text;
+
+pub use compute::float_of;
+pub use fault::{Fault, FaultKind, Position, SaidFault, position_of};
+pub use near::likeness;
+pub use schema::{Comparison, Floats, List, Node, Occurrence, Pending, Rule, Schema, Span, Value};
+pub use text::source_of;

@@ -1,0 +1,58 @@
+//! Tests of reading and loading.
+
+use crate::grammar::parse;
+use crate::schema::Schema;
+use crate::text::source_of;
+use std::alloc::Global;
+use std::test::Fail;
+
+#[test]
+fn reads_texts(rt: HostRuntime) -> Result<(), Fail> {
+    let text =
+        b"a = { ? b: int, * tstr => any }\nc<t> = [ 1*2 t // #6.32(tstr) ] ; x\n$d /= 1..5 / h'00ff' .size 3";
+    let ast = parse(rt.alloc(), text)?;
+    assert_eq!(rt; ast.rules.len(), 3);
+    Ok(())
+}
+
+/// The place and the message of the fault of a text.
+fn said(alloc: Global, text: &str) -> Result<String, Fail> {
+    let source = source_of(alloc, text)?;
+    match Schema::load(alloc, text, None) {
+        Ok(_) => Ok(String::from_str(alloc, "loads")?),
+        Err(fault) => Ok(format!(in alloc; "{}: {}", fault.span.start, fault.said(&source))?),
+    }
+}
+
+#[test]
+fn faults(rt: HostRuntime) -> Result<(), Fail> {
+    let rows = [
+        ("a = uit", "4: no rule uit is there; uint is one"),
+        ("a = { b: }", "9: expected a type, found }"),
+        (
+            "a = b\nb = a",
+            "0: the rule a is defined by itself: a -> b -> a",
+        ),
+        ("a = [ * a ]", "loads"),
+        (
+            "a = b / int\nb = a / text",
+            "0: the rule a is defined by itself: a -> b -> a",
+        ),
+        (
+            "a = (b: int)\nc = a",
+            "0: a is a group, and a type is wanted",
+        ),
+        (
+            "a = int .abnf \"x\"",
+            "8: the control .abnf is not supported",
+        ),
+        ("a = 1..2.5", "4: a range needs two integers or two floats"),
+        ("a = \"x", "4: the string has no closing quote"),
+        ("a<t> = [t]\nb = a<int, int>", "15: a takes 1 arguments"),
+    ];
+    for (text, wanted) in rows {
+        let found = said(rt.alloc(), text)?;
+        assert_eq!(rt; found.as_str(), wanted, "at {text}");
+    }
+    Ok(())
+}

@@ -1,0 +1,81 @@
+//! Loads a CDDL text.
+
+use crate::fault::Fault;
+use crate::grammar::parse;
+use crate::load::Loader;
+use crate::prelude::PRELUDE;
+use crate::schema::{Node, Rule, Schema, Span};
+use std::alloc::{AllocError, Global};
+
+/// A text with the prelude behind it. The spans of a [`Fault`] are in this source.
+pub fn source_of(alloc: Global, text: &str) -> Result<String, AllocError> {
+    let mut source = String::from_str(alloc, text)?;
+    source.push_str(PRELUDE)?;
+    Ok(source)
+}
+
+/// What is made of a text.
+#[derive(Drop)]
+struct Parts {
+    nodes: Vec<Node>,
+    spans: Vec<Span>,
+    lists: Vec<usize>,
+    rules: Vec<Rule>,
+    pool: Vec<u8>,
+    root: usize,
+}
+
+/// Loads a source. The prelude begins at the byte `text_len`.
+fn parts_of(
+    alloc: Global,
+    source: &[u8],
+    text_len: usize,
+    root: Option<&str>,
+) -> Result<Parts, Fault> {
+    let ast = parse(alloc, source)?;
+    let mut loader = Loader::new(alloc, source, text_len, ast)?;
+    let root = loader.load(text_len, root)?;
+    Ok(Parts {
+        nodes: loader.nodes,
+        spans: loader.spans,
+        lists: loader.lists,
+        rules: loader.rules,
+        pool: loader.ast.pool,
+        root,
+    })
+}
+
+impl Schema {
+    /// Loads a text. An item has to fit the rule `root`, or the first rule.
+    pub fn load(alloc: Global, text: &str, root: Option<&str>) -> Result<Schema, Fault> {
+        let source = source_of(alloc, text)?;
+        let text_len = text.len();
+        let parts = parts_of(alloc, source.as_bytes(), text_len, root)?;
+        Ok(Schema {
+            source,
+            text_len,
+            nodes: parts.nodes,
+            spans: parts.spans,
+            lists: parts.lists,
+            rules: parts.rules,
+            pool: parts.pool,
+            root: parts.root,
+        })
+    }
+}
+
+impl Loader<'_> {
+    /// Loads all that a text needs, and returns the node of the root.
+    fn load(&mut self, text_len: usize, root: Option<&str>) -> Result<usize, Fault> {
+        self.load_all(text_len)?;
+        let root = match root {
+            Some(name) => self.root(Some(name.as_bytes()))?,
+            None => self.root(None)?,
+        };
+        self.compute_all()?;
+        self.need_type(root)?;
+        self.check_kinds()?;
+        self.rank_all()?;
+        Ok(root)
+    }
+}

@@ -1,0 +1,241 @@
+//! `Misfit`: why an item does not fit, in words.
+
+use crate::blame::{Found, Miss, Others, Want};
+use crate::items::{Item, Kind};
+use crate::run::Run;
+use crate::stop::Stop;
+use cbor_cddl::{Node, Span, likeness};
+use cbor_edn_writer::bytes_to_edn;
+use std::alloc::AllocError;
+use std::fmt::Write;
+
+/// A text of more characters than this is cut.
+const LONGEST: usize = 60;
+
+/// The most nodes of a group that are looked at for a key that is like another.
+const MOST_NODES: usize = 1000;
+
+/// Why an item does not fit.
+#[derive(Drop)]
+pub struct Misfit {
+    /// The byte of the item where it does not fit.
+    pub place: usize,
+    /// What the schema wants there.
+    pub expected: String,
+    /// The innermost rule or key that wants it.
+    pub name: String,
+    /// Where that is in the source of the schema.
+    pub name_place: usize,
+    /// What is there.
+    pub found: String,
+    /// The alternatives of a rule that came less far.
+    pub others: Option<Others>,
+}
+
+impl<'a> Run<'a> {
+    /// The misfit that was found.
+    pub(crate) fn misfit(&mut self) -> Result<Misfit, Stop> {
+        let Some(miss) = self.blame.miss else {
+            return Err(Stop::NoItem);
+        };
+        let name = self.schema.text(miss.name);
+        let name = name.strip_prefix('"').unwrap_or(name);
+        let name = name.strip_suffix('"').unwrap_or(name);
+        Ok(Misfit {
+            place: miss.place,
+            expected: self.expected()?,
+            name: String::from_str(self.alloc, name)?,
+            name_place: miss.name.start,
+            found: self.found(miss)?,
+            others: self.blame.others,
+        })
+    }
+
+    /// What was wanted.
+    fn expected(&self) -> Result<String, AllocError> {
+        let mut out = String::new(self.alloc);
+        for (place, want) in self.blame.wants.iter().enumerate() {
+            let before = self.blame.wants.get(..place).unwrap_or(&[]);
+            if before.iter().any(|other| self.is_same(*other, *want)) {
+                continue;
+            }
+            if place > 0 {
+                out.push_str(" / ")?;
+            }
+            self.push_want(&mut out, *want)?;
+        }
+        Ok(out)
+    }
+
+    /// Whether two types or two keys are written alike.
+    fn is_same(&self, first: Want, second: Want) -> bool {
+        match (first, second) {
+            (Want::Type(first), Want::Type(second)) | (Want::Key(first), Want::Key(second)) => {
+                let first = self.schema.text(self.schema.span(first));
+                let second = self.schema.text(self.schema.span(second));
+                first == second
+            }
+            _ => first == second,
+        }
+    }
+
+    /// Appends what was wanted.
+    fn push_want(&self, out: &mut String, want: Want) -> Result<(), AllocError> {
+        match want {
+            Want::Type(node) => self.push_type(out, node),
+            Want::Key(node) => self.push_key(out, node),
+            Want::ArrayEnd(1) => out.push_str("the end of the array after 1 item"),
+            Want::ArrayEnd(count) => write!(out, "the end of the array after {count} items"),
+            Want::MapEnd => out.push_str("the end of the map"),
+        }
+    }
+
+    /// Appends a key that is wanted.
+    fn push_key(&self, out: &mut String, node: usize) -> Result<(), AllocError> {
+        let Node::Text(span) = self.schema.node(node) else {
+            out.push_str("a key ")?;
+            return self.push_type(out, node);
+        };
+        out.push_str("the key \"")?;
+        out.push_str(str::from_utf8(self.schema.literal(span)).unwrap_or(""))?;
+        out.push('"')
+    }
+
+    /// Appends a type as it is written.
+    fn push_type(&self, out: &mut String, node: usize) -> Result<(), AllocError> {
+        match self.schema.node(node) {
+            Node::Array(_) => return out.push_str("an array"),
+            Node::Map(_) => return out.push_str("a map"),
+            Node::Choice(list) if list.start == list.end => {
+                return out.push_str("nothing, since the socket is empty");
+            }
+            _ => {}
+        }
+        push_cut(out, self.schema.text(self.schema.span(node)))
+    }
+
+    /// What was there.
+    fn found(&self, miss: Miss) -> Result<String, AllocError> {
+        let mut out = String::new(self.alloc);
+        match miss.found {
+            Found::Item(index) => self.push_item(&mut out, index)?,
+            Found::Sized(index) => self.push_sized(&mut out, index)?,
+            Found::Bit(bit, index) => {
+                write!(out, "bit {bit} of ")?;
+                self.push_item(&mut out, index)?;
+            }
+            Found::NoCbor => out.push_str("bytes that are no CBOR")?,
+            Found::ArrayEnd(count) => write!(out, "the end of the array of {count}")?,
+            Found::Without(count) => write!(out, "a map of {count} without it")?,
+            Found::LikeKey(index) => {
+                out.push_str("the key ")?;
+                self.push_item(&mut out, index)?;
+            }
+            Found::OtherKey { key, group } => {
+                out.push_str("the key ")?;
+                self.push_item(&mut out, key)?;
+                out.push_str(", which is in no entry")?;
+                self.push_like(&mut out, key, group)?;
+            }
+        }
+        Ok(out)
+    }
+
+    /// Appends an item: a container by its size, and another one as notation.
+    fn push_item(&self, out: &mut String, index: usize) -> Result<(), AllocError> {
+        let item = self.items.item(index);
+        match item.kind {
+            Kind::Array => write!(out, "an array of {}", item.count),
+            Kind::Map => write!(out, "a map of {}", item.count / 2),
+            Kind::Tag(number) => write!(out, "tag {number}"),
+            _ => match bytes_to_edn(self.alloc, self.items.bytes(item.span)) {
+                Ok(text) => push_cut(out, &text),
+                Err(cbor_grammar::Error::Memory) => Err(AllocError),
+                Err(_) => out.push_str("an item"),
+            },
+        }
+    }
+
+    /// Appends the key of an entry of a group that is like a key.
+    fn push_like(&self, out: &mut String, key: usize, group: usize) -> Result<(), AllocError> {
+        let Kind::Text(content) = self.items.item(key).kind else {
+            return Ok(());
+        };
+        let Some(like) = self.like_entry(group, content)? else {
+            return Ok(());
+        };
+        out.push_str("; \"")?;
+        out.push_str(str::from_utf8(self.schema.literal(like)).unwrap_or(""))?;
+        out.push_str("\" is one")
+    }
+
+    /// The literal key of an entry of a group that is like the content of a text.
+    fn like_entry(&self, group: usize, content: Span) -> Result<Option<Span>, AllocError> {
+        let mut found = None;
+        let mut least = usize::MAX;
+        let mut nodes = Vec::new(self.alloc);
+        nodes.push(group)?;
+        for _ in 0..MOST_NODES {
+            let Some(node) = nodes.pop() else {
+                break;
+            };
+            if let Node::Entry { key, .. } = self.schema.node(node)
+                && let Node::Text(literal) = self.schema.node(key)
+                && let Some(changed) = self.distance(literal, content)
+                && changed < least
+            {
+                least = changed;
+                found = Some(literal);
+            }
+            self.push_parts(&mut nodes, node)?;
+        }
+        Ok(found)
+    }
+
+    /// How far a literal is from the content of a text, if they are alike.
+    fn distance(&self, literal: Span, content: Span) -> Option<usize> {
+        let literal = self.schema.literal(literal);
+        let content = self.items.bytes(content);
+        likeness(literal, content)
+    }
+
+    /// Appends the parts of a group.
+    fn push_parts(&self, nodes: &mut Vec<usize>, node: usize) -> Result<(), AllocError> {
+        match self.schema.node(node) {
+            Node::Rule(rule) => nodes.push(self.rule_node(rule))?,
+            Node::Repeated { item, .. } => nodes.push(item)?,
+            Node::Sequence(list) | Node::GroupChoice(list) => {
+                for place in list.start..list.end {
+                    nodes.push(self.listed(place))?;
+                }
+            }
+            _ => {}
+        }
+        Ok(())
+    }
+
+    /// Appends a string with its length.
+    fn push_sized(&self, out: &mut String, index: usize) -> Result<(), AllocError> {
+        self.push_item(out, index)?;
+        let (Kind::Text(span) | Kind::Bytes(span)) = self.items.item(index).kind else {
+            return Ok(());
+        };
+        match span.end.saturating_sub(span.start) {
+            1 => out.push_str(" of 1 byte"),
+            len => write!(out, " of {len} bytes"),
+        }
+    }
+}
+
+/// Appends a text, cut if it is long, without line ends.
+fn push_cut(out: &mut String, text: &str) -> Result<(), AllocError> {
+    let mut len = 0usize;
+    for c in text.chars() {
+        if len >= LONGEST {
+            return out.push_str("..");
+        }
+        len = len.saturating_add(1);
+        out.push(if c == '\n' || c == '\r' { ' ' } else { c })?;
+    }
+    Ok(())
+}

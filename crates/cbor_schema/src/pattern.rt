@@ -1,0 +1,67 @@
+//! Patterns: `.regexp`, as XSD has regular expressions, and `.pcre`.
+
+use cbor_cddl::{Fault, FaultKind, Node, Schema, Span};
+use regex::{Error, Regex};
+use std::alloc::Global;
+
+/// Whether a pattern has a class without another one, `-[..]`, which only XSD has.
+fn has_difference(pattern: &[u8]) -> bool {
+    let mut in_class = false;
+    let mut before = 0u8;
+    let mut escaped = false;
+    for byte in pattern {
+        if escaped {
+            escaped = false;
+            before = 0;
+            continue;
+        }
+        match *byte {
+            b'\\' => escaped = true,
+            b'[' if in_class => return before == b'-',
+            b'[' => in_class = true,
+            b']' => in_class = false,
+            _ => {}
+        }
+        before = *byte;
+    }
+    false
+}
+
+/// The regular expression of a pattern.
+fn compiled(alloc: Global, pattern: &str, anchored: bool, span: Span) -> Result<Regex, Fault> {
+    if anchored && has_difference(pattern.as_bytes()) {
+        return Err(Fault::new(span, FaultKind::XsdPattern));
+    }
+    let made = if anchored {
+        let text = format!(in alloc; "^(?:{pattern})$")?;
+        Regex::new(alloc, &text)
+    } else {
+        Regex::new(alloc, pattern)
+    };
+    match made {
+        Ok(regex) => Ok(regex),
+        Err(Error::OutOfMemory) => Err(Fault::new(span, FaultKind::Memory)),
+        Err(_) => Err(Fault::new(span, FaultKind::Pattern)),
+    }
+}
+
+/// The pattern of a node, if it has one.
+pub(crate) fn pattern_of(
+    alloc: Global,
+    schema: &Schema,
+    node: usize,
+) -> Result<Option<Regex>, Fault> {
+    let Node::Pattern {
+        pattern,
+        anchored,
+        ..
+    } = schema.node(node)
+    else {
+        return Ok(None);
+    };
+    let span = schema.span(node);
+    match str::from_utf8(schema.literal(pattern)) {
+        Ok(text) => Ok(Some(compiled(alloc, text, anchored, span)?)),
+        Err(_) => Err(Fault::new(span, FaultKind::Pattern)),
+    }
+}

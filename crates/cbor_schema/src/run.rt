@@ -1,0 +1,164 @@
+//! `Run`: one item that is matched. Types are in `types.rt`, controls in `controls.rt`, groups in
+//! `arrays.rt` and `maps.rt`.
+
+use crate::blame::{Blame, Found, Miss, Want};
+use crate::items::{Item, Items};
+use crate::stop::Stop;
+use cbor_cddl::{Node, Schema, Span};
+use regex::Matcher;
+use std::alloc::{AllocError, Global};
+use std::collections::BTreeMap;
+
+/// The most steps that are made.
+const MOST_STEPS: u64 = 10_000_000;
+
+/// After this many steps, what fits is kept.
+const KEPT_FROM: u64 = 10_000;
+
+/// One item that is matched.
+#[derive(Drop)]
+pub(crate) struct Run<'a> {
+    pub(crate) alloc: Global,
+    pub(crate) schema: &'a Schema,
+    /// Which rules are groups.
+    pub(crate) groups: &'a [bool],
+    /// For each pattern its node, in their order.
+    pub(crate) patterns: &'a [usize],
+    pub(crate) matchers: Vec<Matcher<'a>>,
+    pub(crate) items: Items<'a>,
+    pub(crate) blame: Blame,
+    /// How many bytes fit before what is matched now.
+    pub(crate) gained: usize,
+    /// The name of the innermost rule or key.
+    pub(crate) name: Span,
+    /// The name of the innermost rule.
+    pub(crate) rule: Span,
+    steps: u64,
+    /// Where rules took part: 0 where they do not fit, and otherwise one more than the place after.
+    kept: BTreeMap<(usize, usize), usize>,
+    /// The items in byte strings: 0 for none, and otherwise one more than the index.
+    pub(crate) inner: BTreeMap<(usize, bool), usize>,
+    /// Which parts of maps are taken, and in which order.
+    pub(crate) taken: Vec<bool>,
+    pub(crate) trail: Vec<usize>,
+    /// How many bytes are taken of the map that is matched now.
+    pub(crate) taken_bytes: usize,
+}
+
+impl<'a> Run<'a> {
+    /// Nothing is matched yet.
+    pub(crate) fn new(
+        alloc: Global,
+        schema: &'a Schema,
+        groups: &'a [bool],
+        patterns: &'a [usize],
+        matchers: Vec<Matcher<'a>>,
+        data: &'a [u8],
+    ) -> Run<'a> {
+        let nowhere = Span { start: 0, end: 0 };
+        Run {
+            alloc,
+            schema,
+            groups,
+            patterns,
+            matchers,
+            items: Items::new(alloc, data),
+            blame: Blame::new(alloc),
+            gained: 0,
+            name: nowhere,
+            rule: nowhere,
+            steps: 0,
+            kept: BTreeMap::new(alloc),
+            inner: BTreeMap::new(alloc),
+            taken: Vec::new(alloc),
+            trail: Vec::new(alloc),
+            taken_bytes: 0,
+        }
+    }
+
+    /// Counts a step.
+    pub(crate) fn step(&mut self) -> Result<(), Stop> {
+        self.steps = self.steps.saturating_add(1);
+        if self.steps > MOST_STEPS {
+            return Err(Stop::Work);
+        }
+        Ok(())
+    }
+
+    /// What is kept of a rule at a place.
+    pub(crate) fn known(&self, rule: usize, place: usize) -> Option<usize> {
+        if self.steps < KEPT_FROM {
+            return None;
+        }
+        self.kept.get(&(rule, place)).copied()
+    }
+
+    /// Keeps how a rule matched at a place.
+    pub(crate) fn keep(
+        &mut self,
+        rule: usize,
+        place: usize,
+        outcome: usize,
+    ) -> Result<(), AllocError> {
+        if self.steps >= KEPT_FROM && self.blame.muted == 0 {
+            self.kept.insert((rule, place), outcome)?;
+        }
+        Ok(())
+    }
+
+    /// Takes note that something is not what was wanted.
+    pub(crate) fn miss(
+        &mut self,
+        want: Want,
+        place: usize,
+        found: Found,
+    ) -> Result<(), AllocError> {
+        let miss = Miss {
+            gained: self.gained,
+            place,
+            found,
+            name: self.name,
+        };
+        self.blame.add(want, miss)
+    }
+
+    /// Takes note that an item does not fit a node, and returns `false`.
+    pub(crate) fn miss_item(&mut self, node: usize, index: usize) -> Result<bool, Stop> {
+        let place = self.items.item(index).place;
+        self.miss(Want::Type(node), place, Found::Item(index))?;
+        Ok(false)
+    }
+
+    /// Whether a node is a group.
+    pub(crate) fn is_group(&self, node: usize) -> bool {
+        match self.schema.node(node) {
+            Node::Rule(rule) => self.groups.get(rule).copied().unwrap_or(false),
+            Node::Sequence(_) | Node::GroupChoice(_) | Node::Entry { .. } | Node::Repeated { .. } =>
+                true,
+            _ => false,
+        }
+    }
+
+    /// The node of a rule.
+    pub(crate) fn rule_node(&self, rule: usize) -> usize {
+        match self.schema.rules.get(rule) {
+            Some(rule) => rule.node,
+            None => 0,
+        }
+    }
+
+    /// The name of a rule, unless it is one of the prelude.
+    pub(crate) fn rule_name(&self, rule: usize) -> Option<Span> {
+        let name = self.schema.rules.get(rule)?.name;
+        if self.schema.is_prelude(name) {
+            None
+        } else {
+            Some(name)
+        }
+    }
+
+    /// Where the part of an item at a place is, as the place of what is kept.
+    pub(crate) fn kept_place(&self, item: Item, place: usize) -> usize {
+        item.first.saturating_add(place)
+    }
+}

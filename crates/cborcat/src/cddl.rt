@@ -1,0 +1,189 @@
+//! Items that are checked by CDDL: the files of `--cddl`, and what is said of an item that does not
+//! fit them.
+
+use crate::messages::{label, say};
+use crate::status::Status;
+use cbor_bytes::{Extent, extent};
+use cbor_cddl::{Fault, FaultKind, Schema, Span, position_of, source_of};
+use cbor_schema::{Checker, Misfit, Stop};
+use cborcat_arguments::Job;
+use std::alloc::{AllocError, Global};
+use std::fmt::Write;
+use std::fs;
+
+/// The files of `--cddl`, which are read as one text.
+#[derive(Drop)]
+struct Files<'a> {
+    names: Vec<&'a str>,
+    /// Where each begins in the text.
+    begins: Vec<usize>,
+    text: String,
+}
+
+/// What items have to fit.
+#[derive(Drop)]
+pub struct Cddl<'a> {
+    files: Files<'a>,
+    checker: Checker,
+}
+
+/// What is said of an item that does not fit.
+#[derive(Drop)]
+pub struct Said {
+    /// The byte where it does not fit, counted from the first of the items.
+    pub place: usize,
+    /// What was wanted, and what is there.
+    pub text: String,
+    /// What else is known; empty for nothing.
+    pub more: String,
+}
+
+/// Says that memory ran out.
+fn no_memory(rt: &HostRuntime) -> Status {
+    let _ = eprintln!(rt; "cborcat: out of memory");
+    Status::Trouble
+}
+
+impl<'a> Files<'a> {
+    /// Adds a file.
+    fn add(&mut self, name: &'a str, text: &str) -> Result<(), AllocError> {
+        self.names.push(name)?;
+        self.begins.push(self.text.len())?;
+        self.text.push_str(text)?;
+        self.text.push('\n')
+    }
+
+    /// The file that has a byte of the text, and where it begins.
+    fn with(&self, place: usize) -> (&'a str, usize) {
+        let mut found = ("", 0);
+        for (name, begins) in self.names.iter().zip(self.begins.iter()) {
+            if *begins <= place {
+                found = (*name, *begins);
+            }
+        }
+        found
+    }
+
+    /// Appends the name of the file that has a byte of the text, and the line.
+    fn push_line(&self, out: &mut String, place: usize) -> Result<(), AllocError> {
+        let (name, begins) = self.with(place);
+        let text = self.text.as_str().get(begins..).unwrap_or("");
+        let position = position_of(text, place.saturating_sub(begins));
+        out.push_str(label(name))?;
+        write!(out, ":{}", position.line)
+    }
+
+    /// Says what is wrong with the text.
+    fn say_fault(&self, rt: &HostRuntime, fault: Fault, rule: Option<&str>) -> Status {
+        let Ok(source) = source_of(rt.alloc(), &self.text) else {
+            return no_memory(rt);
+        };
+        let (name, begins) = self.with(fault.span.start);
+        let name = label(name);
+        if fault.kind == FaultKind::Memory {
+            return no_memory(rt);
+        }
+        if fault.kind == FaultKind::Root {
+            let rule = rule.unwrap_or("");
+            let _ = eprintln!(rt; "cborcat: {name}: no rule {rule} is there");
+            return Status::Trouble;
+        }
+        let text = self.text.as_str().get(begins..).unwrap_or("");
+        let position = position_of(text, fault.span.start.saturating_sub(begins));
+        let (line, column) = (position.line, position.column);
+        let said = fault.said(&source);
+        let _ = eprintln!(rt; "cborcat: {name}:{line}:{column}: {said}");
+        Status::Trouble
+    }
+}
+
+/// Reads the files of `--cddl`.
+fn files_of<'a>(rt: &HostRuntime, job: &'a Job<'_>) -> Result<Files<'a>, Status> {
+    let alloc = rt.alloc();
+    let mut files = Files {
+        names: Vec::new(alloc),
+        begins: Vec::new(alloc),
+        text: String::new(alloc),
+    };
+    for name in &job.schemas {
+        let text = match fs::read_to_string(rt, name) {
+            Ok(text) => text,
+            Err(error) => {
+                say(rt, name, &error);
+                return Err(Status::Trouble);
+            }
+        };
+        if files.add(name, &text).is_err() {
+            return Err(no_memory(rt));
+        }
+    }
+    Ok(files)
+}
+
+/// What items have to fit, if `--cddl` says so. Says what is wrong with the text.
+pub fn cddl_of<'a>(rt: &HostRuntime, job: &'a Job<'_>) -> Result<Option<Cddl<'a>>, Status> {
+    if job.schemas.is_empty() {
+        return Ok(None);
+    }
+    let files = files_of(rt, job)?;
+    match checker_of(rt.alloc(), &files.text, job.rule) {
+        Ok(checker) => Ok(Some(Cddl { files, checker })),
+        Err(fault) => Err(files.say_fault(rt, fault, job.rule)),
+    }
+}
+
+/// Loads a text.
+fn checker_of(alloc: Global, text: &str, rule: Option<&str>) -> Result<Checker, Fault> {
+    let schema = Schema::load(alloc, text, rule)?;
+    Checker::new(alloc, schema)
+}
+
+impl Cddl<'_> {
+    /// What is said of the first of some whole items that does not fit; `None` if all fit.
+    pub fn first_misfit(&self, alloc: Global, items: &[u8]) -> Result<Option<Said>, Stop> {
+        let mut at = 0usize;
+        for _ in 0..items.len() {
+            let rest = items.get(at..).unwrap_or(b"");
+            let Extent::Item(len) = extent(rest) else {
+                break;
+            };
+            let item = rest.get(..len).unwrap_or(b"");
+            if let Some(misfit) = self.checker.misfit(alloc, item)? {
+                return Ok(Some(self.said(alloc, &misfit, at)?));
+            }
+            at = at.saturating_add(len);
+        }
+        Ok(None)
+    }
+
+    /// What is said of an item that begins at a byte.
+    fn said(&self, alloc: Global, misfit: &Misfit, at: usize) -> Result<Said, AllocError> {
+        let mut text = String::new(alloc);
+        write!(text, "expected {} for {} (", misfit.expected, misfit.name)?;
+        self.files.push_line(&mut text, misfit.name_place)?;
+        write!(text, "), found {}", misfit.found)?;
+        Ok(Said {
+            place: at.saturating_add(misfit.place),
+            text,
+            more: self.more(alloc, misfit)?,
+        })
+    }
+
+    /// What is said of other alternatives.
+    fn more(&self, alloc: Global, misfit: &Misfit) -> Result<String, AllocError> {
+        let mut more = String::new(alloc);
+        let Some(others) = misfit.others else {
+            return Ok(more);
+        };
+        let Span { start, .. } = others.rule;
+        let rule = self.checker.schema().text(others.rule);
+        let noun = match others.count {
+            1 => "other alternative",
+            _ => "other alternatives",
+        };
+        write!(more, "{} {noun} of {rule} (", others.count)?;
+        self.files.push_line(&mut more, start)?;
+        more.push_str(") came less far")?;
+        Ok(more)
+    }
+}
