@@ -8,6 +8,7 @@ use Rattle.cbor_edn_writer.specs.declared.style.EdnStyle.{EdnStyle}
 use Rattle.cbor_edn_writer.specs.Written.{IsEdnText}
 use Rattle.cbor_json.specs.declared.style.JsonStyle.{JsonStyle}
 use Rattle.cbor_json.specs.Written.{IsJsonText}
+use Rattle.cbor_diag_c.specs.Forms.{IsHtmlLines}
 
 -- all widths of an item that was read are stated
 pub edn_as_read : (style : EdnStyle) (b : List ℕ) (i : Item) (text : List ℕ) → IsItem b i → IsEdnText style i text
@@ -18,3 +19,7 @@ pub json_as_read : (style : JsonStyle) (b : List ℕ) (i : Item) (text : List �
     → IsJsonText style i text → IsJsonText style (resolve i) text
 json_as_read style b i text is written =
     subst (λ (j : Item). IsJsonText style j text) (sym (resolved 1 b i is)) written
+
+pub html_as_read : (b : List ℕ) (i : Item) (lines : List ℕ) → IsItem b i → IsHtmlLines i lines
+    → IsHtmlLines (resolve i) lines
+html_as_read b i lines is written = subst (λ (j : Item). IsHtmlLines j lines) (sym (resolved 1 b i is)) written
