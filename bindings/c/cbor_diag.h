@@ -889,7 +889,7 @@ static inline int64_t cbor_diag_page_checked(const void *input, size_t input_len
  *
  *     char message[256];
  *     cbor_diag_names_fault("[Thing]\ntag = -1", 16, message, sizeof message);
- *     // 36, "line 2: a tag is an integer from 0 on"
+ *     // 37, "line 2: a tag is an integer from 0 on"
  *
  * No zero byte is added. A pointer may be null if its length is 0.
  */
