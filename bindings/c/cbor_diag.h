@@ -58,9 +58,9 @@ enum cbor_diag_form {
  * false, true and null, a byte string, and a key that is no text. JSON has no control characters but the line feed at
  * its end.
  *
- * The lines of a page have the item in EDN as CBOR_DIAG_FORM_EDN_PRETTY has it, and each line beside its own bytes. They
- * are elements of HTML, to be put into a page: docs/PAGE.md says which. No tag in them comes from data: &, <, > and "
- * are escaped. cbor_diag_page writes such lines with names, for any bytes.
+ * The lines of a page have the item in EDN as CBOR_DIAG_FORM_EDN_PRETTY has it, and each line beside its own bytes.
+ * They are elements of HTML, to be put into a page. No tag in them comes from data: &, <, > and " are escaped.
+ * cbor_diag_page writes such lines with names, for any bytes.
  *
  * Diagnostic notation shows a text string as it is, with its line feeds and control characters. So hostile input can
  * forge lines, and send escape sequences to a terminal. A dump, EDN and JSON escape them.

@@ -1483,7 +1483,8 @@ static void test_pages(void)
     check_page((struct text)TEXT("\x43\x82\x01\x02"), "", "", 0, "h'820102'", "&lt;&lt;");
     check_page((struct text)TEXT("\x43\x82\x01\x02"), "", "", CBOR_DIAG_PAGE_EMBEDDED, "&lt;&lt;", "h'");
     check_page((struct text)TEXT("\x66<&>\"'/"), "", "", 0, "&lt;&amp;&gt;", "<&>");
-    check_page((struct text)TEXT("\x01\x82\x01"), "", "", 0, "truncated: the array at byte 1 has 2 items, 1 is there", "");
+    check_page((struct text)TEXT("\x01\x82\x01"), "", "", 0,
+               "truncated: the array at byte 1 has 2 items, 1 is there", "");
     check_page((struct text)TEXT("\x82\x01\x1f"), "", "", 0, "malformed: ", "");
 }
 

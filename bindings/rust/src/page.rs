@@ -36,8 +36,8 @@ impl PageStyle<'_> {
 
 /// Returns the lines of a page of HTML that shows items, one after the other, each line beside its own bytes, as
 /// `cborcat -t html` does: with the names of COSE, CWT, EAT, SenML and CTAP2, those of the style, and notes. Of a
-/// truncated or malformed item they show the part that is there, and what is wrong. They are elements of HTML, to be put
-/// into a page; no tag in them comes from the bytes.
+/// truncated or malformed item they show the part that is there, and what is wrong. They are elements of HTML, to be
+/// put into a page; no tag in them comes from the bytes.
 ///
 /// The error is [`Error::NoType`](crate::Error::NoType) if there is no such type;
 /// [`Error::WrongNames`](crate::Error::WrongNames) if the names have an error, which [`names_fault`] says; or

@@ -19,7 +19,12 @@ fn plain(bytes: &[u8]) -> String {
 fn lines() {
     assert_eq!(plain(b"\x01"), LINE);
     assert_eq!(plain(b""), "");
-    for (form, one) in [(Form::Bytes, &b"\x01"[..]), (Form::Hex, b"01"), (Form::Edn, b"1"), (Form::Html, b"1 # one")] {
+    for (form, one) in [
+        (Form::Bytes, &b"\x01"[..]),
+        (Form::Hex, b"01"),
+        (Form::Edn, b"1"),
+        (Form::Html, b"1 # one"),
+    ] {
         assert_eq!(convert(form, Form::Html, one).unwrap(), LINE.as_bytes());
     }
     assert_eq!(convert(Form::Html, Form::Bytes, b"1").unwrap(), b"\x01");
@@ -47,7 +52,9 @@ fn styles() {
         ..PageStyle::default()
     };
     assert!(plain(b"\x43\x82\x01\x02").contains("h'820102'"));
-    assert!(page(b"\x43\x82\x01\x02", embedded).unwrap().contains("&lt;&lt;"));
+    assert!(page(b"\x43\x82\x01\x02", embedded)
+        .unwrap()
+        .contains("&lt;&lt;"));
 }
 
 #[test]
@@ -64,7 +71,10 @@ fn errors() {
     assert_eq!(of(Some("Thing"), ""), Err(Error::NoType));
     assert_eq!(of(None, "no TOML"), Err(Error::WrongNames));
     assert!(of(Some("Thing"), NAMES).is_ok());
-    assert_eq!(convert(Form::Bytes, Form::Html, b"\x81"), Err(Error::CutShort));
+    assert_eq!(
+        convert(Form::Bytes, Form::Html, b"\x81"),
+        Err(Error::CutShort)
+    );
 }
 
 #[test]
@@ -72,6 +82,12 @@ fn files_of_names() {
     assert_eq!(names_fault(""), Ok(None));
     assert_eq!(names_fault(NAMES), Ok(None));
     let fault = names_fault("[A]\ntag = 1000\n[B]\ntag = 1000\n").unwrap();
-    assert_eq!(fault.as_deref(), Some("line 4: another type of the file has this tag"));
-    assert!(names_fault("no TOML").unwrap().unwrap().starts_with("line 1: "));
+    assert_eq!(
+        fault.as_deref(),
+        Some("line 4: another type of the file has this tag")
+    );
+    assert!(names_fault("no TOML")
+        .unwrap()
+        .unwrap()
+        .starts_with("line 1: "));
 }
