@@ -1,6 +1,7 @@
 -- Results for C: where all of the bytes are one item, the text that is shown of them is that of the item.
 use Rattle.std.proofs.Common.{◌≡◌, ℕ, ◌+◌, Bool, true, false, List, [], ◌∷◌, ◌++◌, length, Option, None, refl, sym, ap}
 use Rattle.std.proofs.Common.{subst, ◌∙◌, arith, append-nil, length-append, drop, take}
+use Rattle.std.proofs.lemmas.List.{drop_all, take_all}
 use Rattle.cbor_grammar.specs.Item.{Item}
 use Rattle.cbor_grammar.specs.Facts.{IsItem}
 use Rattle.cbor_edn_writer.specs.declared.note.Note.{Note}
@@ -16,7 +17,8 @@ use Rattle.cbor_inspect.specs.declared.items.Show.{Show}
 use Rattle.cbor_inspect.specs.declared.naming.Naming.{Naming}
 use Rattle.cbor_inspect.specs.Forms.{edn_style, IsFormOf}
 use Rattle.cbor_inspect.specs.Shows.{Shows, ShowsPart, steps_of}
-use Rattle.cbor_diag_c.specs.Forms.{IsEdnLine}
+use Rattle.cbor_page.specs.Markup.{IsMarkup}
+use Rattle.cbor_diag_c.specs.Forms.{IsEdnLine, IsHtmlLines}
 
 -- of no bytes nothing is shown
 none_more : (Each : Item → List ℕ → Type 0) (items : List Item) (text : List ℕ) → ItemsThen [] items []
@@ -77,3 +79,19 @@ pub pretty_line : (show : Show) (i : Item) (text : List ℕ) → steps_of show �
     → show.style.columns ≡ 80 → Shows show i text → IsEdnLine true i text
 pretty_line show i text whole f none embedded notes widths columns h =
     edn_line show i text whole f none (pretty show.style f embedded notes widths columns) h
+
+-- the lines of bytes that are one item, all of which were used
+pub lines_of : (show : Show) (b : List ℕ) (i : Item) (used : ℕ) (new : List ℕ) → IsItem b i → used ≡ length b
+    → steps_of show ≡ [] → show.style.form ≡ form.Pretty → show.names ≡ None → show.style.embedded ≡ false
+    → show.style.notes ≡ true → show.style.widths ≡ false → show.style.columns ≡ 80
+    → (text added : List ℕ) × (new ≡ added) × IsShownOfFirst (Shows show) b text (drop used b)
+    × IsMarkup text (take used b) added
+    → (j : Item) × IsItem b j × IsHtmlLines j new
+lines_of show b i used new is whole steps f none embedded notes widths columns h =
+    let rest : drop used b ≡ [] = drop_all used b (omega (arith, whole)) in
+    let all : take used b ≡ b = take_all used b (omega (arith, whole)) in
+    let items = subst (λ (x : List ℕ). ItemsThen b h.3.items x) rest h.3.input_is in
+    let shown = only (Shows show) b i h.3.items h.0 is items h.3.output_is in
+    let markup = subst (λ (x : List ℕ). IsMarkup h.0 x h.1) all h.4 in
+    let line = pretty_line show shown.0 h.0 steps f none embedded notes widths columns shown.2 in
+    (shown.0, shown.1, b, h.0, shown.1, line, subst (λ (x : List ℕ). IsMarkup h.0 b x) (sym h.2) markup)

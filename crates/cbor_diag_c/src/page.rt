@@ -146,7 +146,7 @@ pub extern "C" fn cbor_diag_page(
     let tables = match tables_of(alloc, names) {
         Ok(tables) => tables,
         Err(NamesError::Memory) => return refused(Error::Memory),
-        Err(_) => return WRONG_NAMES,
+        Err(NamesError::Utf8 | NamesError::File(_)) => return WRONG_NAMES,
     };
     let mut outer = None;
     if !kind.is_empty() {
