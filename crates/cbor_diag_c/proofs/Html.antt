@@ -43,7 +43,7 @@ only Each b i (j ∷ js) text is all shown =
     )
 
 -- the style of lines with notes
-with_style : Form → Bool → Bool → Bool → ℕ → Style
+abbrev with_style : Form → Bool → Bool → Bool → ℕ → Style
 with_style f embedded notes widths columns = record {
   form = f;
   embedded = embedded;
@@ -94,4 +94,4 @@ lines_of show b i used new is whole steps f none embedded notes widths columns h
     let shown = only (Shows show) b i h.3.items h.0 is items h.3.output_is in
     let markup = subst (λ (x : List ℕ). IsMarkup h.0 x h.1) all h.4 in
     let line = pretty_line show shown.0 h.0 steps f none embedded notes widths columns shown.2 in
-    (shown.0, shown.1, b, h.0, shown.1, line, subst (λ (x : List ℕ). IsMarkup h.0 b x) (sym h.2) markup)
+    (shown.0, shown.1, (b, h.0, shown.1, line, subst (λ (x : List ℕ). IsMarkup h.0 b x) (sym h.2) markup))
