@@ -45,7 +45,6 @@ fn item_lines(alloc: Global, bytes: &[u8]) -> Result<Vec<u8>, Error>
 }
 
 /// Returns the lines of a page for the item that the bytes encode: with notes, and without names.
-#[tactic(auto, using(crate::proofs::Lines::html_as_read))]
 pub(crate) fn html_lines(alloc: Global, bytes: &[u8]) -> Result<Vec<u8>, Error>
     ensures ok { IfOk result (λ lines. (i : Item) × IsItem bytes.now i
         × IsHtmlLines (resolve i) lines.items) }
