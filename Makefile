@@ -292,8 +292,9 @@ check-page: $(SHARED) $(DIST)/bin/cborcat
 	checks/page $(DIST)/bin/cborcat
 	page/check
 
-release: check-packages vectors arm64-packages
-	@$(MAKE) --no-print-directory check-arm64
+release: check-packages vectors arm64-packages page
+	@$(MAKE) --no-print-directory check-arm64 check-page
+	install -D -m 644 $(PAGE) $(PACKAGES)/semphluk-$(VERSION).html
 	packages/version
 	cd $(PACKAGES) && sha256sum *$(VERSION)* > SHA256SUMS && cat SHA256SUMS
 

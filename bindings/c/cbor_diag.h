@@ -40,7 +40,8 @@ enum cbor_diag_form {
     CBOR_DIAG_FORM_EDN = 4,    /* one item in EDN; an input may be JSON; the output is one line */
     CBOR_DIAG_FORM_EDN_PRETTY = 5, /* one item in EDN; the output may have several lines, and comments */
     CBOR_DIAG_FORM_JSON = 6,       /* JSON on one line; an input is read as EDN */
-    CBOR_DIAG_FORM_JSON_STRICT = 7 /* the same, but what JSON does not keep is an error */
+    CBOR_DIAG_FORM_JSON_STRICT = 7, /* the same, but what JSON does not keep is an error */
+    CBOR_DIAG_FORM_HTML = 8        /* the lines of a page of HTML; an input is read as EDN */
 };
 
 /*
@@ -56,6 +57,10 @@ enum cbor_diag_form {
  * CBOR_DIAG_FORM_JSON_STRICT also refuses what JSON does not keep: a tag, NaN, an infinity, a simple value other than
  * false, true and null, a byte string, and a key that is no text. JSON has no control characters but the line feed at
  * its end.
+ *
+ * The lines of a page have the item in EDN as CBOR_DIAG_FORM_EDN_PRETTY has it, and each line beside its own bytes.
+ * They are elements of HTML, to be put into a page. No tag in them comes from data: &, <, > and " are escaped.
+ * cbor_diag_page writes such lines with names, for any bytes.
  *
  * Diagnostic notation shows a text string as it is, with its line feeds and control characters. So hostile input can
  * forge lines, and send escape sequences to a terminal. A dump, EDN and JSON escape them.
@@ -74,14 +79,15 @@ enum cbor_diag_error {
     CBOR_DIAG_ERROR_BAD_HEX = 8,     /* that number is even, and one of the bytes is not a hex digit */
     CBOR_DIAG_ERROR_NOTATION = 9,    /* not diagnostic notation, or not one item in EDN */
     CBOR_DIAG_ERROR_PAST_WIDTH = 10, /* a number does not fit its width */
-    CBOR_DIAG_ERROR_NO_FORM = 11,    /* no such form: `from` or `to` is not an enum cbor_diag_form */
+    CBOR_DIAG_ERROR_NO_FORM = 11,    /* no such form: `from` or `to` is not an enum cbor_diag_form; or no such flags */
     CBOR_DIAG_ERROR_NO_RULES = 12,   /* no such rules: `rules` is not an enum cbor_diag_rules */
     CBOR_DIAG_ERROR_NOT_ENCODABLE = 13, /* no encoding of the items keeps the rules, or the bytes are not items */
     CBOR_DIAG_ERROR_SAME_KEYS = 14,  /* two keys of a map become the same in JSON */
     CBOR_DIAG_ERROR_NOT_KEPT = 15,   /* JSON does not keep all of the item: only for CBOR_DIAG_FORM_JSON_STRICT */
     CBOR_DIAG_ERROR_NO_PART = 16,    /* the path leads to no part of the item */
     CBOR_DIAG_ERROR_NO_TYPE = 17,    /* no type of the tables of names has this name */
-    CBOR_DIAG_ERROR_NOT_RECOGNIZED = 18 /* neither hex, EDN, base 64 nor bytes of items */
+    CBOR_DIAG_ERROR_NOT_RECOGNIZED = 18, /* neither hex, EDN, base 64 nor bytes of items */
+    CBOR_DIAG_ERROR_WRONG_NAMES = 19 /* the file of names has an error: cbor_diag_names_fault says which */
 };
 
 /* What a head is: its major type, or a float, or a break. */
@@ -131,6 +137,12 @@ enum cbor_diag_input {
     CBOR_DIAG_INPUT_HEX = 1,   /* these bytes in hex, as people paste it */
     CBOR_DIAG_INPUT_EDN = 2,   /* items in EDN, none or more */
     CBOR_DIAG_INPUT_BASE64 = 3 /* the bytes in base 64, in either alphabet */
+};
+
+/* How cbor_diag_page shows items. Flags are added. */
+enum cbor_diag_page_flag {
+    CBOR_DIAG_PAGE_NO_NOTES = 1, /* without names and notes */
+    CBOR_DIAG_PAGE_EMBEDDED = 2  /* a byte string that is an array, a map or a tagged item is shown as that: <<..>> */
 };
 
 /* What JSON does not keep. */
@@ -229,6 +241,9 @@ int64_t cbor_diag_named(const uint8_t *input, size_t input_len, const uint8_t *t
                         size_t output_len);
 int64_t cbor_diag_recognize(const uint8_t *input, size_t input_len, uint32_t *form, uint8_t *output,
                             size_t output_len);
+int64_t cbor_diag_page(const uint8_t *input, size_t input_len, const uint8_t *type, size_t type_len,
+                       const uint8_t *names, size_t names_len, uint32_t flags, uint8_t *output, size_t output_len);
+int64_t cbor_diag_names_fault(const uint8_t *names, size_t names_len, uint8_t *message, size_t message_len);
 int64_t cbor_diag_error_text(uint32_t error, uint8_t *output, size_t output_len);
 uint32_t cbor_diag_version(void);
 
@@ -827,6 +842,71 @@ static inline int64_t cbor_diag_recognize_checked(const void *input, size_t inpu
     return cbor_diag_recognize(in, input_len, form ? form : &unused, out, output_len);
 }
 #define cbor_diag_recognize cbor_diag_recognize_checked
+
+/*
+ * Writes the lines of a page of HTML that shows a sequence of items, each line of EDN beside its own bytes, as
+ * cborcat -t html does: with notes, with the names of COSE, CWT, EAT, SenML and CTAP2, and with those of `names`. For
+ * a truncated or malformed item they show the part that is there, what is wrong, and the bytes after it. `type` is the
+ * type of the outermost items where no tag says it, such as COSE_Key; or empty. `names` is a file of names in TOML, as
+ * docs/NAMES.md describes it; or empty. `flags` is 0, or a sum of enum cbor_diag_page_flag.
+ *
+ * Returns the length of the whole output, and writes as much of it as fits `output`, as cbor_diag_convert does. On an
+ * error, returns minus a number of enum cbor_diag_error, and `output` is unchanged: CBOR_DIAG_ERROR_NO_TYPE,
+ * CBOR_DIAG_ERROR_WRONG_NAMES, CBOR_DIAG_ERROR_NO_FORM for other flags, or CBOR_DIAG_ERROR_MEMORY. There are lines for
+ * any bytes.
+ *
+ * The lines are elements of HTML without a page round them, in UTF-8. docs/PAGE.md says which they are, and their text
+ * is EDN. No tag in them comes from data: &, <, > and " are escaped. So the lines can be put into a page as they are.
+ *
+ *     static char lines[4096];
+ *     cbor_diag_page("\xa1\x01\x04", 3, "COSE_Key", 8, NULL, 0, 0, lines, sizeof lines);
+ *
+ * The tables are made at each call. A pointer may be null if its length is 0. The output must not overlap the others.
+ */
+static inline int64_t cbor_diag_page_checked(const void *input, size_t input_len, const void *type, size_t type_len,
+                                             const void *names, size_t names_len, uint32_t flags, void *output,
+                                             size_t output_len)
+{
+    const uint8_t *in = input ? (const uint8_t *)input : cbor_diag_no_bytes();
+    const uint8_t *kind = type ? (const uint8_t *)type : cbor_diag_no_bytes();
+    const uint8_t *file = names ? (const uint8_t *)names : cbor_diag_no_bytes();
+    uint8_t *out = output ? (uint8_t *)output : cbor_diag_no_bytes();
+    if (input_len > (size_t)PTRDIFF_MAX || type_len > (size_t)PTRDIFF_MAX || names_len > (size_t)PTRDIFF_MAX) {
+        return -CBOR_DIAG_ERROR_MEMORY; /* no object is that large */
+    }
+    if (output_len > (size_t)PTRDIFF_MAX) {
+        output_len = (size_t)PTRDIFF_MAX;
+    }
+    return cbor_diag_page(in, input_len, kind, type_len, file, names_len, flags, out, output_len);
+}
+#define cbor_diag_page cbor_diag_page_checked
+
+/*
+ * Says what is wrong with a file of names for cbor_diag_page, as cborcat does: the line and why, in one line of UTF-8.
+ *
+ * Returns the length of the whole message, and writes as much of it as fits `message`. Returns 0 if nothing is wrong.
+ * On an error, returns minus CBOR_DIAG_ERROR_MEMORY, and `message` is unchanged.
+ *
+ *     char message[256];
+ *     cbor_diag_names_fault("[Thing]\ntag = -1", 16, message, sizeof message);
+ *     // 37, "line 2: a tag is an integer from 0 on"
+ *
+ * No zero byte is added. A pointer may be null if its length is 0.
+ */
+static inline int64_t cbor_diag_names_fault_checked(const void *names, size_t names_len, char *message,
+                                                    size_t message_len)
+{
+    const uint8_t *file = names ? (const uint8_t *)names : cbor_diag_no_bytes();
+    uint8_t *out = message ? (uint8_t *)message : cbor_diag_no_bytes();
+    if (names_len > (size_t)PTRDIFF_MAX) {
+        return -CBOR_DIAG_ERROR_MEMORY; /* no object is that large */
+    }
+    if (message_len > (size_t)PTRDIFF_MAX) {
+        message_len = (size_t)PTRDIFF_MAX;
+    }
+    return cbor_diag_names_fault(file, names_len, out, message_len);
+}
+#define cbor_diag_names_fault cbor_diag_names_fault_checked
 
 /*
  * Writes the text of an error into `text`, with a zero byte at its end, and returns `text`. `answer` is the negative

@@ -24,6 +24,7 @@
 #define FORMS 6 /* those that keep all of an item */
 #define JSON CBOR_DIAG_FORM_JSON
 #define JSON_STRICT CBOR_DIAG_FORM_JSON_STRICT
+#define HTML CBOR_DIAG_FORM_HTML
 #define UNTOUCHED 0xa5
 
 /* ---- reports */
@@ -267,8 +268,10 @@ static void test_output_faults(void)
         {BYTES, EDN, TEXT("\xa2\x01\x00\x61\x31\x00"), 0, none, none},
         {BYTES, JSON, TEXT("\x82\x01"), CBOR_DIAG_ERROR_CUT_SHORT, none, none},
         {DIAG, BYTES, TEXT("1.5"), CBOR_DIAG_ERROR_NOTATION, none, none},
-        {8, JSON, TEXT("\x01"), CBOR_DIAG_ERROR_NO_FORM, none, none},
-        {BYTES, 8, TEXT("\x01"), CBOR_DIAG_ERROR_NO_FORM, none, none},
+        {BYTES, HTML, TEXT("\xa2\x01\x00\x61\x31\x00"), 0, none, none},
+        {BYTES, HTML, TEXT("\x82\x01"), CBOR_DIAG_ERROR_CUT_SHORT, none, none},
+        {9, JSON, TEXT("\x01"), CBOR_DIAG_ERROR_NO_FORM, none, none},
+        {BYTES, 9, TEXT("\x01"), CBOR_DIAG_ERROR_NO_FORM, none, none},
     };
     for (size_t i = 0; i < sizeof rows / sizeof *rows; i++) {
         char name[40];
@@ -358,8 +361,12 @@ static const struct refused refusals[] = {
     {"the same in EDN", EDN, JSON, TEXT("{1: 0, \"1\": 0}"), CBOR_DIAG_ERROR_SAME_KEYS},
     {"a tag in strict JSON", HEX, JSON_STRICT, TEXT("c1 00"), CBOR_DIAG_ERROR_NOT_KEPT},
     {"undefined in strict JSON", JSON, JSON_STRICT, TEXT("[undefined]"), CBOR_DIAG_ERROR_NOT_KEPT},
-    {"from the form 8", 8, BYTES, TEXT("\x01"), CBOR_DIAG_ERROR_NO_FORM},
-    {"to the form 8", BYTES, 8, TEXT("\x01"), CBOR_DIAG_ERROR_NO_FORM},
+    {"bytes that are cut, to HTML", BYTES, HTML, TEXT("\x82\x01"), CBOR_DIAG_ERROR_CUT_SHORT},
+    {"two items, to HTML", BYTES, HTML, TEXT("\x01\x02"), CBOR_DIAG_ERROR_REMAINING},
+    {"a g among hex digits, to HTML", HEX, HTML, TEXT("0g"), CBOR_DIAG_ERROR_BAD_HEX},
+    {"lines of HTML, which are read as EDN", HTML, BYTES, TEXT("<span>1</span>"), CBOR_DIAG_ERROR_NOTATION},
+    {"from the form 9", 9, BYTES, TEXT("\x01"), CBOR_DIAG_ERROR_NO_FORM},
+    {"to the form 9", BYTES, 9, TEXT("\x01"), CBOR_DIAG_ERROR_NO_FORM},
     {"from the form 2^32 - 1", UINT32_MAX, BYTES, TEXT("\x01"), CBOR_DIAG_ERROR_NO_FORM},
     {"to the form 2^31", BYTES, 1u << 31, TEXT("\x01"), CBOR_DIAG_ERROR_NO_FORM},
     {"to no form, of no item", BYTES, 99, TEXT(""), CBOR_DIAG_ERROR_NO_FORM},
@@ -403,12 +410,13 @@ static const char *const error_texts[] = {
     "the path leads to no part of the item",
     "no such type",
     "neither hex, EDN, base 64 nor bytes of items",
+    "the file of names has an error",
     "no such error",
 };
 
 static void test_error_texts(void)
 {
-    for (int64_t number = 0; number <= 19; number++) {
+    for (int64_t number = 0; number <= 20; number++) {
         const char *expected = error_texts[number];
         char text[CBOR_DIAG_ERROR_TEXT_SIZE];
         check(strcmp(expected, cbor_diag_strerror(-number, text, sizeof text)) == 0,
@@ -655,7 +663,8 @@ static void test_faults(void)
         {JSON, TEXT("{\"a\" 1}"), CBOR_DIAG_ERROR_NOTATION, 5},
         {JSON, TEXT("{\"a\": 1}"), 0, CBOR_DIAG_NO_PLACE},
         {BYTES, TEXT("\xa2\x01\x00\x61\x31\x00"), 0, CBOR_DIAG_NO_PLACE},
-        {8, TEXT("\x01"), CBOR_DIAG_ERROR_NO_FORM, CBOR_DIAG_NO_PLACE},
+        {HTML, TEXT("[1, x]"), CBOR_DIAG_ERROR_NOTATION, 4},
+        {9, TEXT("\x01"), CBOR_DIAG_ERROR_NO_FORM, CBOR_DIAG_NO_PLACE},
     };
     for (size_t i = 0; i < sizeof rows / sizeof *rows; i++) {
         char name[40], other[8];
@@ -1424,6 +1433,113 @@ static void test_recognizing(void)
     check_answer("no bytes at all", 0, cbor_diag_recognize(NULL, 0, NULL, NULL, 0));
 }
 
+/* ---- the lines of a page */
+
+/* A file of names. */
+static const char things[] = "[Thing]\ntag = 1000\nmap = { 1 = \"one\" }\n";
+
+/* The lines of the item 1, as the definitions of the lines say. */
+#define LINE_OF_1 "<span class=\"l\"><a class=\"o\" id=\"x0\" href=\"#x0\">0000</a>" \
+                  "<span class=\"h\"><b class=\"n\">01</b></span>" \
+                  "<span class=\"t\"><span class=\"n\" data-s=\"0\" data-e=\"1\">1</span></span>\n</span>"
+
+static int64_t page_of(const struct text *input, void *output, size_t room)
+{
+    return cbor_diag_page(input->bytes, input->length, NULL, 0, NULL, 0, 0, output, room);
+}
+
+/* The lines of a page have some words, and lack others. */
+static void check_page(struct text input, const char *type, const char *names, uint32_t flags, const char *has,
+                       const char *lacks)
+{
+    static char lines[8192];
+    memset(lines, 0, sizeof lines);
+    int64_t length = cbor_diag_page(input.bytes, input.length, type, strlen(type), names, strlen(names), flags, lines,
+                                    sizeof lines - 1);
+    check(length > 0 && length < (int64_t)sizeof lines, "lines that have %s: came %lld", has, (long long)length);
+    check(strstr(lines, has) != NULL, "expected %s in the lines, came %s", has, lines);
+    check(!*lacks || strstr(lines, lacks) == NULL, "expected no %s in the lines, came %s", lacks, lines);
+}
+
+static void test_pages(void)
+{
+    const struct text one = TEXT("\x01"), line = TEXT(LINE_OF_1);
+    test_each_room("the lines of 1", page_of, &one, line);
+    test_each_room("the lines of nothing", page_of, &(struct text)TEXT(""), (struct text)TEXT(""));
+    test_room("bytes to HTML", BYTES, HTML, one, line);
+    test_room("hex to HTML", HEX, HTML, (struct text)TEXT("01 # one"), line);
+    test_room("notation to HTML", DIAG, HTML, (struct text)TEXT("1"), line);
+    test_room("EDN to HTML", EDN, HTML, (struct text)TEXT("1 # one"), line);
+    test_room("the form HTML is read as EDN", HTML, BYTES, (struct text)TEXT("1 # one"), one);
+    const struct text key = TEXT("\xa1\x01\x04"), thing = TEXT("\xd9\x03\xe8\xa1\x01\x02");
+    check_page(key, "COSE_Key", "", 0, "/COSE_Key/", "&");
+    check_page(key, "COSE_Key", "", 0, "/Symmetric/", "");
+    check_page(key, "COSE_Key", "", CBOR_DIAG_PAGE_NO_NOTES, "a1", "/COSE_Key/");
+    check_page(key, "", "", 0, "a1", "/COSE_Key/");
+    check_page(key, "COSE_Key", things, 0, "/COSE_Key/", "");
+    check_page(thing, "", things, 0, "/Thing/", "");
+    check_page(thing, "Thing", things, 0, "/one/", "");
+    check_page(thing, "", "", 0, "03 e8", "/Thing/");
+    check_page((struct text)TEXT("\x43\x82\x01\x02"), "", "", 0, "h'820102'", "&lt;&lt;");
+    check_page((struct text)TEXT("\x43\x82\x01\x02"), "", "", CBOR_DIAG_PAGE_EMBEDDED, "&lt;&lt;", "h'");
+    check_page((struct text)TEXT("\x66<&>\"'/"), "", "", 0, "&lt;&amp;&gt;", "<&>");
+    check_page((struct text)TEXT("\x01\x82\x01"), "", "", 0,
+               "truncated: the array at byte 1 has 2 items, 1 is there", "");
+    check_page((struct text)TEXT("\x82\x01\x1f"), "", "", 0, "malformed: ", "");
+}
+
+static void test_page_errors(void)
+{
+    char buffer[4] = "xxx";
+    check_answer("a page of no type", -CBOR_DIAG_ERROR_NO_TYPE,
+                 cbor_diag_page("\xa0", 1, "what", 4, NULL, 0, 0, buffer, 4));
+    check_answer("a page with a type of other names", -CBOR_DIAG_ERROR_NO_TYPE,
+                 cbor_diag_page("\xa0", 1, "Thing", 5, NULL, 0, 0, buffer, 4));
+    check_answer("a page with wrong names", -CBOR_DIAG_ERROR_WRONG_NAMES,
+                 cbor_diag_page("\xa0", 1, NULL, 0, "names", 5, 0, buffer, 4));
+    check_answer("a page with names that are not UTF-8", -CBOR_DIAG_ERROR_WRONG_NAMES,
+                 cbor_diag_page("\xa0", 1, NULL, 0, "\xff", 1, 0, buffer, 4));
+    check_answer("a page with other flags", -CBOR_DIAG_ERROR_NO_FORM,
+                 cbor_diag_page("\xa0", 1, NULL, 0, NULL, 0, 4, buffer, 4));
+    check_answer("a page with all flags", -CBOR_DIAG_ERROR_NO_FORM,
+                 cbor_diag_page("\xa0", 1, NULL, 0, NULL, 0, UINT32_MAX, buffer, 4));
+    check_answer("a page of 2^64 - 1 bytes", -CBOR_DIAG_ERROR_MEMORY,
+                 cbor_diag_page("\x01", SIZE_MAX, NULL, 0, NULL, 0, 0, buffer, 4));
+    check_answer("names of 2^64 - 1 bytes for a page", -CBOR_DIAG_ERROR_MEMORY,
+                 cbor_diag_page("\x01", 1, NULL, 0, "", SIZE_MAX, 0, buffer, 4));
+    check(strcmp(buffer, "xxx") == 0, "an error wrote to the buffer: %s", buffer);
+    check_answer("a page at null pointers", 0, cbor_diag_page(NULL, 0, NULL, 0, NULL, 0, 0, NULL, 0));
+}
+
+static int64_t names_fault_of(const struct text *names, void *output, size_t room)
+{
+    return cbor_diag_names_fault(names->bytes, names->length, output, room);
+}
+
+static void test_names_faults(void)
+{
+    const struct {
+        const char *name;
+        struct text names, message;
+    } rows[] = {
+        {"no names", TEXT(""), TEXT("")},
+        {"names", TEXT("[Thing]\ntag = 1000\nmap = { 1 = \"one\" }\n"), TEXT("")},
+        {"a tag below 0", TEXT("[Thing]\ntag = -1"), TEXT("line 2: a tag is an integer from 0 on")},
+        {"a tag twice", TEXT("[A]\ntag = 1000\n[B]\ntag = 1000\n"),
+         TEXT("line 4: another type of the file has this tag")},
+        {"a type that is not there", TEXT("[A]\neach = 'B'\n"), TEXT("line 2: no type has this name")},
+        {"names that are not UTF-8", TEXT("[A]\n\xff"), TEXT("not UTF-8")},
+    };
+    for (size_t i = 0; i < sizeof rows / sizeof *rows; i++) {
+        test_each_room(rows[i].name, names_fault_of, &rows[i].names, rows[i].message);
+    }
+    char message[80] = "";
+    check(cbor_diag_names_fault("no TOML", 7, message, sizeof message) > 0 && memcmp(message, "line 1: ", 8) == 0,
+          "no TOML: came %s", message);
+    check_answer("names at null pointers", 0, cbor_diag_names_fault(NULL, 0, NULL, 0));
+    check_answer("names of 2^64 - 1 bytes", -CBOR_DIAG_ERROR_MEMORY, cbor_diag_names_fault("", SIZE_MAX, message, 4));
+}
+
 /* Each allocation fails in turn in each of the calls that take memory. */
 static int64_t part_call(int call, unsigned char *buffer)
 {
@@ -1441,14 +1557,20 @@ static int64_t part_call(int call, unsigned char *buffer)
         return cbor_diag_paths("\x81\xa1\x61k\x01", 5, buffer, 8);
     case 4:
         return cbor_diag_recognize("[1, {\"a\": h'00'}]", 17, NULL, buffer, 8);
-    default:
+    case 5:
         return cbor_diag_named("\xa1\x01\x04", 3, "COSE_Key", 8, buffer, 8);
+    case 6:
+        return cbor_diag_page("\xa1\x01\x04\x81", 4, "COSE_Key", 8, things, strlen(things), 0, buffer, 8);
+    case 7:
+        return cbor_diag_convert(BYTES, HTML, "\xa1\x01\x04", 3, buffer, 8);
+    default:
+        return cbor_diag_names_fault("[Thing]\ntag = -1", 16, (char *)buffer, 8);
     }
 }
 
 static void test_parts_without_memory(void)
 {
-    for (int call = 0; call < 6; call++) {
+    for (int call = 0; call < 9; call++) {
         int64_t came = -CBOR_DIAG_ERROR_MEMORY;
         for (failing = 0; came == -CBOR_DIAG_ERROR_MEMORY && failing < 20000; failing++) {
             unsigned char buffer[8] = {0};
@@ -1508,6 +1630,10 @@ static void test_hostile_parts(void)
             int64_t lines = cbor_diag_paths(bytes, length, NULL, 0);
             check(whole == (lines > 0), "byte %zu is %d: paths came to %lld", at, byte, (long long)lines);
             cbor_diag_recognize(bytes, length, NULL, NULL, 0);
+            check(cbor_diag_page(bytes, length, NULL, 0, NULL, 0, 0, NULL, 0) >= 0,
+                  "byte %zu is %d: the lines of a page came to an error", at, byte);
+            check(whole == (cbor_diag_convert(BYTES, HTML, bytes, length, NULL, 0) > 0),
+                  "byte %zu is %d: lines of a page came of what is no item, or none of an item", at, byte);
             free(bytes);
         }
     }
@@ -1520,6 +1646,7 @@ static void test_hostile_parts(void)
     check_answer("a part of deep arrays", 0, cbor_diag_part(arrays, 128, "0/0", 3, NULL, NULL));
     check(cbor_diag_paths(arrays, 128, NULL, 0) == 127 * 2 + 3, "paths of deep arrays: came another length");
     check(cbor_diag_named(arrays, 128, NULL, 0, NULL, 0) > 0, "deep arrays with names: came an error");
+    check(cbor_diag_page(arrays, 128, NULL, 0, NULL, 0, 0, NULL, 0) > 0, "a page of deep arrays: came an error");
     free(arrays);
 }
 
@@ -1714,6 +1841,10 @@ static void *converting(void *unused)
             check_answer("a part in a thread", 0, cbor_diag_part(arrays, sizeof arrays, "0/0/0", 5, NULL, NULL));
             check(cbor_diag_paths(arrays, sizeof arrays, NULL, 0) > 0, "paths in a thread: came an error");
             check(cbor_diag_named(arrays, sizeof arrays, NULL, 0, NULL, 0) > 0, "names in a thread: came an error");
+            check(cbor_diag_page(arrays, sizeof arrays, NULL, 0, things, strlen(things), 0, NULL, 0) > 0,
+                  "a page in a thread: came an error");
+            check(cbor_diag_convert(BYTES, HTML, arrays, sizeof arrays, NULL, 0) > 0,
+                  "lines of a page in a thread: came an error");
         }
     }
     return NULL;
@@ -1764,6 +1895,9 @@ int main(int argc, char **argv)
     test_values();
     test_shown();
     test_recognizing();
+    test_pages();
+    test_page_errors();
+    test_names_faults();
     test_hostile_parts();
     test_limits();
     test_memory();

@@ -74,6 +74,7 @@ TEXTS = {
     Error.NO_PART: "the path leads to no part of the item",
     Error.NO_TYPE: "no such type",
     Error.NOT_RECOGNIZED: "neither hex, EDN, base 64 nor bytes of items",
+    Error.WRONG_NAMES: "the file of names has an error",
 }
 
 
@@ -134,7 +135,7 @@ class Conversions(unittest.TestCase):
                  lambda data: cbor_diag.violation(data, Rules.CORE), lambda data: cbor_diag.reencode(data, Rules.CORE),
                  lambda data: cbor_diag.name_at(data, ""), lambda data: cbor_diag.part(data, ""),
                  lambda data: cbor_diag.parts(data, "*"), cbor_diag.value, cbor_diag.paths, cbor_diag.named,
-                 lambda data: cbor_diag.convert(Form.BYTES, Form.DIAG, data)]
+                 cbor_diag.page, lambda data: cbor_diag.convert(Form.BYTES, Form.DIAG, data)]
         for call in calls:
             with self.subTest(call=call), self.assertRaisesRegex(TypeError, r"bytes\.fromhex"):
                 call("82")
@@ -719,6 +720,45 @@ class Parts(unittest.TestCase):
         with self.assertRaises(CborDiagError) as raised:
             cbor_diag.named(b"\xa0", "what")
         self.assertIs(raised.exception.error, Error.NO_TYPE)
+
+    # By the definitions of the lines, for the item 1.
+    LINE = ('<span class="l"><a class="o" id="x0" href="#x0">0000</a><span class="h"><b class="n">01</b></span>'
+            '<span class="t"><span class="n" data-s="0" data-e="1">1</span></span>\n</span>')
+
+    def test_page(self):
+        thing, names = b"\xd9\x03\xe8\xa1\x01\x02", '[Thing]\ntag = 1000\nmap = { 1 = "one" }\n'
+        self.assertEqual(cbor_diag.page(b"\x01"), self.LINE)
+        self.assertEqual(cbor_diag.page(b""), "")
+        for form, one in ((Form.BYTES, b"\x01"), (Form.HEX, "01"), (Form.EDN, "1"), (Form.HTML, "1 # one")):
+            self.assertEqual(cbor_diag.convert(form, Form.HTML, one).decode(), self.LINE)
+        for data in self.each(thing):
+            lines = cbor_diag.page(data, names=names)
+            self.assertTrue("/Thing/" in lines and "/one/" in lines, lines)
+            self.assertFalse("/Thing/" in cbor_diag.page(data))
+            self.assertFalse("/Thing/" in cbor_diag.page(data, names=names, notes=False))
+        self.assertIn("/kty/", cbor_diag.page(b"\xa1\x01\x04", "COSE_Key"))
+        self.assertIn("h'820102'", cbor_diag.page(b"\x43\x82\x01\x02"))
+        self.assertIn("&lt;&lt;", cbor_diag.page(b"\x43\x82\x01\x02", embedded=True))
+        self.assertIn("&lt;&amp;&gt;", cbor_diag.page(b"\x63<&>"))
+        self.assertIn("truncated: ", cbor_diag.page(b"\x01\x82\x01"))
+        self.assertIn("malformed: ", cbor_diag.page(b"\x82\x01\x1f"))
+        long = b"\x99\x03\xe8" + b"\x01" * 1000
+        self.assertEqual(cbor_diag.page(long).count('class="l"'), 1 + 1000 + 1)
+
+    def test_page_errors(self):
+        for error, arguments in ((Error.NO_TYPE, {"type": "what"}), (Error.WRONG_NAMES, {"names": "no TOML"}),
+                                 (Error.WRONG_NAMES, {"names": "\ud800"})):
+            with self.assertRaises(CborDiagError) as raised:
+                cbor_diag.page(b"\xa0", **arguments)
+            self.assertIs(raised.exception.error, error)
+            self.assertEqual(str(raised.exception), TEXTS[error])
+
+    def test_names_fault(self):
+        self.assertIsNone(cbor_diag.names_fault(""))
+        self.assertIsNone(cbor_diag.names_fault("[Thing]\ntag = 1000\n"))
+        self.assertEqual(cbor_diag.names_fault("[Thing]\ntag = -1"), "line 2: a tag is an integer from 0 on")
+        self.assertEqual(cbor_diag.names_fault("\ud800"), "not UTF-8")
+        self.assertRegex(cbor_diag.names_fault("no TOML"), "^line 1: ")
 
     def test_recognized(self):
         for given, form, found in [

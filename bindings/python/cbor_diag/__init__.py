@@ -58,6 +58,8 @@ __all__ = [
     "library_version",
     "name_at",
     "named",
+    "names_fault",
+    "page",
     "part",
     "parts",
     "paths",
@@ -96,6 +98,8 @@ class Form(enum.IntEnum):
     """JSON on one line, with a line feed at its end. An input is read as EDN."""
     JSON_STRICT = 7
     """The same, but what JSON does not keep is an error."""
+    HTML = 8
+    """The lines of a page of HTML, as `page` writes them, but without names. An input is read as EDN."""
 
 
 class Error(enum.IntEnum):
@@ -137,6 +141,8 @@ class Error(enum.IntEnum):
     """No type of the tables of names has this name."""
     NOT_RECOGNIZED = 18
     """Neither hex, EDN, base 64 nor bytes of items."""
+    WRONG_NAMES = 19
+    """The file of names has an error."""
 
 
 class Input(enum.IntEnum):
@@ -427,6 +433,12 @@ class _Library:
         self.recognize = library.cbor_diag_recognize
         self.recognize.restype = ctypes.c_int64
         self.recognize.argtypes = [pointer, size, ctypes.POINTER(ctypes.c_uint32), pointer, size]
+        self.page = library.cbor_diag_page
+        self.page.restype = ctypes.c_int64
+        self.page.argtypes = [pointer, size, text, size, text, size, ctypes.c_uint32, pointer, size]
+        self.names_fault = library.cbor_diag_names_fault
+        self.names_fault.restype = ctypes.c_int64
+        self.names_fault.argtypes = [text, size, pointer, size]
         self.error_text = library.cbor_diag_error_text
         self.error_text.restype = ctypes.c_int64
         self.error_text.argtypes = [ctypes.c_uint32, ctypes.c_char_p, size]
@@ -510,7 +522,7 @@ def _on_bytes(data: Bytes, call: Callable[..., _Result], *arguments: Any) -> _Re
 
 
 # plain numbers, which ctypes takes in less time
-_BYTES, _HEX, _DIAG, _PRETTY, _EDN, _EDN_PRETTY, _JSON, _JSON_STRICT = map(int, Form)
+_BYTES, _HEX, _DIAG, _PRETTY, _EDN, _EDN_PRETTY, _JSON, _JSON_STRICT, _HTML = map(int, Form)
 
 
 def _form_number(form: Form) -> int:
@@ -792,7 +804,7 @@ def reencode(data: Bytes, rules: Rules) -> bytes:
 
 def _no_name(library: _Library, given: Any, length: int, error: Error) -> CborDiagError:
     """The error of `name_at`. For data that is not an item it is that of `convert`."""
-    if error in (Error.NO_PART, Error.NO_TYPE):
+    if error in (Error.NO_PART, Error.NO_TYPE, Error.WRONG_NAMES):
         return CborDiagError(error)
     return _failure(library, given, length, _BYTES, _BYTES, error)
 
@@ -993,6 +1005,55 @@ def named(data: Bytes, type: Optional[str] = None) -> str:
     Raises `CborDiagError` if the data is no item, with `NO_TYPE` if there is no such type, and if memory runs out.
     """
     return _on_bytes(data, _named, _path(type or ""))
+
+
+def names_fault(names: str) -> Optional[str]:
+    """What is wrong with a file of names in TOML (docs/NAMES.md), with its line; `None` if nothing is.
+
+    >>> names_fault("[Reading]\\ntag = -1")
+    'line 2: a tag is an integer from 0 on'
+
+    Raises `CborDiagError` if memory runs out.
+    """
+    file = _path(names)
+    wanted = 256
+    while True:
+        output = ctypes.create_string_buffer(wanted)
+        room, wanted = wanted, _releasing.names_fault(file, len(file), output, wanted)
+        if wanted < 0:
+            raise CborDiagError(Error(-wanted))
+        if wanted <= room:
+            return output.raw[:wanted].decode("utf-8") or None
+
+
+_NO_NOTES, _EMBEDDED = 1, 2
+
+
+def _page(library: _Library, given: Any, length: int, kind: bytes, names: bytes, flags: int) -> str:
+    lines = _written(library, given, length, library.page, kind, len(kind), names, len(names), flags)
+    return lines.decode("utf-8")
+
+
+def page(
+    data: Bytes, type: Optional[str] = None, names: str = "", *, notes: bool = True, embedded: bool = False
+) -> str:
+    """The lines of a page of HTML that shows items, one after the other, each line beside its own bytes, as
+    `cborcat -t html` does: with the names of COSE, CWT, EAT, SenML and CTAP2, those of the file of names `names`
+    (docs/NAMES.md), and notes. Of a truncated or malformed item they show the part that is there, and what is wrong.
+    They are elements of HTML, to be put into a page; no tag in them comes from the data.
+
+    >>> lines = page(bytes.fromhex("a10104"), type="COSE_Key")
+    >>> "/Symmetric/" in lines, "<b class=" in lines
+    (True, True)
+
+    `type` is the type of the outermost items where no tag says it. Without `notes` there are no names and no notes.
+    With `embedded`, byte strings that are an array, a map or a tagged item are shown as that.
+
+    Raises `CborDiagError` with `NO_TYPE` if there is no such type, with `WRONG_NAMES` if the names have an error, which
+    `names_fault` says, and if memory runs out.
+    """
+    flags = (0 if notes else _NO_NOTES) + (_EMBEDDED if embedded else 0)
+    return _on_bytes(data, _page, _path(type or ""), _path(names), flags)
 
 
 def _recognized(library: _Library, given: Any, length: int) -> Tuple[Input, bytes]:

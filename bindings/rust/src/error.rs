@@ -39,6 +39,8 @@ pub enum Error {
     NoType,
     /// Neither hex, EDN, base 64 nor bytes of items.
     NotRecognized,
+    /// The file of names has an error.
+    WrongNames,
 }
 
 /// The result of a conversion.
@@ -75,6 +77,9 @@ const NO_TYPE: i64 = 17;
 /// The number of `NotRecognized`.
 const NOT_RECOGNIZED: i64 = 18;
 
+/// The number of `WrongNames`.
+const WRONG_NAMES: i64 = 19;
+
 impl Error {
     /// The error for a negative result of the library.
     pub(crate) fn of(answer: i64) -> Error {
@@ -85,6 +90,7 @@ impl Error {
             NO_PART => Error::NoPart,
             NO_TYPE => Error::NoType,
             NOT_RECOGNIZED => Error::NotRecognized,
+            WRONG_NAMES => Error::WrongNames,
             number => usize::try_from(number - 1)
                 .ok()
                 .and_then(|index| ERRORS.get(index).copied())
@@ -179,7 +185,7 @@ impl Error {
     }
 
     /// Returns the number of the error: from 1 for `Memory` to 10 for `PastWidth`, in the order of the variants, and
-    /// from 13 for `NotEncodable` to 18 for `NotRecognized`.
+    /// from 13 for `NotEncodable` to 19 for `WrongNames`.
     pub fn number(self) -> u32 {
         match self {
             Error::NotEncodable => NOT_ENCODABLE as u32,
@@ -188,6 +194,7 @@ impl Error {
             Error::NoPart => NO_PART as u32,
             Error::NoType => NO_TYPE as u32,
             Error::NotRecognized => NOT_RECOGNIZED as u32,
+            Error::WrongNames => WRONG_NAMES as u32,
             other => other as u32 + 1,
         }
     }
@@ -223,6 +230,7 @@ mod tests {
             (16, Error::NoPart),
             (17, Error::NoType),
             (18, Error::NotRecognized),
+            (19, Error::WrongNames),
         ] {
             assert_eq!(error.number(), number);
             assert_eq!(Error::of(-i64::from(number)), error);

@@ -4,6 +4,7 @@
 mod error;
 mod json;
 mod names;
+mod page;
 mod parts;
 mod recognized;
 mod rules;
@@ -13,6 +14,7 @@ pub use error::{Error, Result};
 pub use json::{bytes_to_json, bytes_to_json_strict, hex_to_json, hex_to_json_strict, json_fault};
 pub use json::{JsonFault, LossKind};
 pub use names::{name_at, named};
+pub use page::{names_fault, page, PageStyle};
 pub use parts::{head, part, parts, paths, value, Head, HeadKind, Part, Value};
 pub use recognized::{recognize, Input};
 pub use rules::{violation, reencode, reencode_fault, Violation, ViolationKind, ReencodeFault, Rules};
@@ -37,6 +39,8 @@ pub enum Form {
     Json,
     /// The same, but what JSON does not keep is an error.
     JsonStrict,
+    /// The lines of a page of HTML, as [`page()`] writes them, but without names. An input is read as EDN.
+    Html,
 }
 
 impl Form {
@@ -50,6 +54,7 @@ impl Form {
             Form::EdnPretty => 5,
             Form::Json => 6,
             Form::JsonStrict => 7,
+            Form::Html => 8,
         }
     }
 }
@@ -243,6 +248,25 @@ mod library {
             output: *mut u8,
             output_len: usize,
         ) -> i64;
+        /// Returns the length of the lines of a page, or minus the number of an error, and writes as much as fits.
+        pub fn cbor_diag_page(
+            input: *const u8,
+            input_len: usize,
+            kind: *const u8,
+            kind_len: usize,
+            names: *const u8,
+            names_len: usize,
+            flags: u32,
+            output: *mut u8,
+            output_len: usize,
+        ) -> i64;
+        /// The same of what is wrong with a file of names.
+        pub fn cbor_diag_names_fault(
+            names: *const u8,
+            names_len: usize,
+            message: *mut u8,
+            message_len: usize,
+        ) -> i64;
         pub fn cbor_diag_violation_text(kind: u32, output: *mut u8, output_len: usize) -> i64;
         pub fn cbor_diag_error_text(error: u32, output: *mut u8, output_len: usize) -> i64;
         pub fn cbor_diag_version() -> u32;
@@ -251,7 +275,11 @@ mod library {
 
 /// A capacity that is enough for most outputs.
 fn likely_room(to: Form, input: &[u8]) -> usize {
-    let factor = if to == Form::Hex { 8 } else { 3 };
+    let factor = match to {
+        Form::Hex => 8,
+        Form::Html => 80,
+        _ => 3,
+    };
     input.len().saturating_mul(factor).saturating_add(64)
 }
 

@@ -22,6 +22,7 @@ known n (form.Text (text.Edn false)) is past = omega arith
 known n (form.Text (text.Edn true)) is past = omega arith
 known n (form.Text (text.Json false)) is past = omega arith
 known n (form.Text (text.Json true)) is past = omega arith
+known n (form.Text text.Html) is past = omega arith
 
 -- 0 is the number of bytes
 pub other_number : (f : To) → read_as f ≢ source.Bytes → form_number (form.Plain f) ≢ 0
@@ -52,5 +53,6 @@ bytes_refusal (form.Text (text.Edn false)) b e zero h is = omega arith
 bytes_refusal (form.Text (text.Edn true)) b e zero h is = omega arith
 bytes_refusal (form.Text (text.Json false)) b e zero h is = omega arith
 bytes_refusal (form.Text (text.Json true)) b e zero h is = omega arith
+bytes_refusal (form.Text text.Html) b e zero h is = omega arith
 
 pub ruleset number_laws = (known, bytes_refusal)

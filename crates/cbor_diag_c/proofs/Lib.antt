@@ -1,5 +1,6 @@
 pub mod Refusals
 pub mod Lines
+pub mod Html
 pub mod NoOutput
 pub mod FormNumbers
 pub mod Told

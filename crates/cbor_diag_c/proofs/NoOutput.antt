@@ -45,6 +45,8 @@ of_bytes (text.Json strict) b (NotKept lost) h = (b, refl, h)
 of_bytes (text.Json strict) b (SameKeys clash) h = (b, refl, h)
 of_bytes (text.Edn pretty) b (NotKept lost) h = absurd h
 of_bytes (text.Edn pretty) b (SameKeys clash) h = absurd h
+of_bytes text.Html b (NotKept lost) h = absurd h
+of_bytes text.Html b (SameKeys clash) h = absurd h
 
 -- the digits of one in hex stand for these
 pub of_hex : (t : Text) (input b : List ℕ) (e : JsonError) → IsUtf8 input → decode_of (uncommented input) ≡ Ok b
@@ -54,6 +56,8 @@ of_hex (text.Json strict) input b (NotKept lost) utf8 digits h = (b, (utf8, digi
 of_hex (text.Json strict) input b (SameKeys clash) utf8 digits h = (b, (utf8, digits), h)
 of_hex (text.Edn pretty) input b (NotKept lost) utf8 digits h = absurd h
 of_hex (text.Edn pretty) input b (SameKeys clash) utf8 digits h = absurd h
+of_hex text.Html input b (NotKept lost) utf8 digits h = absurd h
+of_hex text.Html input b (SameKeys clash) utf8 digits h = absurd h
 
 pub ruleset hex_laws = (of_hex)
 
@@ -66,20 +70,26 @@ pub of_diag : (t : Text) (input : List ℕ) (i j : Item) (e : JsonError) → e �
     → IsNoOutput (form.Plain target.Diag) (form.Text t) input e
 of_diag (text.Json strict) input i j (Cbor e) other reads h of = absurd (other (cbor_memory e of))
 of_diag (text.Edn pretty) input i j (Cbor e) other reads h of = absurd (other of)
+of_diag text.Html input i j (Cbor e) other reads h of = absurd (other of)
 of_diag (text.Json strict) input i j (NotKept lost) other reads h of = (encoded i, (i, reads, refl), h)
 of_diag (text.Json strict) input i j (SameKeys clash) other reads h of = (encoded i, (i, reads, refl), h)
 of_diag (text.Edn pretty) input i j (NotKept lost) other reads h of = absurd h
 of_diag (text.Edn pretty) input i j (SameKeys clash) other reads h of = absurd h
+of_diag text.Html input i j (NotKept lost) other reads h of = absurd h
+of_diag text.Html input i j (SameKeys clash) other reads h of = absurd h
 
 pub of_pretty : (t : Text) (input : List ℕ) (i j : Item) (e : JsonError) → e ≢ Cbor refusal.Memory
     → Reads source.Diag input i → IsNoText t (encoded i) e → IsTextErrorOf t j e
     → IsNoOutput (form.Plain target.Pretty) (form.Text t) input e
 of_pretty (text.Json strict) input i j (Cbor e) other reads h of = absurd (other (cbor_memory e of))
 of_pretty (text.Edn pretty) input i j (Cbor e) other reads h of = absurd (other of)
+of_pretty text.Html input i j (Cbor e) other reads h of = absurd (other of)
 of_pretty (text.Json strict) input i j (NotKept lost) other reads h of = (encoded i, (i, reads, refl), h)
 of_pretty (text.Json strict) input i j (SameKeys clash) other reads h of = (encoded i, (i, reads, refl), h)
 of_pretty (text.Edn pretty) input i j (NotKept lost) other reads h of = absurd h
 of_pretty (text.Edn pretty) input i j (SameKeys clash) other reads h of = absurd h
+of_pretty text.Html input i j (NotKept lost) other reads h of = absurd h
+of_pretty text.Html input i j (SameKeys clash) other reads h of = absurd h
 
 pub ruleset plain_laws = (of_bytes, of_diag, of_pretty)
 
@@ -88,9 +98,12 @@ pub of_edn : (from t : Text) (input : List ℕ) (i j : Item) (e : JsonError) →
     → IsNoOutput (form.Text from) (form.Text t) input e
 of_edn from (text.Json strict) input i j (Cbor e) other is h of = absurd (other (cbor_memory e of))
 of_edn from (text.Edn pretty) input i j (Cbor e) other is h of = absurd (other of)
+of_edn from text.Html input i j (Cbor e) other is h of = absurd (other of)
 of_edn from (text.Json strict) input i j (NotKept lost) other is h of = (encoded i, (i, is, refl), h)
 of_edn from (text.Json strict) input i j (SameKeys clash) other is h of = (encoded i, (i, is, refl), h)
 of_edn from (text.Edn pretty) input i j (NotKept lost) other is h of = absurd h
 of_edn from (text.Edn pretty) input i j (SameKeys clash) other is h of = absurd h
+of_edn from text.Html input i j (NotKept lost) other is h of = absurd h
+of_edn from text.Html input i j (SameKeys clash) other is h of = absurd h
 
 pub ruleset edn_laws = (of_edn)

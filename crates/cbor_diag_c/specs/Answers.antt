@@ -54,9 +54,13 @@ no_type = 17
 abbrev pub not_recognized : ℕ
 not_recognized = 18
 
+-- what is returned for a file of names that has an error
+abbrev pub wrong_names : ℕ
+wrong_names = 19
+
 -- no error has this number
 abbrev pub IsNoError : ℕ → Type 0
-IsNoError n = (n ≡ 0) ⊎ (not_recognized < n)
+IsNoError n = (n ≡ 0) ⊎ (wrong_names < n)
 
 -- what the error of this number says
 abbrev pub IsTextOf : ℕ → List ℕ → Type 0
@@ -70,6 +74,7 @@ IsTextOf n text =
     ⊎ ((n ≡ no_part) × (text ≡ codes "the path leads to no part of the item"))
     ⊎ ((n ≡ no_type) × (text ≡ codes "no such type"))
     ⊎ ((n ≡ not_recognized) × (text ≡ codes "neither hex, EDN, base 64 nor bytes of items"))
+    ⊎ ((n ≡ wrong_names) × (text ≡ codes "the file of names has an error"))
     ⊎ (IsNoError n × (text ≡ codes "no such error"))
 
 -- this number was returned

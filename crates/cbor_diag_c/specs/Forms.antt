@@ -3,6 +3,7 @@ use Rattle.std.specs.Prelude.{◌≡◌, ◌⊎◌, ℕ, ◌<◌, Bool, true, fa
 use Rattle.cbor_grammar.specs.declared.error.Error.{Error}
 use Rattle.cbor_grammar.specs.declared.error.Error.TheVariants as refusal
 use Rattle.cbor_grammar.specs.Item.{Item}
+use Rattle.cbor_grammar.specs.Facts.{IsItem}
 use Rattle.cbor_grammar.specs.Written.{resolve}
 use Rattle.cbor_diag.specs.View.{view}
 use Rattle.cbor_diag.specs.declared.conversion.form.Source.{Source}
@@ -17,6 +18,7 @@ use Rattle.cbor_edn_writer.specs.Written.{IsEdnText, line_style, pretty_style}
 use Rattle.cbor_json.specs.declared.style.JsonStyle.{JsonStyle}
 use Rattle.cbor_json.specs.declared.style.TheConstants.JsonStyle.{PLAIN, STRICT}
 use Rattle.cbor_json.specs.Written.{IsJsonText}
+use Rattle.cbor_page.specs.Markup.{IsMarkup}
 use Rattle.cbor_diag_c.specs.declared.form.Form.{Form}
 use Rattle.cbor_diag_c.specs.declared.form.Form.TheVariants as form
 use Rattle.cbor_diag_c.specs.declared.form.Text.{Text}
@@ -31,10 +33,11 @@ form_number (form.Text (text.Edn false)) = 4
 form_number (form.Text (text.Edn true)) = 5
 form_number (form.Text (text.Json false)) = 6
 form_number (form.Text (text.Json true)) = 7
+form_number (form.Text text.Html) = 8
 
 -- no form has this number
 abbrev pub IsNoForm : ℕ → Type 0
-IsNoForm n = 7 < n
+IsNoForm n = 8 < n
 
 -- in which form an input is read: notation over several lines is read as notation on one is
 abbrev pub read_as : To → Source
@@ -85,9 +88,15 @@ IsEdnLine pretty i line = (core : List ℕ) × IsEdnText (edn_style pretty) i co
 abbrev pub IsJsonLine : Bool → Item → List ℕ → Type 0
 IsJsonLine strict i line = (core : List ℕ) × IsJsonText (json_style strict) i core × (line ≡ core ++ 10 ∷ [])
 
+-- The lines of a page: constants and escaped data. Their texts joined are the item in EDN over several lines, and their
+-- bytes joined are bytes of it.
+abbrev pub IsHtmlLines : Item → List ℕ → Type 0
+IsHtmlLines i lines = (b line : List ℕ) × IsItem b i × IsEdnLine true i line × IsMarkup line b lines
+
 abbrev pub IsTextLine : Text → Item → List ℕ → Type 0
 IsTextLine (text.Edn pretty) i line = IsEdnLine pretty i line
 IsTextLine (text.Json strict) i line = IsJsonLine strict i line
+IsTextLine text.Html i line = IsHtmlLines i line
 
 -- what is written of an item in that form; in EDN with the widths that its bytes have
 abbrev pub IsWrittenIn : Form → Item → List ℕ → Type 0

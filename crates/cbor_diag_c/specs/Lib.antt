@@ -8,6 +8,7 @@ pub mod Places
 pub mod Words
 pub mod Messages
 pub mod Names
+pub mod Pages
 pub mod Violations
 pub mod Reencodings
 pub mod Heads

@@ -32,11 +32,13 @@ abbrev pub IsNoText : Text → List ℕ → JsonError → Type 0
 IsNoText t b (Cbor e) = IsNoItem b e
 IsNoText (text.Json strict) b e = IsNoJson (json_style strict) b e
 IsNoText (text.Edn pretty) b e = ⊥
+IsNoText text.Html b e = ⊥
 
 -- the only errors that an item has
 abbrev pub IsTextErrorOf : Text → Item → JsonError → Type 0
 IsTextErrorOf (text.Json strict) i e = IsErrorOf (json_style strict) i e
 IsTextErrorOf (text.Edn pretty) i e = e ≡ Cbor refusal.Memory
+IsTextErrorOf text.Html i e = e ≡ Cbor refusal.Memory
 
 -- The bytes of the item that the input is: those that it has, or those that the item is encoded to.
 abbrev pub IsBytesOf : Form → List ℕ → List ℕ → Type 0

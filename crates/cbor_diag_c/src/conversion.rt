@@ -20,7 +20,8 @@ use cbor_grammar::Error;
 use cbor_json::{JsonError, LossKind};
 use std::alloc::Global;
 
-/// Returns an input in one of the plain forms in EDN or JSON. No item is built of bytes and of hex.
+/// Returns an input in one of the plain forms in EDN or JSON, or as lines of a page. No item is
+/// built of bytes and of hex.
 #[tactic(auto, using(crate::proofs::NoOutput::plain_laws))]
 fn plain_to_text(alloc: Global, from: To, text: Text, input: &[u8]) -> Result<Vec<u8>, JsonError>
     ensures ok { IfOk result (λ output.
@@ -37,7 +38,7 @@ fn plain_to_text(alloc: Global, from: To, text: Text, input: &[u8]) -> Result<Ve
     }
 }
 
-/// Returns an input in hex in EDN or JSON.
+/// Returns an input in hex in EDN or JSON, or as lines of a page.
 #[tactic(auto, using(crate::proofs::NoOutput::hex_laws))]
 fn hex_to_text(alloc: Global, text: Text, input: &[u8]) -> Result<Vec<u8>, JsonError>
     ensures ok { IfOk result (λ output.

@@ -41,6 +41,7 @@ fn text(number: u32) -> &'static str
         None if number == 16 => "the path leads to no part of the item",
         None if number == 17 => "no such type",
         None if number == 18 => "neither hex, EDN, base 64 nor bytes of items",
+        None if number == 19 => "the file of names has an error",
         None => "no such error",
     }
 }

@@ -25,6 +25,8 @@ pub(crate) enum Text {
     Edn { pretty: bool },
     /// JSON on one line: what it does not keep is an error, or is lost.
     Json { strict: bool },
+    /// The lines of a page.
+    Html,
 }
 
 impl Form {
@@ -42,6 +44,7 @@ impl Form {
             5 => Some(Form::Text(Text::Edn { pretty: true })),
             6 => Some(Form::Text(Text::Json { strict: false })),
             7 => Some(Form::Text(Text::Json { strict: true })),
+            8 => Some(Form::Text(Text::Html)),
             _ => None,
         }
     }

@@ -1,4 +1,4 @@
-//! Writes items as lines of EDN or JSON for the calls from C.
+//! Writes items as lines of EDN or JSON, or of a page, for the calls from C.
 ghost use Rattle.std.specs.Prelude.{◌≡◌, ◌∷◌, ◌++◌, [], IfOk, IfErr, MatchResult};
 ghost use Rattle.std.specs.String.{string_bytes};
 ghost use Rattle.cbor_diag.specs.View.{view};
@@ -12,6 +12,7 @@ ghost use Rattle.cbor_diag_c.specs.Outputs.{RefusedAs, IsNoText, IsTextErrorOf};
 
 use crate::edn::edn_line;
 use crate::form::{Text, json_style};
+use crate::page::html_lines;
 use cbor_diag::DataItem;
 use cbor_grammar::Error;
 use cbor_json::{JsonError, bytes_to_json};
@@ -40,7 +41,7 @@ fn json_line(alloc: Global, bytes: &[u8], strict: bool) -> Result<Vec<u8>, JsonE
     Ok(line_of(text)?)
 }
 
-/// Returns the item that the bytes encode in EDN or JSON, and a line feed.
+/// Returns the item that the bytes encode in EDN or JSON, and a line feed; or its lines of a page.
 #[tactic(auto, using(crate::proofs::NoOutput::text_laws))]
 pub(crate) fn text_line(alloc: Global, bytes: &[u8], text: Text) -> Result<Vec<u8>, JsonError>
     ensures ok { IfOk result (λ line. (i : Item) × IsItem bytes.now i
@@ -52,10 +53,11 @@ pub(crate) fn text_line(alloc: Global, bytes: &[u8], text: Text) -> Result<Vec<u
     match text {
         Text::Edn { pretty } => Ok(edn_line(alloc, bytes, pretty)?),
         Text::Json { strict } => json_line(alloc, bytes, strict),
+        Text::Html => Ok(html_lines(alloc, bytes)?),
     }
 }
 
-/// Returns the item in EDN or JSON, and a line feed.
+/// Returns the item in EDN or JSON, and a line feed; or its lines of a page.
 pub(crate) fn item_line(alloc: Global, item: &DataItem, text: Text) -> Result<Vec<u8>, JsonError>
     requires { IsWellFormed (view item.now) }
     ensures ok { IfOk result (λ line. IsTextLine text (resolve (view item.now)) line.items) }

@@ -3,3 +3,6 @@ use Rattle.cbor_diag_c.proofs.error.text.Goals as goal
 
 pub returns-in-None-3 : goal.returns-in-None-3
 returns-in-None-3 c = inr (inr (inr (inl (c.if-number-eq13.true, refl))))
+
+pub returns-in-None-6 : goal.returns-in-None-6
+returns-in-None-6 c = inr (inr (inr (inr (inr (inr (inl (c.if-number-eq16.true, refl)))))))
