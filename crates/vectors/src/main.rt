@@ -10,6 +10,7 @@
 #![tactic(auto)]
 
 mod bytes;
+mod cddl;
 mod conversions;
 mod dump;
 mod edn;
@@ -55,6 +56,7 @@ macro_rules! first_answer {
 fn answer(alloc: Global, row: &Row) -> Result<Option<String>, AllocError> {
     first_answer!(alloc, row;
         bytes
+        cddl
         conversions
         dump
         edn
