@@ -17,8 +17,9 @@ ghost use Rattle.cbor_json.specs.Kept.{IsKept, IsLoss};
 ghost use Rattle.cbor_json.specs.Written.{IsJsonOf, IsNotKept, Judges, Tells};
 ghost use Rattle.cbor_json.specs.mirror.Walking.{IsUnique};
 
-use crate::error::Loss;
+use crate::error::{Clash, Loss};
 use crate::loss::first_loss;
+use crate::names::SameNames;
 use crate::print;
 use crate::print::place::JsonPlace;
 use crate::style::JsonStyle;
@@ -37,7 +38,7 @@ pub(crate) enum Judged {
     /// The style is strict, and JSON does not keep this.
     NotKept(Loss),
     /// Two keys of a map became the same.
-    SameKeys,
+    SameKeys(Clash),
 }
 
 /// Whether no object of the text has a key twice. A text without a brace has none, and is not read.
@@ -143,12 +144,23 @@ fn distinct_text<'a>(
     Ok((text, rest))
 }
 
-/// Writes the item at the front, and reads its text to see whether two names are equal. It returns
-/// what became of the item and the bytes after it.
+/// Why the item at the front is not written: the error of the bytes, or out of memory.
+fn front_error(bytes: &[u8], style: JsonStyle, alloc: Global) -> Error
+    ensures { Fails result (read_item deepest bytes.now) }
+{
+    match front_text(bytes, style, alloc) {
+        Ok(_) => Error::Memory,
+        Err(error) => error,
+    }
+}
+
+/// Writes the item at the front, two of whose names are equal unless its text says otherwise. It
+/// returns what became of the item and the bytes after it.
 fn judge_again<'a>(
     bytes: &'a [u8],
     style: JsonStyle,
     alloc: Global,
+    names: SameNames,
 ) -> cbor_grammar::Result<(Judged, &'a [u8])>
     ensures judged { IfOk result (λ found. (i : Item)
         × (read_item deepest bytes.now ≡ Ok (i, found.1.now)) × Judges style found.0 i) }
@@ -160,10 +172,13 @@ fn judge_again<'a>(
         return Ok((Judged::NotKept(loss), rest));
     }
     if has_unique_keys(text.as_str(), alloc)? {
-        Ok((Judged::Text(text), rest))
-    } else {
-        Ok((Judged::SameKeys, rest))
+        return Ok((Judged::Text(text), rest));
     }
+    let clash = Clash {
+        first: bytes.len().saturating_sub(names.first),
+        second: bytes.len().saturating_sub(names.second),
+    };
+    Ok((Judged::SameKeys(clash), rest))
 }
 
 /// Writes the item at the front, and returns what became of it and the bytes after it.
@@ -179,7 +194,8 @@ pub(crate) fn judge_front<'a>(
 {
     match distinct_text(bytes, style, alloc) {
         Ok((text, rest)) => Ok((judged_text(text, bytes, style), rest)),
-        Err(_) => judge_again(bytes, style, alloc),
+        Err(NotWritten::SameNames(names)) => judge_again(bytes, style, alloc, names),
+        Err(NotWritten::Failed) => Err(front_error(bytes, style, alloc)),
     }
 }
 

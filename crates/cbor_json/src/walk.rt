@@ -14,12 +14,13 @@ ghost use Rattle.cbor_notation_writer.specs.mirror.Straight.{Written, chunk};
 ghost use Rattle.cbor_json.specs.JsonLeaves.{json_leaves, is_value};
 ghost use Rattle.cbor_json.specs.mirror.Walking.{AreAt, UniqueTexts, UniqueHere, name_between};
 
-use crate::names::{Name, are_distinct};
+use crate::names::{Name, SameNames, are_distinct, same_names};
 use crate::print::Json;
 use crate::print::place::JsonPlace;
-use crate::print::text::content_at;
+use crate::print::text::{content_at, is_item};
 use cbor_bytes::borrowed::read_borrowed;
 use cbor_bytes::head::read_head;
+use cbor_bytes::skip::after_front;
 use cbor_grammar::argument::Argument;
 use cbor_grammar::head::ItemHead;
 use cbor_grammar::layout::{ContainerStyle, Content, Layout};
@@ -31,20 +32,37 @@ use cbor_notation_writer::from_bytes::push_front;
 use cbor_notation_writer::parts::{Container, Leaf};
 use std::alloc::{AllocError, Global};
 
-/// No item is at the front, memory ran out, or two names of an object may be equal.
+/// Why no text is written.
 #[derive(Clone, Copy)]
-pub(crate) struct NotWritten;
+pub(crate) enum NotWritten {
+    /// No item is at the front, or memory ran out.
+    Failed,
+    /// Two names of an object are equal.
+    SameNames(SameNames),
+}
 
 impl From<AllocError> for NotWritten {
     fn from(_refused: AllocError) -> NotWritten {
-        NotWritten
+        NotWritten::Failed
     }
 }
 
 impl From<Error> for NotWritten {
     fn from(_error: Error) -> NotWritten {
-        NotWritten
+        NotWritten::Failed
     }
+}
+
+/// The pairs of a map, from one on whose value is not written.
+#[derive(Clone, Copy)]
+struct Pairs<'a> {
+    count: Argument,
+    /// How many pairs come before it.
+    held: usize,
+    /// The bytes from its value on.
+    value: &'a [u8],
+    /// The index of the first name of the map.
+    first: usize,
 }
 
 /// The kind of a string of definite length, its length and the width of that, by its head.
@@ -75,7 +93,7 @@ pub(crate) fn push_item<'a>(
 ) -> Result<&'a [u8], NotWritten>
     requires level { 1 ≤ place.now.level }
     requires deepest { place.now.level ≤ deepest + 1 }
-    requires value { is_value place.now.spot ≡ true }
+    requires value { is_value place.now.role ≡ true }
     requires flat { place.now.layout ≡ Layout.Compact }
     ensures written { IfOk result (λ rest. Written
         (UniqueTexts (levels_left place.now.level) place.now)
@@ -84,7 +102,7 @@ pub(crate) fn push_item<'a>(
     ensures names { OnOk result (names.new.items ≡ names.old.items) }
 {
     if place.level > DEEPEST {
-        return Err(NotWritten);
+        return Err(NotWritten::Failed);
     }
     let (head, inner) = read_head(bytes)?;
     if let Some(string) = definite(head) {
@@ -104,7 +122,7 @@ pub(crate) fn push_item<'a>(
         ItemHead::Tag(tag, _) => push_item(out, names, inner, &place.below(tag)),
         _ => match push_front::<Json>(out, bytes, place) {
             Ok(rest) => Ok(rest),
-            Err(_) => Err(NotWritten),
+            Err(_) => Err(NotWritten::Failed),
         },
     }
 }
@@ -120,7 +138,7 @@ fn push_array<'a>(
 ) -> Result<&'a [u8], NotWritten>
     requires level { 1 ≤ place.now.level }
     requires deepest { place.now.level ≤ deepest }
-    requires value { is_value place.now.spot ≡ true }
+    requires value { is_value place.now.role ≡ true }
     requires flat { place.now.layout ≡ Layout.Compact }
     ensures written { IfOk result (λ rest. Written (UniqueHere place.now)
         (read_behind place.now.level (ItemHead.Array array.entry.0) array.entry.1.now)
@@ -157,7 +175,7 @@ fn push_object<'a>(
 ) -> Result<&'a [u8], NotWritten>
     requires level { 1 ≤ place.now.level }
     requires deepest { place.now.level ≤ deepest }
-    requires value { is_value place.now.spot ≡ true }
+    requires value { is_value place.now.role ≡ true }
     requires flat { place.now.layout ≡ Layout.Compact }
     ensures written { IfOk result (λ rest. Written (UniqueHere place.now)
         (read_behind place.now.level (ItemHead.Map map.entry.0) map.entry.1.now)
@@ -182,10 +200,79 @@ fn push_object<'a>(
         let value = push_name(out, names, rest, &inner)?;
         Json::pass_key(&mut inner, rest, value);
         Json::colon(out, style)?;
-        rest = push_item(out, names, value, &inner)?;
+        rest = match push_item(out, names, value, &inner) {
+            Ok(next) => next,
+            Err(why) => {
+                let pairs = Pairs {
+                    count,
+                    held,
+                    value,
+                    first,
+                };
+                return Err(why_around(out, names, pairs, &inner, why));
+            }
+        };
         Json::pass(&mut inner);
         held += 1;
     }
+}
+
+/// Why a map is not written, given why one of its values is not: two equal names of the map itself
+/// come before those of the value.
+fn why_around(
+    out: &mut String,
+    names: &mut Vec<Name>,
+    pairs: Pairs<'_>,
+    place: &JsonPlace,
+    why: NotWritten,
+) -> NotWritten
+    requires from { 1 ≤ place.now.level }
+    requires to { place.now.level ≤ deepest + 1 }
+    requires flat { place.now.layout ≡ Layout.Compact }
+{
+    let NotWritten::SameNames(_) = why else {
+        return why;
+    };
+    names.truncate(pairs.first.saturating_add(pairs.held).saturating_add(1));
+    if push_later_names(out, names, pairs, place).is_err() {
+        return NotWritten::Failed;
+    }
+    let own = names.get(pairs.first..).unwrap_or(&[]);
+    match same_names(out.as_bytes(), own, place.alloc) {
+        Ok(Some(same)) => NotWritten::SameNames(same),
+        Ok(None) => why,
+        Err(_) => NotWritten::Failed,
+    }
+}
+
+/// Writes the names of the pairs after the first of these.
+fn push_later_names(
+    out: &mut String,
+    names: &mut Vec<Name>,
+    pairs: Pairs<'_>,
+    place: &JsonPlace,
+) -> Result<(), NotWritten>
+    requires from { 1 ≤ place.now.level }
+    requires to { place.now.level ≤ deepest + 1 }
+    requires flat { place.now.layout ≡ Layout.Compact }
+{
+    let mut inner = *place;
+    Json::pass(&mut inner);
+    let mut value = pairs.value;
+    for more in 1..=pairs.value.len() {
+        let Some(rest) = after_front(value, place.level) else {
+            return Err(NotWritten::Failed);
+        };
+        if pairs
+            .count
+            .after_end(pairs.held.saturating_add(more), rest)
+            .is_some()
+        {
+            return Ok(());
+        }
+        value = push_name(out, names, rest, &inner)?;
+    }
+    Err(NotWritten::Failed)
 }
 
 /// Writes the key at the front, and records where its name stands.
@@ -201,16 +288,20 @@ fn push_name<'a>(
         (read_at place.now.level bytes.now)
         rest.now (string_bytes out.old) (string_bytes out.new)) }
     ensures names { OnOk result (names.new.items ≡ names.old.items
-        ++ name_between (string_bytes out.old) (string_bytes out.new) ∷ []) }
+        ++ name_between (string_bytes out.old) (string_bytes out.new) (length bytes.now) ∷ []) }
 {
     let start = out.len();
     let Ok(rest) = push_front::<Json>(out, bytes, place) else {
-        return Err(NotWritten);
+        return Err(NotWritten::Failed);
     };
-    let end = out.len();
-    match names.push(Name { start, end }) {
+    let name = Name {
+        start,
+        end: out.len(),
+        left: bytes.len(),
+    };
+    match names.push(name) {
         Ok(()) => Ok(rest),
-        Err(_) => Err(NotWritten),
+        Err(_) => Err(NotWritten::Failed),
     }
 }
 
@@ -228,13 +319,16 @@ fn close_object(
         → length before ≡ first → names.new.items ≡ before) }
 {
     let Some(own) = names.get(first..) else {
-        return Err(NotWritten);
+        return Err(NotWritten::Failed);
     };
-    if !are_distinct(out.as_bytes(), own, alloc) {
-        return Err(NotWritten);
+    if are_distinct(out.as_bytes(), own, alloc) {
+        names.truncate(first);
+        return Ok(());
     }
-    names.truncate(first);
-    Ok(())
+    match same_names(out.as_bytes(), own, alloc)? {
+        Some(same) => Err(NotWritten::SameNames(same)),
+        None => Err(NotWritten::Failed),
+    }
 }
 
 /// Writes a string, by its kind, its length and the bytes after its head.
@@ -248,7 +342,7 @@ fn push_string<'a>(
 ) -> Result<&'a [u8], NotWritten>
     requires level { 1 ≤ place.now.level }
     requires deepest { place.now.level ≤ deepest }
-    requires value { is_value place.now.spot ≡ true }
+    requires value { is_value place.now.role ≡ true }
     requires flat { place.now.layout ≡ Layout.Compact }
     ensures written { IfOk result (λ rest. Written (UniqueHere place.now)
         (read_behind place.now.level (ItemHead.String string.entry.0.0
@@ -269,10 +363,19 @@ fn push_string<'a>(
                 Ok(rest)
             }
             Content::Item => {
-                push_shown(out, names, (inner, width), place)?;
-                Ok(rest)
+                if !is_item(inner, place.level + 1) {
+                    Json::string(out, content, width, place)?;
+                    return Ok(rest);
+                }
+                match push_shown(out, names, (inner, width), place) {
+                    Ok(()) => Ok(rest),
+                    Err(NotWritten::SameNames(same)) => {
+                        Err(NotWritten::SameNames(same.before(rest.len())))
+                    }
+                    Err(NotWritten::Failed) => Err(NotWritten::Failed),
+                }
             }
-            Content::Sequence => Err(NotWritten),
+            Content::Sequence => Err(NotWritten::Failed),
         },
     }
 }
@@ -287,7 +390,7 @@ fn push_shown(
 ) -> Result<(), NotWritten>
     requires level { 1 ≤ place.now.level }
     requires deepest { place.now.level ≤ deepest }
-    requires value { is_value place.now.spot ≡ true }
+    requires value { is_value place.now.role ≡ true }
     ensures written { IfOk result (λ _. Written
         (UniqueTexts (levels_left (place.now.level + 1)) (json_leaves.inside
         (embedding (chunk string.entry.1 string.entry.0.now)) Layout.Compact place.now))
@@ -302,6 +405,6 @@ fn push_shown(
     if rest.is_empty() {
         Ok(())
     } else {
-        Err(NotWritten)
+        Err(NotWritten::Failed)
     }
 }

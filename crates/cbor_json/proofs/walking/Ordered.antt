@@ -49,15 +49,15 @@ are_one_more text (x ∷ names) [] name n h one = absurd h
 are_one_more text (x ∷ names) (m ∷ ns) name n h one = (h.0, are_one_more text names ns name n h.1 one)
 
 -- the names after a further pair: what is before its key, the key, what is between, the value
-pub are_after : (out s n c b started key between written : List ℕ) (names : List Name) (ns : List (List ℕ))
-    → AreAt out names ns → started ≡ out ++ s → key ≡ started ++ n → between ≡ key ++ c → written ≡ between ++ b
-    → AreAt written (names ++ name_between started key ∷ []) (ns ++ n ∷ [])
-are_after out s n c b started key between written names ns h begins keyed colon ends =
-    let own = name_between started key ∷ [] in
+pub are_after : (out s n c b started key between written : List ℕ) (left : ℕ) (names : List Name)
+    (ns : List (List ℕ)) → AreAt out names ns → started ≡ out ++ s → key ≡ started ++ n → between ≡ key ++ c → written ≡ between ++ b
+    → AreAt written (names ++ name_between started key left ∷ []) (ns ++ n ∷ [])
+are_after out s n c b started key between written left names ns h begins keyed colon ends =
+    let own = name_between started key left ∷ [] in
     let before : AreAt started names ns = subst (λ x. AreAt x names ns) (sym begins) (are_more out s names ns h) in
     let all : AreAt (started ++ n) (names ++ own) (ns ++ n ∷ []) =
-    are_one_more (started ++ n) names ns (name_between started key) n (are_more started n names ns before)
-    (at_end started n (name_between started key) refl (ap (λ (x : List ℕ). length x) keyed)) in
+    are_one_more (started ++ n) names ns (name_between started key left) n (are_more started n names ns before)
+    (at_end started n (name_between started key left) refl (ap (λ (x : List ℕ). length x) keyed)) in
     let at_key : AreAt key (names ++ own) (ns ++ n ∷ []) = subst (λ x. AreAt x (names ++ own) (ns ++ n ∷ [])) (sym keyed) all in
     let at_colon : AreAt between (names ++ own) (ns ++ n ∷ []) =
     subst (λ x. AreAt x (names ++ own) (ns ++ n ∷ [])) (sym colon) (are_more key c (names ++ own) (ns ++ n ∷ []) at_key) in

@@ -40,13 +40,13 @@ use Rattle.cbor_notation_writer.proofs.straight.Texts.{Reached, reached_all, Ite
 use Rattle.cbor_grammar.specs.declared.layout.ContainerStyle.TheVariants as style
 use Rattle.cbor_grammar.specs.Estimate.{one_line_limit, estimated_length}
 use Rattle.cbor_grammar.specs.mirror.Lengths.{left_of}
-use Rattle.cbor_json.specs.Spots.{inside_spot}
+use Rattle.cbor_json.specs.Roles.{inside_role}
 use Rattle.cbor_json.proofs.walking.Named.{NamedWritten, pairs_named}
 use Rattle.cbor_notation_writer.specs.mirror.Straight.{Written}
 use Rattle.cbor_json.specs.JsonLeaves.{json_leaves, is_value, tag_at, tag_end_at, opening_at, closing_at}
 use Rattle.cbor_json.specs.declared.print.place.JsonPlace.{JsonPlace}
-use Rattle.cbor_json.specs.declared.print.place.Spot.{Spot}
-use Rattle.cbor_json.specs.declared.print.place.Spot.TheVariants as spot
+use Rattle.cbor_json.specs.declared.print.place.Role.{Role}
+use Rattle.cbor_json.specs.declared.print.place.Role.TheVariants as role
 use Rattle.cbor_json.specs.mirror.Walking.{IsUnique, UniqueAs, UniqueTexts, UniqueWith, UniqueHere, NamedPairs, NamedText}
 use Rattle.cbor_json.proofs.json.Parts.{Part}
 use Rattle.cbor_json.proofs.json.Texts.{text_part, unique_part}
@@ -72,17 +72,17 @@ reads_unique left t le h unique = record {
   shows = h.shows;
 }
 
-unique_as : (s : Spot) (left : ℕ) (t : List ℕ) → left ≤ 128 → Part false s left t → UniqueAs s t → Part true s left t
-unique_as spot.Key left t le h unique = h
-unique_as spot.InKey left t le h unique = h
-unique_as spot.Value left t le h unique = reads_unique left t le h unique
-unique_as spot.Named left t le h unique = reads_unique left t le h unique
+unique_as : (s : Role) (left : ℕ) (t : List ℕ) → left ≤ 128 → Part false s left t → UniqueAs s t → Part true s left t
+unique_as role.Key left t le h unique = h
+unique_as role.InKey left t le h unique = h
+unique_as role.Value left t le h unique = reads_unique left t le h unique
+unique_as role.Named left t le h unique = reads_unique left t le h unique
 
-unique_there : (s : Spot) (left : ℕ) (t : List ℕ) → left ≤ 128 → is_value s ≡ true → Part true s left t → UniqueAs s t
-unique_there spot.Key left t le v h = absurd cc
-unique_there spot.InKey left t le v h = absurd cc
-unique_there spot.Value left t le v h = unique_text left t le h
-unique_there spot.Named left t le v h = unique_text left t le h
+unique_there : (s : Role) (left : ℕ) (t : List ℕ) → left ≤ 128 → is_value s ≡ true → Part true s left t → UniqueAs s t
+unique_there role.Key left t le v h = absurd cc
+unique_there role.InKey left t le v h = absurd cc
+unique_there role.Value left t le v h = unique_text left t le h
+unique_there role.Named left t le v h = unique_text left t le h
 
 -- an atom that is no byte string in which an item may be shown
 abbrev pub IsQuiet : Atom → Type 0
@@ -161,15 +161,15 @@ read_well level left b i rest levels bytes is =
 
 -- the text of an item by its parts
 whole_text : (level left : ℕ) (p : JsonPlace) (i : Item) (t : List ℕ) → level + suc left ≡ 129 → suc left ≤ 128
-    → is_value p.spot ≡ true → WellFormed level i → UniqueWith left (UniqueTexts left) p i t
+    → is_value p.role ≡ true → WellFormed level i → UniqueWith left (UniqueTexts left) p i t
     → UniqueTexts (suc left) p i t
 unfolding TextsOf
 whole_text level left p i t levels le v well h =
     let below = λ (q : JsonPlace) (j : Item) (s : List ℕ) (fits : WellFormed (level + 1) j) (k : UniqueTexts left q j s).
-    unique_as q.spot left s (omega (arith, le))
+    unique_as q.role left s (omega (arith, le))
     (text_part (level + 1) left (omega (arith, levels)) q j s fits k.0) k.1 in (
       (p, refl, plain_with left p i t h),
-      unique_there p.spot (suc left) t le v
+      unique_there p.role (suc left) t le v
           (unique_part true (level + 1) left (omega (arith, levels)) (UniqueTexts left) below p i t level refl well v h),
     )
 
@@ -214,7 +214,7 @@ unfolding TextsOf
 open_text left p i t h = subst (λ x. TextWith json_leaves left (TextsOf json_leaves left) x i t) h.1 h.2
 
 module _ (p : JsonPlace) (b inner : List ℕ) (h : ItemHead) (level : ℕ) (here : level ≡ p.level) (positive : 1 ≤ level)
-    (deep : level ≤ 128) (v : is_value p.spot ≡ true) (bytes : IsBytes b) (read : read_head b ≡ Ok (h, inner)) where
+    (deep : level ≤ 128) (v : is_value p.role ≡ true) (bytes : IsBytes b) (read : read_head b ≡ Ok (h, inner)) where
   levels : levels_left p.level ≡ suc (levels_left (p.level + 1))
   levels = omega (arith, here, deep)
 
@@ -247,20 +247,20 @@ module _ (p : JsonPlace) (b inner : List ℕ) (h : ItemHead) (level : ℕ) (here
 
 -- ---- a tag
 
-tag_shown : (s : Spot) (n : ℕ) → is_value s ≡ true → [] ≡ tag_at s n
-tag_shown spot.Key n v = absurd cc
-tag_shown spot.InKey n v = absurd cc
-tag_shown spot.Value n v = refl
-tag_shown spot.Named n v = refl
+tag_shown : (s : Role) (n : ℕ) → is_value s ≡ true → [] ≡ tag_at s n
+tag_shown role.Key n v = absurd cc
+tag_shown role.InKey n v = absurd cc
+tag_shown role.Value n v = refl
+tag_shown role.Named n v = refl
 
-tag_end_shown : (s : Spot) → is_value s ≡ true → [] ≡ tag_end_at s
-tag_end_shown spot.Key v = absurd cc
-tag_end_shown spot.InKey v = absurd cc
-tag_end_shown spot.Value v = refl
-tag_end_shown spot.Named v = refl
+tag_end_shown : (s : Role) → is_value s ≡ true → [] ≡ tag_end_at s
+tag_end_shown role.Key v = absurd cc
+tag_end_shown role.InKey v = absurd cc
+tag_end_shown role.Value v = refl
+tag_end_shown role.Named v = refl
 
 pub tag_here : {A E : Type 0} (p q : JsonPlace) (n : ℕ) (w : IntegerWidth) (b : List ℕ) (r : Result A E)
-    (f : A → List ℕ) (old new : List ℕ) → is_value p.spot ≡ true → q ≡ json_leaves.below n p
+    (f : A → List ℕ) (old new : List ℕ) → is_value p.role ≡ true → q ≡ json_leaves.below n p
     → IfOk r (λ x. Written (UniqueTexts (levels_left q.level) q) (read_at q.level b) (f x) old new)
     → IfOk r (λ x. Written (UniqueHere p) (read_behind p.level (head.Tag n w) b) (f x) old new)
 tag_here p q n w b (Err e) f old new v is h = tt
@@ -271,7 +271,7 @@ tag_here p q n w b (Ok x) f old new v is (i, read, t, text, eq) =
       tagged n w i,
       tag_read left n w b (f x) i reads,
       t,
-      ([], t, [], tag_shown p.spot n v, there, tag_end_shown p.spot v, sym (append-nil t)),
+      ([], t, [], tag_shown p.role n v, there, tag_end_shown p.role v, sym (append-nil t)),
       eq,
     )
 
@@ -304,21 +304,21 @@ pub same_content : (p : JsonPlace) (x y : Bor (List ℕ)) → content.Bytes x �
 same_content p x y e h =
     let same : x ≡ y = cc in subst (λ (z : Bor (List ℕ)). json_leaves.content p z.now ≡ shown.Bytes) same h
 
-opens_nothing : (s : Spot) (len : Argument) → is_value s ≡ true → [] ≡ opening_at s (Embedded len)
-opens_nothing spot.Key len v = absurd cc
-opens_nothing spot.InKey len v = absurd cc
-opens_nothing spot.Value len v = refl
-opens_nothing spot.Named len v = refl
+opens_nothing : (s : Role) (len : Argument) → is_value s ≡ true → [] ≡ opening_at s (Embedded len)
+opens_nothing role.Key len v = absurd cc
+opens_nothing role.InKey len v = absurd cc
+opens_nothing role.Value len v = refl
+opens_nothing role.Named len v = refl
 
-closes_nothing : (s : Spot) (len : Argument) → is_value s ≡ true → [] ≡ closing_at s (Embedded len)
-closes_nothing spot.Key len v = absurd cc
-closes_nothing spot.InKey len v = absurd cc
-closes_nothing spot.Value len v = refl
-closes_nothing spot.Named len v = refl
+closes_nothing : (s : Role) (len : Argument) → is_value s ≡ true → [] ≡ closing_at s (Embedded len)
+closes_nothing role.Key len v = absurd cc
+closes_nothing role.InKey len v = absurd cc
+closes_nothing role.Value len v = refl
+closes_nothing role.Named len v = refl
 
 -- the item that the bytes are, all of them
 pub item_here : (p q : JsonPlace) (n : ℕ) (w : IntegerWidth) (x : Bor (List ℕ)) (b rest old new : List ℕ)
-    → read_content kind.Bytes n w b ≡ Ok (chunk w x.now, rest) → is_value p.spot ≡ true → p.layout ≡ layout.Compact
+    → read_content kind.Bytes n w b ≡ Ok (chunk w x.now, rest) → is_value p.role ≡ true → p.layout ≡ layout.Compact
     → json_leaves.content p x.now ≡ shown.Item → q ≡ json_leaves.inside (embedding (chunk w x.now)) layout.Compact p
     → Written (UniqueTexts (levels_left q.level) q) (read_at q.level x.now) [] old new
     → Written (UniqueHere p) (read_behind p.level (head.String kind.Bytes (Number n w)) b) rest old new
@@ -329,7 +329,7 @@ item_here p q n w x b rest old new read v flat shows is (i, inner, t, text, eq) 
     (is ∙ ap (λ l. json_leaves.inside (embedding c) l p) (sym flat)) text in
     let reads = subst (λ (y : JsonPlace). read_at y.level x.now ≡ Ok (i, [])) is inner in
     let one : OneText json_leaves (UniqueTexts left) p c (Some i) t =
-    (t, there, ([], [], opens_nothing p.spot _ v, closes_nothing p.spot _ v, sym (append-nil t))) in
+    (t, there, ([], [], opens_nothing p.role _ v, closes_nothing p.role _ v, sym (append-nil t))) in
     let some : 0 < length x.now = omega (arith, item_shorter left x.now i [] reads) in
     let here = one_embedded json_leaves (UniqueTexts left) p c x.now (embedded_at left x.now) (Some i) t some
     (whole_item left x.now [] i reads refl) one in (
@@ -342,7 +342,7 @@ item_here p q n w x b rest old new read v flat shows is (i, inner, t, text, eq) 
 
 pub shown_here : (p : JsonPlace) (n : ℕ) (w : IntegerWidth) (s : StringContent) (x : Bor (List ℕ))
     (b rest old new : List ℕ) (k : StringKind) → s ≡ content.Bytes x → kind_of s ≡ k
-    → read_content k n w b ≡ Ok (borrowed_chunk w s, rest) → is_value p.spot ≡ true → p.layout ≡ layout.Compact
+    → read_content k n w b ≡ Ok (borrowed_chunk w s, rest) → is_value p.role ≡ true → p.layout ≡ layout.Compact
     → json_leaves.content p x.now ≡ shown.Item
     → Written (UniqueTexts (levels_left (p.level + 1)) (json_leaves.inside (embedding (chunk w x.now)) layout.Compact p))
     (read_at (p.level + 1) x.now) [] old new
@@ -405,11 +405,11 @@ object_here p now count ps held ns b old out new rest after flat w apart reached
       text.2,
     )
 
-pub inside_array : (s : Spot) (count : Argument) → is_value s ≡ true → inside_spot (Array count) s ≡ spot.Value
-inside_array spot.Key count v = absurd cc
-inside_array spot.InKey count v = absurd cc
-inside_array spot.Value count v = refl
-inside_array spot.Named count v = refl
+pub inside_array : (s : Role) (count : Argument) → is_value s ≡ true → inside_role (Array count) s ≡ role.Value
+inside_array role.Key count v = absurd cc
+inside_array role.InKey count v = absurd cc
+inside_array role.Value count v = refl
+inside_array role.Named count v = refl
 
 pub quiet_of : (h : ItemHead) → ((a : Argument) → ¬ (h ≡ head.Array a)) → ((a : Argument) → ¬ (h ≡ head.Map a))
     → ((n : ℕ) (w : IntegerWidth) → ¬ (h ≡ head.Tag n w))

@@ -19,7 +19,7 @@ use Rattle.cbor_notation_writer.specs.Dialect.{TextsOf}
 use Rattle.cbor_notation_writer.proofs.straight.Texts.{no_items_written, one_item_written, reached_none, reached_more}
 use Rattle.cbor_notation_writer.proofs.straight.Texts.{width_left}
 use Rattle.cbor_json.specs.JsonLeaves.{json_leaves, is_value}
-use Rattle.cbor_json.specs.Spots.{next_spot, value_spot}
+use Rattle.cbor_json.specs.Roles.{next_role, value_role}
 use Rattle.cbor_json.specs.declared.print.place.JsonPlace.{JsonPlace}
 use Rattle.cbor_json.specs.mirror.Walking.{UniqueTexts, UniqueAs, name_between}
 use Rattle.cbor_json.proofs.json.Braces.{key_in}
@@ -130,7 +130,7 @@ push_array-items-init t c =
     let place = c.args.place.now in
     let count = c.args.array.0 in
     let left = levels_left (place.level + 1) in
-    let spot_is = ap (λ (q : JsonPlace). q.spot) c.inside-inner.ensures ∙ inside_array place.spot count c.requires.value in
+    let role_is = ap (λ (q : JsonPlace). q.role) c.inside-inner.ensures ∙ inside_array place.role count c.requires.value in
     record {
       found = no_items;
       so_far = ap (λ a. parts_read left (items_in no_items a) c.args.array.1.now) (none_held count);
@@ -139,8 +139,8 @@ push_array-items-init t c =
       reached = reached_none count;
       level = ap (λ (q : JsonPlace). q.level) c.inside-inner.ensures;
       layout = ap (λ (q : JsonPlace). q.layout) c.inside-inner.ensures;
-      value = ap (λ s. is_value s) spot_is;
-      spot = spot_is;
+      value = ap (λ s. is_value s) role_is;
+      role = role_is;
       kept = refl;
       room = omega arith;
     }
@@ -179,7 +179,7 @@ push_array-items-preserved t c =
     let read = same_read inner.level level rest after p.0 i.level p.1 in
     let shorter = item_shorter left rest p.0 after read in
     let text = subst (λ n. UniqueTexts (levels_left n) inner p.0 p.2) i.level p.3 in
-    let spot_is = ap (λ (q : JsonPlace). q.spot) c.pass.ensures.place ∙ ap next_spot i.spot in
+    let role_is = ap (λ (q : JsonPlace). q.role) c.pass.ensures.place ∙ ap next_role i.role in
     record {
       found = joined i.found (item p.0 no_items);
       so_far = sym (member_read left i.found count held rest after p.0 (sym c.in_default.ensures) read) ∙ i.so_far;
@@ -188,8 +188,8 @@ push_array-items-preserved t c =
       reached = reached_more count held rest c.in_default.ensures;
       level = c.pass.ensures.level ∙ i.level;
       layout = c.pass.ensures.layout ∙ i.layout;
-      value = ap (λ s. is_value s) spot_is;
-      spot = spot_is;
+      value = ap (λ s. is_value s) role_is;
+      role = role_is;
       kept = c.in_ok-rest.ensures.names ∙ i.kept;
       room = omega (arith, i.room, shorter);
     }
@@ -213,7 +213,7 @@ push_object-pairs-init t c =
       reached = reached_none count;
       level = ap (λ (q : JsonPlace). q.level) c.inside-inner.ensures;
       layout = ap (λ (q : JsonPlace). q.layout) c.inside-inner.ensures;
-      key = ap (λ (q : JsonPlace). q.spot) c.inside-inner.ensures ∙ key_in place.spot count c.requires.value;
+      key = ap (λ (q : JsonPlace). q.role) c.inside-inner.ensures ∙ key_in place.role count c.requires.value;
       room = omega arith;
     }
 
@@ -286,7 +286,7 @@ push_object-pairs-preserved t c =
       reached = reached_more count held rest c.in_default.ensures;
       level = c.pass.ensures.level ∙ deep;
       layout = c.pass.ensures.layout ∙ (c.pass_key.ensures.layout ∙ i.layout);
-      key = ap (λ (q : JsonPlace). q.spot) c.pass.ensures.place
-          ∙ ap next_spot (ap (λ (q : JsonPlace). q.spot) passed) ∙ ap (λ s. next_spot (value_spot s)) i.key;
+      key = ap (λ (q : JsonPlace). q.role) c.pass.ensures.place
+          ∙ ap next_role (ap (λ (q : JsonPlace). q.role) passed) ∙ ap (λ s. next_role (value_role s)) i.key;
       room = omega (arith, i.room, first, second);
     }

@@ -10,7 +10,7 @@ use Rattle.cbor_bytes.proofs.reading.Readings.{parts_read}
 use Rattle.cbor_notation_writer.proofs.straight.Texts.{Reached, ItemsWritten}
 use Rattle.cbor_json.specs.JsonLeaves.{json_leaves, is_value}
 use Rattle.cbor_json.specs.declared.names.Name.{Name}
-use Rattle.cbor_json.specs.declared.print.place.Spot.TheVariants.{Key, Value}
+use Rattle.cbor_json.specs.declared.print.place.Role.TheVariants.{Key, Value}
 use Rattle.cbor_json.specs.mirror.Walking.{AreAt, UniqueTexts}
 use Rattle.cbor_json.proofs.walking.Named.{NamedWritten}
 use Rattle.cbor_json.proofs.walk.+walk.Given as goal
@@ -51,8 +51,8 @@ invariant-push_array-items l =
       reached : Reached l.count l.held;
       level : l.inner.level ≡ l.place.level + 1;
       layout : l.inner.layout ≡ Compact;
-      value : is_value l.inner.spot ≡ true;
-      spot : l.inner.spot ≡ Value;
+      value : is_value l.inner.role ≡ true;
+      role : l.inner.role ≡ Value;
       kept : l.names.items ≡ l.fn.names.items;
       room : l.held + length l.rest ≤ length l.array.1.now;
     }
@@ -75,6 +75,6 @@ invariant-push_object-pairs l =
       reached : Reached l.count l.held;
       level : l.inner.level ≡ l.place.level + 1;
       layout : l.inner.layout ≡ Compact;
-      key : l.inner.spot ≡ Key;
+      key : l.inner.role ≡ Key;
       room : l.held + length l.rest ≤ length l.map.1.now;
     }
