@@ -1,6 +1,8 @@
 -- Texts that the walk writes: no object in them has a key twice.
 use Rattle.std.proofs.Common.{◌≡◌, ℕ, suc, ◌+◌, ◌<◌, ◌≤◌, List, [], ◌∷◌, ◌++◌, Bool, true, false, Some, Result, Ok}
-use Rattle.std.proofs.Common.{Bor, Option, None, if◌then◌else◌, Err, IfOk, length, refl, sym, ap, subst, ◌∙◌, arith, append-nil}
+use Rattle.std.proofs.Common.{Bor, Option, None, not, if◌then◌else◌, Err, IfOk, length, refl, sym, ap, subst, ◌∙◌}
+use Rattle.std.proofs.Common.{arith, append-nil}
+use Rattle.std.specs.Prelude.{◌&&◌}
 use Rattle.json.specs.Json.{Json}
 use Rattle.json.specs.Strict.{HasUniqueKeys, AreDistinct}
 use Rattle.cbor_grammar.specs.declared.argument.Argument.{Argument}
@@ -43,7 +45,7 @@ use Rattle.cbor_grammar.specs.mirror.Lengths.{left_of}
 use Rattle.cbor_json.specs.Roles.{inside_role}
 use Rattle.cbor_json.proofs.walking.Named.{NamedWritten, pairs_named}
 use Rattle.cbor_notation_writer.specs.mirror.Straight.{Written}
-use Rattle.cbor_json.specs.JsonLeaves.{json_leaves, is_value, tag_at, tag_end_at, opening_at, closing_at}
+use Rattle.cbor_json.specs.JsonLeaves.{json_leaves, is_value, wants_bytes, tag_at, tag_end_at, opening_at, closing_at}
 use Rattle.cbor_json.specs.declared.print.place.JsonPlace.{JsonPlace}
 use Rattle.cbor_json.specs.declared.print.place.Role.{Role}
 use Rattle.cbor_json.specs.declared.print.place.Role.TheVariants as role
@@ -303,6 +305,40 @@ pub same_content : (p : JsonPlace) (x y : Bor (List ℕ)) → content.Bytes x �
     → json_leaves.content p x.now ≡ shown.Bytes → json_leaves.content p y.now ≡ shown.Bytes
 same_content p x y e h =
     let same : x ≡ y = cc in subst (λ (z : Bor (List ℕ)). json_leaves.content p z.now ≡ shown.Bytes) same h
+
+not_shown : (a b c : Bool) → (if a && (b && (c && false)) then shown.Item else shown.Bytes) ≡ shown.Item → ⊥
+not_shown true true true e = cc
+not_shown true true false e = cc
+not_shown true false c e = cc
+not_shown false b c e = cc
+
+-- bytes that may be shown as an item are some
+filled : (p : JsonPlace) (b : List ℕ) → json_leaves.content p b ≡ shown.Item → 0 < length b
+filled p [] e = absurd (not_shown p.style.embedded (not (wants_bytes p.tag)) (is_value p.role) e)
+filled p (x ∷ xs) e = omega arith
+
+-- bytes that may be shown as an item, and are none
+pub bytes_here : (p : JsonPlace) (n : ℕ) (w : IntegerWidth) (s : StringContent) (x : Bor (List ℕ))
+    (b rest old new : List ℕ) (k : StringKind) → s ≡ content.Bytes x → kind_of s ≡ k
+    → read_content k n w b ≡ Ok (borrowed_chunk w s, rest) → json_leaves.content p x.now ≡ shown.Item
+    → embedded_at (levels_left (p.level + 1)) x.now ≡ None
+    → (t : List ℕ) × json_leaves.string p (kind_of s) (borrowed_chunk w s) t × (new ≡ old ++ t)
+    → Written (UniqueHere p) (read_behind p.level (head.String k (Number n w)) b) rest old new
+bytes_here p n w (content.Text y) x b rest old new k is same read shows none h = absurd cc
+bytes_here p n w (content.Bytes y) x b rest old new k is same read shows none h =
+    let c = borrowed_chunk w (content.Bytes y) in
+    let left = levels_left (p.level + 1) in
+    let there : x ≡ y = cc in
+    let item = subst (λ (z : Bor (List ℕ)). json_leaves.content p z.now ≡ shown.Item) there shows in
+    let no_item = subst (λ (z : Bor (List ℕ)). embedded_at left z.now ≡ None) there none in
+    let here = one_embedded json_leaves (UniqueTexts left) p c y.now (embedded_at left y.now) None h.0
+    (filled p y.now item) no_item h.1 in (
+      atom (string kind.Bytes c),
+      content_read n w (content.Bytes y) b rest k same read,
+      h.0,
+      subst (λ z. ContentText json_leaves left (UniqueTexts left) z p c h.0) (sym item) here,
+      h.2,
+    )
 
 opens_nothing : (s : Role) (len : Argument) → is_value s ≡ true → [] ≡ opening_at s (Embedded len)
 opens_nothing role.Key len v = absurd cc

@@ -1,6 +1,6 @@
 -- The walk appends a text of the item, and no object in it has a name twice.
-use Rattle.std.proofs.Common.{◌≡◌, ◌+◌, ◌++◌, [], ◌∷◌, ℕ, List, Bor, Result, Ok, Some, true, refl, ap, sym, subst, ◌∙◌, arith}
-use Rattle.std.proofs.Common.{append_assoc, append-nil}
+use Rattle.std.proofs.Common.{◌≡◌, ◌+◌, ◌++◌, [], ◌∷◌, ℕ, List, length, Bor, Result, Ok, Some, true, refl, ap, sym}
+use Rattle.std.proofs.Common.{subst, ◌∙◌, arith, append_assoc, append-nil}
 use Rattle.std.specs.String.{string_bytes}
 use Rattle.cbor_grammar.specs.declared.error.Error.{Error}
 use Rattle.cbor_grammar.specs.declared.head.ItemHead.TheVariants as head
@@ -26,7 +26,7 @@ use Rattle.cbor_json.proofs.json.Braces.{key_in}
 use Rattle.cbor_json.proofs.walking.Named.{no_pairs_named, one_pair_named}
 use Rattle.cbor_json.proofs.walking.Ordered.{are_after}
 use Rattle.cbor_json.proofs.walking.Unique.{unique_front, quiet_front, quiet_of, tag_here, array_here, object_here}
-use Rattle.cbor_json.proofs.walking.Unique.{inside_array, is_quiet, digits_here, same_content, shown_here}
+use Rattle.cbor_json.proofs.walking.Unique.{inside_array, is_quiet, digits_here, same_content, shown_here, bytes_here}
 use Rattle.cbor_json.proofs.walk.+walk.Goals as goal
 
 -- ---- an item
@@ -114,14 +114,19 @@ push_string-returns-in_ok-string-in-Bytes-content_at-clause-written t c =
     (λ x e. same_content c.args.place.now c.in-Bytes.inner x (sym c.in-Bytes.is ∙ e)
     (sym c.content_at.ensures ∙ c.in-Bytes-content_at.is)) c.in_ok-string-in-Bytes-content_at.ensures
 
-pub push_string-returns-in_ok-push_shown-in-Item-clause-written :
-    goal.push_string-returns-in_ok-push_shown-in-Item-clause-written
-push_string-returns-in_ok-push_shown-in-Item-clause-written t c =
+pub push_string-returns-then-not-is_item-clause-written : goal.push_string-returns-then-not-is_item-clause-written
+push_string-returns-then-not-is_item-clause-written t c =
+    let s = c.args.string.0 in
+    bytes_here c.args.place.now s.1 s.2 c.in_ok-content.content c.in-Bytes.inner c.args.string.1.now
+    c.in_ok-content.rest.now _ _ s.0 c.in-Bytes.is c.in_ok-content.ensures.kind (c.in_ok-content.ensures.gives s.2)
+    (sym c.content_at.ensures ∙ c.in-Item.is) (c.is_item.ensures c.if-not-is_item.true) c.in_ok-string-in-Item.ensures
+
+pub push_string-returns-in-Ok-clause-written : goal.push_string-returns-in-Ok-clause-written
+push_string-returns-in-Ok-clause-written t c =
     let s = c.args.string.0 in
     shown_here c.args.place.now s.1 s.2 c.in_ok-content.content c.in-Bytes.inner c.args.string.1.now
     c.in_ok-content.rest.now _ _ s.0 c.in-Bytes.is c.in_ok-content.ensures.kind (c.in_ok-content.ensures.gives s.2)
-    c.requires.value c.requires.flat (sym c.content_at.ensures ∙ c.in-Item.is)
-    c.in_ok-push_shown-in-Item.ensures.written
+    c.requires.value c.requires.flat (sym c.content_at.ensures ∙ c.in-Item.is) c.in-Ok.ensures.written
 
 -- ---- an array
 
@@ -220,12 +225,12 @@ push_object-pairs-init t c =
 pub push_object-pairs-smaller : goal.push_object-pairs-smaller
 push_object-pairs-smaller t c =
     let k = c.in_ok-value.ensures.written in
-    let v = c.in_ok-rest.ensures.written in
+    let v = c.in-Ok.ensures.written in
     let mid = c.in_ok-value.value.now in
     omega (
       arith,
       item_shorter (levels_left c.pairs.inner.level) c.pairs.rest.now k.0 mid k.1,
-      item_shorter (levels_left c.pass_key.new.place.level) mid v.0 c.in_ok-rest.rest.now v.1,
+      item_shorter (levels_left c.pass_key.new.place.level) mid v.0 c.in-Ok.next.now v.1,
     )
 
 pub push_object-returns-in-Some-clause-written : goal.push_object-returns-in-Some-clause-written
@@ -252,13 +257,13 @@ push_object-pairs-preserved t c =
     let left = levels_left level in
     let i = c.pairs.invariant in
     let k = c.in_ok-value.ensures.written in
-    let v = c.in_ok-rest.ensures.written in
+    let v = c.in-Ok.ensures.written in
     let held = c.pairs.held in
     let now = c.pairs.inner in
     let there = c.pass_key.new.place in
     let rest = c.pairs.rest.now in
     let mid = c.in_ok-value.value.now in
-    let after = c.in_ok-rest.rest.now in
+    let after = c.in-Ok.next.now in
     let deep = c.pass_key.ensures.level ∙ i.level in
     let key = same_read now.level level rest mid k.0 i.level k.1 in
     let value = same_read there.level level mid after v.0 deep v.1 in
@@ -270,7 +275,7 @@ push_object-pairs-preserved t c =
       subst (λ s. UniqueAs s k.2) (sym i.key) tt,
     ) in
     let text = subst (λ n. UniqueTexts (levels_left n) there v.0 v.2) deep v.3 in
-    let own = name_between (string_bytes c.start.new.out) (string_bytes c.push_name.new.out) in
+    let own = name_between (string_bytes c.start.new.out) (string_bytes c.push_name.new.out) (length rest) in
     record {
       found = joined_pairs i.found (pair k.0 v.0 no_pairs);
       so_far = sym (pair_read left i.found count held rest mid after k.0 v.0 (sym c.in_default.ensures) key value)
@@ -280,8 +285,8 @@ push_object-pairs-preserved t c =
       written = one_pair_named (UniqueTexts left) place _ now there c.pass.new.place count _ _ _ _ _ _ i.found k.0 v.0
           held i.ns k.2 v.2 i.written c.in_ok-start.ensures named k.4 c.in_ok-colon.ensures text v.4 passed
           c.pass.ensures.place;
-      here = are_after _ _ k.2 _ v.2 _ _ _ _ i.own i.ns i.here c.in_ok-start.ensures k.4 c.in_ok-colon.ensures v.4;
-      kept = c.in_ok-rest.ensures.names ∙ c.in_ok-value.ensures.names ∙ ap (λ x. x ++ own ∷ []) i.kept
+      here = are_after _ _ k.2 _ v.2 _ _ _ _ _ i.own i.ns i.here c.in_ok-start.ensures k.4 c.in_ok-colon.ensures v.4;
+      kept = c.in-Ok.ensures.names ∙ c.in_ok-value.ensures.names ∙ ap (λ x. x ++ own ∷ []) i.kept
           ∙ append_assoc c.args.names.now.items i.own (own ∷ []);
       reached = reached_more count held rest c.in_default.ensures;
       level = c.pass.ensures.level ∙ deep;
