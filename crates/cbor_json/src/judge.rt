@@ -26,8 +26,7 @@ use crate::style::JsonStyle;
 use crate::walk::{NotWritten, push_item};
 use cbor_grammar::Error;
 use cbor_notation_writer::outermost::push_outermost;
-use json::{Scratch, Tape, Value};
-use memchr::memchr;
+use json::{Scratch, Value};
 use std::alloc::{AllocError, Global};
 
 /// What became of an item.
@@ -41,26 +40,8 @@ pub(crate) enum Judged {
     SameKeys(Clash),
 }
 
-/// Whether no object of the text has a key twice. A text without a brace has none, and is not read.
+/// Whether no object of the text, which is JSON, has a key twice.
 fn has_unique_keys(text: &str, alloc: Global) -> Result<bool, AllocError>
-    ensures { IfOk result (λ unique. (j : Json) → document text.now ≡ Some j
-        → (IsTrue unique ↔ HasUniqueKeys j)) }
-{
-    if memchr(b'{', text.as_bytes()).is_none() {
-        return Ok(true);
-    }
-    let mut scratch = Scratch::new(alloc);
-    match Tape::parse_strict(text, &mut scratch, Vec::new(alloc)) {
-        Ok(_) => Ok(true),
-        Err(json::Error::DuplicateKey) => Ok(false),
-        Err(json::Error::TooLong) => has_unique_keys_of_value(text, alloc),
-        // The text is JSON, so this is out of memory.
-        Err(_) => Err(AllocError),
-    }
-}
-
-/// The same of a text that is too long for a tape, which is read as a value.
-fn has_unique_keys_of_value(text: &str, alloc: Global) -> Result<bool, AllocError>
     ensures { IfOk result (λ unique. (j : Json) → document text.now ≡ Some j
         → (IsTrue unique ↔ HasUniqueKeys j)) }
 {

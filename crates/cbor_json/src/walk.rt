@@ -20,7 +20,6 @@ use crate::print::place::JsonPlace;
 use crate::print::text::{content_at, is_item};
 use cbor_bytes::borrowed::read_borrowed;
 use cbor_bytes::head::read_head;
-use cbor_bytes::skip::after_front;
 use cbor_grammar::argument::Argument;
 use cbor_grammar::head::ItemHead;
 use cbor_grammar::layout::{ContainerStyle, Content, Layout};
@@ -51,18 +50,6 @@ impl From<Error> for NotWritten {
     fn from(_error: Error) -> NotWritten {
         NotWritten::Failed
     }
-}
-
-/// The pairs of a map, from one on whose value is not written.
-#[derive(Clone, Copy)]
-struct Pairs<'a> {
-    count: Argument,
-    /// How many pairs come before it.
-    held: usize,
-    /// The bytes from its value on.
-    value: &'a [u8],
-    /// The index of the first name of the map.
-    first: usize,
 }
 
 /// The kind of a string of definite length, its length and the width of that, by its head.
@@ -198,18 +185,14 @@ fn push_object<'a>(
         }
         Json::start(out, container, style, held == 0)?;
         let value = push_name(out, names, rest, &inner)?;
+        let after_key = names.len();
         Json::pass_key(&mut inner, rest, value);
         Json::colon(out, style)?;
         rest = match push_item(out, names, value, &inner) {
             Ok(next) => next,
             Err(why) => {
-                let pairs = Pairs {
-                    count,
-                    held,
-                    value,
-                    first,
-                };
-                return Err(why_around(out, names, pairs, &inner, why));
+                let own = names.get(first..after_key).unwrap_or(&[]);
+                return Err(why_around(out, own, place.alloc, why));
             }
         };
         Json::pass(&mut inner);
@@ -217,62 +200,17 @@ fn push_object<'a>(
     }
 }
 
-/// Why a map is not written, given why one of its values is not: two equal names of the map itself
-/// come before those of the value.
-fn why_around(
-    out: &mut String,
-    names: &mut Vec<Name>,
-    pairs: Pairs<'_>,
-    place: &JsonPlace,
-    why: NotWritten,
-) -> NotWritten
-    requires from { 1 ≤ place.now.level }
-    requires to { place.now.level ≤ deepest + 1 }
-    requires flat { place.now.layout ≡ Layout.Compact }
-{
+/// Why an object is not written, given why the value after these names is not: two of the names
+/// that are equal come before those of the value.
+fn why_around(out: &String, own: &[Name], alloc: Global, why: NotWritten) -> NotWritten {
     let NotWritten::SameNames(_) = why else {
         return why;
     };
-    names.truncate(pairs.first.saturating_add(pairs.held).saturating_add(1));
-    if push_later_names(out, names, pairs, place).is_err() {
-        return NotWritten::Failed;
-    }
-    let own = names.get(pairs.first..).unwrap_or(&[]);
-    match same_names(out.as_bytes(), own, place.alloc) {
+    match same_names(out.as_bytes(), own, alloc) {
         Ok(Some(same)) => NotWritten::SameNames(same),
         Ok(None) => why,
         Err(_) => NotWritten::Failed,
     }
-}
-
-/// Writes the names of the pairs after the first of these.
-fn push_later_names(
-    out: &mut String,
-    names: &mut Vec<Name>,
-    pairs: Pairs<'_>,
-    place: &JsonPlace,
-) -> Result<(), NotWritten>
-    requires from { 1 ≤ place.now.level }
-    requires to { place.now.level ≤ deepest + 1 }
-    requires flat { place.now.layout ≡ Layout.Compact }
-{
-    let mut inner = *place;
-    Json::pass(&mut inner);
-    let mut value = pairs.value;
-    for more in 1..=pairs.value.len() {
-        let Some(rest) = after_front(value, place.level) else {
-            return Err(NotWritten::Failed);
-        };
-        if pairs
-            .count
-            .after_end(pairs.held.saturating_add(more), rest)
-            .is_some()
-        {
-            return Ok(());
-        }
-        value = push_name(out, names, rest, &inner)?;
-    }
-    Err(NotWritten::Failed)
 }
 
 /// Writes the key at the front, and records where its name stands.
