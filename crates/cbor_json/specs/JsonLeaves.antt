@@ -111,8 +111,8 @@ abbrev pub digits_in : Encoding → List ℕ → List ℕ
 digits_in Base16 b = encode_upper b
 digits_in e b = encoded_bytes e b
 
--- The bytes of a value as digits. Those of a big number are in base64url, whatever is asked for, and those of a negative
--- one have a tilde before them.
+-- The bytes of a value as digits. Those of a big number are in base64url, whatever is asked for, and those of a
+-- negative one have a tilde before them.
 abbrev pub value_digits : Option ℕ → Encoding → List ℕ → List ℕ
 value_digits tag e b =
     if is_negative_tag tag then codes "~" ++ encoded_bytes Base64Url b

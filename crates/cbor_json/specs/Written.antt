@@ -52,8 +52,8 @@ pub record IsNotKept (style : JsonStyle) (i : Item) : Type 0 where
   pub strict : IsTrue style.strict
   pub lost : ¬ (IsKept i)
 
--- Two keys of a map become the same in a text that JSON has for the item. In a strict style JSON keeps all of it: what is
--- not kept comes first.
+-- Two keys of a map become the same in a text that JSON has for the item. In a strict style JSON keeps all of it: what
+-- is not kept comes first.
 pub record HasSameKeys (style : JsonStyle) (i : Item) : Type 0 where
   pub text : List ℕ
   pub of : IsJsonOf style i text

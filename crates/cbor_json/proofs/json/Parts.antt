@@ -95,8 +95,8 @@ edn_leaf_fills (simple n) t well h = subst Fills (sym h) (simple_fills n well)
 edn_leaf_fills (string k c) t well h = absurd h
 edn_leaf_fills (chunked_string k cs) t well h = absurd h
 
-float_reads : (strict : Bool) (left : ℕ) (finite : Bool) (x : Float) (t : List ℕ) → float_is_finite x ≡ finite → NumberIf finite x t
-    → Reads strict left t
+float_reads : (strict : Bool) (left : ℕ) (finite : Bool) (x : Float) (t : List ℕ) → float_is_finite x ≡ finite
+    → NumberIf finite x t → Reads strict left t
 float_reads strict left true x t is h = number_reads t (float_number t (h.layout is))
     (calm_fills t (number_text_calm t h)).shows
 float_reads strict left false x t is h =
@@ -122,7 +122,8 @@ value_leaf strict left (simple n) t well h = subst (λ y. Reads strict left y) (
 value_leaf strict left (string k c) t well h = absurd h
 value_leaf strict left (chunked_string k cs) t well h = absurd h
 
-pub leaf_part : (strict : Bool) (s : Role) (left : ℕ) (a : Atom) (t : List ℕ) → WellFormedAtom a → LeafAt s a t → Part strict s left t
+pub leaf_part : (strict : Bool) (s : Role) (left : ℕ) (a : Atom) (t : List ℕ) → WellFormedAtom a → LeafAt s a t
+    → Part strict s left t
 leaf_part strict role.Key left a t well h =
     subst IsString (sym h.2) (string_in_quotes h.0 (edn_leaf_fills a h.0 well h.1))
 leaf_part strict role.InKey left a t well h = edn_leaf_fills a t well h
@@ -312,8 +313,8 @@ empty_part strict role.InKey left kind.Text = fills_then {a = codes "\\\""} quot
 empty_part strict role.Value left k = string_reads (string_in_quotes [] fills_nothing)
 empty_part strict role.Named left k = string_reads (string_in_quotes [] fills_nothing)
 
-joined_part : (strict : Bool) (s : Role) (left : ℕ) (k : StringKind) (inner t o e : List ℕ) → Fills inner → o ≡ opening_at s (Chunks k)
-    → e ≡ closing_at s (Chunks k) → t ≡ o ++ (inner ++ e) → Part strict s left t
+joined_part : (strict : Bool) (s : Role) (left : ℕ) (k : StringKind) (inner t o e : List ℕ) → Fills inner
+    → o ≡ opening_at s (Chunks k) → e ≡ closing_at s (Chunks k) → t ≡ o ++ (inner ++ e) → Part strict s left t
 joined_part strict role.Key left k inner t o e f is_o is_e is = key_list (Chunks k) inner t o e f is_o is_e is
 joined_part strict role.InKey left k inner t o e f is_o is_e is = edn_list (Chunks k) inner t o e f is_o is_e is
 joined_part strict role.Value left k inner t o e f is_o is_e is =
@@ -321,9 +322,10 @@ joined_part strict role.Value left k inner t o e f is_o is_e is =
 joined_part strict role.Named left k inner t o e f is_o is_e is =
     string_reads (is_string inner t f (is ∙ ap (λ x. x ++ (inner ++ e)) is_o ∙ ap (λ x. 34 ∷ (inner ++ x)) is_e))
 
-pub chunks_part : (strict : Bool) (p : JsonPlace) (left : ℕ) (k : StringKind) (l : ContainerStyle) (cs : List Chunk) (t : List ℕ)
-    → AllByRecursion (IsChunk k) cs → ChunksText json_leaves p k l cs t → Part strict p.role left t
-chunks_part strict p left k l [] t well h = subst (λ x. Part strict p.role left x) (sym h) (empty_part strict p.role left k)
+pub chunks_part : (strict : Bool) (p : JsonPlace) (left : ℕ) (k : StringKind) (l : ContainerStyle) (cs : List Chunk)
+    (t : List ℕ) → AllByRecursion (IsChunk k) cs → ChunksText json_leaves p k l cs t → Part strict p.role left t
+chunks_part strict p left k l [] t well h =
+    subst (λ x. Part strict p.role left x) (sym h) (empty_part strict p.role left k)
 chunks_part strict p left k l (c ∷ cs) t well (ms, texts, (o, e, is_o, is_e, is)) =
     joined_part strict p.role left k (listed (λ first. before_member (Chunks k) first) [] ms) t o e
     (listed_fills (Chunks k) ms (chunk_texts_fill p k (c ∷ cs) ms well texts)) is_o is_e is

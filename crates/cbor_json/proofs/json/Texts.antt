@@ -24,9 +24,8 @@ use Rattle.cbor_grammar.specs.WellFormed.{IsChunk, WellFormedAtom, WellFormed, W
 use Rattle.cbor_grammar.proofs.bytes.Laws.{bytes_at}
 use Rattle.cbor_grammar.proofs.bytes.Resolved.{spells_well}
 use Rattle.cbor_grammar.proofs.shared.EmbeddedItems.{embedded_spells}
-use Rattle.cbor_notation_writer.specs.Dialect.{listed, ItemTexts, PairTexts, ItemsText, PairsText}
-use Rattle.cbor_notation_writer.specs.Dialect.{OneText, EmbeddedText, ContentText, AtomText, TagText, TextWith, TextsOf}
-use Rattle.cbor_notation_writer.specs.Dialect.{Writer}
+use Rattle.cbor_notation_writer.specs.Dialect.{Writer, listed, ItemTexts, PairTexts, ItemsText, PairsText, OneText}
+use Rattle.cbor_notation_writer.specs.Dialect.{EmbeddedText, ContentText, AtomText, TagText, TextWith, TextsOf}
 use Rattle.cbor_notation_writer.specs.Dialect.{embedding, count_of, style_at, joined, ChunkedText}
 use Rattle.cbor_notation_writer.specs.declared.parts.Container.{Container}
 use Rattle.cbor_notation_writer.specs.declared.parts.Container.TheVariants.{Array, Map}
@@ -227,7 +226,8 @@ with_names write l p (pair k v ps) (m ∷ ms) ((a, b, key, val, is), more) =
 -- ---- items
 
 module _ (strict : Bool) (level left : ℕ) (levels : level + left ≡ 129) (write : Writer JsonPlace)
-    (below : (p : JsonPlace) (i : Item) (t : List ℕ) → WellFormed level i → write p i t → Part strict p.role left t) where
+    (below : (p : JsonPlace) (i : Item) (t : List ℕ) → WellFormed level i → write p i t
+    → Part strict p.role left t) where
   at_role : (p : JsonPlace) (s : Role) (i : Item) (t : List ℕ) → p.role ≡ s → WellFormed level i → write p i t
       → Part strict s left t
   at_role p s i t e well h = subst (λ x. Part strict x left t) e (below p i t well h)
@@ -405,25 +405,22 @@ module _ (strict : Bool) (level left : ℕ) (levels : level + left ≡ 129) (wri
 
   content_part : (p : JsonPlace) (test : Bool) (b : Chunk) (t : List ℕ)
       → (test ≡ true → (is_value p.role ≡ true) × (begins_container b.bytes ≡ true)) → IsChunk kind.Bytes b
-      → ContentText json_leaves left write (if test then shown.Item else shown.Bytes) p b t → Part strict p.role (suc left) t
-  content_part p true b t holds well h =
-      let both = holds refl in embedded_part p b b.bytes t both.1 both.0 well h
+      → ContentText json_leaves left write (if test then shown.Item else shown.Bytes) p b t
+      → Part strict p.role (suc left) t
+  content_part p true b t holds well h = let both = holds refl in embedded_part p b b.bytes t both.1 both.0 well h
   content_part p false b t holds well h = string_there p b t well h
 
   chunked_part : (p : JsonPlace) (k : StringKind) (l : ContainerStyle) (joins : Bool) (cs : List Chunk) (t : List ℕ)
       → AllByRecursion (IsChunk k) cs → ChunkedText json_leaves p k l joins cs t → Part strict p.role (suc left) t
   chunked_part p k l false cs t well h = chunks_part strict p (suc left) k l cs t well h
-  chunked_part p k l true cs t well h =
-      string_part strict p (suc left) k (joined cs) t (joined_bytes k cs well) h
+  chunked_part p k l true cs t well h = string_part strict p (suc left) k (joined cs) t (joined_bytes k cs well) h
 
   atom_part : (p : JsonPlace) (a : Atom) (t : List ℕ) → WellFormedAtom a → AtomText json_leaves left write p a t
       → Part strict p.role (suc left) t
   atom_part p (string kind.Bytes b) t well h =
       content_part p (p.style.embedded && (not (wants_bytes p.tag) && (is_value p.role && begins_container b.bytes)))
-      b t
-      (and_parts p.style.embedded (not (wants_bytes p.tag)) (is_value p.role) (begins_container b.bytes)) well h
-  atom_part p (string kind.Text s) t well h =
-      string_part strict p (suc left) kind.Text s t well.bytes h
+      b t (and_parts p.style.embedded (not (wants_bytes p.tag)) (is_value p.role) (begins_container b.bytes)) well h
+  atom_part p (string kind.Text s) t well h = string_part strict p (suc left) kind.Text s t well.bytes h
   atom_part p (chunked_string k cs) t well h =
       chunked_part p k (style_at json_leaves p (atom (chunked_string k cs))) (joins_at p.role k) cs t well h
   atom_part p (integer n w) t well h = leaf_part strict p.role (suc left) (integer n w) t well h
@@ -482,11 +479,11 @@ module _ (strict : Bool) (level left : ℕ) (levels : level + left ≡ 129) (wri
       array_part p p.role w (style_at json_leaves p (array is w)) is t refl
       (subst (λ l. WellFormedItems l is) (sym e) well.2) h
   unique_part p (spec.map ps w) t here e well v (ns, ms, texts, apart, (o, z, is_o, is_z, eq)) =
-      let c = Map (count_of w (pair_count ps)) in
-      object_part p p.role c (style_at json_leaves p (spec.map ps w)) ps ns ms t refl v (key_in p.role (count_of w (pair_count ps)) v)
+      let n = count_of w (pair_count ps) in
+      object_part p p.role (Map n) (style_at json_leaves p (spec.map ps w)) ps ns ms t refl v (key_in p.role n v)
       (subst (λ l. WellFormedPairs l ps) (sym e) well.2) texts (λ asked. apart)
-      (around o z (listed comma_unless [] ms) t (codes "{") (codes "}") (is_o ∙ opens_so p.role (count_of w (pair_count ps)) v)
-      (is_z ∙ closes_so p.role (count_of w (pair_count ps)) v) eq)
+      (around o z (listed comma_unless [] ms) t (codes "{") (codes "}") (is_o ∙ opens_so p.role n v)
+      (is_z ∙ closes_so p.role n v) eq)
   unique_part p (tagged n w i) t here e well v h =
       tag_part p p.role n w i t refl well.1 (subst (λ l. WellFormed l i) (sym e) well.2) h
 

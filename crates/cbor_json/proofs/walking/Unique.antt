@@ -18,7 +18,8 @@ use Rattle.cbor_grammar.specs.Embedded.{embedded_at}
 use Rattle.cbor_grammar.specs.Item as spec
 use Rattle.cbor_grammar.specs.Item.{Chunk, Atom, string, chunked_string, Item, atom, array, tagged, Items, no_items}
 use Rattle.cbor_grammar.specs.Item.{item, item_count, Pairs, no_pairs, pair, pair_count}
-use Rattle.cbor_grammar.specs.Reading.{Read, after_members, count_width, read_head, read_item, read_content, read_chunks, ◌>>=◌}
+use Rattle.cbor_grammar.specs.Reading.{Read, after_members, count_width, read_head, read_item, read_content}
+use Rattle.cbor_grammar.specs.Reading.{read_chunks, ◌>>=◌}
 use Rattle.cbor_grammar.specs.WellFormed.{WellFormed, levels_left}
 use Rattle.cbor_grammar.specs.mirror.AtLevel.{read_at, read_behind, body_read}
 use Rattle.cbor_grammar.proofs.bytes.Found.{item_takes}
@@ -36,8 +37,8 @@ use Rattle.cbor_notation_writer.proofs.straight.Sequences.{whole_item, one_embed
 use Rattle.cbor_notation_writer.specs.declared.parts.Container.TheVariants.{Embedded, Array, Map}
 use Rattle.cbor_notation_writer.specs.mirror.Straight.{chunk}
 use Rattle.cbor_notation_writer.specs.Dialect.{ItemTexts, PairTexts, ItemsText, AtomText, TextWith}
-use Rattle.cbor_notation_writer.specs.Dialect.{TextsOf, TextsAt, OneText, EmbeddedText, ContentText, embedding, style_at}
-use Rattle.cbor_notation_writer.specs.Dialect.{style_within, count_of}
+use Rattle.cbor_notation_writer.specs.Dialect.{TextsOf, TextsAt, OneText, EmbeddedText, ContentText, embedding}
+use Rattle.cbor_notation_writer.specs.Dialect.{style_at, style_within, count_of}
 use Rattle.cbor_notation_writer.proofs.straight.Texts.{Reached, reached_all, ItemsWritten, items_written}
 use Rattle.cbor_grammar.specs.declared.layout.ContainerStyle.TheVariants as style
 use Rattle.cbor_grammar.specs.Estimate.{one_line_limit, estimated_length}
@@ -49,7 +50,8 @@ use Rattle.cbor_json.specs.JsonLeaves.{json_leaves, is_value, wants_bytes, tag_a
 use Rattle.cbor_json.specs.declared.print.place.JsonPlace.{JsonPlace}
 use Rattle.cbor_json.specs.declared.print.place.Role.{Role}
 use Rattle.cbor_json.specs.declared.print.place.Role.TheVariants as role
-use Rattle.cbor_json.specs.mirror.Walking.{IsUnique, UniqueAs, UniqueTexts, UniqueWith, UniqueHere, NamedPairs, NamedText}
+use Rattle.cbor_json.specs.mirror.Walking.{IsUnique, UniqueAs, UniqueTexts, UniqueWith, UniqueHere, NamedPairs}
+use Rattle.cbor_json.specs.mirror.Walking.{NamedText}
 use Rattle.cbor_json.proofs.json.Parts.{Part}
 use Rattle.cbor_json.proofs.json.Texts.{text_part, unique_part}
 use Rattle.cbor_json.proofs.json.Tokens.{Reads, lower, reads_document}
@@ -167,12 +169,14 @@ whole_text : (level left : ℕ) (p : JsonPlace) (i : Item) (t : List ℕ) → le
     → UniqueTexts (suc left) p i t
 unfolding TextsOf
 whole_text level left p i t levels le v well h =
-    let below = λ (q : JsonPlace) (j : Item) (s : List ℕ) (fits : WellFormed (level + 1) j) (k : UniqueTexts left q j s).
+    let below =
+    λ (q : JsonPlace) (j : Item) (s : List ℕ) (fits : WellFormed (level + 1) j) (k : UniqueTexts left q j s).
     unique_as q.role left s (omega (arith, le))
     (text_part (level + 1) left (omega (arith, levels)) q j s fits k.0) k.1 in (
       (p, refl, plain_with left p i t h),
       unique_there p.role (suc left) t le v
-          (unique_part true (level + 1) left (omega (arith, levels)) (UniqueTexts left) below p i t level refl well v h),
+          (unique_part true (level + 1) left (omega (arith, levels)) (UniqueTexts left) below p i t level refl well v
+          h),
     )
 
 -- ---- an item that is its head, or a string of chunks
@@ -244,7 +248,8 @@ module _ (p : JsonPlace) (b inner : List ℕ) (h : ItemHead) (level : ℕ) (here
       let unique = subst (λ x. UniqueWith left (UniqueTexts left) p x t) (sym a.1)
       (quiet_text left p a.0 t a.2 atomic) in
       let well = read_well p.level (levels_left p.level) b i (f x) (omega (arith, here, deep)) bytes is in
-      let so = whole_text p.level left p i t (omega (arith, here, deep)) (omega (arith, here, positive)) v well unique in
+      let so = whole_text p.level left p i t (omega (arith, here, deep)) (omega (arith, here, positive)) v well unique
+      in
       (i, is, t, subst (λ n. UniqueTexts n p i t) (sym levels) so, eq)
 
 -- ---- a tag
@@ -380,14 +385,15 @@ pub shown_here : (p : JsonPlace) (n : ℕ) (w : IntegerWidth) (s : StringContent
     (b rest old new : List ℕ) (k : StringKind) → s ≡ content.Bytes x → kind_of s ≡ k
     → read_content k n w b ≡ Ok (borrowed_chunk w s, rest) → is_value p.role ≡ true → p.layout ≡ layout.Compact
     → json_leaves.content p x.now ≡ shown.Item
-    → Written (UniqueTexts (levels_left (p.level + 1)) (json_leaves.inside (embedding (chunk w x.now)) layout.Compact p))
-    (read_at (p.level + 1) x.now) [] old new
+    → Written (UniqueTexts (levels_left (p.level + 1))
+    (json_leaves.inside (embedding (chunk w x.now)) layout.Compact p)) (read_at (p.level + 1) x.now) [] old new
     → Written (UniqueHere p) (read_behind p.level (head.String k (Number n w)) b) rest old new
 shown_here p n w s x b rest old new k is same read v flat shows h =
     let bytes : k ≡ kind.Bytes = sym same ∙ ap kind_of is in
     subst (λ y. Written (UniqueHere p) (read_behind p.level (head.String y (Number n w)) b) rest old new) (sym bytes)
     (item_here p (json_leaves.inside (embedding (chunk w x.now)) layout.Compact p) n w x b rest old new
-    (ap (λ y. read_content y n w b) (sym bytes) ∙ read ∙ ap (λ y. Ok (borrowed_chunk w y, rest)) is) v flat shows refl h)
+    (ap (λ y. read_content y n w b) (sym bytes) ∙ read ∙ ap (λ y. Ok (borrowed_chunk w y, rest)) is) v flat shows refl
+    h)
 
 -- ---- containers
 
@@ -414,7 +420,8 @@ array_here p now count is held b old out new rest after flat w reached some ends
       array is width,
       read,
       text.0,
-      subst (λ a. ItemsText json_leaves write p (Array a) (style_at json_leaves p (array is width)) is text.0) whole styled,
+      subst (λ a. ItemsText json_leaves write p (Array a) (style_at json_leaves p (array is width)) is text.0) whole
+          styled,
       text.2,
     )
 

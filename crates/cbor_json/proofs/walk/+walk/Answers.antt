@@ -73,26 +73,28 @@ push_item-returns-in-Ok-clause-written t c =
     (λ i. omega (arith, c.type_inv.bytes i)) c.in_ok-head.ensures.gives gave (λ rest. rest.now) _ _ quiet
     c.in-Ok.ensures.printed
 
-pub push_item-returns-in_ok-leaf-in-Integer-clause-written : goal.push_item-returns-in_ok-leaf-in-Integer-clause-written
+pub push_item-returns-in_ok-leaf-in-Integer-clause-written :
+    goal.push_item-returns-in_ok-leaf-in-Integer-clause-written
 push_item-returns-in_ok-leaf-in-Integer-clause-written t c =
     let gave : Result (Bor (List ℕ)) Error = Ok c.in_ok-head.inner in
-    quiet_front c.args.place.now c.args.bytes.now c.in_ok-head.inner.now (head.Integer c.in-Integer.value c.in-Integer.width)
+    let n = c.in-Integer in
+    quiet_front c.args.place.now c.args.bytes.now c.in_ok-head.inner.now (head.Integer n.value n.width)
     c.args.place.now.level refl c.requires.level (omega (arith, c.if-place-gt-DEEPEST.false)) c.requires.value
-    (λ i. omega (arith, c.type_inv.bytes i)) (rw c.in-Integer.is at c.in_ok-head.ensures.gives) gave (λ rest. rest.now) _ _
-    refl
+    (λ i. omega (arith, c.type_inv.bytes i)) (rw n.is at c.in_ok-head.ensures.gives) gave (λ rest. rest.now) _ _ refl
     (leaf_written json_leaves c.args.place.now c.args.bytes.now refl (omega (arith, c.if-place-gt-DEEPEST.false)) refl
-    refl refl (rw c.in-Integer.is at c.in_ok-head.ensures.gives) (atom (spec.integer c.in-Integer.value c.in-Integer.width)) _ _ refl
+    refl refl (rw n.is at c.in_ok-head.ensures.gives) (atom (spec.integer n.value n.width)) _ _ refl
     c.in_ok-leaf-in-Integer.ensures)
 
-pub push_item-returns-in_ok-leaf-in-Negative-clause-written : goal.push_item-returns-in_ok-leaf-in-Negative-clause-written
+pub push_item-returns-in_ok-leaf-in-Negative-clause-written :
+    goal.push_item-returns-in_ok-leaf-in-Negative-clause-written
 push_item-returns-in_ok-leaf-in-Negative-clause-written t c =
     let gave : Result (Bor (List ℕ)) Error = Ok c.in_ok-head.inner in
-    quiet_front c.args.place.now c.args.bytes.now c.in_ok-head.inner.now (head.Negative c.in-Negative.value c.in-Negative.width)
+    let n = c.in-Negative in
+    quiet_front c.args.place.now c.args.bytes.now c.in_ok-head.inner.now (head.Negative n.value n.width)
     c.args.place.now.level refl c.requires.level (omega (arith, c.if-place-gt-DEEPEST.false)) c.requires.value
-    (λ i. omega (arith, c.type_inv.bytes i)) (rw c.in-Negative.is at c.in_ok-head.ensures.gives) gave (λ rest. rest.now) _ _
-    refl
+    (λ i. omega (arith, c.type_inv.bytes i)) (rw n.is at c.in_ok-head.ensures.gives) gave (λ rest. rest.now) _ _ refl
     (leaf_written json_leaves c.args.place.now c.args.bytes.now refl (omega (arith, c.if-place-gt-DEEPEST.false)) refl
-    refl refl (rw c.in-Negative.is at c.in_ok-head.ensures.gives) (atom (spec.negative c.in-Negative.value c.in-Negative.width)) _ _ refl
+    refl refl (rw n.is at c.in_ok-head.ensures.gives) (atom (spec.negative n.value n.width)) _ _ refl
     c.in_ok-leaf-in-Negative.ensures)
 
 -- ---- a string
@@ -135,8 +137,8 @@ push_array-items-init t c =
     let place = c.args.place.now in
     let count = c.args.array.0 in
     let left = levels_left (place.level + 1) in
-    let role_is = ap (λ (q : JsonPlace). q.role) c.inside-inner.ensures ∙ inside_array place.role count c.requires.value in
-    record {
+    let role_is = ap (λ (q : JsonPlace). q.role) c.inside-inner.ensures ∙ inside_array place.role count c.requires.value
+    in record {
       found = no_items;
       so_far = ap (λ a. parts_read left (items_in no_items a) c.args.array.1.now) (none_held count);
       written = no_items_written json_leaves (UniqueTexts left) place _ c.inside-inner.result (Array count) _ _ _
@@ -244,8 +246,8 @@ push_object-returns-in-Some-clause-written t c =
     let after = c.in-Some.after.now in
     let read = sym i.so_far ∙ parts_ended left (pairs_in i.found (left_of count held)) rest after _
     (ap (λ x. Some (spec.map i.found x)) (width_left count held)) (sym c.in-Some.ensures) in
-    let apart = c.in_ok-close_object.ensures.distinct _ i.own i.ns i.kept (sym c.args.names.now.ok.0 ∙ sym c.len-first.ensures)
-    i.here in
+    let first = sym c.args.names.now.ok.0 ∙ sym c.len-first.ensures in
+    let apart = c.in_ok-close_object.ensures.distinct _ i.own i.ns i.kept first i.here in
     object_here place c.pairs.inner count i.found held i.ns c.args.map.1.now _ _ _ rest after c.requires.flat i.written
     apart i.reached c.in-Some.ensures c.in_ok-closing.ensures read
 
