@@ -24,6 +24,7 @@ use crate::print;
 use crate::print::place::JsonPlace;
 use crate::style::JsonStyle;
 use crate::walk::{NotWritten, push_item};
+use cbor_bytes::skip::{Extent, extent};
 use cbor_grammar::Error;
 use cbor_notation_writer::outermost::push_outermost;
 use json::{Scratch, Value};
@@ -125,18 +126,19 @@ fn distinct_text<'a>(
     Ok((text, rest))
 }
 
-/// Why the item at the front is not written: the error of the bytes, or out of memory.
-fn front_error(bytes: &[u8], style: JsonStyle, alloc: Global) -> Error
+/// Why no item at the front is written: the error of the bytes, or out of memory.
+fn front_error(bytes: &[u8]) -> Error
     ensures { Fails result (read_item deepest bytes.now) }
 {
-    match front_text(bytes, style, alloc) {
-        Ok(_) => Error::Memory,
-        Err(error) => error,
+    match extent(bytes) {
+        Extent::Cut => Error::CutShort,
+        Extent::Fault { error, .. } => error,
+        Extent::Item(_) => Error::Memory,
     }
 }
 
-/// Writes the item at the front, two of whose names are equal unless its text says otherwise. It
-/// returns what became of the item and the bytes after it.
+/// Writes the item at the front, and reads its text, in which these two names are equal. It returns
+/// what became of the item and the bytes after it.
 fn judge_again<'a>(
     bytes: &'a [u8],
     style: JsonStyle,
@@ -176,7 +178,7 @@ pub(crate) fn judge_front<'a>(
     match distinct_text(bytes, style, alloc) {
         Ok((text, rest)) => Ok((judged_text(text, bytes, style), rest)),
         Err(NotWritten::SameNames(names)) => judge_again(bytes, style, alloc, names),
-        Err(NotWritten::Failed) => Err(front_error(bytes, style, alloc)),
+        Err(NotWritten::Failed) => Err(front_error(bytes)),
     }
 }
 
