@@ -52,6 +52,16 @@ impl From<Error> for NotWritten {
     }
 }
 
+impl NotWritten {
+    /// The same, if the bytes go on for that many more.
+    fn before(self, more: usize) -> NotWritten {
+        match self {
+            NotWritten::Failed => NotWritten::Failed,
+            NotWritten::SameNames(names) => NotWritten::SameNames(names.before(more)),
+        }
+    }
+}
+
 /// The kind of a string of definite length, its length and the width of that, by its head.
 #[inline(always)]
 fn definite(head: ItemHead) -> Option<(StringKind, u64, IntegerWidth)>
@@ -300,48 +310,43 @@ fn push_string<'a>(
                 Json::string(out, content, width, place)?;
                 Ok(rest)
             }
-            Content::Item => {
-                if !is_item(inner, place.level + 1) {
-                    Json::string(out, content, width, place)?;
-                    return Ok(rest);
+            Content::Item => match shown_text((inner, width), place) {
+                Ok(text) => {
+                    out.push_str(text.as_str())?;
+                    Ok(rest)
                 }
-                match push_shown(out, names, (inner, width), place) {
-                    Ok(()) => Ok(rest),
-                    Err(NotWritten::SameNames(same)) => {
-                        Err(NotWritten::SameNames(same.before(rest.len())))
+                Err(why) => {
+                    if is_item(inner, place.level + 1) {
+                        return Err(why.before(rest.len()));
                     }
-                    Err(NotWritten::Failed) => Err(NotWritten::Failed),
+                    Json::string(out, content, width, place)?;
+                    Ok(rest)
                 }
-            }
+            },
             Content::Sequence => Err(NotWritten::Failed),
         },
     }
 }
 
-/// Writes the item that the bytes of a byte string are, all of them.
+/// The text of the item that the bytes of a byte string are, all of them.
 #[cycle(walk)]
-fn push_shown(
-    out: &mut String,
-    names: &mut Vec<Name>,
-    string: (&[u8], IntegerWidth),
-    place: &JsonPlace,
-) -> Result<(), NotWritten>
+fn shown_text(string: (&[u8], IntegerWidth), place: &JsonPlace) -> Result<String, NotWritten>
     requires level { 1 ≤ place.now.level }
     requires deepest { place.now.level ≤ deepest }
     requires value { is_value place.now.role ≡ true }
-    ensures written { IfOk result (λ _. Written
+    ensures { IfOk result (λ text. Written
         (UniqueTexts (levels_left (place.now.level + 1)) (json_leaves.inside
         (embedding (chunk string.entry.1 string.entry.0.now)) Layout.Compact place.now))
-        (read_at (place.now.level + 1) string.entry.0.now)
-        [] (string_bytes out.old) (string_bytes out.new)) }
-    ensures names { OnOk result (names.new.items ≡ names.old.items) }
+        (read_at (place.now.level + 1) string.entry.0.now) [] [] (string_bytes text)) }
 {
     let (bytes, width) = string;
     let container = Container::Embedded(Argument::Number(bytes.len() as u64, width));
     let inside = place.inside(container, Layout::Compact);
-    let rest = push_item(out, names, bytes, &inside)?;
+    let mut text = String::with_capacity(place.alloc, bytes.len())?;
+    let mut names = Vec::new(place.alloc);
+    let rest = push_item(&mut text, &mut names, bytes, &inside)?;
     if rest.is_empty() {
-        Ok(())
+        Ok(text)
     } else {
         Err(NotWritten::Failed)
     }

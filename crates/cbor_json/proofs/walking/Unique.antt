@@ -36,7 +36,7 @@ use Rattle.cbor_grammar.specs.mirror.StringView.{kind_of, borrowed_chunk}
 use Rattle.cbor_notation_writer.proofs.straight.Sequences.{whole_item, one_embedded}
 use Rattle.cbor_notation_writer.specs.declared.parts.Container.TheVariants.{Embedded, Array, Map}
 use Rattle.cbor_notation_writer.specs.mirror.Straight.{chunk}
-use Rattle.cbor_notation_writer.specs.Dialect.{ItemTexts, PairTexts, ItemsText, AtomText, TextWith}
+use Rattle.cbor_notation_writer.specs.Dialect.{Texts, ItemTexts, PairTexts, ItemsText, AtomText, TextWith}
 use Rattle.cbor_notation_writer.specs.Dialect.{TextsOf, TextsAt, OneText, EmbeddedText, ContentText, embedding}
 use Rattle.cbor_notation_writer.specs.Dialect.{style_at, style_within, count_of}
 use Rattle.cbor_notation_writer.proofs.straight.Texts.{Reached, reached_all, ItemsWritten, items_written}
@@ -380,6 +380,12 @@ item_here p q n w x b rest old new read v flat shows is (i, inner, t, text, eq) 
       subst (λ y. ContentText json_leaves left (UniqueTexts left) y p c t) (sym shows) here,
       eq,
     )
+
+-- a text that is written by itself, and then after others
+pub written_after : (texts : Item → Texts) (read : Read Item) (rest old new alone : List ℕ)
+    → Written texts read rest [] alone → new ≡ old ++ alone → Written texts read rest old new
+written_after texts read rest old new alone (i, is, t, text, eq) added =
+    (i, is, t, text, added ∙ ap (λ x. old ++ x) eq)
 
 pub shown_here : (p : JsonPlace) (n : ℕ) (w : IntegerWidth) (s : StringContent) (x : Bor (List ℕ))
     (b rest old new : List ℕ) (k : StringKind) → s ≡ content.Bytes x → kind_of s ≡ k

@@ -27,6 +27,7 @@ use Rattle.cbor_json.proofs.walking.Named.{no_pairs_named, one_pair_named}
 use Rattle.cbor_json.proofs.walking.Ordered.{are_after}
 use Rattle.cbor_json.proofs.walking.Unique.{unique_front, quiet_front, quiet_of, tag_here, array_here, object_here}
 use Rattle.cbor_json.proofs.walking.Unique.{inside_array, is_quiet, digits_here, same_content, shown_here, bytes_here}
+use Rattle.cbor_json.proofs.walking.Unique.{written_after}
 use Rattle.cbor_json.proofs.walk.+walk.Goals as goal
 
 -- ---- an item
@@ -116,19 +117,23 @@ push_string-returns-in_ok-string-in-Bytes-content_at-clause-written t c =
     (λ x e. same_content c.args.place.now c.in-Bytes.inner x (sym c.in-Bytes.is ∙ e)
     (sym c.content_at.ensures ∙ c.in-Bytes-content_at.is)) c.in_ok-string-in-Bytes-content_at.ensures
 
-pub push_string-returns-then-not-is_item-clause-written : goal.push_string-returns-then-not-is_item-clause-written
-push_string-returns-then-not-is_item-clause-written t c =
+pub push_string-returns-in_ok-string-in-Err-clause-written : goal.push_string-returns-in_ok-string-in-Err-clause-written
+push_string-returns-in_ok-string-in-Err-clause-written t c =
     let s = c.args.string.0 in
     bytes_here c.args.place.now s.1 s.2 c.in_ok-content.content c.in-Bytes.inner c.args.string.1.now
     c.in_ok-content.rest.now _ _ s.0 c.in-Bytes.is c.in_ok-content.ensures.kind (c.in_ok-content.ensures.gives s.2)
-    (sym c.content_at.ensures ∙ c.in-Item.is) (c.is_item.ensures c.if-not-is_item.true) c.in_ok-string-in-Item.ensures
+    (sym c.content_at.ensures ∙ c.in-Item.is) (c.is_item.ensures c.if-is_item.false) c.in_ok-string-in-Err.ensures
 
-pub push_string-returns-in-Ok-clause-written : goal.push_string-returns-in-Ok-clause-written
-push_string-returns-in-Ok-clause-written t c =
+pub push_string-returns-in_ok-push_str-in-Ok-clause-written :
+    goal.push_string-returns-in_ok-push_str-in-Ok-clause-written
+push_string-returns-in_ok-push_str-in-Ok-clause-written t c =
     let s = c.args.string.0 in
+    let old = string_bytes c.args.out.now in
+    let added = c.in_ok-push_str-in-Ok.ensures.bytes ∙ ap (λ x. old ++ x) c.as_str.ensures.value in
     shown_here c.args.place.now s.1 s.2 c.in_ok-content.content c.in-Bytes.inner c.args.string.1.now
     c.in_ok-content.rest.now _ _ s.0 c.in-Bytes.is c.in_ok-content.ensures.kind (c.in_ok-content.ensures.gives s.2)
-    c.requires.value c.requires.flat (sym c.content_at.ensures ∙ c.in-Item.is) c.in-Ok.ensures.written
+    c.requires.value c.requires.flat (sym c.content_at.ensures ∙ c.in-Item.is)
+    (written_after _ _ _ _ _ (string_bytes c.in-Ok.text) c.in-Ok.ensures added)
 
 -- ---- an array
 

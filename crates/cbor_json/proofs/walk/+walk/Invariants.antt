@@ -28,8 +28,8 @@ decreases-push_object l = (129 - l.place.now.level) * 4 + 1
 abbrev pub decreases-push_string : goal.decreases-push_string
 decreases-push_string l = (129 - l.place.now.level) * 4 + 2
 
-abbrev pub decreases-push_shown : goal.decreases-push_shown
-decreases-push_shown l = (129 - l.place.now.level) * 4 + 1
+abbrev pub decreases-shown_text : goal.decreases-shown_text
+decreases-shown_text l = (129 - l.place.now.level) * 4 + 1
 
 abbrev pub decreases-push_array-items : goal.decreases-push_array-items
 decreases-push_array-items l = length l.rest
