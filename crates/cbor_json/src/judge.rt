@@ -23,7 +23,7 @@ use crate::names::SameNames;
 use crate::print;
 use crate::print::place::JsonPlace;
 use crate::style::JsonStyle;
-use crate::walk::{NotWritten, push_item};
+use crate::walk::{NotWritten, first_capacity, push_item};
 use cbor_bytes::skip::{Extent, extent};
 use cbor_grammar::Error;
 use cbor_notation_writer::outermost::push_outermost;
@@ -55,14 +55,6 @@ fn has_unique_keys(text: &str, alloc: Global) -> Result<bool, AllocError>
             _ => Err(AllocError),
         },
     }
-}
-
-/// For how many bytes of an input memory is taken before its text is written, at most.
-const MOST: usize = 1 << 19;
-
-/// How much memory a text of that many bytes begins with: it is mostly up to twice as long.
-fn first_capacity(len: usize) -> usize {
-    2 * len.min(MOST) + 32
 }
 
 /// Writes the item at the front, and returns its text and the bytes after it.

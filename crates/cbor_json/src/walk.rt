@@ -1,5 +1,5 @@
 //! Writes JSON straight from bytes, and keeps the names of the open objects by where they stand in
-//! the text. So the text is not read again to see whether an object has two equal names.
+//! the text. So it knows whether an object has two equal names, and where their keys are.
 #![tactic(auto, using(cbor_tokens::proofs::texts::Appending::appending_steps))]
 
 ghost use Rattle.std.specs.Prelude.{◌≡◌, ◌+◌, ◌≤◌, ◌∷◌, [], ◌++◌, ℕ, List, length, true, IfOk, IfSome, IfNone, OnOk};
@@ -60,6 +60,14 @@ impl NotWritten {
             NotWritten::SameNames(names) => NotWritten::SameNames(names.before(more)),
         }
     }
+}
+
+/// For how many bytes of an input memory is taken before its text is written, at most.
+const MOST: usize = 1 << 19;
+
+/// How much memory a text of that many bytes begins with: it is mostly up to twice as long.
+pub(crate) fn first_capacity(len: usize) -> usize {
+    2 * len.min(MOST) + 32
 }
 
 /// The kind of a string of definite length, its length and the width of that, by its head.
@@ -342,7 +350,7 @@ fn shown_text(string: (&[u8], IntegerWidth), place: &JsonPlace) -> Result<String
     let (bytes, width) = string;
     let container = Container::Embedded(Argument::Number(bytes.len() as u64, width));
     let inside = place.inside(container, Layout::Compact);
-    let mut text = String::with_capacity(place.alloc, bytes.len())?;
+    let mut text = String::with_capacity(place.alloc, first_capacity(bytes.len()))?;
     let mut names = Vec::new(place.alloc);
     let rest = push_item(&mut text, &mut names, bytes, &inside)?;
     if rest.is_empty() {
