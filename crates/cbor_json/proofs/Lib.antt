@@ -1,5 +1,4 @@
 pub mod writing
 pub mod json
 pub mod losing
-pub mod clashing
 pub mod walking

@@ -7,4 +7,3 @@ pub mod Tokens
 pub mod Numbers
 pub mod Parts
 pub mod Texts
-pub mod NoObjects

@@ -28,10 +28,10 @@ use Rattle.cbor_grammar.specs.NotationText.{number, float_text, simple_text, quo
 use Rattle.cbor_notation_writer.specs.Dialect.{Leaves, Texts, style_within}
 use Rattle.cbor_notation_writer.specs.declared.parts.Container.{Container}
 use Rattle.cbor_notation_writer.specs.declared.parts.Container.TheVariants.{Array, Map, Chunks, Embedded}
-use Rattle.cbor_json.specs.Spots.{inside_spot, next_spot, value_spot, below_spot}
+use Rattle.cbor_json.specs.Roles.{inside_role, next_role, value_role, below_role}
 use Rattle.cbor_json.specs.declared.print.place.JsonPlace.{JsonPlace}
-use Rattle.cbor_json.specs.declared.print.place.Spot.{Spot}
-use Rattle.cbor_json.specs.declared.print.place.Spot.TheVariants as spot
+use Rattle.cbor_json.specs.declared.print.place.Role.{Role}
+use Rattle.cbor_json.specs.declared.print.place.Role.TheVariants as role
 
 -- ---- numbers
 
@@ -89,9 +89,9 @@ in_quotes t = codes "\"" ++ (t ++ codes "\"")
 abbrev pub InQuotes : Texts → Texts
 InQuotes texts t = (core : List ℕ) × texts core × (t ≡ in_quotes core)
 
-abbrev pub LeafAt : Spot → Atom → Texts
-LeafAt spot.Key a t = InQuotes (EdnLeaf a) t
-LeafAt spot.InKey a t = EdnLeaf a t
+abbrev pub LeafAt : Role → Atom → Texts
+LeafAt role.Key a t = InQuotes (EdnLeaf a) t
+LeafAt role.InKey a t = EdnLeaf a t
 LeafAt s a t = ValueLeaf a t
 
 -- ---- bytes
@@ -111,8 +111,8 @@ abbrev pub digits_in : Encoding → List ℕ → List ℕ
 digits_in Base16 b = encode_upper b
 digits_in e b = encoded_bytes e b
 
--- The bytes of a value as digits. Those of a big number are in base64url, whatever is asked for, and those of a negative
--- one have a tilde before them.
+-- The bytes of a value as digits. Those of a big number are in base64url, whatever is asked for, and those of a
+-- negative one have a tilde before them.
 abbrev pub value_digits : Option ℕ → Encoding → List ℕ → List ℕ
 value_digits tag e b =
     if is_negative_tag tag then codes "~" ++ encoded_bytes Base64Url b
@@ -130,18 +130,18 @@ abbrev pub edn_string : StringKind → Chunk → List ℕ
 edn_string kind.Bytes c = quoted Base16 c.bytes
 edn_string kind.Text c = codes "\\\"" ++ (twice_escaped c.bytes ++ codes "\\\"")
 
-abbrev pub string_at : JsonPlace → Spot → StringKind → Chunk → List ℕ
-string_at p spot.InKey k c = edn_string k c
-string_at p spot.Key kind.Bytes c = in_quotes (quoted Base16 c.bytes)
+abbrev pub string_at : JsonPlace → Role → StringKind → Chunk → List ℕ
+string_at p role.InKey k c = edn_string k c
+string_at p role.Key kind.Bytes c = in_quotes (quoted Base16 c.bytes)
 string_at p s kind.Bytes c = in_quotes (value_digits p.tag p.encoding c.bytes)
 string_at p s kind.Text c = in_quotes (escaped_text c.bytes)
 
 -- ---- big numbers by their decimal digits
 
 -- no key, and no part of one
-abbrev pub is_value : Spot → Bool
-is_value spot.Key = false
-is_value spot.InKey = false
+abbrev pub is_value : Role → Bool
+is_value role.Key = false
+is_value role.InKey = false
 is_value s = true
 
 abbrev pub is_bytes : StringKind → Bool
@@ -150,7 +150,7 @@ is_bytes kind.Text = false
 
 -- a byte string that is written by the digits of its number: a value, right below such a tag, of at most 1,024 bytes
 abbrev pub is_big : JsonPlace → StringKind → List ℕ → Bool
-is_big p k b = is_bytes k && (is_value p.spot && (is_big_tag p.tag && nat_le (length b) 1024))
+is_big p k b = is_bytes k && (is_value p.role && (is_big_tag p.tag && nat_le (length b) 1024))
 
 abbrev pub BigText : Bool → List ℕ → Texts
 BigText minus b t =
@@ -158,18 +158,18 @@ BigText minus b t =
 
 abbrev pub StringIf : Bool → JsonPlace → StringKind → Chunk → Texts
 StringIf true p k c t = BigText (is_negative_tag p.tag) c.bytes t
-StringIf false p k c t = t ≡ string_at p p.spot k c
+StringIf false p k c t = t ≡ string_at p p.role k c
 
 -- a string of definite length, or the joined chunks of one
 abbrev pub StringAt : JsonPlace → StringKind → Chunk → Texts
 StringAt p k c t = StringIf (is_big p k c.bytes) p k c t
 
 -- a chunk, without quotes
-abbrev pub part_at : JsonPlace → Spot → StringKind → Chunk → List ℕ
-part_at p spot.InKey kind.Text c = twice_escaped c.bytes
+abbrev pub part_at : JsonPlace → Role → StringKind → Chunk → List ℕ
+part_at p role.InKey kind.Text c = twice_escaped c.bytes
 part_at p s kind.Text c = escaped_text c.bytes
-part_at p spot.Key kind.Bytes c = encode_lower c.bytes
-part_at p spot.InKey kind.Bytes c = encode_lower c.bytes
+part_at p role.Key kind.Bytes c = encode_lower c.bytes
+part_at p role.InKey kind.Bytes c = encode_lower c.bytes
 part_at p s kind.Bytes c = digits_in p.encoding c.bytes
 
 -- ---- lists
@@ -217,27 +217,27 @@ value_closing (Map count) = codes "}"
 value_closing (Chunks k) = codes "\""
 value_closing (Embedded len) = []
 
-abbrev pub opening_at : Spot → Container → List ℕ
-opening_at spot.Key c = key_opening c
-opening_at spot.InKey c = edn_opening c
+abbrev pub opening_at : Role → Container → List ℕ
+opening_at role.Key c = key_opening c
+opening_at role.InKey c = edn_opening c
 opening_at s c = value_opening c
 
-abbrev pub closing_at : Spot → Container → List ℕ
-closing_at spot.Key c = key_closing c
-closing_at spot.InKey c = edn_closing c
+abbrev pub closing_at : Role → Container → List ℕ
+closing_at role.Key c = key_closing c
+closing_at role.InKey c = edn_closing c
 closing_at s c = value_closing c
 
 -- a string of no chunks
-abbrev pub empty_at : Spot → StringKind → List ℕ
-empty_at spot.Key kind.Bytes = codes "\"h''\""
-empty_at spot.InKey kind.Bytes = codes "h''"
-empty_at spot.InKey kind.Text = codes "\\\"\\\""
+abbrev pub empty_at : Role → StringKind → List ℕ
+empty_at role.Key kind.Bytes = codes "\"h''\""
+empty_at role.InKey kind.Bytes = codes "h''"
+empty_at role.InKey kind.Text = codes "\\\"\\\""
 empty_at s k = codes "\"\""
 
 -- the bytes of chunks are joined before they are made digits
-abbrev pub joins_at : Spot → StringKind → Bool
-joins_at spot.Value kind.Bytes = true
-joins_at spot.Named kind.Bytes = true
+abbrev pub joins_at : Role → StringKind → Bool
+joins_at role.Value kind.Bytes = true
+joins_at role.Named kind.Bytes = true
 joins_at s k = false
 
 -- chunks are joined
@@ -247,14 +247,14 @@ before_member c first = if first then [] else codes ", "
 
 -- ---- tags
 
-abbrev pub tag_at : Spot → ℕ → List ℕ
-tag_at spot.Key n = codes "\"" ++ (integer_text n ++ codes "(")
-tag_at spot.InKey n = integer_text n ++ codes "("
+abbrev pub tag_at : Role → ℕ → List ℕ
+tag_at role.Key n = codes "\"" ++ (integer_text n ++ codes "(")
+tag_at role.InKey n = integer_text n ++ codes "("
 tag_at s n = []
 
-abbrev pub tag_end_at : Spot → List ℕ
-tag_end_at spot.Key = codes ")\""
-tag_end_at spot.InKey = codes ")"
+abbrev pub tag_end_at : Role → List ℕ
+tag_end_at role.Key = codes ")\""
+tag_end_at role.InKey = codes ")"
 tag_end_at s = []
 
 -- ---- byte strings as items
@@ -273,7 +273,7 @@ wants_bytes (Some tag) =
 
 abbrev pub content_at : JsonPlace → List ℕ → Content
 content_at p b =
-    if p.style.embedded && (not (wants_bytes p.tag) && (is_value p.spot && begins_container b)) then shown.Item
+    if p.style.embedded && (not (wants_bytes p.tag) && (is_value p.role && begins_container b)) then shown.Item
     else shown.Bytes
 
 -- ---- the dialect
@@ -285,13 +285,13 @@ json_leaves = record {
   layout = λ p. p.layout;
   style = λ p size. style_within one_line_limit p.layout size;
   content = content_at;
-  joins = λ p k. joins_at p.spot k;
+  joins = λ p k. joins_at p.role k;
   inside = λ c layout p. record {
     alloc = p.alloc;
     level = p.level + 1;
     layout = layout;
     style = p.style;
-    spot = inside_spot c p.spot;
+    role = inside_role c p.role;
     encoding = p.encoding;
     tag = None;
   };
@@ -300,7 +300,7 @@ json_leaves = record {
     level = p.level;
     layout = p.layout;
     style = p.style;
-    spot = next_spot p.spot;
+    role = next_role p.role;
     encoding = p.encoding;
     tag = p.tag;
   };
@@ -309,7 +309,7 @@ json_leaves = record {
     level = p.level;
     layout = p.layout;
     style = p.style;
-    spot = value_spot p.spot;
+    role = value_role p.role;
     encoding = p.encoding;
     tag = p.tag;
   };
@@ -318,19 +318,19 @@ json_leaves = record {
     level = p.level + 1;
     layout = p.layout;
     style = p.style;
-    spot = below_spot p.spot;
+    role = below_role p.role;
     encoding = encoding_below n p.encoding;
     tag = Some n;
   };
-  leaf = λ p a t. LeafAt p.spot a t;
+  leaf = λ p a t. LeafAt p.role a t;
   string = StringAt;
-  part = λ p k c t. t ≡ part_at p p.spot k c;
-  no_parts = λ p k t. t ≡ empty_at p.spot k;
-  opening = λ p c l t. t ≡ opening_at p.spot c;
-  closing = λ p c l t. t ≡ closing_at p.spot c;
+  part = λ p k c t. t ≡ part_at p p.role k c;
+  no_parts = λ p k t. t ≡ empty_at p.role k;
+  opening = λ p c l t. t ≡ opening_at p.role c;
+  closing = λ p c l t. t ≡ closing_at p.role c;
   rest = λ p c b t. t ≡ [];
-  tag = λ p n w t. t ≡ tag_at p.spot n;
-  tag_end = λ p n t. t ≡ tag_end_at p.spot;
+  tag = λ p n w t. t ≡ tag_at p.role n;
+  tag_end = λ p n t. t ≡ tag_end_at p.role;
   start = λ c l first. before_member c first;
   end = λ c l. [];
   colon = λ l. codes ": ";

@@ -1,7 +1,6 @@
 pub mod Decimal
-pub mod Spots
+pub mod Roles
 pub mod JsonLeaves
 pub mod Kept
-pub mod Clashes
 pub mod Written
 pub mod mirror

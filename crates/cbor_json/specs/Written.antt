@@ -17,10 +17,9 @@ use Rattle.cbor_grammar.specs.Answer.{Outcome, spelled, cut, fault}
 use Rattle.cbor_grammar.specs.Item.{Item}
 use Rattle.cbor_notation_writer.specs.Dialect.{TextsAt}
 use Rattle.cbor_json.specs.JsonLeaves.{json_leaves}
-use Rattle.cbor_json.specs.Clashes.{IsClash}
 use Rattle.cbor_json.specs.Kept.{IsKept, IsLoss}
 use Rattle.cbor_json.specs.declared.print.place.JsonPlace.{JsonPlace}
-use Rattle.cbor_json.specs.declared.print.place.Spot.TheVariants.{Value}
+use Rattle.cbor_json.specs.declared.print.place.Role.TheVariants.{Value}
 use Rattle.cbor_json.specs.declared.style.JsonStyle.{JsonStyle}
 
 -- the place of the outermost item of a text in this style
@@ -28,7 +27,7 @@ pub record IsOutermost (style : JsonStyle) (place : JsonPlace) : Type 0 where
   pub level : place.level ≡ 1
   pub layout : place.layout ≡ Compact
   pub style_is : place.style ≡ style
-  pub spot : place.spot ≡ Value
+  pub role : place.role ≡ Value
   pub encoding : place.encoding ≡ Base64Url
   pub tag : place.tag ≡ None
 
@@ -53,8 +52,8 @@ pub record IsNotKept (style : JsonStyle) (i : Item) : Type 0 where
   pub strict : IsTrue style.strict
   pub lost : ¬ (IsKept i)
 
--- Two keys of a map become the same in a text that JSON has for the item. In a strict style JSON keeps all of it: what is
--- not kept comes first.
+-- Two keys of a map become the same in a text that JSON has for the item. In a strict style JSON keeps all of it: what
+-- is not kept comes first.
 pub record HasSameKeys (style : JsonStyle) (i : Item) : Type 0 where
   pub text : List ℕ
   pub of : IsJsonOf style i text
@@ -67,7 +66,7 @@ pub record HasSameKeys (style : JsonStyle) (i : Item) : Type 0 where
 abbrev pub Judges : JsonStyle → Judged → Item → Type 0
 Judges style (judged.Text s) i = IsJsonText style i (string_bytes s)
 Judges style (judged.NotKept loss) i = IsNotKept style i
-Judges style judged.SameKeys i = HasSameKeys style i
+Judges style (judged.SameKeys clash) i = HasSameKeys style i
 
 -- the loss of which it tells is the first of these bytes
 abbrev pub Tells : List ℕ → Judged → Type 0
@@ -83,12 +82,11 @@ abbrev pub IsNoJson : JsonStyle → List ℕ → JsonError → Type 0
 IsNoJson style b (Cbor refusal.Memory) = Unit {0}
 IsNoJson style b (Cbor e) = IsNoItem b e
 IsNoJson style b (NotKept loss) = IsLoss b loss × (i : Item) × IsItem b i × IsNotKept style i
-IsNoJson style b (SameKeys clash) = IsClash style b clash × (i : Item) × IsItem b i × HasSameKeys style i
+IsNoJson style b (SameKeys clash) = (i : Item) × IsItem b i × HasSameKeys style i
 
--- what is not kept is where the error says, and so are the two keys
+-- what is not kept is where the error says
 abbrev pub IsPlaced : JsonStyle → List ℕ → JsonError → Type 0
 IsPlaced style b (NotKept loss) = IsLoss b loss
-IsPlaced style b (SameKeys clash) = IsClash style b clash
 IsPlaced style b e = Unit {0}
 
 -- the only errors that an item has

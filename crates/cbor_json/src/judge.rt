@@ -17,16 +17,17 @@ ghost use Rattle.cbor_json.specs.Kept.{IsKept, IsLoss};
 ghost use Rattle.cbor_json.specs.Written.{IsJsonOf, IsNotKept, Judges, Tells};
 ghost use Rattle.cbor_json.specs.mirror.Walking.{IsUnique};
 
-use crate::error::Loss;
+use crate::error::{Clash, Loss};
 use crate::loss::first_loss;
+use crate::names::SameNames;
 use crate::print;
 use crate::print::place::JsonPlace;
 use crate::style::JsonStyle;
-use crate::walk::{NotWritten, push_item};
+use crate::walk::{NotWritten, first_capacity, push_item};
+use cbor_bytes::skip::{Extent, extent};
 use cbor_grammar::Error;
 use cbor_notation_writer::outermost::push_outermost;
-use json::{Scratch, Tape, Value};
-use memchr::memchr;
+use json::{Scratch, Value};
 use std::alloc::{AllocError, Global};
 
 /// What became of an item.
@@ -37,29 +38,11 @@ pub(crate) enum Judged {
     /// The style is strict, and JSON does not keep this.
     NotKept(Loss),
     /// Two keys of a map became the same.
-    SameKeys,
+    SameKeys(Clash),
 }
 
-/// Whether no object of the text has a key twice. A text without a brace has none, and is not read.
+/// Whether no object of the text, which is JSON, has a key twice.
 fn has_unique_keys(text: &str, alloc: Global) -> Result<bool, AllocError>
-    ensures { IfOk result (λ unique. (j : Json) → document text.now ≡ Some j
-        → (IsTrue unique ↔ HasUniqueKeys j)) }
-{
-    if memchr(b'{', text.as_bytes()).is_none() {
-        return Ok(true);
-    }
-    let mut scratch = Scratch::new(alloc);
-    match Tape::parse_strict(text, &mut scratch, Vec::new(alloc)) {
-        Ok(_) => Ok(true),
-        Err(json::Error::DuplicateKey) => Ok(false),
-        Err(json::Error::TooLong) => has_unique_keys_of_value(text, alloc),
-        // The text is JSON, so this is out of memory.
-        Err(_) => Err(AllocError),
-    }
-}
-
-/// The same of a text that is too long for a tape, which is read as a value.
-fn has_unique_keys_of_value(text: &str, alloc: Global) -> Result<bool, AllocError>
     ensures { IfOk result (λ unique. (j : Json) → document text.now ≡ Some j
         → (IsTrue unique ↔ HasUniqueKeys j)) }
 {
@@ -72,14 +55,6 @@ fn has_unique_keys_of_value(text: &str, alloc: Global) -> Result<bool, AllocErro
             _ => Err(AllocError),
         },
     }
-}
-
-/// For how many bytes of an input memory is taken before its text is written, at most.
-const MOST: usize = 1 << 19;
-
-/// How much memory a text of that many bytes begins with: it is mostly up to twice as long.
-fn first_capacity(len: usize) -> usize {
-    2 * len.min(MOST) + 32
 }
 
 /// Writes the item at the front, and returns its text and the bytes after it.
@@ -143,12 +118,24 @@ fn distinct_text<'a>(
     Ok((text, rest))
 }
 
-/// Writes the item at the front, and reads its text to see whether two names are equal. It returns
+/// Why no item at the front is written: the error of the bytes, or out of memory.
+fn front_error(bytes: &[u8]) -> Error
+    ensures { Fails result (read_item deepest bytes.now) }
+{
+    match extent(bytes) {
+        Extent::Cut => Error::CutShort,
+        Extent::Fault { error, .. } => error,
+        Extent::Item(_) => Error::Memory,
+    }
+}
+
+/// Writes the item at the front, and reads its text, in which these two names are equal. It returns
 /// what became of the item and the bytes after it.
 fn judge_again<'a>(
     bytes: &'a [u8],
     style: JsonStyle,
     alloc: Global,
+    names: SameNames,
 ) -> cbor_grammar::Result<(Judged, &'a [u8])>
     ensures judged { IfOk result (λ found. (i : Item)
         × (read_item deepest bytes.now ≡ Ok (i, found.1.now)) × Judges style found.0 i) }
@@ -160,10 +147,13 @@ fn judge_again<'a>(
         return Ok((Judged::NotKept(loss), rest));
     }
     if has_unique_keys(text.as_str(), alloc)? {
-        Ok((Judged::Text(text), rest))
-    } else {
-        Ok((Judged::SameKeys, rest))
+        return Ok((Judged::Text(text), rest));
     }
+    let clash = Clash {
+        first: bytes.len().saturating_sub(names.first),
+        second: bytes.len().saturating_sub(names.second),
+    };
+    Ok((Judged::SameKeys(clash), rest))
 }
 
 /// Writes the item at the front, and returns what became of it and the bytes after it.
@@ -179,7 +169,8 @@ pub(crate) fn judge_front<'a>(
 {
     match distinct_text(bytes, style, alloc) {
         Ok((text, rest)) => Ok((judged_text(text, bytes, style), rest)),
-        Err(_) => judge_again(bytes, style, alloc),
+        Err(NotWritten::SameNames(names)) => judge_again(bytes, style, alloc, names),
+        Err(NotWritten::Failed) => Err(front_error(bytes)),
     }
 }
 

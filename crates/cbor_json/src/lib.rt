@@ -2,7 +2,6 @@
 //! has the rules.
 #![tactic(auto)]
 
-mod clash;
 mod digits;
 mod error;
 mod judge;

@@ -7,8 +7,9 @@ ghost use Rattle.cbor_grammar.specs.Item.{Item};
 ghost use Rattle.cbor_grammar.specs.WellFormed.{deepest};
 ghost use Rattle.cbor_json.specs.Written.{IsJsonText};
 
-use crate::clash::{Search, is_shown};
 use crate::error::{Clash, JsonError, Loss};
+use crate::print::place::JsonPlace;
+use crate::print::text::{content_at, is_item};
 use crate::style::JsonStyle;
 use crate::write::bytes_to_json;
 use cbor_bytes::head::read_head;
@@ -18,6 +19,7 @@ use cbor_bytes::write::push_head;
 use cbor_grammar::IntegerWidth;
 use cbor_grammar::argument::Argument;
 use cbor_grammar::head::ItemHead;
+use cbor_grammar::layout::Content;
 use cbor_grammar::level::DEEPEST;
 use cbor_grammar::major::Major;
 use cbor_grammar::strings::StringKind;
@@ -53,11 +55,10 @@ struct Edit {
 /// What is known of items before they are read.
 #[derive(Clone, Copy)]
 struct Around {
-    /// Their level.
-    level: u8,
     /// How many bytes follow those that are read, up to the end of the outermost item's.
     behind: usize,
-    search: Search,
+    /// Their place, which is that of a value.
+    place: JsonPlace,
 }
 
 /// The bytes between two places; none if there are no such bytes.
@@ -68,14 +69,15 @@ fn between(bytes: &[u8], from: usize, to: usize) -> &[u8] {
 impl Around {
     /// One level below, and right below this tag, if any.
     fn below(self, tag: Option<u64>) -> Around
-        requires { self.level ≤ deepest }
-        ensures { result.level ≡ self.level + 1 }
+        requires { self.place.level ≤ deepest }
+        ensures { result.place.level ≡ self.place.level + 1 }
     {
-        Around {
-            level: self.level + 1,
-            search: self.search.below(tag),
-            ..self
-        }
+        let place = JsonPlace {
+            level: self.place.level + 1,
+            tag,
+            ..self.place
+        };
+        Around { place, ..self }
     }
 }
 
@@ -143,10 +145,10 @@ impl<'a> Pass<'a> {
     /// The bytes after the item at the front; `None` if there is none.
     #[cycle(item)]
     fn item<'b>(&mut self, around: Around, bytes: &'b [u8]) -> Result<Option<&'b [u8]>, AllocError>
-        requires from { 1 ≤ around.level }
-        requires to { around.level ≤ deepest + 1 }
+        requires from { 1 ≤ around.place.level }
+        requires to { around.place.level ≤ deepest + 1 }
     {
-        if around.level > DEEPEST {
+        if around.place.level > DEEPEST {
             return Ok(None);
         }
         let Ok((head, rest)) = read_head(bytes) else {
@@ -159,7 +161,7 @@ impl<'a> Pass<'a> {
             ItemHead::String(StringKind::Bytes, Argument::Number(len, _)) => {
                 self.byte_string(around, bytes, (len, rest))
             }
-            _ => Ok(after_front(bytes, around.level)),
+            _ => Ok(after_front(bytes, around.place.level)),
         }
     }
 
@@ -171,8 +173,8 @@ impl<'a> Pass<'a> {
         count: Argument,
         bytes: &'b [u8],
     ) -> Result<Option<&'b [u8]>, AllocError>
-        requires from { 1 ≤ inside.level }
-        requires to { inside.level ≤ deepest + 1 }
+        requires from { 1 ≤ inside.place.level }
+        requires to { inside.place.level ≤ deepest + 1 }
     {
         let mut rest = bytes;
         for held in 0..=bytes.len() {
@@ -195,8 +197,8 @@ impl<'a> Pass<'a> {
         count: Argument,
         bytes: &'b [u8],
     ) -> Result<Option<&'b [u8]>, AllocError>
-        requires from { 1 ≤ inside.level }
-        requires to { inside.level ≤ deepest + 1 }
+        requires from { 1 ≤ inside.place.level }
+        requires to { inside.place.level ≤ deepest + 1 }
     {
         let mut rest = bytes;
         for held in 0..=bytes.len() {
@@ -216,10 +218,10 @@ impl<'a> Pass<'a> {
 
     /// The bytes after the key at the front.
     fn key<'b>(&mut self, around: Around, bytes: &'b [u8]) -> Result<Option<&'b [u8]>, AllocError>
-        requires from { 1 ≤ around.level }
-        requires to { around.level ≤ deepest + 1 }
+        requires from { 1 ≤ around.place.level }
+        requires to { around.place.level ≤ deepest + 1 }
     {
-        let Some(rest) = after_front(bytes, around.level) else {
+        let Some(rest) = after_front(bytes, around.place.level) else {
             return Ok(None);
         };
         let old = self.span(around, bytes, rest);
@@ -247,18 +249,19 @@ impl<'a> Pass<'a> {
         bytes: &'b [u8],
         inner: (u64, &'b [u8]),
     ) -> Result<Option<&'b [u8]>, AllocError>
-        requires from { 1 ≤ around.level }
-        requires to { around.level ≤ deepest }
+        requires from { 1 ≤ around.place.level }
+        requires to { around.place.level ≤ deepest }
     {
         let (len, rest) = inner;
         let Ok((content, after)) = split_at(rest, len) else {
             return Ok(None);
         };
-        if is_shown(content, around.level, around.search) {
-            let inside = Around {
-                behind: around.behind.saturating_add(after.len()),
-                ..around.below(None)
-            };
+        let inside = Around {
+            behind: around.behind.saturating_add(after.len()),
+            ..around.below(None)
+        };
+        let may_be_item = matches!(content_at(&around.place, content), Content::Item);
+        if may_be_item && is_item(content, inside.place.level) {
             let head = self.span(around, bytes, rest);
             self.embedded(inside, content, head)?;
         }
@@ -268,8 +271,8 @@ impl<'a> Pass<'a> {
     /// The item that is the content of a byte string with this head.
     #[cycle(item)]
     fn embedded(&mut self, inside: Around, content: &[u8], head: Span) -> Result<(), AllocError>
-        requires from { 1 ≤ inside.level }
-        requires to { inside.level ≤ deepest + 1 }
+        requires from { 1 ≤ inside.place.level }
+        requires to { inside.place.level ≤ deepest + 1 }
     {
         let index = self.edits.len();
         let (added, taken) = (self.added, self.taken);
@@ -366,9 +369,8 @@ pub fn bytes_to_json_named(
 {
     let mut pass = Pass::new(alloc, bytes.len(), names)?;
     let around = Around {
-        level: 1,
         behind: 0,
-        search: Search::new(alloc, style),
+        place: JsonPlace::new(alloc, style),
     };
     let edited = match pass.item(around, bytes)? {
         Some([]) => pass.edited(alloc, bytes)?,

@@ -1,4 +1,4 @@
-//! The names of an open object, by where they stand in its text.
+//! The names of an open object, by where they stand in its text, and which two of them are equal.
 #![tactic(auto)]
 
 ghost use Rattle.std.specs.Prelude.{◌≡◌, ◌≢◌, ℕ, ◌<◌, List, length, map, IsTrue, IsSorted};
@@ -8,13 +8,33 @@ ghost use Rattle.std.specs.Ordering.{is_lt, nat_cmp};
 ghost use Rattle.json.specs.Strict.{AreDistinct};
 ghost use Rattle.cbor_json.specs.mirror.Walking.{AreAt, name_order};
 
-use std::alloc::Global;
+use std::alloc::{AllocError, Global};
+use std::collections::BTreeMap;
 
 /// A name with its quotes: the bytes of the text from `start` to `end`.
 #[derive(Clone, Copy)]
 pub(crate) struct Name {
     pub(crate) start: usize,
     pub(crate) end: usize,
+    /// The number of bytes from its key to the end.
+    pub(crate) left: usize,
+}
+
+/// Two equal names of an object: the number of bytes from the key of each to the end.
+#[derive(Clone, Copy)]
+pub(crate) struct SameNames {
+    pub(crate) first: usize,
+    pub(crate) second: usize,
+}
+
+impl SameNames {
+    /// The same two, if the bytes go on for that many more.
+    pub(crate) fn before(self, more: usize) -> SameNames {
+        SameNames {
+            first: self.first.saturating_add(more),
+            second: self.second.saturating_add(more),
+        }
+    }
 }
 
 /// How many names of an object are compared with all names before them, at most.
@@ -101,4 +121,23 @@ pub(crate) fn are_distinct(text: &[u8], names: &[Name], alloc: Global) -> bool
         }
     }
     true
+}
+
+/// The first name that is equal to one before it, and that one; none if no two are equal.
+pub(crate) fn same_names(
+    text: &[u8],
+    names: &[Name],
+    alloc: Global,
+) -> Result<Option<SameNames>, AllocError> {
+    let mut lefts = BTreeMap::new(alloc);
+    for name in names {
+        let Some(this) = text.get(name.start..name.end) else {
+            return Ok(None);
+        };
+        let second = name.left;
+        if let Some(first) = lefts.insert(this, second)? {
+            return Ok(Some(SameNames { first, second }));
+        }
+    }
+    Ok(None)
 }

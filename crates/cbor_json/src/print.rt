@@ -13,7 +13,7 @@ use crate::print::leaf::push_leaf;
 use crate::print::lists::{
     push_closing, push_empty, push_opening, push_start, push_tag, push_tag_end,
 };
-use crate::print::place::{JsonPlace, Spot};
+use crate::print::place::{JsonPlace, Role};
 use crate::print::text::{content_at, push_part, push_string};
 use cbor_grammar::IntegerWidth;
 use cbor_grammar::argument::Argument;
@@ -81,8 +81,8 @@ impl Dialect for Json {
 
     #[inline(always)]
     fn joins(place: &JsonPlace, kind: StringKind) -> Option<Global> {
-        match (kind, place.spot) {
-            (StringKind::Bytes, Spot::Value | Spot::Named) => Some(place.alloc),
+        match (kind, place.role) {
+            (StringKind::Bytes, Role::Value | Role::Named) => Some(place.alloc),
             _ => None,
         }
     }
@@ -94,12 +94,12 @@ impl Dialect for Json {
 
     #[inline(always)]
     fn pass(place: &mut JsonPlace) {
-        place.spot = place.spot.next();
+        place.role = place.role.next();
     }
 
     #[inline(always)]
     fn pass_key(place: &mut JsonPlace, _bytes: &[u8], _rest: &[u8]) {
-        place.spot = place.spot.value();
+        place.role = place.role.value();
     }
 
     #[inline(always)]
@@ -109,7 +109,7 @@ impl Dialect for Json {
 
     #[inline(always)]
     fn leaf(out: &mut String, leaf: Leaf, place: &JsonPlace) -> Result<(), AllocError> {
-        push_leaf(out, leaf, place.spot)
+        push_leaf(out, leaf, place.role)
     }
 
     /// The width of the length is not shown.
@@ -135,7 +135,7 @@ impl Dialect for Json {
 
     #[inline(always)]
     fn no_parts(out: &mut String, kind: StringKind, place: &JsonPlace) -> Result<(), AllocError> {
-        push_empty(out, kind, place.spot)
+        push_empty(out, kind, place.role)
     }
 
     #[inline(always)]
@@ -145,7 +145,7 @@ impl Dialect for Json {
         _style: ContainerStyle,
         place: &JsonPlace,
     ) -> Result<(), AllocError> {
-        push_opening(out, container, place.spot)
+        push_opening(out, container, place.role)
     }
 
     #[inline(always)]
@@ -155,7 +155,7 @@ impl Dialect for Json {
         _style: ContainerStyle,
         place: &JsonPlace,
     ) -> Result<(), AllocError> {
-        push_closing(out, container, place.spot)
+        push_closing(out, container, place.role)
     }
 
     /// Nothing: no byte string is shown as several items.
@@ -176,12 +176,12 @@ impl Dialect for Json {
         _width: IntegerWidth,
         place: &JsonPlace,
     ) -> Result<(), AllocError> {
-        push_tag(out, tag, place.spot)
+        push_tag(out, tag, place.role)
     }
 
     #[inline(always)]
     fn tag_end(out: &mut String, _tag: u64, place: &JsonPlace) -> Result<(), AllocError> {
-        push_tag_end(out, place.spot)
+        push_tag_end(out, place.role)
     }
 
     #[inline(always)]

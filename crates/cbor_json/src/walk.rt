@@ -1,5 +1,5 @@
 //! Writes JSON straight from bytes, and keeps the names of the open objects by where they stand in
-//! the text. So the text is not read again to see whether an object has two equal names.
+//! the text. So it knows whether an object has two equal names, and where their keys are.
 #![tactic(auto, using(cbor_tokens::proofs::texts::Appending::appending_steps))]
 
 ghost use Rattle.std.specs.Prelude.{◌≡◌, ◌+◌, ◌≤◌, ◌∷◌, [], ◌++◌, ℕ, List, length, true, IfOk, IfSome, IfNone, OnOk};
@@ -14,10 +14,10 @@ ghost use Rattle.cbor_notation_writer.specs.mirror.Straight.{Written, chunk};
 ghost use Rattle.cbor_json.specs.JsonLeaves.{json_leaves, is_value};
 ghost use Rattle.cbor_json.specs.mirror.Walking.{AreAt, UniqueTexts, UniqueHere, name_between};
 
-use crate::names::{Name, are_distinct};
+use crate::names::{Name, SameNames, are_distinct, same_names};
 use crate::print::Json;
 use crate::print::place::JsonPlace;
-use crate::print::text::content_at;
+use crate::print::text::{content_at, is_item};
 use cbor_bytes::borrowed::read_borrowed;
 use cbor_bytes::head::read_head;
 use cbor_grammar::argument::Argument;
@@ -31,20 +31,43 @@ use cbor_notation_writer::from_bytes::push_front;
 use cbor_notation_writer::parts::{Container, Leaf};
 use std::alloc::{AllocError, Global};
 
-/// No item is at the front, memory ran out, or two names of an object may be equal.
+/// Why no text is written.
 #[derive(Clone, Copy)]
-pub(crate) struct NotWritten;
+pub(crate) enum NotWritten {
+    /// No item is at the front, or memory ran out.
+    Failed,
+    /// Two names of an object are equal.
+    SameNames(SameNames),
+}
 
 impl From<AllocError> for NotWritten {
     fn from(_refused: AllocError) -> NotWritten {
-        NotWritten
+        NotWritten::Failed
     }
 }
 
 impl From<Error> for NotWritten {
     fn from(_error: Error) -> NotWritten {
-        NotWritten
+        NotWritten::Failed
     }
+}
+
+impl NotWritten {
+    /// The same, if the bytes go on for that many more.
+    fn before(self, more: usize) -> NotWritten {
+        match self {
+            NotWritten::Failed => NotWritten::Failed,
+            NotWritten::SameNames(names) => NotWritten::SameNames(names.before(more)),
+        }
+    }
+}
+
+/// For how many bytes of an input memory is taken before its text is written, at most.
+const MOST: usize = 1 << 19;
+
+/// How much memory a text of that many bytes begins with: it is mostly up to twice as long.
+pub(crate) fn first_capacity(len: usize) -> usize {
+    2 * len.min(MOST) + 32
 }
 
 /// The kind of a string of definite length, its length and the width of that, by its head.
@@ -75,7 +98,7 @@ pub(crate) fn push_item<'a>(
 ) -> Result<&'a [u8], NotWritten>
     requires level { 1 ≤ place.now.level }
     requires deepest { place.now.level ≤ deepest + 1 }
-    requires value { is_value place.now.spot ≡ true }
+    requires value { is_value place.now.role ≡ true }
     requires flat { place.now.layout ≡ Layout.Compact }
     ensures written { IfOk result (λ rest. Written
         (UniqueTexts (levels_left place.now.level) place.now)
@@ -84,7 +107,7 @@ pub(crate) fn push_item<'a>(
     ensures names { OnOk result (names.new.items ≡ names.old.items) }
 {
     if place.level > DEEPEST {
-        return Err(NotWritten);
+        return Err(NotWritten::Failed);
     }
     let (head, inner) = read_head(bytes)?;
     if let Some(string) = definite(head) {
@@ -104,7 +127,7 @@ pub(crate) fn push_item<'a>(
         ItemHead::Tag(tag, _) => push_item(out, names, inner, &place.below(tag)),
         _ => match push_front::<Json>(out, bytes, place) {
             Ok(rest) => Ok(rest),
-            Err(_) => Err(NotWritten),
+            Err(_) => Err(NotWritten::Failed),
         },
     }
 }
@@ -120,7 +143,7 @@ fn push_array<'a>(
 ) -> Result<&'a [u8], NotWritten>
     requires level { 1 ≤ place.now.level }
     requires deepest { place.now.level ≤ deepest }
-    requires value { is_value place.now.spot ≡ true }
+    requires value { is_value place.now.role ≡ true }
     requires flat { place.now.layout ≡ Layout.Compact }
     ensures written { IfOk result (λ rest. Written (UniqueHere place.now)
         (read_behind place.now.level (ItemHead.Array array.entry.0) array.entry.1.now)
@@ -157,7 +180,7 @@ fn push_object<'a>(
 ) -> Result<&'a [u8], NotWritten>
     requires level { 1 ≤ place.now.level }
     requires deepest { place.now.level ≤ deepest }
-    requires value { is_value place.now.spot ≡ true }
+    requires value { is_value place.now.role ≡ true }
     requires flat { place.now.layout ≡ Layout.Compact }
     ensures written { IfOk result (λ rest. Written (UniqueHere place.now)
         (read_behind place.now.level (ItemHead.Map map.entry.0) map.entry.1.now)
@@ -180,11 +203,31 @@ fn push_object<'a>(
         }
         Json::start(out, container, style, held == 0)?;
         let value = push_name(out, names, rest, &inner)?;
+        let after_key = names.len();
         Json::pass_key(&mut inner, rest, value);
         Json::colon(out, style)?;
-        rest = push_item(out, names, value, &inner)?;
+        rest = match push_item(out, names, value, &inner) {
+            Ok(next) => next,
+            Err(why) => {
+                let own = names.get(first..after_key).unwrap_or(&[]);
+                return Err(why_around(out, own, place.alloc, why));
+            }
+        };
         Json::pass(&mut inner);
         held += 1;
+    }
+}
+
+/// Why an object is not written, given why the value after these names is not: two of the names
+/// that are equal come before those of the value.
+fn why_around(out: &String, own: &[Name], alloc: Global, why: NotWritten) -> NotWritten {
+    let NotWritten::SameNames(_) = why else {
+        return why;
+    };
+    match same_names(out.as_bytes(), own, alloc) {
+        Ok(Some(same)) => NotWritten::SameNames(same),
+        Ok(None) => why,
+        Err(_) => NotWritten::Failed,
     }
 }
 
@@ -201,16 +244,20 @@ fn push_name<'a>(
         (read_at place.now.level bytes.now)
         rest.now (string_bytes out.old) (string_bytes out.new)) }
     ensures names { OnOk result (names.new.items ≡ names.old.items
-        ++ name_between (string_bytes out.old) (string_bytes out.new) ∷ []) }
+        ++ name_between (string_bytes out.old) (string_bytes out.new) (length bytes.now) ∷ []) }
 {
     let start = out.len();
     let Ok(rest) = push_front::<Json>(out, bytes, place) else {
-        return Err(NotWritten);
+        return Err(NotWritten::Failed);
     };
-    let end = out.len();
-    match names.push(Name { start, end }) {
+    let name = Name {
+        start,
+        end: out.len(),
+        left: bytes.len(),
+    };
+    match names.push(name) {
         Ok(()) => Ok(rest),
-        Err(_) => Err(NotWritten),
+        Err(_) => Err(NotWritten::Failed),
     }
 }
 
@@ -228,13 +275,16 @@ fn close_object(
         → length before ≡ first → names.new.items ≡ before) }
 {
     let Some(own) = names.get(first..) else {
-        return Err(NotWritten);
+        return Err(NotWritten::Failed);
     };
-    if !are_distinct(out.as_bytes(), own, alloc) {
-        return Err(NotWritten);
+    if are_distinct(out.as_bytes(), own, alloc) {
+        names.truncate(first);
+        return Ok(());
     }
-    names.truncate(first);
-    Ok(())
+    match same_names(out.as_bytes(), own, alloc)? {
+        Some(same) => Err(NotWritten::SameNames(same)),
+        None => Err(NotWritten::Failed),
+    }
 }
 
 /// Writes a string, by its kind, its length and the bytes after its head.
@@ -248,7 +298,7 @@ fn push_string<'a>(
 ) -> Result<&'a [u8], NotWritten>
     requires level { 1 ≤ place.now.level }
     requires deepest { place.now.level ≤ deepest }
-    requires value { is_value place.now.spot ≡ true }
+    requires value { is_value place.now.role ≡ true }
     requires flat { place.now.layout ≡ Layout.Compact }
     ensures written { IfOk result (λ rest. Written (UniqueHere place.now)
         (read_behind place.now.level (ItemHead.String string.entry.0.0
@@ -268,40 +318,44 @@ fn push_string<'a>(
                 Json::string(out, content, width, place)?;
                 Ok(rest)
             }
-            Content::Item => {
-                push_shown(out, names, (inner, width), place)?;
-                Ok(rest)
-            }
-            Content::Sequence => Err(NotWritten),
+            Content::Item => match shown_text((inner, width), place) {
+                Ok(text) => {
+                    out.push_str(text.as_str())?;
+                    Ok(rest)
+                }
+                Err(why) => {
+                    if is_item(inner, place.level + 1) {
+                        return Err(why.before(rest.len()));
+                    }
+                    Json::string(out, content, width, place)?;
+                    Ok(rest)
+                }
+            },
+            Content::Sequence => Err(NotWritten::Failed),
         },
     }
 }
 
-/// Writes the item that the bytes of a byte string are, all of them.
+/// The text of the item that the bytes of a byte string are, all of them.
 #[cycle(walk)]
-fn push_shown(
-    out: &mut String,
-    names: &mut Vec<Name>,
-    string: (&[u8], IntegerWidth),
-    place: &JsonPlace,
-) -> Result<(), NotWritten>
+fn shown_text(string: (&[u8], IntegerWidth), place: &JsonPlace) -> Result<String, NotWritten>
     requires level { 1 ≤ place.now.level }
     requires deepest { place.now.level ≤ deepest }
-    requires value { is_value place.now.spot ≡ true }
-    ensures written { IfOk result (λ _. Written
+    requires value { is_value place.now.role ≡ true }
+    ensures { IfOk result (λ text. Written
         (UniqueTexts (levels_left (place.now.level + 1)) (json_leaves.inside
         (embedding (chunk string.entry.1 string.entry.0.now)) Layout.Compact place.now))
-        (read_at (place.now.level + 1) string.entry.0.now)
-        [] (string_bytes out.old) (string_bytes out.new)) }
-    ensures names { OnOk result (names.new.items ≡ names.old.items) }
+        (read_at (place.now.level + 1) string.entry.0.now) [] [] (string_bytes text)) }
 {
     let (bytes, width) = string;
     let container = Container::Embedded(Argument::Number(bytes.len() as u64, width));
     let inside = place.inside(container, Layout::Compact);
-    let rest = push_item(out, names, bytes, &inside)?;
+    let mut text = String::with_capacity(place.alloc, first_capacity(bytes.len()))?;
+    let mut names = Vec::new(place.alloc);
+    let rest = push_item(&mut text, &mut names, bytes, &inside)?;
     if rest.is_empty() {
-        Ok(())
+        Ok(text)
     } else {
-        Err(NotWritten)
+        Err(NotWritten::Failed)
     }
 }

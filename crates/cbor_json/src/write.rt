@@ -11,7 +11,6 @@ ghost use Rattle.cbor_grammar.specs.Item.{Item};
 ghost use Rattle.cbor_json.specs.Written.{IsJsonText, AppendsJson, IsNoJson, IsErrorOf, IsErrorOr};
 ghost use Rattle.cbor_json.specs.Written.{GaveJson, IsPlaced};
 
-use crate::clash::first_clash;
 use crate::error::JsonError;
 use crate::judge::{Judged, judge, judge_front};
 use crate::style::JsonStyle;
@@ -45,7 +44,7 @@ pub fn bytes_to_json(alloc: Global, bytes: &[u8], style: JsonStyle) -> Result<St
     match judge(bytes, style, alloc)? {
         Judged::Text(text) => Ok(text),
         Judged::NotKept(loss) => Err(JsonError::NotKept(loss)),
-        Judged::SameKeys => Err(JsonError::SameKeys(first_clash(bytes, style, alloc)?)),
+        Judged::SameKeys(clash) => Err(JsonError::SameKeys(clash)),
     }
 }
 
@@ -115,6 +114,6 @@ pub fn push_bytes_to_json_partial(
             Ok(Some(bytes.len() - rest.len()))
         }
         Judged::NotKept(loss) => Err(JsonError::NotKept(loss)),
-        Judged::SameKeys => Err(JsonError::SameKeys(first_clash(bytes, style, alloc)?)),
+        Judged::SameKeys(clash) => Err(JsonError::SameKeys(clash)),
     }
 }

@@ -3,24 +3,24 @@ use Rattle.std.proofs.Common.{◌≡◌, true, codes, refl}
 use Rattle.cbor_grammar.specs.declared.argument.Argument.{Argument}
 use Rattle.cbor_notation_writer.specs.declared.parts.Container.TheVariants.{Map}
 use Rattle.cbor_json.specs.JsonLeaves.{is_value, opening_at, closing_at}
-use Rattle.cbor_json.specs.Spots.{inside_spot}
-use Rattle.cbor_json.specs.declared.print.place.Spot.{Spot}
-use Rattle.cbor_json.specs.declared.print.place.Spot.TheVariants as spot
+use Rattle.cbor_json.specs.Roles.{inside_role}
+use Rattle.cbor_json.specs.declared.print.place.Role.{Role}
+use Rattle.cbor_json.specs.declared.print.place.Role.TheVariants as role
 
-pub key_in : (s : Spot) (count : Argument) → is_value s ≡ true → inside_spot (Map count) s ≡ spot.Key
-key_in spot.Key count v = absurd cc
-key_in spot.InKey count v = absurd cc
-key_in spot.Value count v = refl
-key_in spot.Named count v = refl
+pub key_in : (s : Role) (count : Argument) → is_value s ≡ true → inside_role (Map count) s ≡ role.Key
+key_in role.Key count v = absurd cc
+key_in role.InKey count v = absurd cc
+key_in role.Value count v = refl
+key_in role.Named count v = refl
 
-pub opens_so : (s : Spot) (count : Argument) → is_value s ≡ true → opening_at s (Map count) ≡ codes "{"
-opens_so spot.Key count v = absurd cc
-opens_so spot.InKey count v = absurd cc
-opens_so spot.Value count v = refl
-opens_so spot.Named count v = refl
+pub opens_so : (s : Role) (count : Argument) → is_value s ≡ true → opening_at s (Map count) ≡ codes "{"
+opens_so role.Key count v = absurd cc
+opens_so role.InKey count v = absurd cc
+opens_so role.Value count v = refl
+opens_so role.Named count v = refl
 
-pub closes_so : (s : Spot) (count : Argument) → is_value s ≡ true → closing_at s (Map count) ≡ codes "}"
-closes_so spot.Key count v = absurd cc
-closes_so spot.InKey count v = absurd cc
-closes_so spot.Value count v = refl
-closes_so spot.Named count v = refl
+pub closes_so : (s : Role) (count : Argument) → is_value s ≡ true → closing_at s (Map count) ≡ codes "}"
+closes_so role.Key count v = absurd cc
+closes_so role.InKey count v = absurd cc
+closes_so role.Value count v = refl
+closes_so role.Named count v = refl

@@ -31,8 +31,8 @@ use Rattle.cbor_json.specs.JsonLeaves.{is_negative_tag, BigText, StringIf, Strin
 use Rattle.cbor_json.specs.JsonLeaves.{part_at, edn_opening, edn_closing, key_opening, key_closing, opening_at}
 use Rattle.cbor_json.specs.JsonLeaves.{closing_at, empty_at, before_member, encoded_float}
 use Rattle.cbor_json.specs.declared.print.place.JsonPlace.{JsonPlace}
-use Rattle.cbor_json.specs.declared.print.place.Spot.{Spot}
-use Rattle.cbor_json.specs.declared.print.place.Spot.TheVariants as spot
+use Rattle.cbor_json.specs.declared.print.place.Role.{Role}
+use Rattle.cbor_json.specs.declared.print.place.Role.TheVariants as role
 use Rattle.cbor_json.proofs.json.Digits.{hex_calm, digits_calm_in, value_calm, number_calm}
 use Rattle.cbor_json.proofs.json.Digits.{decimal_calm, number_text_calm, float_bytes}
 use Rattle.cbor_json.proofs.json.Digits.{big_calm}
@@ -42,11 +42,11 @@ use Rattle.cbor_json.proofs.json.Strings.{IsString, is_string, string_in_quotes,
 use Rattle.cbor_json.proofs.json.Tokens.{Reads, string_reads, number_reads, true_reads, false_reads, null_reads}
 
 -- a key is a string, what is in a key a piece of one, and all else JSON
-abbrev pub Part : Bool → Spot → ℕ → List ℕ → Type 0
-Part strict spot.Key left t = IsString t
-Part strict spot.InKey left t = Fills t
-Part strict spot.Value left t = Reads strict left t
-Part strict spot.Named left t = Reads strict left t
+abbrev pub Part : Bool → Role → ℕ → List ℕ → Type 0
+Part strict role.Key left t = IsString t
+Part strict role.InKey left t = Fills t
+Part strict role.Value left t = Reads strict left t
+Part strict role.Named left t = Reads strict left t
 
 -- ---- what holds no item
 
@@ -95,8 +95,8 @@ edn_leaf_fills (simple n) t well h = subst Fills (sym h) (simple_fills n well)
 edn_leaf_fills (string k c) t well h = absurd h
 edn_leaf_fills (chunked_string k cs) t well h = absurd h
 
-float_reads : (strict : Bool) (left : ℕ) (finite : Bool) (x : Float) (t : List ℕ) → float_is_finite x ≡ finite → NumberIf finite x t
-    → Reads strict left t
+float_reads : (strict : Bool) (left : ℕ) (finite : Bool) (x : Float) (t : List ℕ) → float_is_finite x ≡ finite
+    → NumberIf finite x t → Reads strict left t
 float_reads strict left true x t is h = number_reads t (float_number t (h.layout is))
     (calm_fills t (number_text_calm t h)).shows
 float_reads strict left false x t is h =
@@ -122,12 +122,13 @@ value_leaf strict left (simple n) t well h = subst (λ y. Reads strict left y) (
 value_leaf strict left (string k c) t well h = absurd h
 value_leaf strict left (chunked_string k cs) t well h = absurd h
 
-pub leaf_part : (strict : Bool) (s : Spot) (left : ℕ) (a : Atom) (t : List ℕ) → WellFormedAtom a → LeafAt s a t → Part strict s left t
-leaf_part strict spot.Key left a t well h =
+pub leaf_part : (strict : Bool) (s : Role) (left : ℕ) (a : Atom) (t : List ℕ) → WellFormedAtom a → LeafAt s a t
+    → Part strict s left t
+leaf_part strict role.Key left a t well h =
     subst IsString (sym h.2) (string_in_quotes h.0 (edn_leaf_fills a h.0 well h.1))
-leaf_part strict spot.InKey left a t well h = edn_leaf_fills a t well h
-leaf_part strict spot.Value left a t well h = value_leaf strict left a t well h
-leaf_part strict spot.Named left a t well h = value_leaf strict left a t well h
+leaf_part strict role.InKey left a t well h = edn_leaf_fills a t well h
+leaf_part strict role.Value left a t well h = value_leaf strict left a t well h
+leaf_part strict role.Named left a t well h = value_leaf strict left a t well h
 
 -- ---- strings
 
@@ -136,19 +137,19 @@ quoted_fills b h =
     fills_then {a = codes "h'"} (constant (codes "h'") refl)
     (fills_then (calm_fills (encode_lower b) (hex_calm b h)) (constant (codes "'") refl))
 
-string_at_part : (strict : Bool) (p : JsonPlace) (s : Spot) (left : ℕ) (k : StringKind) (c : Chunk)
+string_at_part : (strict : Bool) (p : JsonPlace) (s : Role) (left : ℕ) (k : StringKind) (c : Chunk)
     → AllByRecursion (λ x. x < 256) c.bytes → Part strict s left (string_at p s k c)
-string_at_part strict p spot.InKey left kind.Bytes c h = quoted_fills c.bytes h
-string_at_part strict p spot.InKey left kind.Text c h =
+string_at_part strict p role.InKey left kind.Bytes c h = quoted_fills c.bytes h
+string_at_part strict p role.InKey left kind.Text c h =
     fills_then {a = codes "\\\""} quote_escaped (fills_then (escaped_fills (escaped_text c.bytes)) quote_escaped)
-string_at_part strict p spot.Key left kind.Bytes c h = string_in_quotes (quoted Base16 c.bytes) (quoted_fills c.bytes h)
-string_at_part strict p spot.Key left kind.Text c h = string_in_quotes (escaped_text c.bytes) (escaped_fills c.bytes)
-string_at_part strict p spot.Value left kind.Bytes c h =
+string_at_part strict p role.Key left kind.Bytes c h = string_in_quotes (quoted Base16 c.bytes) (quoted_fills c.bytes h)
+string_at_part strict p role.Key left kind.Text c h = string_in_quotes (escaped_text c.bytes) (escaped_fills c.bytes)
+string_at_part strict p role.Value left kind.Bytes c h =
     string_reads (string_in_quotes _ (calm_fills _ (value_calm p.tag p.encoding c.bytes h)))
-string_at_part strict p spot.Value left kind.Text c h = string_reads (string_in_quotes _ (escaped_fills c.bytes))
-string_at_part strict p spot.Named left kind.Bytes c h =
+string_at_part strict p role.Value left kind.Text c h = string_reads (string_in_quotes _ (escaped_fills c.bytes))
+string_at_part strict p role.Named left kind.Bytes c h =
     string_reads (string_in_quotes _ (calm_fills _ (value_calm p.tag p.encoding c.bytes h)))
-string_at_part strict p spot.Named left kind.Text c h = string_reads (string_in_quotes _ (escaped_fills c.bytes))
+string_at_part strict p role.Named left kind.Text c h = string_reads (string_in_quotes _ (escaped_fills c.bytes))
 
 -- a big number by its digits
 big_reads : (strict : Bool) (left : ℕ) (minus : Bool) (n : ℕ) (t digits : List ℕ) → IsDecimal n digits
@@ -158,19 +159,19 @@ big_reads strict left minus n t digits is e =
     (number_reads (sign_text minus ++ digits) (big_number minus n digits is)
     (calm_fills (sign_text minus ++ digits) (big_calm minus digits is.digits.1)).shows)
 
-big_part : (strict : Bool) (p : JsonPlace) (s : Spot) (left : ℕ) (c : Chunk) (t : List ℕ) → is_value s ≡ true
+big_part : (strict : Bool) (p : JsonPlace) (s : Role) (left : ℕ) (c : Chunk) (t : List ℕ) → is_value s ≡ true
     → BigText (is_negative_tag p.tag) c.bytes t → Part strict s left t
-big_part strict p spot.Key left c t v h = absurd cc
-big_part strict p spot.InKey left c t v h = absurd cc
-big_part strict p spot.Value left c t v h = big_reads strict left _ _ t h.0 h.1 h.2
-big_part strict p spot.Named left c t v h = big_reads strict left _ _ t h.0 h.1 h.2
+big_part strict p role.Key left c t v h = absurd cc
+big_part strict p role.InKey left c t v h = absurd cc
+big_part strict p role.Value left c t v h = big_reads strict left _ _ t h.0 h.1 h.2
+big_part strict p role.Named left c t v h = big_reads strict left _ _ t h.0 h.1 h.2
 
 string_if : (strict : Bool) (test : Bool) (p : JsonPlace) (left : ℕ) (k : StringKind) (c : Chunk) (t : List ℕ)
-    → (test ≡ true → is_value p.spot ≡ true) → AllByRecursion (λ x. x < 256) c.bytes → StringIf test p k c t
-    → Part strict p.spot left t
-string_if strict true p left k c t value h is = big_part strict p p.spot left c t (value refl) is
+    → (test ≡ true → is_value p.role ≡ true) → AllByRecursion (λ x. x < 256) c.bytes → StringIf test p k c t
+    → Part strict p.role left t
+string_if strict true p left k c t value h is = big_part strict p p.role left c t (value refl) is
 string_if strict false p left k c t value h is =
-    subst (λ x. Part strict p.spot left x) (sym is) (string_at_part strict p p.spot left k c h)
+    subst (λ x. Part strict p.role left x) (sym is) (string_at_part strict p p.role left k c h)
 
 middle_true : (a b c : Bool) → (a && (b && c)) ≡ true → b ≡ true
 middle_true true true c e = refl
@@ -178,20 +179,20 @@ middle_true true false c e = absurd cc
 middle_true false b c e = absurd cc
 
 pub string_part : (strict : Bool) (p : JsonPlace) (left : ℕ) (k : StringKind) (c : Chunk) (t : List ℕ)
-    → AllByRecursion (λ x. x < 256) c.bytes → StringAt p k c t → Part strict p.spot left t
+    → AllByRecursion (λ x. x < 256) c.bytes → StringAt p k c t → Part strict p.role left t
 string_part strict p left k c t h is =
     string_if strict (is_big p k c.bytes) p left k c t
-    (middle_true (is_bytes k) (is_value p.spot) (is_big_tag p.tag && nat_le (length c.bytes) 1024)) h is
+    (middle_true (is_bytes k) (is_value p.role) (is_big_tag p.tag && nat_le (length c.bytes) 1024)) h is
 
-part_fills : (p : JsonPlace) (s : Spot) (k : StringKind) (c : Chunk) → IsChunk k c → Fills (part_at p s k c)
-part_fills p spot.InKey kind.Text c h = escaped_fills (escaped_text c.bytes)
-part_fills p spot.Key kind.Text c h = escaped_fills c.bytes
-part_fills p spot.Value kind.Text c h = escaped_fills c.bytes
-part_fills p spot.Named kind.Text c h = escaped_fills c.bytes
-part_fills p spot.Key kind.Bytes c h = calm_fills _ (hex_calm c.bytes h.bytes)
-part_fills p spot.InKey kind.Bytes c h = calm_fills _ (hex_calm c.bytes h.bytes)
-part_fills p spot.Value kind.Bytes c h = calm_fills _ (digits_calm_in p.encoding c.bytes h.bytes)
-part_fills p spot.Named kind.Bytes c h = calm_fills _ (digits_calm_in p.encoding c.bytes h.bytes)
+part_fills : (p : JsonPlace) (s : Role) (k : StringKind) (c : Chunk) → IsChunk k c → Fills (part_at p s k c)
+part_fills p role.InKey kind.Text c h = escaped_fills (escaped_text c.bytes)
+part_fills p role.Key kind.Text c h = escaped_fills c.bytes
+part_fills p role.Value kind.Text c h = escaped_fills c.bytes
+part_fills p role.Named kind.Text c h = escaped_fills c.bytes
+part_fills p role.Key kind.Bytes c h = calm_fills _ (hex_calm c.bytes h.bytes)
+part_fills p role.InKey kind.Bytes c h = calm_fills _ (hex_calm c.bytes h.bytes)
+part_fills p role.Value kind.Bytes c h = calm_fills _ (digits_calm_in p.encoding c.bytes h.bytes)
+part_fills p role.Named kind.Bytes c h = calm_fills _ (digits_calm_in p.encoding c.bytes h.bytes)
 
 -- ---- lists in a key
 
@@ -302,28 +303,29 @@ chunk_texts_fill p k [] [] well h = tt
 chunk_texts_fill p k [] (m ∷ ms) well h = absurd h
 chunk_texts_fill p k (c ∷ cs) [] well h = absurd h
 chunk_texts_fill p k (c ∷ cs) (m ∷ ms) well h =
-    (subst Fills (sym h.0) (part_fills p p.spot k c well.0), chunk_texts_fill p k cs ms well.1 h.1)
+    (subst Fills (sym h.0) (part_fills p p.role k c well.0), chunk_texts_fill p k cs ms well.1 h.1)
 
-empty_part : (strict : Bool) (s : Spot) (left : ℕ) (k : StringKind) → Part strict s left (empty_at s k)
-empty_part strict spot.Key left kind.Bytes = string_in_quotes (codes "h''") (constant (codes "h''") refl)
-empty_part strict spot.Key left kind.Text = string_in_quotes [] fills_nothing
-empty_part strict spot.InKey left kind.Bytes = constant (codes "h''") refl
-empty_part strict spot.InKey left kind.Text = fills_then {a = codes "\\\""} quote_escaped quote_escaped
-empty_part strict spot.Value left k = string_reads (string_in_quotes [] fills_nothing)
-empty_part strict spot.Named left k = string_reads (string_in_quotes [] fills_nothing)
+empty_part : (strict : Bool) (s : Role) (left : ℕ) (k : StringKind) → Part strict s left (empty_at s k)
+empty_part strict role.Key left kind.Bytes = string_in_quotes (codes "h''") (constant (codes "h''") refl)
+empty_part strict role.Key left kind.Text = string_in_quotes [] fills_nothing
+empty_part strict role.InKey left kind.Bytes = constant (codes "h''") refl
+empty_part strict role.InKey left kind.Text = fills_then {a = codes "\\\""} quote_escaped quote_escaped
+empty_part strict role.Value left k = string_reads (string_in_quotes [] fills_nothing)
+empty_part strict role.Named left k = string_reads (string_in_quotes [] fills_nothing)
 
-joined_part : (strict : Bool) (s : Spot) (left : ℕ) (k : StringKind) (inner t o e : List ℕ) → Fills inner → o ≡ opening_at s (Chunks k)
-    → e ≡ closing_at s (Chunks k) → t ≡ o ++ (inner ++ e) → Part strict s left t
-joined_part strict spot.Key left k inner t o e f is_o is_e is = key_list (Chunks k) inner t o e f is_o is_e is
-joined_part strict spot.InKey left k inner t o e f is_o is_e is = edn_list (Chunks k) inner t o e f is_o is_e is
-joined_part strict spot.Value left k inner t o e f is_o is_e is =
+joined_part : (strict : Bool) (s : Role) (left : ℕ) (k : StringKind) (inner t o e : List ℕ) → Fills inner
+    → o ≡ opening_at s (Chunks k) → e ≡ closing_at s (Chunks k) → t ≡ o ++ (inner ++ e) → Part strict s left t
+joined_part strict role.Key left k inner t o e f is_o is_e is = key_list (Chunks k) inner t o e f is_o is_e is
+joined_part strict role.InKey left k inner t o e f is_o is_e is = edn_list (Chunks k) inner t o e f is_o is_e is
+joined_part strict role.Value left k inner t o e f is_o is_e is =
     string_reads (is_string inner t f (is ∙ ap (λ x. x ++ (inner ++ e)) is_o ∙ ap (λ x. 34 ∷ (inner ++ x)) is_e))
-joined_part strict spot.Named left k inner t o e f is_o is_e is =
+joined_part strict role.Named left k inner t o e f is_o is_e is =
     string_reads (is_string inner t f (is ∙ ap (λ x. x ++ (inner ++ e)) is_o ∙ ap (λ x. 34 ∷ (inner ++ x)) is_e))
 
-pub chunks_part : (strict : Bool) (p : JsonPlace) (left : ℕ) (k : StringKind) (l : ContainerStyle) (cs : List Chunk) (t : List ℕ)
-    → AllByRecursion (IsChunk k) cs → ChunksText json_leaves p k l cs t → Part strict p.spot left t
-chunks_part strict p left k l [] t well h = subst (λ x. Part strict p.spot left x) (sym h) (empty_part strict p.spot left k)
+pub chunks_part : (strict : Bool) (p : JsonPlace) (left : ℕ) (k : StringKind) (l : ContainerStyle) (cs : List Chunk)
+    (t : List ℕ) → AllByRecursion (IsChunk k) cs → ChunksText json_leaves p k l cs t → Part strict p.role left t
+chunks_part strict p left k l [] t well h =
+    subst (λ x. Part strict p.role left x) (sym h) (empty_part strict p.role left k)
 chunks_part strict p left k l (c ∷ cs) t well (ms, texts, (o, e, is_o, is_e, is)) =
-    joined_part strict p.spot left k (listed (λ first. before_member (Chunks k) first) [] ms) t o e
+    joined_part strict p.role left k (listed (λ first. before_member (Chunks k) first) [] ms) t o e
     (listed_fills (Chunks k) ms (chunk_texts_fill p k (c ∷ cs) ms well texts)) is_o is_e is

@@ -153,7 +153,8 @@ char_fills c =
     chosen Fills (c == 12) _ _ (λ e. letter_fills 102 12 refl refl refl (omega arith) (omega arith) refl refl)
     (λ no_12.
     chosen Fills (is_hidden c) (unit_escape c) (encode c) (λ h. unit_fills c h
-    (rw (no_quote, no_escape, no_10, no_13, no_9, no_8, no_12, h) refl)) (λ shown. plain_char c shown no_quote no_escape))))))))
+    (rw (no_quote, no_escape, no_10, no_13, no_9, no_8, no_12, h) refl))
+    (λ shown. plain_char c shown no_quote no_escape))))))))
 
 chars_fill : (cs : List ℕ) → Fills (flat_map escaped_char cs)
 chars_fill [] = fills_nothing

@@ -24,19 +24,18 @@ use Rattle.cbor_grammar.specs.WellFormed.{IsChunk, WellFormedAtom, WellFormed, W
 use Rattle.cbor_grammar.proofs.bytes.Laws.{bytes_at}
 use Rattle.cbor_grammar.proofs.bytes.Resolved.{spells_well}
 use Rattle.cbor_grammar.proofs.shared.EmbeddedItems.{embedded_spells}
-use Rattle.cbor_notation_writer.specs.Dialect.{listed, ItemTexts, PairTexts, ItemsText, PairsText}
-use Rattle.cbor_notation_writer.specs.Dialect.{OneText, EmbeddedText, ContentText, AtomText, TagText, TextWith, TextsOf}
-use Rattle.cbor_notation_writer.specs.Dialect.{Writer}
+use Rattle.cbor_notation_writer.specs.Dialect.{Writer, listed, ItemTexts, PairTexts, ItemsText, PairsText, OneText}
+use Rattle.cbor_notation_writer.specs.Dialect.{EmbeddedText, ContentText, AtomText, TagText, TextWith, TextsOf}
 use Rattle.cbor_notation_writer.specs.Dialect.{embedding, count_of, style_at, joined, ChunkedText}
 use Rattle.cbor_notation_writer.specs.declared.parts.Container.{Container}
 use Rattle.cbor_notation_writer.specs.declared.parts.Container.TheVariants.{Array, Map}
 use Rattle.cbor_json.specs.JsonLeaves.{json_leaves, integer_text, begins_container, is_value, wants_bytes}
 use Rattle.cbor_json.specs.JsonLeaves.{opening_at, closing_at, StringAt, tag_at, tag_end_at, joins_at}
 use Rattle.cbor_json.specs.mirror.Walking.{NamedPairs, UniqueWith}
-use Rattle.cbor_json.specs.Spots.{inside_spot, next_spot, value_spot, below_spot}
+use Rattle.cbor_json.specs.Roles.{inside_role, next_role, value_role, below_role}
 use Rattle.cbor_json.specs.declared.print.place.JsonPlace.{JsonPlace}
-use Rattle.cbor_json.specs.declared.print.place.Spot.{Spot}
-use Rattle.cbor_json.specs.declared.print.place.Spot.TheVariants as spot
+use Rattle.cbor_json.specs.declared.print.place.Role.{Role}
+use Rattle.cbor_json.specs.declared.print.place.Role.TheVariants as role
 use Rattle.cbor_json.proofs.json.Fills.{Fills, fills_then, constant, Shows, shows_then, shows_nothing, all_append}
 use Rattle.cbor_json.proofs.json.Braces.{key_in, opens_so, closes_so}
 use Rattle.cbor_json.proofs.json.Parts.{Part, leaf_part, string_part, chunks_part, AllFill, listed_fills, key_list}
@@ -227,44 +226,45 @@ with_names write l p (pair k v ps) (m ∷ ms) ((a, b, key, val, is), more) =
 -- ---- items
 
 module _ (strict : Bool) (level left : ℕ) (levels : level + left ≡ 129) (write : Writer JsonPlace)
-    (below : (p : JsonPlace) (i : Item) (t : List ℕ) → WellFormed level i → write p i t → Part strict p.spot left t) where
-  at_spot : (p : JsonPlace) (s : Spot) (i : Item) (t : List ℕ) → p.spot ≡ s → WellFormed level i → write p i t
+    (below : (p : JsonPlace) (i : Item) (t : List ℕ) → WellFormed level i → write p i t
+    → Part strict p.role left t) where
+  at_role : (p : JsonPlace) (s : Role) (i : Item) (t : List ℕ) → p.role ≡ s → WellFormed level i → write p i t
       → Part strict s left t
-  at_spot p s i t e well h = subst (λ x. Part strict x left t) e (below p i t well h)
+  at_role p s i t e well h = subst (λ x. Part strict x left t) e (below p i t well h)
 
-  items_fill : (p : JsonPlace) (is : Items) (ms : List (List ℕ)) → p.spot ≡ spot.InKey → WellFormedItems level is
+  items_fill : (p : JsonPlace) (is : Items) (ms : List (List ℕ)) → p.role ≡ role.InKey → WellFormedItems level is
       → ItemTexts json_leaves write p is ms → AllFill ms
   items_fill p no_items [] e well h = tt
   items_fill p no_items (m ∷ ms) e well h = absurd h
   items_fill p (item i is) [] e well h = absurd h
   items_fill p (item i is) (m ∷ ms) e well h = (
-    at_spot p spot.InKey i m e well.0 h.0,
-    items_fill (json_leaves.next p) is ms (ap next_spot e) well.1 h.1,
+    at_role p role.InKey i m e well.0 h.0,
+    items_fill (json_leaves.next p) is ms (ap next_role e) well.1 h.1,
   )
 
-  items_read : (p : JsonPlace) (is : Items) (ms : List (List ℕ)) → p.spot ≡ spot.Value → WellFormedItems level is
+  items_read : (p : JsonPlace) (is : Items) (ms : List (List ℕ)) → p.role ≡ role.Value → WellFormedItems level is
       → ItemTexts json_leaves write p is ms → AllRead strict left ms
   items_read p no_items [] e well h = tt
   items_read p no_items (m ∷ ms) e well h = absurd h
   items_read p (item i is) [] e well h = absurd h
   items_read p (item i is) (m ∷ ms) e well h = (
-    at_spot p spot.Value i m e well.0 h.0,
-    items_read (json_leaves.next p) is ms (ap next_spot e) well.1 h.1,
+    at_role p role.Value i m e well.0 h.0,
+    items_read (json_leaves.next p) is ms (ap next_role e) well.1 h.1,
   )
 
-  pairs_fill : (p : JsonPlace) (l : ContainerStyle) (ps : Pairs) (ms : List (List ℕ)) → p.spot ≡ spot.InKey
+  pairs_fill : (p : JsonPlace) (l : ContainerStyle) (ps : Pairs) (ms : List (List ℕ)) → p.role ≡ role.InKey
       → WellFormedPairs level ps → PairTexts json_leaves write l p ps ms → AllFill ms
   pairs_fill p l no_pairs [] e well h = tt
   pairs_fill p l no_pairs (m ∷ ms) e well h = absurd h
   pairs_fill p l (pair k v ps) [] e well h = absurd h
   pairs_fill p l (pair k v ps) (m ∷ ms) e well ((a, b, key, val, is), more) = (
-    subst Fills (sym is) (fills_then (at_spot p spot.InKey k a e well.0 key)
+    subst Fills (sym is) (fills_then (at_role p role.InKey k a e well.0 key)
         (fills_then (constant (codes ": ") refl)
-        (at_spot (json_leaves.value k p) spot.InKey v b (ap value_spot e) well.1 val))),
-    pairs_fill (json_leaves.next (json_leaves.value k p)) l ps ms (ap (λ s. next_spot (value_spot s)) e) well.2 more,
+        (at_role (json_leaves.value k p) role.InKey v b (ap value_role e) well.1 val))),
+    pairs_fill (json_leaves.next (json_leaves.value k p)) l ps ms (ap (λ s. next_role (value_role s)) e) well.2 more,
   )
 
-  pairs_read : (p : JsonPlace) (ps : Pairs) (ns ms : List (List ℕ)) → p.spot ≡ spot.Key → WellFormedPairs level ps
+  pairs_read : (p : JsonPlace) (ps : Pairs) (ns ms : List (List ℕ)) → p.role ≡ role.Key → WellFormedPairs level ps
       → NamedPairs write p ps ns ms → AllPairsRead strict left ms
   pairs_read p no_pairs [] [] e well h = tt
   pairs_read p no_pairs [] (m ∷ ms) e well h = absurd h
@@ -276,13 +276,13 @@ module _ (strict : Bool) (level left : ℕ) (levels : level + left ≡ 129) (wri
       key = n;
       val = b;
       is = is;
-      name = at_spot p spot.Key k n e well.0 key;
-      means = at_spot (json_leaves.value k p) spot.Named v b (ap value_spot e) well.1 val;
+      name = at_role p role.Key k n e well.0 key;
+      means = at_role (json_leaves.value k p) role.Named v b (ap value_role e) well.1 val;
     },
-    pairs_read (json_leaves.next (json_leaves.value k p)) ps ns ms (ap (λ s. next_spot (value_spot s)) e) well.2 more,
+    pairs_read (json_leaves.next (json_leaves.value k p)) ps ns ms (ap (λ s. next_role (value_role s)) e) well.2 more,
   )
 
-  names_are : (p : JsonPlace) (ps : Pairs) (ns ms : List (List ℕ)) (e : p.spot ≡ spot.Key)
+  names_are : (p : JsonPlace) (ps : Pairs) (ns ms : List (List ℕ)) (e : p.role ≡ role.Key)
       (well : WellFormedPairs level ps) (h : NamedPairs write p ps ns ms)
       → ns ≡ names_of strict left ms (pairs_read p ps ns ms e well h)
   unfolding pairs_read
@@ -293,205 +293,202 @@ module _ (strict : Bool) (level left : ℕ) (levels : level + left ≡ 129) (wri
   names_are p (pair k v ps) (n ∷ ns) [] e well h = absurd h
   names_are p (pair k v ps) (n ∷ ns) (m ∷ ms) e well ((b, key, val, is), more) =
       ap (λ x. n ∷ x) (names_are (json_leaves.next (json_leaves.value k p)) ps ns ms
-      (ap (λ s. next_spot (value_spot s)) e) well.2 more)
+      (ap (λ s. next_role (value_role s)) e) well.2 more)
 
-  array_part : (p : JsonPlace) (s : Spot) (w : Option IntegerWidth) (l : ContainerStyle) (is : Items) (t : List ℕ)
-      → p.spot ≡ s → WellFormedItems level is
+  array_part : (p : JsonPlace) (s : Role) (w : Option IntegerWidth) (l : ContainerStyle) (is : Items) (t : List ℕ)
+      → p.role ≡ s → WellFormedItems level is
       → ItemsText json_leaves write p (Array (count_of w (item_count is))) l is t → Part strict s (suc left) t
-  array_part p spot.Key w l is t same well (ms, texts, (o, e, is_o, is_e, eq)) =
+  array_part p role.Key w l is t same well (ms, texts, (o, e, is_o, is_e, eq)) =
       let c = Array (count_of w (item_count is)) in
       key_list c _ t o e (listed_fills c ms (items_fill (json_leaves.inside c (members_layout l) p) is ms
-      (ap (inside_spot c) same) well texts)) (is_o ∙ ap (λ x. opening_at x c) same)
+      (ap (inside_role c) same) well texts)) (is_o ∙ ap (λ x. opening_at x c) same)
       (is_e ∙ ap (λ x. closing_at x c) same) eq
-  array_part p spot.InKey w l is t same well (ms, texts, (o, e, is_o, is_e, eq)) =
+  array_part p role.InKey w l is t same well (ms, texts, (o, e, is_o, is_e, eq)) =
       let c = Array (count_of w (item_count is)) in
       edn_list c _ t o e (listed_fills c ms (items_fill (json_leaves.inside c (members_layout l) p) is ms
-      (ap (inside_spot c) same) well texts)) (is_o ∙ ap (λ x. opening_at x c) same)
+      (ap (inside_role c) same) well texts)) (is_o ∙ ap (λ x. opening_at x c) same)
       (is_e ∙ ap (λ x. closing_at x c) same) eq
-  array_part p spot.Value w l is t same well (ms, texts, (o, e, is_o, is_e, eq)) =
+  array_part p role.Value w l is t same well (ms, texts, (o, e, is_o, is_e, eq)) =
       let c = Array (count_of w (item_count is)) in
       subst (λ x. Reads strict (suc left) x) (sym (around o e (listed comma_unless [] ms) t (codes "[") (codes "]")
       (is_o ∙ ap (λ x. opening_at x c) same) (is_e ∙ ap (λ x. closing_at x c) same) eq))
       (array_reads strict left ms (items_read (json_leaves.inside c (members_layout l) p) is ms
-      (ap (inside_spot c) same) well texts))
-  array_part p spot.Named w l is t same well (ms, texts, (o, e, is_o, is_e, eq)) =
+      (ap (inside_role c) same) well texts))
+  array_part p role.Named w l is t same well (ms, texts, (o, e, is_o, is_e, eq)) =
       let c = Array (count_of w (item_count is)) in
       subst (λ x. Reads strict (suc left) x) (sym (around o e (listed comma_unless [] ms) t (codes "[") (codes "]")
       (is_o ∙ ap (λ x. opening_at x c) same) (is_e ∙ ap (λ x. closing_at x c) same) eq))
       (array_reads strict left ms (items_read (json_leaves.inside c (members_layout l) p) is ms
-      (ap (inside_spot c) same) well texts))
+      (ap (inside_role c) same) well texts))
 
   -- the names of an object are given
-  object_part : (p : JsonPlace) (s : Spot) (c : Container) (l : ContainerStyle) (ps : Pairs) (ns ms : List (List ℕ))
-      (t : List ℕ) → p.spot ≡ s → is_value s ≡ true → inside_spot c s ≡ spot.Key → WellFormedPairs level ps
+  object_part : (p : JsonPlace) (s : Role) (c : Container) (l : ContainerStyle) (ps : Pairs) (ns ms : List (List ℕ))
+      (t : List ℕ) → p.role ≡ s → is_value s ≡ true → inside_role c s ≡ role.Key → WellFormedPairs level ps
       → NamedPairs write (json_leaves.inside c (members_layout l) p) ps ns ms → (IsTrue strict → AreDistinct ns)
       → t ≡ 123 ∷ (listed comma_unless [] ms ++ 125 ∷ []) → Part strict s (suc left) t
-  object_part p spot.Key c l ps ns ms t same v key well texts apart eq = absurd cc
-  object_part p spot.InKey c l ps ns ms t same v key well texts apart eq = absurd cc
-  object_part p spot.Value c l ps ns ms t same v key well texts apart eq =
+  object_part p role.Key c l ps ns ms t same v key well texts apart eq = absurd cc
+  object_part p role.InKey c l ps ns ms t same v key well texts apart eq = absurd cc
+  object_part p role.Value c l ps ns ms t same v key well texts apart eq =
       let there = json_leaves.inside c (members_layout l) p in
-      let e = ap (inside_spot c) same ∙ key in
+      let e = ap (inside_role c) same ∙ key in
       subst (λ x. Reads strict (suc left) x) (sym eq)
       (object_reads strict left ms (pairs_read there ps ns ms e well texts)
       (λ asked. subst AreDistinct (names_are there ps ns ms e well texts) (apart asked)))
-  object_part p spot.Named c l ps ns ms t same v key well texts apart eq =
+  object_part p role.Named c l ps ns ms t same v key well texts apart eq =
       let there = json_leaves.inside c (members_layout l) p in
-      let e = ap (inside_spot c) same ∙ key in
+      let e = ap (inside_role c) same ∙ key in
       subst (λ x. Reads strict (suc left) x) (sym eq)
       (object_reads strict left ms (pairs_read there ps ns ms e well texts)
       (λ asked. subst AreDistinct (names_are there ps ns ms e well texts) (apart asked)))
 
-  map_part : (p : JsonPlace) (s : Spot) (w : Option IntegerWidth) (l : ContainerStyle) (ps : Pairs) (t : List ℕ)
-      → p.spot ≡ s → WellFormedPairs level ps → ¬ (IsTrue strict)
+  map_part : (p : JsonPlace) (s : Role) (w : Option IntegerWidth) (l : ContainerStyle) (ps : Pairs) (t : List ℕ)
+      → p.role ≡ s → WellFormedPairs level ps → ¬ (IsTrue strict)
       → PairsText json_leaves write p (Map (count_of w (pair_count ps))) l ps t → Part strict s (suc left) t
-  map_part p spot.Key w l ps t same well off (ms, texts, (o, e, is_o, is_e, eq)) =
+  map_part p role.Key w l ps t same well off (ms, texts, (o, e, is_o, is_e, eq)) =
       let c = Map (count_of w (pair_count ps)) in
       key_list c _ t o e (listed_fills c ms (pairs_fill (json_leaves.inside c (members_layout l) p) l ps ms
-      (ap (inside_spot c) same) well texts)) (is_o ∙ ap (λ x. opening_at x c) same)
+      (ap (inside_role c) same) well texts)) (is_o ∙ ap (λ x. opening_at x c) same)
       (is_e ∙ ap (λ x. closing_at x c) same) eq
-  map_part p spot.InKey w l ps t same well off (ms, texts, (o, e, is_o, is_e, eq)) =
+  map_part p role.InKey w l ps t same well off (ms, texts, (o, e, is_o, is_e, eq)) =
       let c = Map (count_of w (pair_count ps)) in
       edn_list c _ t o e (listed_fills c ms (pairs_fill (json_leaves.inside c (members_layout l) p) l ps ms
-      (ap (inside_spot c) same) well texts)) (is_o ∙ ap (λ x. opening_at x c) same)
+      (ap (inside_role c) same) well texts)) (is_o ∙ ap (λ x. opening_at x c) same)
       (is_e ∙ ap (λ x. closing_at x c) same) eq
-  map_part p spot.Value w l ps t same well off (ms, texts, (o, e, is_o, is_e, eq)) =
+  map_part p role.Value w l ps t same well off (ms, texts, (o, e, is_o, is_e, eq)) =
       let c = Map (count_of w (pair_count ps)) in
       let named = with_names write l (json_leaves.inside c (members_layout l) p) ps ms texts in
-      object_part p spot.Value c l ps named.0 ms t same refl refl well named.1 (λ asked. absurd (off asked))
+      object_part p role.Value c l ps named.0 ms t same refl refl well named.1 (λ asked. absurd (off asked))
       (around o e (listed comma_unless [] ms) t (codes "{") (codes "}")
       (is_o ∙ ap (λ x. opening_at x c) same) (is_e ∙ ap (λ x. closing_at x c) same) eq)
-  map_part p spot.Named w l ps t same well off (ms, texts, (o, e, is_o, is_e, eq)) =
+  map_part p role.Named w l ps t same well off (ms, texts, (o, e, is_o, is_e, eq)) =
       let c = Map (count_of w (pair_count ps)) in
       let named = with_names write l (json_leaves.inside c (members_layout l) p) ps ms texts in
-      object_part p spot.Named c l ps named.0 ms t same refl refl well named.1 (λ asked. absurd (off asked))
+      object_part p role.Named c l ps named.0 ms t same refl refl well named.1 (λ asked. absurd (off asked))
       (around o e (listed comma_unless [] ms) t (codes "{") (codes "}")
       (is_o ∙ ap (λ x. opening_at x c) same) (is_e ∙ ap (λ x. closing_at x c) same) eq)
 
   -- ---- byte strings
 
   string_there : (p : JsonPlace) (c : Chunk) (t : List ℕ) → IsChunk kind.Bytes c → StringAt p kind.Bytes c t
-      → Part strict p.spot (suc left) t
+      → Part strict p.role (suc left) t
   string_there p c t well h = string_part strict p (suc left) kind.Bytes c t well.bytes h
 
   -- an item in a byte string is as it is
-  item_there : (p : JsonPlace) (s : Spot) (b : Chunk) (i : Item) (t : List ℕ) → p.spot ≡ s → is_value s ≡ true
+  item_there : (p : JsonPlace) (s : Role) (b : Chunk) (i : Item) (t : List ℕ) → p.role ≡ s → is_value s ≡ true
       → WellFormed level i → OneText json_leaves write p b (Some i) t → Part strict s (suc left) t
-  item_there p spot.Key b i t same v well h = absurd cc
-  item_there p spot.InKey b i t same v well h = absurd cc
-  item_there p spot.Value b i t same v well (m, text, (o, e, is_o, is_e, eq)) =
+  item_there p role.Key b i t same v well h = absurd cc
+  item_there p role.InKey b i t same v well h = absurd cc
+  item_there p role.Value b i t same v well (m, text, (o, e, is_o, is_e, eq)) =
       let c = embedding b in
       subst (λ x. Reads strict (suc left) x) (sym (around o e m t [] [] (is_o ∙ ap (λ x. opening_at x c) same)
       (is_e ∙ ap (λ x. closing_at x c) same) eq ∙ append-nil m))
-      (deeper (at_spot (json_leaves.inside c p.layout p) spot.Value i m (ap (inside_spot c) same) well text))
-  item_there p spot.Named b i t same v well (m, text, (o, e, is_o, is_e, eq)) =
+      (deeper (at_role (json_leaves.inside c p.layout p) role.Value i m (ap (inside_role c) same) well text))
+  item_there p role.Named b i t same v well (m, text, (o, e, is_o, is_e, eq)) =
       let c = embedding b in
       subst (λ x. Reads strict (suc left) x) (sym (around o e m t [] [] (is_o ∙ ap (λ x. opening_at x c) same)
       (is_e ∙ ap (λ x. closing_at x c) same) eq ∙ append-nil m))
-      (deeper (at_spot (json_leaves.inside c p.layout p) spot.Value i m (ap (inside_spot c) same) well text))
+      (deeper (at_role (json_leaves.inside c p.layout p) role.Value i m (ap (inside_role c) same) well text))
 
-  one_part : (p : JsonPlace) (b : Chunk) (found : Option Item) (t : List ℕ) → is_value p.spot ≡ true
+  one_part : (p : JsonPlace) (b : Chunk) (found : Option Item) (t : List ℕ) → is_value p.role ≡ true
       → IsChunk kind.Bytes b → embedded_at left b.bytes ≡ found → OneText json_leaves write p b found t
-      → Part strict p.spot (suc left) t
+      → Part strict p.role (suc left) t
   one_part p b (Some i) t v well is h =
-      item_there p p.spot b i t refl v (spells_well level b.bytes i (bytes_at b.bytes well.bytes)
+      item_there p p.role b i t refl v (spells_well level b.bytes i (bytes_at b.bytes well.bytes)
       (embedded_spells level left b.bytes i levels (bytes_at b.bytes well.bytes) is)) h
   one_part p b None t v well is h = string_there p b t well h
 
-  embedded_part : (p : JsonPlace) (b : Chunk) (bs t : List ℕ) → begins_container bs ≡ true → is_value p.spot ≡ true
+  embedded_part : (p : JsonPlace) (b : Chunk) (bs t : List ℕ) → begins_container bs ≡ true → is_value p.role ≡ true
       → IsChunk kind.Bytes b → EmbeddedText json_leaves write p b bs (embedded_at left b.bytes) t
-      → Part strict p.spot (suc left) t
+      → Part strict p.role (suc left) t
   embedded_part p b [] t begins v well h = absurd cc
   embedded_part p b (x ∷ bs) t begins v well h = one_part p b (embedded_at left b.bytes) t v well refl h
 
   content_part : (p : JsonPlace) (test : Bool) (b : Chunk) (t : List ℕ)
-      → (test ≡ true → (is_value p.spot ≡ true) × (begins_container b.bytes ≡ true)) → IsChunk kind.Bytes b
-      → ContentText json_leaves left write (if test then shown.Item else shown.Bytes) p b t → Part strict p.spot (suc left) t
-  content_part p true b t holds well h =
-      let both = holds refl in embedded_part p b b.bytes t both.1 both.0 well h
+      → (test ≡ true → (is_value p.role ≡ true) × (begins_container b.bytes ≡ true)) → IsChunk kind.Bytes b
+      → ContentText json_leaves left write (if test then shown.Item else shown.Bytes) p b t
+      → Part strict p.role (suc left) t
+  content_part p true b t holds well h = let both = holds refl in embedded_part p b b.bytes t both.1 both.0 well h
   content_part p false b t holds well h = string_there p b t well h
 
   chunked_part : (p : JsonPlace) (k : StringKind) (l : ContainerStyle) (joins : Bool) (cs : List Chunk) (t : List ℕ)
-      → AllByRecursion (IsChunk k) cs → ChunkedText json_leaves p k l joins cs t → Part strict p.spot (suc left) t
+      → AllByRecursion (IsChunk k) cs → ChunkedText json_leaves p k l joins cs t → Part strict p.role (suc left) t
   chunked_part p k l false cs t well h = chunks_part strict p (suc left) k l cs t well h
-  chunked_part p k l true cs t well h =
-      string_part strict p (suc left) k (joined cs) t (joined_bytes k cs well) h
+  chunked_part p k l true cs t well h = string_part strict p (suc left) k (joined cs) t (joined_bytes k cs well) h
 
   atom_part : (p : JsonPlace) (a : Atom) (t : List ℕ) → WellFormedAtom a → AtomText json_leaves left write p a t
-      → Part strict p.spot (suc left) t
+      → Part strict p.role (suc left) t
   atom_part p (string kind.Bytes b) t well h =
-      content_part p (p.style.embedded && (not (wants_bytes p.tag) && (is_value p.spot && begins_container b.bytes)))
-      b t
-      (and_parts p.style.embedded (not (wants_bytes p.tag)) (is_value p.spot) (begins_container b.bytes)) well h
-  atom_part p (string kind.Text s) t well h =
-      string_part strict p (suc left) kind.Text s t well.bytes h
+      content_part p (p.style.embedded && (not (wants_bytes p.tag) && (is_value p.role && begins_container b.bytes)))
+      b t (and_parts p.style.embedded (not (wants_bytes p.tag)) (is_value p.role) (begins_container b.bytes)) well h
+  atom_part p (string kind.Text s) t well h = string_part strict p (suc left) kind.Text s t well.bytes h
   atom_part p (chunked_string k cs) t well h =
-      chunked_part p k (style_at json_leaves p (atom (chunked_string k cs))) (joins_at p.spot k) cs t well h
-  atom_part p (integer n w) t well h = leaf_part strict p.spot (suc left) (integer n w) t well h
-  atom_part p (negative n w) t well h = leaf_part strict p.spot (suc left) (negative n w) t well h
-  atom_part p (float bits w) t well h = leaf_part strict p.spot (suc left) (float bits w) t well h
-  atom_part p (simple n) t well h = leaf_part strict p.spot (suc left) (simple n) t well h
+      chunked_part p k (style_at json_leaves p (atom (chunked_string k cs))) (joins_at p.role k) cs t well h
+  atom_part p (integer n w) t well h = leaf_part strict p.role (suc left) (integer n w) t well h
+  atom_part p (negative n w) t well h = leaf_part strict p.role (suc left) (negative n w) t well h
+  atom_part p (float bits w) t well h = leaf_part strict p.role (suc left) (float bits w) t well h
+  atom_part p (simple n) t well h = leaf_part strict p.role (suc left) (simple n) t well h
 
   -- ---- tags
 
   front_fills : (n : ℕ) → n < 2 ^ 64 → Fills (integer_text n ++ codes "(")
   front_fills n lt = fills_then (integer_fills n (omega (arith, lt))) (constant (codes "(") refl)
 
-  tag_part : (p : JsonPlace) (s : Spot) (n : ℕ) (w : IntegerWidth) (i : Item) (t : List ℕ) → p.spot ≡ s
+  tag_part : (p : JsonPlace) (s : Role) (n : ℕ) (w : IntegerWidth) (i : Item) (t : List ℕ) → p.role ≡ s
       → FitsWidth w n → WellFormed level i → TagText json_leaves write p n w i t → Part strict s (suc left) t
-  tag_part p spot.Key n w i t same fits well (o, m, e, is_o, text, is_e, eq) =
+  tag_part p role.Key n w i t same fits well (o, m, e, is_o, text, is_e, eq) =
       let front = integer_text n ++ codes "(" in
       is_string (front ++ (m ++ codes ")")) t
       (fills_then (front_fills n (below_limit n w fits))
-      (fills_then (at_spot (json_leaves.below n p) spot.InKey i m (ap below_spot same) well text)
+      (fills_then (at_role (json_leaves.below n p) role.InKey i m (ap below_role same) well text)
       (constant (codes ")") refl)))
       (around o e m t (34 ∷ front) (codes ")\"") (is_o ∙ ap (λ x. tag_at x n) same)
       (is_e ∙ ap (λ x. tag_end_at x) same) eq ∙ three front m (codes ")"))
-  tag_part p spot.InKey n w i t same fits well (o, m, e, is_o, text, is_e, eq) =
+  tag_part p role.InKey n w i t same fits well (o, m, e, is_o, text, is_e, eq) =
       let front = integer_text n ++ codes "(" in
       subst Fills (sym (around o e m t front (codes ")") (is_o ∙ ap (λ x. tag_at x n) same)
       (is_e ∙ ap (λ x. tag_end_at x) same) eq))
       (fills_then (front_fills n (below_limit n w fits))
-      (fills_then (at_spot (json_leaves.below n p) spot.InKey i m (ap below_spot same) well text)
+      (fills_then (at_role (json_leaves.below n p) role.InKey i m (ap below_role same) well text)
       (constant (codes ")") refl)))
-  tag_part p spot.Value n w i t same fits well (o, m, e, is_o, text, is_e, eq) =
+  tag_part p role.Value n w i t same fits well (o, m, e, is_o, text, is_e, eq) =
       subst (λ x. Reads strict (suc left) x) (sym (around o e m t [] [] (is_o ∙ ap (λ x. tag_at x n) same)
       (is_e ∙ ap (λ x. tag_end_at x) same) eq ∙ append-nil m))
-      (deeper (at_spot (json_leaves.below n p) spot.Value i m (ap below_spot same) well text))
-  tag_part p spot.Named n w i t same fits well (o, m, e, is_o, text, is_e, eq) =
+      (deeper (at_role (json_leaves.below n p) role.Value i m (ap below_role same) well text))
+  tag_part p role.Named n w i t same fits well (o, m, e, is_o, text, is_e, eq) =
       subst (λ x. Reads strict (suc left) x) (sym (around o e m t [] [] (is_o ∙ ap (λ x. tag_at x n) same)
       (is_e ∙ ap (λ x. tag_end_at x) same) eq ∙ append-nil m))
-      (deeper (at_spot (json_leaves.below n p) spot.Value i m (ap below_spot same) well text))
+      (deeper (at_role (json_leaves.below n p) role.Value i m (ap below_role same) well text))
 
   with_part : (p : JsonPlace) (i : Item) (t : List ℕ) (here : ℕ) → level ≡ here + 1 → WellFormed here i
-      → ¬ (IsTrue strict) → TextWith json_leaves left write p i t → Part strict p.spot (suc left) t
+      → ¬ (IsTrue strict) → TextWith json_leaves left write p i t → Part strict p.role (suc left) t
   with_part p (atom a) t here e well off h = atom_part p a t well.1 h
   with_part p (array is w) t here e well off h =
-      array_part p p.spot w (style_at json_leaves p (array is w)) is t refl
+      array_part p p.role w (style_at json_leaves p (array is w)) is t refl
       (subst (λ l. WellFormedItems l is) (sym e) well.2) h
   with_part p (spec.map ps w) t here e well off h =
-      map_part p p.spot w (style_at json_leaves p (spec.map ps w)) ps t refl
+      map_part p p.role w (style_at json_leaves p (spec.map ps w)) ps t refl
       (subst (λ l. WellFormedPairs l ps) (sym e) well.2) off h
   with_part p (tagged n w i) t here e well off h =
-      tag_part p p.spot n w i t refl well.1 (subst (λ l. WellFormed l i) (sym e) well.2) h
+      tag_part p p.role n w i t refl well.1 (subst (λ l. WellFormed l i) (sym e) well.2) h
 
   -- the same where names that are given differ
   pub unique_part : (p : JsonPlace) (i : Item) (t : List ℕ) (here : ℕ) → level ≡ here + 1 → WellFormed here i
-      → is_value p.spot ≡ true → UniqueWith left write p i t → Part strict p.spot (suc left) t
+      → is_value p.role ≡ true → UniqueWith left write p i t → Part strict p.role (suc left) t
   unique_part p (atom a) t here e well v h = atom_part p a t well.1 h
   unique_part p (array is w) t here e well v h =
-      array_part p p.spot w (style_at json_leaves p (array is w)) is t refl
+      array_part p p.role w (style_at json_leaves p (array is w)) is t refl
       (subst (λ l. WellFormedItems l is) (sym e) well.2) h
   unique_part p (spec.map ps w) t here e well v (ns, ms, texts, apart, (o, z, is_o, is_z, eq)) =
-      let c = Map (count_of w (pair_count ps)) in
-      object_part p p.spot c (style_at json_leaves p (spec.map ps w)) ps ns ms t refl v (key_in p.spot (count_of w (pair_count ps)) v)
+      let n = count_of w (pair_count ps) in
+      object_part p p.role (Map n) (style_at json_leaves p (spec.map ps w)) ps ns ms t refl v (key_in p.role n v)
       (subst (λ l. WellFormedPairs l ps) (sym e) well.2) texts (λ asked. apart)
-      (around o z (listed comma_unless [] ms) t (codes "{") (codes "}") (is_o ∙ opens_so p.spot (count_of w (pair_count ps)) v)
-      (is_z ∙ closes_so p.spot (count_of w (pair_count ps)) v) eq)
+      (around o z (listed comma_unless [] ms) t (codes "{") (codes "}") (is_o ∙ opens_so p.role n v)
+      (is_z ∙ closes_so p.role n v) eq)
   unique_part p (tagged n w i) t here e well v h =
-      tag_part p p.spot n w i t refl well.1 (subst (λ l. WellFormed l i) (sym e) well.2) h
+      tag_part p p.role n w i t refl well.1 (subst (λ l. WellFormed l i) (sym e) well.2) h
 
 pub text_part : (level left : ℕ) → level + left ≡ 129 → (p : JsonPlace) (i : Item) (t : List ℕ) → WellFormed level i
-    → TextsOf json_leaves left p i t → Part false p.spot left t
+    → TextsOf json_leaves left p i t → Part false p.role left t
 unfolding TextsOf
 text_part level zero levels p i t well h = absurd h
 text_part level (suc left) levels p i t well h =

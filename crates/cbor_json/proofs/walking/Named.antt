@@ -50,14 +50,14 @@ module _ (write : Writer JsonPlace) where
       (held : ℕ) (ns : List (List ℕ)) : Type 0 where
     pub opening : List ℕ
     pub texts : List (List ℕ)
-    pub opens : opening ≡ opening_at p.spot (Map count)
+    pub opens : opening ≡ opening_at p.role (Map count)
     pub each : NamedPairs write first ps ns texts
     pub place : now ≡ past_pairs json_leaves first ps
     pub text : out ≡ (old ++ opening) ++ listed (starts count) [] texts
     pub many : pair_count ps ≡ held
 
   pub no_pairs_named : (p first now : JsonPlace) (count : Argument) (old out : List ℕ) → now ≡ first
-      → (o : List ℕ) × (o ≡ opening_at p.spot (Map count)) × (out ≡ old ++ o)
+      → (o : List ℕ) × (o ≡ opening_at p.role (Map count)) × (out ≡ old ++ o)
       → NamedWritten p first count old out no_pairs now 0 []
   no_pairs_named p first now count old out same o = record {
     opening = o.0;
@@ -115,7 +115,7 @@ module _ (write : Writer JsonPlace) where
   pub pairs_named : (p now : JsonPlace) (count : Argument) (l : ContainerStyle) (old out new : List ℕ) (ps : Pairs)
       (held : ℕ) (ns : List (List ℕ))
       → NamedWritten p (json_leaves.inside (Map count) (members_layout l) p) count old out ps now held ns
-      → AreDistinct ns → (e : List ℕ) × (e ≡ closing_at p.spot (Map count)) × (new ≡ out ++ e)
+      → AreDistinct ns → (e : List ℕ) × (e ≡ closing_at p.role (Map count)) × (new ≡ out ++ e)
       → (t : List ℕ) × NamedText write p (Map count) l ps t × (new ≡ old ++ t)
   pairs_named p now count l old out new ps held ns w apart ends =
       let inner : List ℕ = listed (starts count) [] w.texts in

@@ -49,18 +49,20 @@ are_one_more text (x ∷ names) [] name n h one = absurd h
 are_one_more text (x ∷ names) (m ∷ ns) name n h one = (h.0, are_one_more text names ns name n h.1 one)
 
 -- the names after a further pair: what is before its key, the key, what is between, the value
-pub are_after : (out s n c b started key between written : List ℕ) (names : List Name) (ns : List (List ℕ))
-    → AreAt out names ns → started ≡ out ++ s → key ≡ started ++ n → between ≡ key ++ c → written ≡ between ++ b
-    → AreAt written (names ++ name_between started key ∷ []) (ns ++ n ∷ [])
-are_after out s n c b started key between written names ns h begins keyed colon ends =
-    let own = name_between started key ∷ [] in
+pub are_after : (out s n c b started key between written : List ℕ) (left : ℕ) (names : List Name)
+    (ns : List (List ℕ)) → AreAt out names ns → started ≡ out ++ s → key ≡ started ++ n → between ≡ key ++ c
+    → written ≡ between ++ b → AreAt written (names ++ name_between started key left ∷ []) (ns ++ n ∷ [])
+are_after out s n c b started key between written left names ns h begins keyed colon ends =
+    let own = name_between started key left ∷ [] in
     let before : AreAt started names ns = subst (λ x. AreAt x names ns) (sym begins) (are_more out s names ns h) in
     let all : AreAt (started ++ n) (names ++ own) (ns ++ n ∷ []) =
-    are_one_more (started ++ n) names ns (name_between started key) n (are_more started n names ns before)
-    (at_end started n (name_between started key) refl (ap (λ (x : List ℕ). length x) keyed)) in
-    let at_key : AreAt key (names ++ own) (ns ++ n ∷ []) = subst (λ x. AreAt x (names ++ own) (ns ++ n ∷ [])) (sym keyed) all in
+    are_one_more (started ++ n) names ns (name_between started key left) n (are_more started n names ns before)
+    (at_end started n (name_between started key left) refl (ap (λ (x : List ℕ). length x) keyed)) in
+    let at_key : AreAt key (names ++ own) (ns ++ n ∷ []) =
+    subst (λ x. AreAt x (names ++ own) (ns ++ n ∷ [])) (sym keyed) all in
     let at_colon : AreAt between (names ++ own) (ns ++ n ∷ []) =
-    subst (λ x. AreAt x (names ++ own) (ns ++ n ∷ [])) (sym colon) (are_more key c (names ++ own) (ns ++ n ∷ []) at_key) in
+    subst (λ x. AreAt x (names ++ own) (ns ++ n ∷ [])) (sym colon)
+    (are_more key c (names ++ own) (ns ++ n ∷ []) at_key) in
     subst (λ x. AreAt x (names ++ own) (ns ++ n ∷ [])) (sym ends)
     (are_more between b (names ++ own) (ns ++ n ∷ []) at_colon)
 
@@ -94,8 +96,9 @@ pub new_among : (text : List ℕ) (names : List Name) (ns : List (List ℕ)) (k 
     → k ≤ length names → ((ms : List (List ℕ)) → AreAt text (take k names) ms → All (λ n. n ≢ this) ms)
     → (j : ℕ) → j < k → get_or ns j [] ≢ this
 new_among text names ns k this h within new j lt same =
+    let many = as_many text names ns h in
     new (take k ns) (are_first text names ns k h) j []
-    (omega (arith, lt, within, as_many text names ns h, length-take-le k ns (omega (arith, within, as_many text names ns h))))
+    (omega (arith, lt, within, many, length-take-le k ns (omega (arith, within, many))))
     (get_or-take k ns j [] lt ∙ same)
 
 -- ---- their order
@@ -131,7 +134,8 @@ up_to a b before = reversed (name_order a b) (name_order b a) (total.antisymm a 
 pub up_to_itself : (a : List ℕ) → IsUpTo a a
 up_to_itself a = ap is_lt (tied_itself total a)
 
-cases : (o p : Ordering) → p ≡ ordering_reverse o → is_lt o ≡ false → (P : Type 0) → (p ≡ Less → P) → (p ≡ Equal → P) → P
+cases : (o p : Ordering) → p ≡ ordering_reverse o → is_lt o ≡ false → (P : Type 0) → (p ≡ Less → P)
+    → (p ≡ Equal → P) → P
 cases Less p e not_less P f g = absurd cc
 cases Equal p e not_less P f g = g e
 cases Greater p e not_less P f g = f e

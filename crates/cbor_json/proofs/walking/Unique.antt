@@ -1,6 +1,8 @@
 -- Texts that the walk writes: no object in them has a key twice.
 use Rattle.std.proofs.Common.{◌≡◌, ℕ, suc, ◌+◌, ◌<◌, ◌≤◌, List, [], ◌∷◌, ◌++◌, Bool, true, false, Some, Result, Ok}
-use Rattle.std.proofs.Common.{Bor, Option, None, if◌then◌else◌, Err, IfOk, length, refl, sym, ap, subst, ◌∙◌, arith, append-nil}
+use Rattle.std.proofs.Common.{Bor, Option, None, not, if◌then◌else◌, Err, IfOk, length, refl, sym, ap, subst, ◌∙◌}
+use Rattle.std.proofs.Common.{arith, append-nil}
+use Rattle.std.specs.Prelude.{◌&&◌}
 use Rattle.json.specs.Json.{Json}
 use Rattle.json.specs.Strict.{HasUniqueKeys, AreDistinct}
 use Rattle.cbor_grammar.specs.declared.argument.Argument.{Argument}
@@ -16,7 +18,8 @@ use Rattle.cbor_grammar.specs.Embedded.{embedded_at}
 use Rattle.cbor_grammar.specs.Item as spec
 use Rattle.cbor_grammar.specs.Item.{Chunk, Atom, string, chunked_string, Item, atom, array, tagged, Items, no_items}
 use Rattle.cbor_grammar.specs.Item.{item, item_count, Pairs, no_pairs, pair, pair_count}
-use Rattle.cbor_grammar.specs.Reading.{Read, after_members, count_width, read_head, read_item, read_content, read_chunks, ◌>>=◌}
+use Rattle.cbor_grammar.specs.Reading.{Read, after_members, count_width, read_head, read_item, read_content}
+use Rattle.cbor_grammar.specs.Reading.{read_chunks, ◌>>=◌}
 use Rattle.cbor_grammar.specs.WellFormed.{WellFormed, levels_left}
 use Rattle.cbor_grammar.specs.mirror.AtLevel.{read_at, read_behind, body_read}
 use Rattle.cbor_grammar.proofs.bytes.Found.{item_takes}
@@ -33,21 +36,22 @@ use Rattle.cbor_grammar.specs.mirror.StringView.{kind_of, borrowed_chunk}
 use Rattle.cbor_notation_writer.proofs.straight.Sequences.{whole_item, one_embedded}
 use Rattle.cbor_notation_writer.specs.declared.parts.Container.TheVariants.{Embedded, Array, Map}
 use Rattle.cbor_notation_writer.specs.mirror.Straight.{chunk}
-use Rattle.cbor_notation_writer.specs.Dialect.{ItemTexts, PairTexts, ItemsText, AtomText, TextWith}
-use Rattle.cbor_notation_writer.specs.Dialect.{TextsOf, TextsAt, OneText, EmbeddedText, ContentText, embedding, style_at}
-use Rattle.cbor_notation_writer.specs.Dialect.{style_within, count_of}
+use Rattle.cbor_notation_writer.specs.Dialect.{Texts, ItemTexts, PairTexts, ItemsText, AtomText, TextWith}
+use Rattle.cbor_notation_writer.specs.Dialect.{TextsOf, TextsAt, OneText, EmbeddedText, ContentText, embedding}
+use Rattle.cbor_notation_writer.specs.Dialect.{style_at, style_within, count_of}
 use Rattle.cbor_notation_writer.proofs.straight.Texts.{Reached, reached_all, ItemsWritten, items_written}
 use Rattle.cbor_grammar.specs.declared.layout.ContainerStyle.TheVariants as style
 use Rattle.cbor_grammar.specs.Estimate.{one_line_limit, estimated_length}
 use Rattle.cbor_grammar.specs.mirror.Lengths.{left_of}
-use Rattle.cbor_json.specs.Spots.{inside_spot}
+use Rattle.cbor_json.specs.Roles.{inside_role}
 use Rattle.cbor_json.proofs.walking.Named.{NamedWritten, pairs_named}
 use Rattle.cbor_notation_writer.specs.mirror.Straight.{Written}
-use Rattle.cbor_json.specs.JsonLeaves.{json_leaves, is_value, tag_at, tag_end_at, opening_at, closing_at}
+use Rattle.cbor_json.specs.JsonLeaves.{json_leaves, is_value, wants_bytes, tag_at, tag_end_at, opening_at, closing_at}
 use Rattle.cbor_json.specs.declared.print.place.JsonPlace.{JsonPlace}
-use Rattle.cbor_json.specs.declared.print.place.Spot.{Spot}
-use Rattle.cbor_json.specs.declared.print.place.Spot.TheVariants as spot
-use Rattle.cbor_json.specs.mirror.Walking.{IsUnique, UniqueAs, UniqueTexts, UniqueWith, UniqueHere, NamedPairs, NamedText}
+use Rattle.cbor_json.specs.declared.print.place.Role.{Role}
+use Rattle.cbor_json.specs.declared.print.place.Role.TheVariants as role
+use Rattle.cbor_json.specs.mirror.Walking.{IsUnique, UniqueAs, UniqueTexts, UniqueWith, UniqueHere, NamedPairs}
+use Rattle.cbor_json.specs.mirror.Walking.{NamedText}
 use Rattle.cbor_json.proofs.json.Parts.{Part}
 use Rattle.cbor_json.proofs.json.Texts.{text_part, unique_part}
 use Rattle.cbor_json.proofs.json.Tokens.{Reads, lower, reads_document}
@@ -72,17 +76,17 @@ reads_unique left t le h unique = record {
   shows = h.shows;
 }
 
-unique_as : (s : Spot) (left : ℕ) (t : List ℕ) → left ≤ 128 → Part false s left t → UniqueAs s t → Part true s left t
-unique_as spot.Key left t le h unique = h
-unique_as spot.InKey left t le h unique = h
-unique_as spot.Value left t le h unique = reads_unique left t le h unique
-unique_as spot.Named left t le h unique = reads_unique left t le h unique
+unique_as : (s : Role) (left : ℕ) (t : List ℕ) → left ≤ 128 → Part false s left t → UniqueAs s t → Part true s left t
+unique_as role.Key left t le h unique = h
+unique_as role.InKey left t le h unique = h
+unique_as role.Value left t le h unique = reads_unique left t le h unique
+unique_as role.Named left t le h unique = reads_unique left t le h unique
 
-unique_there : (s : Spot) (left : ℕ) (t : List ℕ) → left ≤ 128 → is_value s ≡ true → Part true s left t → UniqueAs s t
-unique_there spot.Key left t le v h = absurd cc
-unique_there spot.InKey left t le v h = absurd cc
-unique_there spot.Value left t le v h = unique_text left t le h
-unique_there spot.Named left t le v h = unique_text left t le h
+unique_there : (s : Role) (left : ℕ) (t : List ℕ) → left ≤ 128 → is_value s ≡ true → Part true s left t → UniqueAs s t
+unique_there role.Key left t le v h = absurd cc
+unique_there role.InKey left t le v h = absurd cc
+unique_there role.Value left t le v h = unique_text left t le h
+unique_there role.Named left t le v h = unique_text left t le h
 
 -- an atom that is no byte string in which an item may be shown
 abbrev pub IsQuiet : Atom → Type 0
@@ -161,16 +165,18 @@ read_well level left b i rest levels bytes is =
 
 -- the text of an item by its parts
 whole_text : (level left : ℕ) (p : JsonPlace) (i : Item) (t : List ℕ) → level + suc left ≡ 129 → suc left ≤ 128
-    → is_value p.spot ≡ true → WellFormed level i → UniqueWith left (UniqueTexts left) p i t
+    → is_value p.role ≡ true → WellFormed level i → UniqueWith left (UniqueTexts left) p i t
     → UniqueTexts (suc left) p i t
 unfolding TextsOf
 whole_text level left p i t levels le v well h =
-    let below = λ (q : JsonPlace) (j : Item) (s : List ℕ) (fits : WellFormed (level + 1) j) (k : UniqueTexts left q j s).
-    unique_as q.spot left s (omega (arith, le))
+    let below =
+    λ (q : JsonPlace) (j : Item) (s : List ℕ) (fits : WellFormed (level + 1) j) (k : UniqueTexts left q j s).
+    unique_as q.role left s (omega (arith, le))
     (text_part (level + 1) left (omega (arith, levels)) q j s fits k.0) k.1 in (
       (p, refl, plain_with left p i t h),
-      unique_there p.spot (suc left) t le v
-          (unique_part true (level + 1) left (omega (arith, levels)) (UniqueTexts left) below p i t level refl well v h),
+      unique_there p.role (suc left) t le v
+          (unique_part true (level + 1) left (omega (arith, levels)) (UniqueTexts left) below p i t level refl well v
+          h),
     )
 
 -- ---- an item that is its head, or a string of chunks
@@ -214,7 +220,7 @@ unfolding TextsOf
 open_text left p i t h = subst (λ x. TextWith json_leaves left (TextsOf json_leaves left) x i t) h.1 h.2
 
 module _ (p : JsonPlace) (b inner : List ℕ) (h : ItemHead) (level : ℕ) (here : level ≡ p.level) (positive : 1 ≤ level)
-    (deep : level ≤ 128) (v : is_value p.spot ≡ true) (bytes : IsBytes b) (read : read_head b ≡ Ok (h, inner)) where
+    (deep : level ≤ 128) (v : is_value p.role ≡ true) (bytes : IsBytes b) (read : read_head b ≡ Ok (h, inner)) where
   levels : levels_left p.level ≡ suc (levels_left (p.level + 1))
   levels = omega (arith, here, deep)
 
@@ -242,25 +248,26 @@ module _ (p : JsonPlace) (b inner : List ℕ) (h : ItemHead) (level : ℕ) (here
       let unique = subst (λ x. UniqueWith left (UniqueTexts left) p x t) (sym a.1)
       (quiet_text left p a.0 t a.2 atomic) in
       let well = read_well p.level (levels_left p.level) b i (f x) (omega (arith, here, deep)) bytes is in
-      let so = whole_text p.level left p i t (omega (arith, here, deep)) (omega (arith, here, positive)) v well unique in
+      let so = whole_text p.level left p i t (omega (arith, here, deep)) (omega (arith, here, positive)) v well unique
+      in
       (i, is, t, subst (λ n. UniqueTexts n p i t) (sym levels) so, eq)
 
 -- ---- a tag
 
-tag_shown : (s : Spot) (n : ℕ) → is_value s ≡ true → [] ≡ tag_at s n
-tag_shown spot.Key n v = absurd cc
-tag_shown spot.InKey n v = absurd cc
-tag_shown spot.Value n v = refl
-tag_shown spot.Named n v = refl
+tag_shown : (s : Role) (n : ℕ) → is_value s ≡ true → [] ≡ tag_at s n
+tag_shown role.Key n v = absurd cc
+tag_shown role.InKey n v = absurd cc
+tag_shown role.Value n v = refl
+tag_shown role.Named n v = refl
 
-tag_end_shown : (s : Spot) → is_value s ≡ true → [] ≡ tag_end_at s
-tag_end_shown spot.Key v = absurd cc
-tag_end_shown spot.InKey v = absurd cc
-tag_end_shown spot.Value v = refl
-tag_end_shown spot.Named v = refl
+tag_end_shown : (s : Role) → is_value s ≡ true → [] ≡ tag_end_at s
+tag_end_shown role.Key v = absurd cc
+tag_end_shown role.InKey v = absurd cc
+tag_end_shown role.Value v = refl
+tag_end_shown role.Named v = refl
 
 pub tag_here : {A E : Type 0} (p q : JsonPlace) (n : ℕ) (w : IntegerWidth) (b : List ℕ) (r : Result A E)
-    (f : A → List ℕ) (old new : List ℕ) → is_value p.spot ≡ true → q ≡ json_leaves.below n p
+    (f : A → List ℕ) (old new : List ℕ) → is_value p.role ≡ true → q ≡ json_leaves.below n p
     → IfOk r (λ x. Written (UniqueTexts (levels_left q.level) q) (read_at q.level b) (f x) old new)
     → IfOk r (λ x. Written (UniqueHere p) (read_behind p.level (head.Tag n w) b) (f x) old new)
 tag_here p q n w b (Err e) f old new v is h = tt
@@ -271,7 +278,7 @@ tag_here p q n w b (Ok x) f old new v is (i, read, t, text, eq) =
       tagged n w i,
       tag_read left n w b (f x) i reads,
       t,
-      ([], t, [], tag_shown p.spot n v, there, tag_end_shown p.spot v, sym (append-nil t)),
+      ([], t, [], tag_shown p.role n v, there, tag_end_shown p.role v, sym (append-nil t)),
       eq,
     )
 
@@ -304,21 +311,55 @@ pub same_content : (p : JsonPlace) (x y : Bor (List ℕ)) → content.Bytes x �
 same_content p x y e h =
     let same : x ≡ y = cc in subst (λ (z : Bor (List ℕ)). json_leaves.content p z.now ≡ shown.Bytes) same h
 
-opens_nothing : (s : Spot) (len : Argument) → is_value s ≡ true → [] ≡ opening_at s (Embedded len)
-opens_nothing spot.Key len v = absurd cc
-opens_nothing spot.InKey len v = absurd cc
-opens_nothing spot.Value len v = refl
-opens_nothing spot.Named len v = refl
+not_shown : (a b c : Bool) → (if a && (b && (c && false)) then shown.Item else shown.Bytes) ≡ shown.Item → ⊥
+not_shown true true true e = cc
+not_shown true true false e = cc
+not_shown true false c e = cc
+not_shown false b c e = cc
 
-closes_nothing : (s : Spot) (len : Argument) → is_value s ≡ true → [] ≡ closing_at s (Embedded len)
-closes_nothing spot.Key len v = absurd cc
-closes_nothing spot.InKey len v = absurd cc
-closes_nothing spot.Value len v = refl
-closes_nothing spot.Named len v = refl
+-- bytes that may be shown as an item are some
+filled : (p : JsonPlace) (b : List ℕ) → json_leaves.content p b ≡ shown.Item → 0 < length b
+filled p [] e = absurd (not_shown p.style.embedded (not (wants_bytes p.tag)) (is_value p.role) e)
+filled p (x ∷ xs) e = omega arith
+
+-- bytes that may be shown as an item, and are none
+pub bytes_here : (p : JsonPlace) (n : ℕ) (w : IntegerWidth) (s : StringContent) (x : Bor (List ℕ))
+    (b rest old new : List ℕ) (k : StringKind) → s ≡ content.Bytes x → kind_of s ≡ k
+    → read_content k n w b ≡ Ok (borrowed_chunk w s, rest) → json_leaves.content p x.now ≡ shown.Item
+    → embedded_at (levels_left (p.level + 1)) x.now ≡ None
+    → (t : List ℕ) × json_leaves.string p (kind_of s) (borrowed_chunk w s) t × (new ≡ old ++ t)
+    → Written (UniqueHere p) (read_behind p.level (head.String k (Number n w)) b) rest old new
+bytes_here p n w (content.Text y) x b rest old new k is same read shows none h = absurd cc
+bytes_here p n w (content.Bytes y) x b rest old new k is same read shows none h =
+    let c = borrowed_chunk w (content.Bytes y) in
+    let left = levels_left (p.level + 1) in
+    let there : x ≡ y = cc in
+    let item = subst (λ (z : Bor (List ℕ)). json_leaves.content p z.now ≡ shown.Item) there shows in
+    let no_item = subst (λ (z : Bor (List ℕ)). embedded_at left z.now ≡ None) there none in
+    let here = one_embedded json_leaves (UniqueTexts left) p c y.now (embedded_at left y.now) None h.0
+    (filled p y.now item) no_item h.1 in (
+      atom (string kind.Bytes c),
+      content_read n w (content.Bytes y) b rest k same read,
+      h.0,
+      subst (λ z. ContentText json_leaves left (UniqueTexts left) z p c h.0) (sym item) here,
+      h.2,
+    )
+
+opens_nothing : (s : Role) (len : Argument) → is_value s ≡ true → [] ≡ opening_at s (Embedded len)
+opens_nothing role.Key len v = absurd cc
+opens_nothing role.InKey len v = absurd cc
+opens_nothing role.Value len v = refl
+opens_nothing role.Named len v = refl
+
+closes_nothing : (s : Role) (len : Argument) → is_value s ≡ true → [] ≡ closing_at s (Embedded len)
+closes_nothing role.Key len v = absurd cc
+closes_nothing role.InKey len v = absurd cc
+closes_nothing role.Value len v = refl
+closes_nothing role.Named len v = refl
 
 -- the item that the bytes are, all of them
 pub item_here : (p q : JsonPlace) (n : ℕ) (w : IntegerWidth) (x : Bor (List ℕ)) (b rest old new : List ℕ)
-    → read_content kind.Bytes n w b ≡ Ok (chunk w x.now, rest) → is_value p.spot ≡ true → p.layout ≡ layout.Compact
+    → read_content kind.Bytes n w b ≡ Ok (chunk w x.now, rest) → is_value p.role ≡ true → p.layout ≡ layout.Compact
     → json_leaves.content p x.now ≡ shown.Item → q ≡ json_leaves.inside (embedding (chunk w x.now)) layout.Compact p
     → Written (UniqueTexts (levels_left q.level) q) (read_at q.level x.now) [] old new
     → Written (UniqueHere p) (read_behind p.level (head.String kind.Bytes (Number n w)) b) rest old new
@@ -329,7 +370,7 @@ item_here p q n w x b rest old new read v flat shows is (i, inner, t, text, eq) 
     (is ∙ ap (λ l. json_leaves.inside (embedding c) l p) (sym flat)) text in
     let reads = subst (λ (y : JsonPlace). read_at y.level x.now ≡ Ok (i, [])) is inner in
     let one : OneText json_leaves (UniqueTexts left) p c (Some i) t =
-    (t, there, ([], [], opens_nothing p.spot _ v, closes_nothing p.spot _ v, sym (append-nil t))) in
+    (t, there, ([], [], opens_nothing p.role _ v, closes_nothing p.role _ v, sym (append-nil t))) in
     let some : 0 < length x.now = omega (arith, item_shorter left x.now i [] reads) in
     let here = one_embedded json_leaves (UniqueTexts left) p c x.now (embedded_at left x.now) (Some i) t some
     (whole_item left x.now [] i reads refl) one in (
@@ -340,18 +381,25 @@ item_here p q n w x b rest old new read v flat shows is (i, inner, t, text, eq) 
       eq,
     )
 
+-- a text that is written by itself, and then after others
+pub written_after : (texts : Item → Texts) (read : Read Item) (rest old new alone : List ℕ)
+    → Written texts read rest [] alone → new ≡ old ++ alone → Written texts read rest old new
+written_after texts read rest old new alone (i, is, t, text, eq) added =
+    (i, is, t, text, added ∙ ap (λ x. old ++ x) eq)
+
 pub shown_here : (p : JsonPlace) (n : ℕ) (w : IntegerWidth) (s : StringContent) (x : Bor (List ℕ))
     (b rest old new : List ℕ) (k : StringKind) → s ≡ content.Bytes x → kind_of s ≡ k
-    → read_content k n w b ≡ Ok (borrowed_chunk w s, rest) → is_value p.spot ≡ true → p.layout ≡ layout.Compact
+    → read_content k n w b ≡ Ok (borrowed_chunk w s, rest) → is_value p.role ≡ true → p.layout ≡ layout.Compact
     → json_leaves.content p x.now ≡ shown.Item
-    → Written (UniqueTexts (levels_left (p.level + 1)) (json_leaves.inside (embedding (chunk w x.now)) layout.Compact p))
-    (read_at (p.level + 1) x.now) [] old new
+    → Written (UniqueTexts (levels_left (p.level + 1))
+    (json_leaves.inside (embedding (chunk w x.now)) layout.Compact p)) (read_at (p.level + 1) x.now) [] old new
     → Written (UniqueHere p) (read_behind p.level (head.String k (Number n w)) b) rest old new
 shown_here p n w s x b rest old new k is same read v flat shows h =
     let bytes : k ≡ kind.Bytes = sym same ∙ ap kind_of is in
     subst (λ y. Written (UniqueHere p) (read_behind p.level (head.String y (Number n w)) b) rest old new) (sym bytes)
     (item_here p (json_leaves.inside (embedding (chunk w x.now)) layout.Compact p) n w x b rest old new
-    (ap (λ y. read_content y n w b) (sym bytes) ∙ read ∙ ap (λ y. Ok (borrowed_chunk w y, rest)) is) v flat shows refl h)
+    (ap (λ y. read_content y n w b) (sym bytes) ∙ read ∙ ap (λ y. Ok (borrowed_chunk w y, rest)) is) v flat shows refl
+    h)
 
 -- ---- containers
 
@@ -378,7 +426,8 @@ array_here p now count is held b old out new rest after flat w reached some ends
       array is width,
       read,
       text.0,
-      subst (λ a. ItemsText json_leaves write p (Array a) (style_at json_leaves p (array is width)) is text.0) whole styled,
+      subst (λ a. ItemsText json_leaves write p (Array a) (style_at json_leaves p (array is width)) is text.0) whole
+          styled,
       text.2,
     )
 
@@ -405,11 +454,11 @@ object_here p now count ps held ns b old out new rest after flat w apart reached
       text.2,
     )
 
-pub inside_array : (s : Spot) (count : Argument) → is_value s ≡ true → inside_spot (Array count) s ≡ spot.Value
-inside_array spot.Key count v = absurd cc
-inside_array spot.InKey count v = absurd cc
-inside_array spot.Value count v = refl
-inside_array spot.Named count v = refl
+pub inside_array : (s : Role) (count : Argument) → is_value s ≡ true → inside_role (Array count) s ≡ role.Value
+inside_array role.Key count v = absurd cc
+inside_array role.InKey count v = absurd cc
+inside_array role.Value count v = refl
+inside_array role.Named count v = refl
 
 pub quiet_of : (h : ItemHead) → ((a : Argument) → ¬ (h ≡ head.Array a)) → ((a : Argument) → ¬ (h ≡ head.Map a))
     → ((n : ℕ) (w : IntegerWidth) → ¬ (h ≡ head.Tag n w))

@@ -78,7 +78,7 @@ json_is style b i rest t bytes is of =
     let here = of.outermost in
     let part = text_part 1 128 refl of.place i t (read_well b i rest bytes is)
     (subst (λ l. TextsOf json_leaves (levels_left l) of.place i t) here.level of.written) in
-    of_reads t (subst (λ s. Part false s 128 t) here.spot part)
+    of_reads t (subst (λ s. Part false s 128 t) here.role part)
 
 -- the text of an item of which no object has a key twice
 pub unique_json : (style : JsonStyle) (b : List ℕ) (i : Item) (rest t : List ℕ) → IsBytes b
@@ -93,7 +93,7 @@ pub unique_so : (style : JsonStyle) (p : JsonPlace) (b rest new : List ℕ) → 
     → (i : Item) × (read_item 128 b ≡ Ok (i, rest)) × IsJsonOf style i new × IsUnique new
 unique_so style p b rest new here (i, is, t, text, written) =
     let of : IsJsonOf style i t = record { place = p; outermost = here; written = text.0 } in
-    let alone : IsUnique t = subst (λ s. UniqueAs s t) here.spot text.1 in (
+    let alone : IsUnique t = subst (λ s. UniqueAs s t) here.role text.1 in (
       i,
       subst (λ l. read_at l b ≡ Ok (i, rest)) here.level is,
       subst (IsJsonOf style i) (sym written) of,

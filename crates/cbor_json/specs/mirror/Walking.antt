@@ -17,8 +17,8 @@ use Rattle.cbor_notation_writer.specs.Dialect.{Texts, Writer, Listed, TextWith, 
 use Rattle.cbor_json.specs.JsonLeaves.{json_leaves}
 use Rattle.cbor_json.specs.declared.names.Name.{Name}
 use Rattle.cbor_json.specs.declared.print.place.JsonPlace.{JsonPlace}
-use Rattle.cbor_json.specs.declared.print.place.Spot.{Spot}
-use Rattle.cbor_json.specs.declared.print.place.Spot.TheVariants as spot
+use Rattle.cbor_json.specs.declared.print.place.Role.{Role}
+use Rattle.cbor_json.specs.declared.print.place.Role.TheVariants as role
 
 -- ---- names in a text
 
@@ -30,9 +30,9 @@ name_order a b = ordering_then (nat_cmp (length a) (length b)) (slice_cmp nat_cm
 abbrev pub IsAt : List ℕ → Name → List ℕ → Type 0
 IsAt text name n = (between name.start name.end text ≡ n) × (name.end ≤ length text)
 
--- what is written between these two texts
-abbrev pub name_between : List ℕ → List ℕ → Name
-name_between before after = record { start = length before; end = length after }
+-- what is written between these two texts, of the key that this many bytes begin with
+abbrev pub name_between : List ℕ → List ℕ → ℕ → Name
+name_between before after left = record { start = length before; end = length after; left = left }
 
 abbrev pub AreAt : List ℕ → List Name → List (List ℕ) → Type 0
 AreAt text names ns = AllZip (IsAt text) names ns
@@ -43,14 +43,14 @@ AreAt text names ns = AllZip (IsAt text) names ns
 abbrev pub IsUnique : List ℕ → Type 0
 IsUnique t = (j : Json) → document t ≡ Some j → HasUniqueKeys j
 
-abbrev pub UniqueAs : Spot → List ℕ → Type 0
-UniqueAs spot.Key t = Unit {0}
-UniqueAs spot.InKey t = Unit {0}
+abbrev pub UniqueAs : Role → List ℕ → Type 0
+UniqueAs role.Key t = Unit {0}
+UniqueAs role.InKey t = Unit {0}
 UniqueAs s t = IsUnique t
 
 -- the texts of an item, of which none has an object with a key twice
 abbrev pub UniqueTexts : ℕ → Writer JsonPlace
-UniqueTexts left p i t = TextsOf json_leaves left p i t × UniqueAs p.spot t
+UniqueTexts left p i t = TextsOf json_leaves left p i t × UniqueAs p.role t
 
 -- a key by its name, and its value
 abbrev pub NamedPair : Writer JsonPlace → JsonPlace → Item → Item → List ℕ → Texts

@@ -7,21 +7,21 @@ ghost use Rattle.cbor_notation_writer.specs.mirror.LeafView.{atom_of, FitsLeaf};
 ghost use Rattle.cbor_json.specs.JsonLeaves.{LeafAt, ValueLeaf, EdnLeaf, InQuotes, json_simple};
 
 use crate::print::numbers::{push_edn_float, push_value_float};
-use crate::print::place::Spot;
+use crate::print::place::Role;
 use cbor_grammar::{IntegerWidth, Simple};
 use cbor_notation_writer::parts::Leaf;
 use cbor_notation_writer::scalars::{push_negative, push_number, push_simple};
 use std::alloc::AllocError;
 
 /// Writes a number, a float or a simple value.
-pub(super) fn push_leaf(out: &mut String, leaf: Leaf, spot: Spot) -> Result<(), AllocError>
+pub(super) fn push_leaf(out: &mut String, leaf: Leaf, role: Role) -> Result<(), AllocError>
     requires { FitsLeaf leaf }
-    ensures { Writes result out.old out.new (LeafAt spot (atom_of leaf)) }
+    ensures { Writes result out.old out.new (LeafAt role (atom_of leaf)) }
 {
-    match spot {
-        Spot::Value | Spot::Named => push_value(out, leaf),
-        Spot::Key => push_key(out, leaf),
-        Spot::InKey => push_edn(out, leaf),
+    match role {
+        Role::Value | Role::Named => push_value(out, leaf),
+        Role::Key => push_key(out, leaf),
+        Role::InKey => push_edn(out, leaf),
     }
 }
 

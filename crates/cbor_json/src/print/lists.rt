@@ -7,7 +7,7 @@ ghost use Rattle.cbor_json.specs.JsonLeaves.{edn_opening, edn_closing, key_openi
 ghost use Rattle.cbor_json.specs.JsonLeaves.{value_opening, value_closing, opening_at, closing_at};
 ghost use Rattle.cbor_json.specs.JsonLeaves.{empty_at, before_member, tag_at, tag_end_at};
 
-use crate::print::place::Spot;
+use crate::print::place::Role;
 use cbor_grammar::IntegerWidth;
 use cbor_grammar::strings::StringKind;
 use cbor_notation_writer::parts::Container;
@@ -18,14 +18,14 @@ use std::alloc::AllocError;
 pub(super) fn push_opening(
     out: &mut String,
     container: Container,
-    spot: Spot,
+    role: Role,
 ) -> Result<(), AllocError>
-    ensures { AppendsText result out.old out.new (opening_at spot container) }
+    ensures { AppendsText result out.old out.new (opening_at role container) }
 {
-    match spot {
-        Spot::Key => push_key_opening(out, container),
-        Spot::InKey => push_edn_opening(out, container),
-        Spot::Value | Spot::Named => push_value_opening(out, container),
+    match role {
+        Role::Key => push_key_opening(out, container),
+        Role::InKey => push_edn_opening(out, container),
+        Role::Value | Role::Named => push_value_opening(out, container),
     }
 }
 
@@ -33,14 +33,14 @@ pub(super) fn push_opening(
 pub(super) fn push_closing(
     out: &mut String,
     container: Container,
-    spot: Spot,
+    role: Role,
 ) -> Result<(), AllocError>
-    ensures { AppendsText result out.old out.new (closing_at spot container) }
+    ensures { AppendsText result out.old out.new (closing_at role container) }
 {
-    match spot {
-        Spot::Key => push_key_closing(out, container),
-        Spot::InKey => push_edn_closing(out, container),
-        Spot::Value | Spot::Named => push_value_closing(out, container),
+    match role {
+        Role::Key => push_key_closing(out, container),
+        Role::InKey => push_edn_closing(out, container),
+        Role::Value | Role::Named => push_value_closing(out, container),
     }
 }
 
@@ -119,14 +119,14 @@ fn push_key_closing(out: &mut String, container: Container) -> Result<(), AllocE
 }
 
 /// Writes a string of no chunks.
-pub(super) fn push_empty(out: &mut String, kind: StringKind, spot: Spot) -> Result<(), AllocError>
-    ensures { AppendsText result out.old out.new (empty_at spot kind) }
+pub(super) fn push_empty(out: &mut String, kind: StringKind, role: Role) -> Result<(), AllocError>
+    ensures { AppendsText result out.old out.new (empty_at role kind) }
 {
-    match (spot, kind) {
-        (Spot::Key, StringKind::Bytes) => out.push_str("\"h''\""),
-        (Spot::InKey, StringKind::Bytes) => out.push_str("h''"),
-        (Spot::InKey, StringKind::Text) => out.push_str("\\\"\\\""),
-        (Spot::Key, StringKind::Text) | (Spot::Value | Spot::Named, _) => out.push_str("\"\""),
+    match (role, kind) {
+        (Role::Key, StringKind::Bytes) => out.push_str("\"h''\""),
+        (Role::InKey, StringKind::Bytes) => out.push_str("h''"),
+        (Role::InKey, StringKind::Text) => out.push_str("\\\"\\\""),
+        (Role::Key, StringKind::Text) | (Role::Value | Role::Named, _) => out.push_str("\"\""),
     }
 }
 
@@ -146,25 +146,25 @@ pub(super) fn push_start(
 }
 
 /// Writes a tag in a key. As a value it is left out.
-pub(super) fn push_tag(out: &mut String, tag: u64, spot: Spot) -> Result<(), AllocError>
-    ensures { AppendsText result out.old out.new (tag_at spot tag) }
+pub(super) fn push_tag(out: &mut String, tag: u64, role: Role) -> Result<(), AllocError>
+    ensures { AppendsText result out.old out.new (tag_at role tag) }
 {
-    match spot {
-        Spot::Value | Spot::Named => return Ok(()),
-        Spot::Key => out.push('"')?,
-        Spot::InKey => {}
+    match role {
+        Role::Value | Role::Named => return Ok(()),
+        Role::Key => out.push('"')?,
+        Role::InKey => {}
     }
     push_number(out, tag, IntegerWidth::Unknown)?;
     out.push('(')
 }
 
 /// Writes what is after the item below a tag.
-pub(super) fn push_tag_end(out: &mut String, spot: Spot) -> Result<(), AllocError>
-    ensures { AppendsText result out.old out.new (tag_end_at spot) }
+pub(super) fn push_tag_end(out: &mut String, role: Role) -> Result<(), AllocError>
+    ensures { AppendsText result out.old out.new (tag_end_at role) }
 {
-    match spot {
-        Spot::Value | Spot::Named => Ok(()),
-        Spot::Key => out.push_str(")\""),
-        Spot::InKey => out.push(')'),
+    match role {
+        Role::Value | Role::Named => Ok(()),
+        Role::Key => out.push_str(")\""),
+        Role::InKey => out.push(')'),
     }
 }

@@ -3,9 +3,8 @@
 ghost use Rattle.std.specs.Prelude.{◌≡◌, ◌+◌, ◌≤◌};
 ghost use Rattle.cbor_grammar.specs.NotationText.{indent_of, encoding_below as encoding_under};
 ghost use Rattle.cbor_grammar.specs.WellFormed.{deepest};
-ghost use Rattle.cbor_json.specs.Clashes.{IsKeyPlace};
 ghost use Rattle.cbor_json.specs.JsonLeaves.{json_leaves};
-ghost use Rattle.cbor_json.specs.Spots.{inside_spot, next_spot, value_spot, below_spot};
+ghost use Rattle.cbor_json.specs.Roles.{inside_role, next_role, value_role, below_role};
 ghost use Rattle.cbor_json.specs.Written.{IsOutermost};
 
 use crate::style::JsonStyle;
@@ -16,7 +15,7 @@ use std::alloc::Global;
 
 /// What an item is in the one around it.
 #[derive(Clone, Copy)]
-pub(crate) enum Spot {
+pub(crate) enum Role {
     /// The outermost item, a member of an array, or an item in a byte string.
     Value,
     /// A key.
@@ -27,51 +26,51 @@ pub(crate) enum Spot {
     InKey,
 }
 
-impl Spot {
-    /// Of the first member of a container there.
+impl Role {
+    /// That of the first member of a container with this role.
     #[inline(always)]
-    pub(crate) fn inside(self, container: Container) -> Spot
-        ensures { result ≡ inside_spot container self }
+    pub(crate) fn inside(self, container: Container) -> Role
+        ensures { result ≡ inside_role container self }
     {
         match self {
-            Spot::Key | Spot::InKey => Spot::InKey,
-            Spot::Value | Spot::Named => match container {
-                Container::Map(_) => Spot::Key,
-                _ => Spot::Value,
+            Role::Key | Role::InKey => Role::InKey,
+            Role::Value | Role::Named => match container {
+                Container::Map(_) => Role::Key,
+                _ => Role::Value,
             },
         }
     }
 
-    /// Of the member after one there.
+    /// That of the member after one with this role.
     #[inline(always)]
-    pub(crate) fn next(self) -> Spot
-        ensures { result ≡ next_spot self }
+    pub(crate) fn next(self) -> Role
+        ensures { result ≡ next_role self }
     {
         match self {
-            Spot::Named => Spot::Key,
-            spot => spot,
+            Role::Named => Role::Key,
+            role => role,
         }
     }
 
-    /// Of the value of a key there.
+    /// That of the value of a key with this role.
     #[inline(always)]
-    pub(crate) fn value(self) -> Spot
-        ensures { result ≡ value_spot self }
+    pub(crate) fn value(self) -> Role
+        ensures { result ≡ value_role self }
     {
         match self {
-            Spot::Key => Spot::Named,
-            spot => spot,
+            Role::Key => Role::Named,
+            role => role,
         }
     }
 
-    /// Right below a tag there.
+    /// That of the item below a tag with this role.
     #[inline(always)]
-    pub(crate) fn below(self) -> Spot
-        ensures { result ≡ below_spot self }
+    pub(crate) fn below(self) -> Role
+        ensures { result ≡ below_role self }
     {
         match self {
-            Spot::Key | Spot::InKey => Spot::InKey,
-            Spot::Value | Spot::Named => Spot::Value,
+            Role::Key | Role::InKey => Role::InKey,
+            Role::Value | Role::Named => Role::Value,
         }
     }
 }
@@ -88,7 +87,7 @@ pub(crate) struct JsonPlace {
     /// What is shown.
     pub(crate) style: JsonStyle,
     /// What the item is in the one around it.
-    pub(crate) spot: Spot,
+    pub(crate) role: Role,
     /// How the bytes of a byte string are written.
     pub(crate) encoding: Encoding,
     /// The tag right above the item.
@@ -119,22 +118,9 @@ impl JsonPlace {
             level: 1,
             layout: Layout::Compact,
             style,
-            spot: Spot::Value,
+            role: Role::Value,
             encoding: Encoding::Base64Url,
             tag: None,
-        }
-    }
-
-    /// The place of a key by itself.
-    pub(crate) fn key(alloc: Global, style: JsonStyle, level: u8) -> JsonPlace
-        ensures at_key { IsKeyPlace style result }
-        ensures level { result.level ≡ level }
-        ensures indent { indent_of result.layout ≡ 0 }
-    {
-        JsonPlace {
-            level,
-            spot: Spot::Key,
-            ..JsonPlace::new(alloc, style)
         }
     }
 
@@ -147,7 +133,7 @@ impl JsonPlace {
         JsonPlace {
             level: self.level + 1,
             layout,
-            spot: self.spot.inside(container),
+            role: self.role.inside(container),
             tag: None,
             ..self
         }
@@ -161,7 +147,7 @@ impl JsonPlace {
     {
         JsonPlace {
             level: self.level + 1,
-            spot: self.spot.below(),
+            role: self.role.below(),
             encoding: encoding_below(tag, self.encoding),
             tag: Some(tag),
             ..self

@@ -2,26 +2,29 @@
 //! number.
 #![tactic(auto, using(cbor_tokens::proofs::texts::Appending::appending_steps))]
 
-ghost use Rattle.std.specs.Prelude.{◌≡◌};
+ghost use Rattle.std.specs.Prelude.{◌≡◌, ◌+◌, ◌≤◌, false, None};
 ghost use Rattle.hex.specs.Hex.{encode_upper};
 ghost use Rattle.cbor_tokens.specs.Escapes.{escaped_text};
 ghost use Rattle.cbor_grammar.specs.declared.encoding.Encoding.TheVariants.{Base16};
 ghost use Rattle.cbor_grammar.specs.declared.strings.StringKind.TheVariants.{Bytes};
 ghost use Rattle.cbor_grammar.specs.mirror.StringView.{kind_of, borrowed_chunk};
+ghost use Rattle.cbor_grammar.specs.Embedded.{embedded_at};
 ghost use Rattle.cbor_grammar.specs.NotationText.{quoted};
+ghost use Rattle.cbor_grammar.specs.WellFormed.{deepest, levels_left};
 ghost use Rattle.cbor_tokens.specs.Appends.{AppendsText};
 ghost use Rattle.cbor_json.specs.JsonLeaves.{in_quotes, twice_escaped, edn_string, string_at};
 ghost use Rattle.cbor_json.specs.JsonLeaves.{digits_in, value_digits, is_big_tag};
 ghost use Rattle.cbor_json.specs.JsonLeaves.{part_at, content_at as content_there};
-ghost use Rattle.cbor_json.specs.JsonLeaves.{begins_container as begins, is_value as is_value_spot};
+ghost use Rattle.cbor_json.specs.JsonLeaves.{begins_container as begins, is_value as is_value_role};
 ghost use Rattle.cbor_json.specs.JsonLeaves.{wants_bytes, is_big as is_big_number, BigText};
 ghost use Rattle.cbor_json.specs.JsonLeaves.{is_negative_tag, StringAt};
 ghost use Rattle.cbor_notation_writer.specs.Dialect.{Writes};
 
 use crate::digits::decimal;
-use crate::print::place::{JsonPlace, Spot};
+use crate::print::place::{JsonPlace, Role};
 use base64::engine::general_purpose::{STANDARD, URL_SAFE_NO_PAD};
 use cbor_bytes::quoted::push_quoted;
+use cbor_bytes::skip::after_front;
 use cbor_grammar::IntegerWidth;
 use cbor_grammar::encoding::Encoding;
 use cbor_grammar::layout::Content;
@@ -30,7 +33,7 @@ use cbor_tokens::{push_escaped, push_hex};
 use std::alloc::{AllocError, Global};
 
 /// Whether bytes begin as an array, a map or a tagged item does.
-pub(crate) fn begins_container(bytes: &[u8]) -> bool
+fn begins_container(bytes: &[u8]) -> bool
     ensures { result ≡ begins bytes.now }
 {
     match bytes {
@@ -40,18 +43,18 @@ pub(crate) fn begins_container(bytes: &[u8]) -> bool
 }
 
 /// Whether this is no key, and no part of one.
-fn is_value(spot: Spot) -> bool
-    ensures { result ≡ is_value_spot spot }
+fn is_value(role: Role) -> bool
+    ensures { result ≡ is_value_role role }
 {
-    match spot {
-        Spot::Key | Spot::InKey => false,
-        Spot::Value | Spot::Named => true,
+    match role {
+        Role::Key | Role::InKey => false,
+        Role::Value | Role::Named => true,
     }
 }
 
 /// Whether bytes right below this tag are a big number, a UUID or an address, or are asked for as
 /// digits.
-pub(crate) fn wants_bytes(tag: Option<u64>) -> bool
+fn wants_bytes(tag: Option<u64>) -> bool
     ensures { result ≡ wants_bytes tag }
 {
     matches!(tag, Some(2 | 3 | 21 | 22 | 23 | 37 | 52 | 54 | 260))
@@ -61,11 +64,23 @@ pub(crate) fn wants_bytes(tag: Option<u64>) -> bool
 pub(crate) fn content_at(place: &JsonPlace, bytes: &[u8]) -> Content
     ensures { result ≡ content_there place.now bytes.now }
 {
-    let may_be_item = place.style.embedded && !wants_bytes(place.tag) && is_value(place.spot);
+    let may_be_item = place.style.embedded && !wants_bytes(place.tag) && is_value(place.role);
     if may_be_item && begins_container(bytes) {
         Content::Item
     } else {
         Content::Bytes
+    }
+}
+
+/// Whether the bytes are one item of this level, all of them.
+pub(crate) fn is_item(bytes: &[u8], level: u8) -> bool
+    requires from { 1 ≤ level }
+    requires to { level ≤ deepest + 1 }
+    ensures { result ≡ false → embedded_at (levels_left level) bytes.now ≡ None }
+{
+    match after_front(bytes, level) {
+        Some(rest) => rest.is_empty(),
+        None => false,
     }
 }
 
@@ -169,7 +184,7 @@ fn push_edn_text(out: &mut String, text: &str, alloc: Global) -> Result<(), Allo
 fn is_big(place: &JsonPlace, bytes: &[u8]) -> bool
     ensures { result ≡ is_big_number place.now Bytes bytes.now }
 {
-    is_value(place.spot) && is_big_tag(place.tag) && bytes.len() <= 1024
+    is_value(place.role) && is_big_tag(place.tag) && bytes.len() <= 1024
 }
 
 /// Writes a big number by its digits.
@@ -207,18 +222,18 @@ fn push_plain_string(
     width: IntegerWidth,
     place: &JsonPlace,
 ) -> Result<(), AllocError>
-    ensures { AppendsText result out.old out.new (string_at place.now place.now.spot
+    ensures { AppendsText result out.old out.new (string_at place.now place.now.role
         (kind_of content.entry) (borrowed_chunk width content.entry)) }
 {
     match content {
-        StringContent::Bytes(bytes) => match place.spot {
-            Spot::Key => push_bytes_key(out, bytes),
-            Spot::InKey => push_quoted(out, bytes, Encoding::Base16),
-            Spot::Value | Spot::Named => push_bytes(out, bytes, place),
+        StringContent::Bytes(bytes) => match place.role {
+            Role::Key => push_bytes_key(out, bytes),
+            Role::InKey => push_quoted(out, bytes, Encoding::Base16),
+            Role::Value | Role::Named => push_bytes(out, bytes, place),
         },
-        StringContent::Text(text) => match place.spot {
-            Spot::InKey => push_edn_text(out, text, place.alloc),
-            Spot::Key | Spot::Value | Spot::Named => push_text(out, text),
+        StringContent::Text(text) => match place.role {
+            Role::InKey => push_edn_text(out, text, place.alloc),
+            Role::Key | Role::Value | Role::Named => push_text(out, text),
         },
     }
 }
@@ -230,17 +245,17 @@ pub(super) fn push_part(
     width: IntegerWidth,
     place: &JsonPlace,
 ) -> Result<(), AllocError>
-    ensures { AppendsText result out.old out.new (part_at place.now place.now.spot
+    ensures { AppendsText result out.old out.new (part_at place.now place.now.role
         (kind_of content.entry) (borrowed_chunk width content.entry)) }
 {
     match content {
-        StringContent::Bytes(bytes) => match place.spot {
-            Spot::Key | Spot::InKey => push_hex(out, bytes),
-            Spot::Value | Spot::Named => push_digits(out, bytes, place),
+        StringContent::Bytes(bytes) => match place.role {
+            Role::Key | Role::InKey => push_hex(out, bytes),
+            Role::Value | Role::Named => push_digits(out, bytes, place),
         },
-        StringContent::Text(text) => match place.spot {
-            Spot::InKey => push_twice_escaped(out, text, place.alloc),
-            Spot::Key | Spot::Value | Spot::Named => push_escaped(out, text),
+        StringContent::Text(text) => match place.role {
+            Role::InKey => push_twice_escaped(out, text, place.alloc),
+            Role::Key | Role::Value | Role::Named => push_escaped(out, text),
         },
     }
 }

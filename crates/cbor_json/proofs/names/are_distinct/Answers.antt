@@ -17,7 +17,8 @@ names-preserved c =
       | then-is_before w ↦ subst (λ (x : Bor (List ℕ)). Known ns (k + 1) x.now) (sym w.greatest-is)
           (known_after ns k c.names.greatest.now c.in-Some.this.now known is
           (sym c.is_before.ensures ∙ w.if-is_before.true))
-      | else-is_before+else-index-ge-FEW+else-not-is_new w ↦ subst (λ (x : Bor (List ℕ)). Known ns (k + 1) x.now) (sym w.greatest-is)
+      | else-is_before+else-index-ge-FEW+else-not-is_new w ↦
+          subst (λ (x : Bor (List ℕ)). Known ns (k + 1) x.now) (sym w.greatest-is)
           (known_new ns k c.names.greatest.now c.in-Some.this.now known is
           (sym c.is_before.ensures ∙ w.if-is_before.false)
           (new_among text names ns k c.in-Some.this.now at (omega (arith, c.names-test.true))

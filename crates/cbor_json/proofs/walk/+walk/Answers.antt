@@ -1,6 +1,6 @@
 -- The walk appends a text of the item, and no object in it has a name twice.
-use Rattle.std.proofs.Common.{◌≡◌, ◌+◌, ◌++◌, [], ◌∷◌, ℕ, List, Bor, Result, Ok, Some, true, refl, ap, sym, subst, ◌∙◌, arith}
-use Rattle.std.proofs.Common.{append_assoc, append-nil}
+use Rattle.std.proofs.Common.{◌≡◌, ◌+◌, ◌++◌, [], ◌∷◌, ℕ, List, length, Bor, Result, Ok, Some, true, refl, ap, sym}
+use Rattle.std.proofs.Common.{subst, ◌∙◌, arith, append_assoc, append-nil}
 use Rattle.std.specs.String.{string_bytes}
 use Rattle.cbor_grammar.specs.declared.error.Error.{Error}
 use Rattle.cbor_grammar.specs.declared.head.ItemHead.TheVariants as head
@@ -19,14 +19,15 @@ use Rattle.cbor_notation_writer.specs.Dialect.{TextsOf}
 use Rattle.cbor_notation_writer.proofs.straight.Texts.{no_items_written, one_item_written, reached_none, reached_more}
 use Rattle.cbor_notation_writer.proofs.straight.Texts.{width_left}
 use Rattle.cbor_json.specs.JsonLeaves.{json_leaves, is_value}
-use Rattle.cbor_json.specs.Spots.{next_spot, value_spot}
+use Rattle.cbor_json.specs.Roles.{next_role, value_role}
 use Rattle.cbor_json.specs.declared.print.place.JsonPlace.{JsonPlace}
 use Rattle.cbor_json.specs.mirror.Walking.{UniqueTexts, UniqueAs, name_between}
 use Rattle.cbor_json.proofs.json.Braces.{key_in}
 use Rattle.cbor_json.proofs.walking.Named.{no_pairs_named, one_pair_named}
 use Rattle.cbor_json.proofs.walking.Ordered.{are_after}
 use Rattle.cbor_json.proofs.walking.Unique.{unique_front, quiet_front, quiet_of, tag_here, array_here, object_here}
-use Rattle.cbor_json.proofs.walking.Unique.{inside_array, is_quiet, digits_here, same_content, shown_here}
+use Rattle.cbor_json.proofs.walking.Unique.{inside_array, is_quiet, digits_here, same_content, shown_here, bytes_here}
+use Rattle.cbor_json.proofs.walking.Unique.{written_after}
 use Rattle.cbor_json.proofs.walk.+walk.Goals as goal
 
 -- ---- an item
@@ -73,26 +74,28 @@ push_item-returns-in-Ok-clause-written t c =
     (λ i. omega (arith, c.type_inv.bytes i)) c.in_ok-head.ensures.gives gave (λ rest. rest.now) _ _ quiet
     c.in-Ok.ensures.printed
 
-pub push_item-returns-in_ok-leaf-in-Integer-clause-written : goal.push_item-returns-in_ok-leaf-in-Integer-clause-written
+pub push_item-returns-in_ok-leaf-in-Integer-clause-written :
+    goal.push_item-returns-in_ok-leaf-in-Integer-clause-written
 push_item-returns-in_ok-leaf-in-Integer-clause-written t c =
     let gave : Result (Bor (List ℕ)) Error = Ok c.in_ok-head.inner in
-    quiet_front c.args.place.now c.args.bytes.now c.in_ok-head.inner.now (head.Integer c.in-Integer.value c.in-Integer.width)
+    let n = c.in-Integer in
+    quiet_front c.args.place.now c.args.bytes.now c.in_ok-head.inner.now (head.Integer n.value n.width)
     c.args.place.now.level refl c.requires.level (omega (arith, c.if-place-gt-DEEPEST.false)) c.requires.value
-    (λ i. omega (arith, c.type_inv.bytes i)) (rw c.in-Integer.is at c.in_ok-head.ensures.gives) gave (λ rest. rest.now) _ _
-    refl
+    (λ i. omega (arith, c.type_inv.bytes i)) (rw n.is at c.in_ok-head.ensures.gives) gave (λ rest. rest.now) _ _ refl
     (leaf_written json_leaves c.args.place.now c.args.bytes.now refl (omega (arith, c.if-place-gt-DEEPEST.false)) refl
-    refl refl (rw c.in-Integer.is at c.in_ok-head.ensures.gives) (atom (spec.integer c.in-Integer.value c.in-Integer.width)) _ _ refl
+    refl refl (rw n.is at c.in_ok-head.ensures.gives) (atom (spec.integer n.value n.width)) _ _ refl
     c.in_ok-leaf-in-Integer.ensures)
 
-pub push_item-returns-in_ok-leaf-in-Negative-clause-written : goal.push_item-returns-in_ok-leaf-in-Negative-clause-written
+pub push_item-returns-in_ok-leaf-in-Negative-clause-written :
+    goal.push_item-returns-in_ok-leaf-in-Negative-clause-written
 push_item-returns-in_ok-leaf-in-Negative-clause-written t c =
     let gave : Result (Bor (List ℕ)) Error = Ok c.in_ok-head.inner in
-    quiet_front c.args.place.now c.args.bytes.now c.in_ok-head.inner.now (head.Negative c.in-Negative.value c.in-Negative.width)
+    let n = c.in-Negative in
+    quiet_front c.args.place.now c.args.bytes.now c.in_ok-head.inner.now (head.Negative n.value n.width)
     c.args.place.now.level refl c.requires.level (omega (arith, c.if-place-gt-DEEPEST.false)) c.requires.value
-    (λ i. omega (arith, c.type_inv.bytes i)) (rw c.in-Negative.is at c.in_ok-head.ensures.gives) gave (λ rest. rest.now) _ _
-    refl
+    (λ i. omega (arith, c.type_inv.bytes i)) (rw n.is at c.in_ok-head.ensures.gives) gave (λ rest. rest.now) _ _ refl
     (leaf_written json_leaves c.args.place.now c.args.bytes.now refl (omega (arith, c.if-place-gt-DEEPEST.false)) refl
-    refl refl (rw c.in-Negative.is at c.in_ok-head.ensures.gives) (atom (spec.negative c.in-Negative.value c.in-Negative.width)) _ _ refl
+    refl refl (rw n.is at c.in_ok-head.ensures.gives) (atom (spec.negative n.value n.width)) _ _ refl
     c.in_ok-leaf-in-Negative.ensures)
 
 -- ---- a string
@@ -114,14 +117,23 @@ push_string-returns-in_ok-string-in-Bytes-content_at-clause-written t c =
     (λ x e. same_content c.args.place.now c.in-Bytes.inner x (sym c.in-Bytes.is ∙ e)
     (sym c.content_at.ensures ∙ c.in-Bytes-content_at.is)) c.in_ok-string-in-Bytes-content_at.ensures
 
-pub push_string-returns-in_ok-push_shown-in-Item-clause-written :
-    goal.push_string-returns-in_ok-push_shown-in-Item-clause-written
-push_string-returns-in_ok-push_shown-in-Item-clause-written t c =
+pub push_string-returns-in_ok-string-in-Err-clause-written : goal.push_string-returns-in_ok-string-in-Err-clause-written
+push_string-returns-in_ok-string-in-Err-clause-written t c =
     let s = c.args.string.0 in
+    bytes_here c.args.place.now s.1 s.2 c.in_ok-content.content c.in-Bytes.inner c.args.string.1.now
+    c.in_ok-content.rest.now _ _ s.0 c.in-Bytes.is c.in_ok-content.ensures.kind (c.in_ok-content.ensures.gives s.2)
+    (sym c.content_at.ensures ∙ c.in-Item.is) (c.is_item.ensures c.if-is_item.false) c.in_ok-string-in-Err.ensures
+
+pub push_string-returns-in_ok-push_str-in-Ok-clause-written :
+    goal.push_string-returns-in_ok-push_str-in-Ok-clause-written
+push_string-returns-in_ok-push_str-in-Ok-clause-written t c =
+    let s = c.args.string.0 in
+    let old = string_bytes c.args.out.now in
+    let added = c.in_ok-push_str-in-Ok.ensures.bytes ∙ ap (λ x. old ++ x) c.as_str.ensures.value in
     shown_here c.args.place.now s.1 s.2 c.in_ok-content.content c.in-Bytes.inner c.args.string.1.now
     c.in_ok-content.rest.now _ _ s.0 c.in-Bytes.is c.in_ok-content.ensures.kind (c.in_ok-content.ensures.gives s.2)
     c.requires.value c.requires.flat (sym c.content_at.ensures ∙ c.in-Item.is)
-    c.in_ok-push_shown-in-Item.ensures.written
+    (written_after _ _ _ _ _ (string_bytes c.in-Ok.text) c.in-Ok.ensures added)
 
 -- ---- an array
 
@@ -130,8 +142,8 @@ push_array-items-init t c =
     let place = c.args.place.now in
     let count = c.args.array.0 in
     let left = levels_left (place.level + 1) in
-    let spot_is = ap (λ (q : JsonPlace). q.spot) c.inside-inner.ensures ∙ inside_array place.spot count c.requires.value in
-    record {
+    let role_is = ap (λ (q : JsonPlace). q.role) c.inside-inner.ensures ∙ inside_array place.role count c.requires.value
+    in record {
       found = no_items;
       so_far = ap (λ a. parts_read left (items_in no_items a) c.args.array.1.now) (none_held count);
       written = no_items_written json_leaves (UniqueTexts left) place _ c.inside-inner.result (Array count) _ _ _
@@ -139,8 +151,8 @@ push_array-items-init t c =
       reached = reached_none count;
       level = ap (λ (q : JsonPlace). q.level) c.inside-inner.ensures;
       layout = ap (λ (q : JsonPlace). q.layout) c.inside-inner.ensures;
-      value = ap (λ s. is_value s) spot_is;
-      spot = spot_is;
+      value = ap (λ s. is_value s) role_is;
+      role = role_is;
       kept = refl;
       room = omega arith;
     }
@@ -179,7 +191,7 @@ push_array-items-preserved t c =
     let read = same_read inner.level level rest after p.0 i.level p.1 in
     let shorter = item_shorter left rest p.0 after read in
     let text = subst (λ n. UniqueTexts (levels_left n) inner p.0 p.2) i.level p.3 in
-    let spot_is = ap (λ (q : JsonPlace). q.spot) c.pass.ensures.place ∙ ap next_spot i.spot in
+    let role_is = ap (λ (q : JsonPlace). q.role) c.pass.ensures.place ∙ ap next_role i.role in
     record {
       found = joined i.found (item p.0 no_items);
       so_far = sym (member_read left i.found count held rest after p.0 (sym c.in_default.ensures) read) ∙ i.so_far;
@@ -188,8 +200,8 @@ push_array-items-preserved t c =
       reached = reached_more count held rest c.in_default.ensures;
       level = c.pass.ensures.level ∙ i.level;
       layout = c.pass.ensures.layout ∙ i.layout;
-      value = ap (λ s. is_value s) spot_is;
-      spot = spot_is;
+      value = ap (λ s. is_value s) role_is;
+      role = role_is;
       kept = c.in_ok-rest.ensures.names ∙ i.kept;
       room = omega (arith, i.room, shorter);
     }
@@ -213,19 +225,19 @@ push_object-pairs-init t c =
       reached = reached_none count;
       level = ap (λ (q : JsonPlace). q.level) c.inside-inner.ensures;
       layout = ap (λ (q : JsonPlace). q.layout) c.inside-inner.ensures;
-      key = ap (λ (q : JsonPlace). q.spot) c.inside-inner.ensures ∙ key_in place.spot count c.requires.value;
+      key = ap (λ (q : JsonPlace). q.role) c.inside-inner.ensures ∙ key_in place.role count c.requires.value;
       room = omega arith;
     }
 
 pub push_object-pairs-smaller : goal.push_object-pairs-smaller
 push_object-pairs-smaller t c =
     let k = c.in_ok-value.ensures.written in
-    let v = c.in_ok-rest.ensures.written in
+    let v = c.in-Ok.ensures.written in
     let mid = c.in_ok-value.value.now in
     omega (
       arith,
       item_shorter (levels_left c.pairs.inner.level) c.pairs.rest.now k.0 mid k.1,
-      item_shorter (levels_left c.pass_key.new.place.level) mid v.0 c.in_ok-rest.rest.now v.1,
+      item_shorter (levels_left c.pass_key.new.place.level) mid v.0 c.in-Ok.next.now v.1,
     )
 
 pub push_object-returns-in-Some-clause-written : goal.push_object-returns-in-Some-clause-written
@@ -239,8 +251,8 @@ push_object-returns-in-Some-clause-written t c =
     let after = c.in-Some.after.now in
     let read = sym i.so_far ∙ parts_ended left (pairs_in i.found (left_of count held)) rest after _
     (ap (λ x. Some (spec.map i.found x)) (width_left count held)) (sym c.in-Some.ensures) in
-    let apart = c.in_ok-close_object.ensures.distinct _ i.own i.ns i.kept (sym c.args.names.now.ok.0 ∙ sym c.len-first.ensures)
-    i.here in
+    let first = sym c.args.names.now.ok.0 ∙ sym c.len-first.ensures in
+    let apart = c.in_ok-close_object.ensures.distinct _ i.own i.ns i.kept first i.here in
     object_here place c.pairs.inner count i.found held i.ns c.args.map.1.now _ _ _ rest after c.requires.flat i.written
     apart i.reached c.in-Some.ensures c.in_ok-closing.ensures read
 
@@ -252,13 +264,13 @@ push_object-pairs-preserved t c =
     let left = levels_left level in
     let i = c.pairs.invariant in
     let k = c.in_ok-value.ensures.written in
-    let v = c.in_ok-rest.ensures.written in
+    let v = c.in-Ok.ensures.written in
     let held = c.pairs.held in
     let now = c.pairs.inner in
     let there = c.pass_key.new.place in
     let rest = c.pairs.rest.now in
     let mid = c.in_ok-value.value.now in
-    let after = c.in_ok-rest.rest.now in
+    let after = c.in-Ok.next.now in
     let deep = c.pass_key.ensures.level ∙ i.level in
     let key = same_read now.level level rest mid k.0 i.level k.1 in
     let value = same_read there.level level mid after v.0 deep v.1 in
@@ -270,7 +282,7 @@ push_object-pairs-preserved t c =
       subst (λ s. UniqueAs s k.2) (sym i.key) tt,
     ) in
     let text = subst (λ n. UniqueTexts (levels_left n) there v.0 v.2) deep v.3 in
-    let own = name_between (string_bytes c.start.new.out) (string_bytes c.push_name.new.out) in
+    let own = name_between (string_bytes c.start.new.out) (string_bytes c.push_name.new.out) (length rest) in
     record {
       found = joined_pairs i.found (pair k.0 v.0 no_pairs);
       so_far = sym (pair_read left i.found count held rest mid after k.0 v.0 (sym c.in_default.ensures) key value)
@@ -280,13 +292,13 @@ push_object-pairs-preserved t c =
       written = one_pair_named (UniqueTexts left) place _ now there c.pass.new.place count _ _ _ _ _ _ i.found k.0 v.0
           held i.ns k.2 v.2 i.written c.in_ok-start.ensures named k.4 c.in_ok-colon.ensures text v.4 passed
           c.pass.ensures.place;
-      here = are_after _ _ k.2 _ v.2 _ _ _ _ i.own i.ns i.here c.in_ok-start.ensures k.4 c.in_ok-colon.ensures v.4;
-      kept = c.in_ok-rest.ensures.names ∙ c.in_ok-value.ensures.names ∙ ap (λ x. x ++ own ∷ []) i.kept
+      here = are_after _ _ k.2 _ v.2 _ _ _ _ _ i.own i.ns i.here c.in_ok-start.ensures k.4 c.in_ok-colon.ensures v.4;
+      kept = c.in-Ok.ensures.names ∙ c.in_ok-value.ensures.names ∙ ap (λ x. x ++ own ∷ []) i.kept
           ∙ append_assoc c.args.names.now.items i.own (own ∷ []);
       reached = reached_more count held rest c.in_default.ensures;
       level = c.pass.ensures.level ∙ deep;
       layout = c.pass.ensures.layout ∙ (c.pass_key.ensures.layout ∙ i.layout);
-      key = ap (λ (q : JsonPlace). q.spot) c.pass.ensures.place
-          ∙ ap next_spot (ap (λ (q : JsonPlace). q.spot) passed) ∙ ap (λ s. next_spot (value_spot s)) i.key;
+      key = ap (λ (q : JsonPlace). q.role) c.pass.ensures.place
+          ∙ ap next_role (ap (λ (q : JsonPlace). q.role) passed) ∙ ap (λ s. next_role (value_role s)) i.key;
       room = omega (arith, i.room, first, second);
     }

@@ -10,7 +10,7 @@ use Rattle.cbor_bytes.proofs.reading.Readings.{parts_read}
 use Rattle.cbor_notation_writer.proofs.straight.Texts.{Reached, ItemsWritten}
 use Rattle.cbor_json.specs.JsonLeaves.{json_leaves, is_value}
 use Rattle.cbor_json.specs.declared.names.Name.{Name}
-use Rattle.cbor_json.specs.declared.print.place.Spot.TheVariants.{Key, Value}
+use Rattle.cbor_json.specs.declared.print.place.Role.TheVariants.{Key, Value}
 use Rattle.cbor_json.specs.mirror.Walking.{AreAt, UniqueTexts}
 use Rattle.cbor_json.proofs.walking.Named.{NamedWritten}
 use Rattle.cbor_json.proofs.walk.+walk.Given as goal
@@ -28,8 +28,8 @@ decreases-push_object l = (129 - l.place.now.level) * 4 + 1
 abbrev pub decreases-push_string : goal.decreases-push_string
 decreases-push_string l = (129 - l.place.now.level) * 4 + 2
 
-abbrev pub decreases-push_shown : goal.decreases-push_shown
-decreases-push_shown l = (129 - l.place.now.level) * 4 + 1
+abbrev pub decreases-shown_text : goal.decreases-shown_text
+decreases-shown_text l = (129 - l.place.now.level) * 4 + 1
 
 abbrev pub decreases-push_array-items : goal.decreases-push_array-items
 decreases-push_array-items l = length l.rest
@@ -51,8 +51,8 @@ invariant-push_array-items l =
       reached : Reached l.count l.held;
       level : l.inner.level ≡ l.place.level + 1;
       layout : l.inner.layout ≡ Compact;
-      value : is_value l.inner.spot ≡ true;
-      spot : l.inner.spot ≡ Value;
+      value : is_value l.inner.role ≡ true;
+      role : l.inner.role ≡ Value;
       kept : l.names.items ≡ l.fn.names.items;
       room : l.held + length l.rest ≤ length l.array.1.now;
     }
@@ -75,6 +75,6 @@ invariant-push_object-pairs l =
       reached : Reached l.count l.held;
       level : l.inner.level ≡ l.place.level + 1;
       layout : l.inner.layout ≡ Compact;
-      key : l.inner.spot ≡ Key;
+      key : l.inner.role ≡ Key;
       room : l.held + length l.rest ≤ length l.map.1.now;
     }

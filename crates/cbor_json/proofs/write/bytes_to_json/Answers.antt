@@ -38,17 +38,15 @@ returns-in-Text-clause-every_refusal c =
     let one = one_outcome 1 128 b refl (λ i. omega (arith, c.type_inv.bytes i)) in
     no_refusal c.args.style b one c.in_ok-text.field-0 c.in_ok-text.ensures.judged
 
-pub returns-in_ok-first_clash-in-SameKeys-clause-every_item :
-    goal.returns-in_ok-first_clash-in-SameKeys-clause-every_item
-returns-in_ok-first_clash-in-SameKeys-clause-every_item c =
+pub returns-in-SameKeys-clause-every_item : goal.returns-in-SameKeys-clause-every_item
+returns-in-SameKeys-clause-every_item c =
     let b = c.args.bytes.now in
     let one = one_outcome 1 128 b refl (λ i. omega (arith, c.type_inv.bytes i)) in
     λ i s. subst (λ x. Judges c.args.style x i) c.in-SameKeys.is
     (judged_every c.args.style b one c.in_ok-text.field-0 c.in_ok-text.ensures.judged i s)
 
-pub returns-in_ok-first_clash-in-SameKeys-clause-every_refusal :
-    goal.returns-in_ok-first_clash-in-SameKeys-clause-every_refusal
-returns-in_ok-first_clash-in-SameKeys-clause-every_refusal c =
+pub returns-in-SameKeys-clause-every_refusal : goal.returns-in-SameKeys-clause-every_refusal
+returns-in-SameKeys-clause-every_refusal c =
     let b = c.args.bytes.now in
     let one = one_outcome 1 128 b refl (λ i. omega (arith, c.type_inv.bytes i)) in
     no_refusal c.args.style b one c.in_ok-text.field-0 c.in_ok-text.ensures.judged

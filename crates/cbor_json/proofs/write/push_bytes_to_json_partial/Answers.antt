@@ -50,18 +50,12 @@ pub returns-in_err-push_str-in-Text-clause-one_of_three : goal.returns-in_err-pu
 returns-in_err-push_str-in-Text-clause-one_of_three c =
     one_outcome 1 128 c.args.bytes.now refl (λ i. omega (arith, c.type_inv.bytes i))
 
-pub returns-in_err-first_clash-in-SameKeys-clause-one_of_three :
-    goal.returns-in_err-first_clash-in-SameKeys-clause-one_of_three
-returns-in_err-first_clash-in-SameKeys-clause-one_of_three c =
+pub returns-in-SameKeys-clause-one_of_three : goal.returns-in-SameKeys-clause-one_of_three
+returns-in-SameKeys-clause-one_of_three c =
     one_outcome 1 128 c.args.bytes.now refl (λ i. omega (arith, c.type_inv.bytes i))
 
-pub returns-in_ok-first_clash-in-SameKeys-clause-one_of_three :
-    goal.returns-in_ok-first_clash-in-SameKeys-clause-one_of_three
-returns-in_ok-first_clash-in-SameKeys-clause-one_of_three c =
-    one_outcome 1 128 c.args.bytes.now refl (λ i. omega (arith, c.type_inv.bytes i))
-
-pub returns-in_ok-first_clash-in-SameKeys-clause-exact : goal.returns-in_ok-first_clash-in-SameKeys-clause-exact
-returns-in_ok-first_clash-in-SameKeys-clause-exact c =
+pub returns-in-SameKeys-clause-exact : goal.returns-in-SameKeys-clause-exact
+returns-in-SameKeys-clause-exact c =
     let p = c.in-Ok.ensures.judged in
     let b = c.args.bytes.now in
     λ o h. (

@@ -1,2 +1,0 @@
--- That the keys that are found become the same in JSON.
-pub mod Clashes
