@@ -88,13 +88,12 @@ FAULTS = [
     ("a = {\n  b: }", "a.cddl:2:6: expected a type, found }"),
     ("a = tstr .abnf x", "a.cddl:1:10: the control .abnf is not supported"),
     ('a = tstr .regexp "[a-z-[aeiou]]"', "a.cddl:1:5: the pattern has a part that is not supported"),
-    ("", "a.cddl: no rule  is there"),
+    ("", "a.cddl: no rule is there"),
 ]
 
 
-def message_of(said, digits):
-    """The message of an item, and its bytes with a mark, as `cborcat` shows them: 16 bytes, with the place in the middle
-    where there are more."""
+def message_of(said):
+    """The message of an item, without its bytes."""
     if said is None:
         return ""
     byte, text, where = said
@@ -108,8 +107,8 @@ def without_excerpt(said):
     return "".join(lines[:-2]) if lines and lines[-1].strip() == "^^" else said
 
 
-def check(run, same, folder):
-    """Tries each row in a folder."""
+def check(run, same, folder, examples):
+    """Tries each row in a folder, and COSE on the examples."""
     def written(name, data):
         with open(f"{folder}/{name}", "wb") as it:
             it.write(data)
@@ -118,7 +117,7 @@ def check(run, same, folder):
         written("a.cddl", cddl.encode())
         written("a.cbor", bytes.fromhex(digits))
         out, err, status = run("--cddl=a.cddl", "a.cbor", cwd=folder)
-        same(f"--cddl on {digits}", (out, without_excerpt(err), status), (b"", message_of(said, digits), 1 if said else 0))
+        same(f"--cddl on {digits}", (out, without_excerpt(err), status), (b"", message_of(said), 1 if said else 0))
     written("a.cbor", b"\1")
     for cddl, said in FAULTS:
         written("a.cddl", cddl.encode())
@@ -132,4 +131,4 @@ def check(run, same, folder):
          (b"", "cborcat: b.cddl:2:5: no rule uit is there; uint is one\n", 2))
     written("cose.cddl", COSE.encode())
     for name in ("cose-sign1.hex", "cwt-signed.hex"):
-        same(f"COSE on {name}", run(f"--cddl={folder}/cose.cddl", name), (b"", "", 0))
+        same(f"COSE on {name}", run(f"--cddl={folder}/cose.cddl", f"{examples}/{name}"), (b"", "", 0))
