@@ -248,7 +248,6 @@ impl Loader<'_> {
     #[cycle(compute)]
     fn computed(&mut self, pending: Pending, span: Span, depth: u32) -> Result<Node, Fault> {
         match pending {
-            Pending::Reserved => Ok(Node::Any),
             Pending::Range { from, to, below } => self.range_node(from, to, below, span, depth),
             Pending::Plus(first, second) => self.sum_node(first, second, span, depth),
             Pending::Cat(first, second) => self.string_node(first, second, false, span, depth),

@@ -193,6 +193,7 @@ impl fmt::Display for SaidFault<'_> {
                     _ => write!(f, " -> {next} -> .. -> {found}"),
                 }
             }
+            FaultKind::Arguments(1) => write!(f, "{found} takes 1 argument"),
             FaultKind::Arguments(wanted) => write!(f, "{found} takes {wanted} arguments"),
             FaultKind::Group => write!(f, "{found} is a group, and a type is wanted"),
             FaultKind::Control => write!(f, "the control {found} is not supported"),

@@ -8,7 +8,7 @@ use crate::parser::Parser;
 use crate::schema::{List, Occurrence, Span, Value};
 use std::alloc::Global;
 
-/// At most so many brackets are open at a place.
+/// The most brackets that are open at a place.
 const DEEPEST: u32 = 50;
 
 /// The key of an entry.
@@ -282,7 +282,7 @@ impl<'a> Parser<'a> {
         self.add(expr, start)
     }
 
-    /// A type: alternatives, of which the first is read already.
+    /// A type: alternatives. The first one is read already.
     #[cycle(grammar)]
     fn choice_after(&mut self, first: usize, depth: u32) -> Result<usize, Fault> {
         if !self.is(TokenKind::Slash) {

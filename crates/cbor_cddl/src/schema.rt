@@ -196,8 +196,6 @@ pub enum Node {
 /// What is computed once all rules are there.
 #[derive(Clone, Copy, Debug)]
 pub enum Pending {
-    /// The rule whose text this is was not reached yet.
-    Reserved,
     /// `from..to`, or `from...to`, which excludes `to`.
     Range {
         from: usize,

@@ -48,7 +48,7 @@ fn faults(rt: HostRuntime) -> Result<(), Fail> {
         ),
         ("a = 1..2.5", "4: a range needs two integers or two floats"),
         ("a = \"x", "4: the string has no closing quote"),
-        ("a<t> = [t]\nb = a<int, int>", "15: a takes 1 arguments"),
+        ("a<t> = [t]\nb = a<int, int>", "15: a takes 1 argument"),
     ];
     for (text, wanted) in rows {
         let found = said(rt.alloc(), text)?;

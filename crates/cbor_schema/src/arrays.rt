@@ -178,7 +178,12 @@ impl<'a> Run<'a> {
             if count >= occurrence.most {
                 break;
             }
-            match self.array_takes(node, index, at, depth)? {
+            let after = if self.is_group(node) {
+                self.array_takes(node, index, at, depth)?
+            } else {
+                self.array_member(node, index, at, depth)?
+            };
+            match after {
                 Some(after) if after == at => break,
                 Some(after) => at = after,
                 None if count < occurrence.least => return Ok(None),

@@ -113,7 +113,7 @@ impl Blame {
         Ok(())
     }
 
-    /// Takes note of how far alternatives came, of which none fits.
+    /// Takes note of how far alternatives came. None of them fits.
     pub(crate) fn note_others(&mut self, tried: Tried, rule: Span) {
         let count = tried.count.saturating_sub(tried.at_top);
         if self.muted > 0 || count == 0 {

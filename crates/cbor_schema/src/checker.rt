@@ -9,7 +9,7 @@ use regex::{Matcher, Regex};
 use std::alloc::{AllocError, Global};
 
 /// How deeply types and groups may be nested in each other, with the items that fit them.
-const DEEPEST: u32 = 500;
+const DEEPEST: u32 = 560;
 
 /// A schema that is ready to be matched.
 #[derive(Drop)]

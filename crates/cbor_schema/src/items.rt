@@ -23,7 +23,7 @@ pub(crate) enum Kind {
     /// A byte string with this content.
     Bytes(Span),
     Array,
-    /// The parts are the keys and values in turn.
+    /// The parts are the keys and values in turn, in the order of the keys.
     Map,
     Tag(u64),
 }
@@ -254,6 +254,17 @@ impl<'a> Items<'a> {
         Ok(())
     }
 
+    /// Puts the parts of a map in the order of its keys.
+    fn sort(&mut self, first: usize, count: usize) -> Result<(), AllocError> {
+        let sorted = self.sorted_parts(first, count)?;
+        for (place, part) in sorted.iter().enumerate() {
+            if let Some(slot) = self.parts.get_mut(first.saturating_add(place)) {
+                *slot = *part;
+            }
+        }
+        Ok(())
+    }
+
     /// Closes a container, whose parts are the last that wait.
     fn close(&mut self, open: Open, end: usize) -> Result<(), AllocError> {
         let first = self.parts.len();
@@ -266,6 +277,9 @@ impl<'a> Items<'a> {
         }
         self.waiting.truncate(open.waiting);
         let count = self.parts.len().saturating_sub(first);
+        if let Kind::Map = self.item(open.item).kind {
+            self.sort(first, count)?;
+        }
         if let Some(item) = self.items.get_mut(open.item) {
             item.first = first;
             item.count = count;

@@ -23,6 +23,7 @@ mod controls;
 mod items;
 mod maps;
 mod misfit;
+mod order;
 mod pattern;
 mod run;
 mod stop;

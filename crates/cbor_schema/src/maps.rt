@@ -78,21 +78,26 @@ impl<'a> Run<'a> {
             return Ok(true);
         }
         self.gained = self.gained_in(frame);
-        for place in 0..pairs {
-            let Some(pair) = self.pair(frame, place) else {
-                break;
-            };
-            if !self.is_taken(pair) {
-                let key = self.items.item(pair.key);
-                let found = Found::OtherKey {
-                    key: pair.key,
-                    group,
-                };
-                self.miss(Want::MapEnd, key.place, found)?;
-                break;
-            }
+        if let Some(key) = self.first_left(frame) {
+            let place = self.items.item(key).place;
+            self.miss(Want::MapEnd, place, Found::OtherKey { key, group })?;
         }
         Ok(false)
+    }
+
+    /// The first key in the bytes that is not taken.
+    fn first_left(&self, frame: Frame) -> Option<usize> {
+        let mut found = None;
+        let mut first = usize::MAX;
+        for place in 0..frame.item.count / 2 {
+            let pair = self.pair(frame, place)?;
+            let start = self.items.item(pair.key).span.start;
+            if !self.is_taken(pair) && start < first {
+                first = start;
+                found = Some(pair.key);
+            }
+        }
+        found
     }
 
     /// How many bytes fit before a pair that is looked at, with those before the map.

@@ -67,9 +67,13 @@ impl<'a> Run<'a> {
         Ok(out)
     }
 
-    /// Whether two types or two keys are written alike.
+    /// Whether two types or two keys are said alike.
     fn is_same(&self, first: Want, second: Want) -> bool {
         match (first, second) {
+            (Want::Type(first), Want::Type(second)) if self.is_array(first) => self.is_array(
+                second,
+            ),
+            (Want::Type(first), Want::Type(second)) if self.is_map(first) => self.is_map(second),
             (Want::Type(first), Want::Type(second)) | (Want::Key(first), Want::Key(second)) => {
                 let first = self.schema.text(self.schema.span(first));
                 let second = self.schema.text(self.schema.span(second));
@@ -77,6 +81,16 @@ impl<'a> Run<'a> {
             }
             _ => first == second,
         }
+    }
+
+    /// Whether a node is an array.
+    fn is_array(&self, node: usize) -> bool {
+        matches!(self.schema.node(node), Node::Array(_))
+    }
+
+    /// Whether a node is a map.
+    fn is_map(&self, node: usize) -> bool {
+        matches!(self.schema.node(node), Node::Map(_))
     }
 
     /// Appends what was wanted.

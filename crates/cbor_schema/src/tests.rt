@@ -55,3 +55,66 @@ fn messages(rt: HostRuntime) -> Result<(), Fail> {
     }
     Ok(())
 }
+
+/// An item in this many arrays of one.
+fn nested(alloc: Global, depth: usize, item: u8) -> Result<Vec<u8>, Fail> {
+    let mut bytes = Vec::new(alloc);
+    for _ in 0..depth {
+        bytes.push(0x81)?;
+    }
+    bytes.push(item)?;
+    Ok(bytes)
+}
+
+#[test]
+fn nested_items(rt: HostRuntime) -> Result<(), Fail> {
+    let alloc = rt.alloc();
+    let rows = [
+        ("v = int / [* v]", 127, 1, "fits"),
+        ("v = int / text / [* v] / {* text => v}", 127, 1, "fits"),
+        (
+            "a = [a] / [a, a] / int",
+            100,
+            0xf6,
+            "100: expected an array / int for a, found null",
+        ),
+    ];
+    for (cddl, depth, item, wanted) in rows {
+        let bytes = nested(alloc, depth, item)?;
+        let found = said(alloc, cddl, &bytes)?;
+        assert_eq!(rt; found.as_str(), wanted, "at {cddl}");
+    }
+    Ok(())
+}
+
+#[test]
+fn ordered_pairs(rt: HostRuntime) -> Result<(), Fail> {
+    let rows = [
+        // {"a": 1, "b": "x"} in both orders: the first pair is taken, whichever comes first.
+        (
+            "m = { 1*1 text => int, b: text }",
+            b"\xa2\x61a\x01\x61b\x61x".as_slice(),
+            "fits",
+        ),
+        (
+            "m = { 1*1 text => int, b: text }",
+            b"\xa2\x61b\x61x\x61a\x01",
+            "fits",
+        ),
+        (
+            "m = { 1*1 text => any, b: text }",
+            b"\xa2\x61b\x61x\x61a\x01",
+            "fits",
+        ),
+        (
+            "m = { 1*1 text => any, a: any }",
+            b"\xa2\x61b\x61x\x61a\x01",
+            "0: expected the key \"a\" for m, found a map of 2 without it",
+        ),
+    ];
+    for (cddl, item, wanted) in rows {
+        let found = said(rt.alloc(), cddl, item)?;
+        assert_eq!(rt; found.as_str(), wanted, "at {cddl}");
+    }
+    Ok(())
+}

@@ -84,8 +84,11 @@ impl<'a> Files<'a> {
             return no_memory(rt);
         }
         if fault.kind == FaultKind::Root {
-            let rule = rule.unwrap_or("");
-            let _ = eprintln!(rt; "cborcat: {name}: no rule {rule} is there");
+            let (blank, rule) = match rule {
+                Some(rule) => (" ", rule),
+                None => ("", ""),
+            };
+            let _ = eprintln!(rt; "cborcat: {name}: no rule{blank}{rule} is there");
             return Status::Trouble;
         }
         let text = self.text.as_str().get(begins..).unwrap_or("");

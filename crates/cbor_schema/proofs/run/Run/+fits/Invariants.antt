@@ -48,10 +48,10 @@ abbrev pub decreases-array_choice : goal.decreases-array_choice
 decreases-array_choice l = l.depth * 8 + 1
 
 abbrev pub decreases-array_repeated : goal.decreases-array_repeated
-decreases-array_repeated l = l.depth * 8 + 1
+decreases-array_repeated l = l.depth * 8 + 3
 
 abbrev pub decreases-array_entry : goal.decreases-array_entry
-decreases-array_entry l = l.depth * 8 + 2
+decreases-array_entry l = l.depth * 8 + 4
 
 abbrev pub decreases-map_takes : goal.decreases-map_takes
 decreases-map_takes l = l.depth * 8

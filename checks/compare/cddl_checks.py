@@ -1,0 +1,134 @@
+"""What `cborcat --cddl` says of items that do not fit, and of CDDL with faults. Expected messages are written by hand, from
+the rules of RFC 8610 and the bytes of the items."""
+
+LOG = """record = {
+  at: time,
+  event: "open" / "close" / "badge" / "temp",
+  ? id: bstr .size (3..8),
+  ? celsius: float,
+}
+"""
+
+# The CDDL of RFC 9052, but for messages of several recipients or signers.
+COSE = """start = COSE_Messages / COSE_Key
+
+label = int / tstr
+values = any
+
+COSE_Messages = COSE_Untagged_Message / COSE_Tagged_Message
+COSE_Untagged_Message = COSE_Sign1 / COSE_Encrypt0 / COSE_Mac0
+COSE_Tagged_Message = COSE_Sign1_Tagged / COSE_Encrypt0_Tagged / COSE_Mac0_Tagged
+
+Headers = (
+    protected : empty_or_serialized_map,
+    unprotected : header_map
+)
+header_map = {
+    Generic_Headers,
+    * label => values
+}
+empty_or_serialized_map = bstr .cbor header_map / bstr .size 0
+Generic_Headers = (
+    ? 1 => int / tstr,  ; algorithm identifier
+    ? 2 => [+label],    ; criticality
+    ? 3 => tstr / int,  ; content type
+    ? 4 => bstr,        ; key identifier
+    ? ( 5 => bstr //    ; IV
+        6 => bstr )     ; Partial IV
+)
+COSE_Sign1_Tagged = #6.18(COSE_Sign1)
+COSE_Sign1 = [
+    Headers,
+    payload : bstr / nil,
+    signature : bstr
+]
+COSE_Encrypt0_Tagged = #6.16(COSE_Encrypt0)
+COSE_Encrypt0 = [
+    Headers,
+    ciphertext : bstr / nil,
+]
+COSE_Mac0_Tagged = #6.17(COSE_Mac0)
+COSE_Mac0 = [
+    Headers,
+    payload : bstr / nil,
+    tag : bstr,
+]
+COSE_Key = {
+    1 => tstr / int,          ; kty
+    ? 2 => bstr,              ; kid
+    ? 3 => tstr / int,        ; alg
+    ? 4 => [+ (tstr / int) ], ; key_ops
+    ? 5 => bstr,              ; Base IV
+    * label => values
+}
+"""
+
+# A CDDL, an item in hex, and what is said of it: the place, the message, and the line below it.
+ROWS = [
+    (LOG, "a2 62 6174 c1 1a 65000000 65 6576656e74 64 6f70656e", None),
+    (LOG, "a2 62 6174 c1 1a 65000000 65 6576656e74 66 6f70656e6564",
+     (16, 'expected "open" / "close" / "badge" / "temp" for event (a.cddl:3), found "opened"',
+      "at event, in the map of 2 at byte 0")),
+    (LOG, "a1 65 6576656e74 64 6f70656e",
+     (0, 'expected the key "at" for record (a.cddl:1), found a map of 1 without it', None)),
+    (LOG, "a3 62 6174 c1 00 65 6576656e74 64 6f70656e 62 6964 41 00",
+     (20, "expected bstr .size (3..8) for id (a.cddl:4), found h'00' of 1 byte", "at id, in the map of 3 at byte 0")),
+    (LOG, "a3 62 6174 c1 00 65 6576656e74 64 6f70656e 67 63656c73697573 f93c00", None),
+    (LOG, "a3 62 6174 c1 00 65 6576656e74 64 6f70656e 66 63656c697573 f93c00",
+     (17, 'expected the end of the map for record (a.cddl:1), found the key "celius", which is in no entry; '
+      '"celsius" is one', "in a key of the map of 3 at byte 0")),
+    ("a = [value: int]", "80", (0, "expected int for value (a.cddl:1), found the end of the array of 0", None)),
+    ("a = int", "f94d60", (0, "expected int for a (a.cddl:1), found 21.5", None)),
+]
+
+# A CDDL, and what is said of it.
+FAULTS = [
+    ("a = [uit]", "a.cddl:1:6: no rule uit is there; uint is one"),
+    ("a = b\nb = a", "a.cddl:1:1: the rule a is defined by itself: a -> b -> a"),
+    ("a = {\n  b: }", "a.cddl:2:6: expected a type, found }"),
+    ("a = tstr .abnf x", "a.cddl:1:10: the control .abnf is not supported"),
+    ('a = tstr .regexp "[a-z-[aeiou]]"', "a.cddl:1:5: the pattern has a part that is not supported"),
+    ("", "a.cddl: no rule is there"),
+]
+
+
+def message_of(said):
+    """The message of an item, without its bytes."""
+    if said is None:
+        return ""
+    byte, text, where = said
+    lines = [f"cborcat: a.cbor: byte {byte} (0x{byte:x}): {text}"] + ([f"    {where}"] if where else [])
+    return "\n".join(lines) + "\n"
+
+
+def without_excerpt(said):
+    """A message without the lines of bytes and of the mark below them."""
+    lines = said.splitlines(True)
+    return "".join(lines[:-2]) if lines and lines[-1].strip() == "^^" else said
+
+
+def check(run, same, folder, examples):
+    """Tries each row in a folder, and COSE on the examples."""
+    def written(name, data):
+        with open(f"{folder}/{name}", "wb") as it:
+            it.write(data)
+
+    for cddl, digits, said in ROWS:
+        written("a.cddl", cddl.encode())
+        written("a.cbor", bytes.fromhex(digits))
+        out, err, status = run("--cddl=a.cddl", "a.cbor", cwd=folder)
+        same(f"--cddl on {digits}", (out, without_excerpt(err), status), (b"", message_of(said), 1 if said else 0))
+    written("a.cbor", b"\1")
+    for cddl, said in FAULTS:
+        written("a.cddl", cddl.encode())
+        same(f"--cddl of {cddl!r}", run("--cddl=a.cddl", "a.cbor", cwd=folder), (b"", f"cborcat: {said}\n", 2))
+    written("a.cddl", b"a = int\nb = text")
+    same("--rule", run("--cddl=a.cddl", "--rule=b", "-x", '"x"', cwd=folder), (b"", "", 0))
+    same("--rule of no rule", run("--cddl=a.cddl", "--rule=c", "-x", "1", cwd=folder),
+         (b"", "cborcat: a.cddl: no rule c is there\n", 2))
+    written("b.cddl", b"c = b\nd = uit")
+    same("two files", run("--cddl=a.cddl", "--cddl=b.cddl", "-x", "1", cwd=folder),
+         (b"", "cborcat: b.cddl:2:5: no rule uit is there; uint is one\n", 2))
+    written("cose.cddl", COSE.encode())
+    for name in ("cose-sign1.hex", "cwt-signed.hex"):
+        same(f"COSE on {name}", run(f"--cddl={folder}/cose.cddl", f"{examples}/{name}"), (b"", "", 0))
