@@ -1,4 +1,5 @@
-//! Writes items as EDN on behalf of a viewer, with their names if it shows them.
+//! Writes the item at the front as EDN for `cborcat`: looks for names only where the bytes may have
+//! some, and hands them to the EDN writer as notes.
 ghost use Rattle.std.specs.Prelude.{◌≡◌, ◌++◌, [], List, IfOk, IfErr, IfSome};
 ghost use Rattle.std.specs.String.{string_bytes};
 ghost use Rattle.cbor_grammar.specs.Item.{Item};

@@ -1,6 +1,6 @@
-// The examples of the doc comments of `cbor_diag`, line for line: `checks/examples` compares.
-// Items and their notation are examples of RFC 7049, appendix A; the dump was written by hand from
-// docs/DUMP.md.
+//! The examples of the doc comments of `cbor_diag`, line for line: `checks/examples` compares.
+//! Items and their notation are examples of RFC 7049, appendix A; the dump was written by hand from
+//! docs/DUMP.md.
 
 use cbor_diag::{
     Error, Extent, Scanner, bytes_to_bytes, bytes_to_diag, bytes_to_diag_pretty, bytes_to_hex,

@@ -1,5 +1,5 @@
-// Hostile inputs: lengths that are claimed but not there, hundreds of thousands of opening
-// brackets, and nested arrays that are each too long for a line.
+//! Hostile inputs: lengths that are claimed but not there, hundreds of thousands of opening
+//! brackets, and nested arrays that are each too long for a line.
 
 use cbor_diag::{
     Error, Extent, Result, bytes_to_diag_pretty, extent, parse_bytes, parse_bytes_partial,

@@ -1,4 +1,5 @@
-//! Files of names that are as long as a file may be, and longer.
+//! Tests of the size limit on files of names: a file of that size is read, and a longer one is an
+//! error.
 
 use cbor_names::{Names, with_file};
 use std::alloc::AllocError;

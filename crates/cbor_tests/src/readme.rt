@@ -1,4 +1,4 @@
-// The examples of docs/LIBRARY.md and docs/BYTES.md, line for line: `checks/examples` compares.
+//! The examples of docs/LIBRARY.md and docs/BYTES.md, line for line: `checks/examples` compares.
 
 use cbor_diag::{DataItem, Error, Extent, extent, parse_bytes_partial};
 use std::alloc::Global;

@@ -1,5 +1,5 @@
-// Items with their bytes, dumps and texts, for tests that make every call of each. The dumps and
-// texts were made by hand from the rules of docs/, and agree with the reading of checks/compare/.
+//! Items with their bytes, dumps and texts, for tests that make every call of each. The dumps and
+//! texts were made by hand from the rules of docs/, and agree with the reading of checks/compare/.
 
 use cbor_diag::Result;
 use std::alloc::Global;

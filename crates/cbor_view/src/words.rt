@@ -1,4 +1,4 @@
-//! The words of the command line of the filter, `FROM` and `TO`.
+//! Reads the words `FROM` and `TO` of the command line as the forms of the input and the output.
 ghost use Rattle.std.specs.Prelude.{◌≡◌, Some, IfSome};
 ghost use Rattle.cbor_view.specs.Words.{source_word, target_word};
 
