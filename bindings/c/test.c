@@ -191,7 +191,7 @@ static void test_edn(void)
          TEXT("\x85\xf9\x3e\x00\xf9\x80\x00\xfb\x7e\x37\xe4\x3c\x88\x00\x75\x9c"
               "\xfb\x3f\xf8\x00\x00\x00\x00\x00\x00\xf9\x7e\x00"),
          TEXT("[1.5, -0.0, 1e300, 1.5_3, NaN]\n"),
-         TEXT("[\n    1.5,\n    -0.0,\n    1e300,\n    1.5_3,\n    NaN,\n]\n")},
+         TEXT("[1.5, -0.0, 1e300, 1.5_3, NaN]\n")},
         {"escapes", TEXT("\"\\n\\u00fc\\u0007\\ud83d\\ude00\""), TEXT("\x68\n\xc3\xbc\x07\xf0\x9f\x98\x80"),
          TEXT("\"\\n\xc3\xbc\\u0007\xf0\x9f\x98\x80\"\n"), TEXT("\"\\n\xc3\xbc\\u0007\xf0\x9f\x98\x80\"\n")},
         {"indicators", TEXT("[_0 1_1 24_0(\"a\"_1) {_2 }]"),
@@ -705,7 +705,7 @@ static void test_fault_texts(void)
         {HEX, TEXT("0g"), "not a hex digit"},
         {DIAG, TEXT("300_0"), "a number does not fit its width"},
         {JSON_STRICT, TEXT("{\"a\" 1}"), "a colon has to follow the key"},
-        {8, TEXT("1"), "no such form"},
+        {9, TEXT("1"), "no such form"},
     };
     for (size_t i = 0; i < sizeof rows / sizeof *rows; i++) {
         char name[40];

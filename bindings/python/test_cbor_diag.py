@@ -926,7 +926,7 @@ class Errors(unittest.TestCase):
             self.assertIsNone(raised.exception.path)
 
     def test_no_form(self):
-        for number in (8, 2**32 - 1, 2**32, 2**32 + 2, 2**64, -1, -(2**32)):
+        for number in (9, 2**32 - 1, 2**32, 2**32 + 2, 2**64, -1, -(2**32)):
             for source, target in ((number, 0), (0, number)):
                 with self.subTest(source=source, target=target):
                     with self.assertRaises(CborDiagError) as raised:

@@ -1,5 +1,5 @@
 -- Results for C: where an input is not an item, as the number of bytes before the error position.
-use Rattle.std.specs.Prelude.{◌≡◌, ◌≢◌, ◌⊎◌, ℕ, ◌+◌, ◌-◌, ◌*◌, ◌^◌, ◌<◌, ◌≤◌, List, length, take, Ok, IsUtf8}
+use Rattle.std.specs.Prelude.{◌≡◌, ◌⊎◌, ℕ, ◌+◌, ◌-◌, ◌*◌, ◌^◌, ◌<◌, ◌≤◌, List, length, take, Ok, IsUtf8}
 use Rattle.std.specs.Str.{IsValidUpTo}
 use Rattle.hex.specs.Hex.{decode_of}
 use Rattle.cbor_tokens.specs.Uncommented.{uncommented}
