@@ -4,7 +4,7 @@
 use crate::row::Row;
 use cbor_cddl::{Fault, Schema, position_of, source_of};
 use cbor_edn::edn_to_bytes;
-use cbor_places::{Around, ByteNumbers, Piece};
+use cbor_places::{Around, Piece};
 use cbor_schema::{Checker, Misfit};
 use cbor_tokens::decode_hex;
 use std::alloc::{AllocError, Global};
@@ -111,20 +111,28 @@ fn push_message(
         bytes: item,
     };
     let around = Around::new(alloc, piece, misfit.place)?;
-    let path = around.words(&ByteNumbers, true)?;
-    if !path.is_empty() || misfit.others.is_some() {
-        write!(out, "\n{path}")?;
+    let path = match around.path.as_str() {
+        "/" => "",
+        path => path,
+    };
+    let separator = match (path.is_empty(), misfit.others) {
+        (true, None) => return Ok(()),
+        (false, Some(_)) => "; ",
+        _ => "",
+    };
+    out.push('\n')?;
+    if !path.is_empty() {
+        write!(out, "at {path}{separator}")?;
     }
     let Some(others) = misfit.others else {
         return Ok(());
     };
-    let separator = if path.is_empty() { "" } else { "; " };
     let ending = if others.count == 1 { "" } else { "s" };
     let rule = checker.schema().text(others.rule);
     let line = position_of(source, others.rule.start).line;
     write!(
         out,
-        "{separator}{} other alternative{ending} of {rule} (:{line}) came less far",
+        "{} other alternative{ending} of {rule} (:{line}) came less far",
         others.count
     )
 }
