@@ -1,7 +1,7 @@
 //! Writes a truncated or malformed item as EDN: its whole parts and, in place of the rest, a
 //! comment with the error and some of the bytes that remain.
 
-ghost use Rattle.std.specs.Prelude.{◌*◌, ◌<◌, ◌≤◌, ◌^◌, length};
+ghost use Rattle.std.specs.Prelude.{◌+◌, ◌*◌, ◌<◌, ◌≤◌, ◌^◌, length};
 ghost use Rattle.cbor_grammar.specs.NotationText.{style_indent};
 
 use crate::partial::{parts_before, shown_of};
@@ -46,7 +46,9 @@ impl PartialEdn<'_> {
     }
 
     /// How a container is laid out.
-    fn container_style(&self, indent: usize) -> ContainerStyle {
+    fn container_style(&self, indent: usize) -> ContainerStyle
+        ensures { style_indent result ≤ indent }
+    {
         if self.noted.style.lines {
             ContainerStyle::MultiLine { indent }
         } else {
@@ -148,6 +150,7 @@ fn push_more(out: &mut String, more: usize) -> Result<(), AllocError> {
 /// How many blanks the lines of a part begin with: those below a tag as many as its own.
 fn indent_in(container: Open, indent: usize) -> usize
     requires { indent < 2 ^ 31 }
+    ensures { result ≤ indent + 4 }
 {
     match container {
         Open::Tag { .. } => indent,
