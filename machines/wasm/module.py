@@ -29,8 +29,8 @@ PORTABLE = {"abs", "arithmetic.fence", "bitreverse", "bswap", "ctlz", "ctpop", "
             "usub.sat", "usub.with.overflow", "vector.reduce.add", "vector.reduce.and", "vector.reduce.or"}
 TYPES = r"(?:\.(?:p0|(?:v\d+)?[if]\d+))*"
 # Words of attributes that mean the same on each machine.
-WORDS = {"alwaysinline", "cold", "nobuiltin", "nocallback", "nocreateundeforpoison", "nofree", "noinline", "noreturn",
-         "nosync", "nounwind", "speculatable", "willreturn", "memory(none)", "memory(argmem: write)",
+WORDS = {"alwaysinline", "cold", "inlinehint", "nobuiltin", "nocallback", "nocreateundeforpoison", "nofree", "noinline",
+         "noreturn", "nosync", "nounwind", "speculatable", "willreturn", "memory(none)", "memory(argmem: write)",
          "memory(argmem: readwrite)", "memory(inaccessiblemem: write)"}
 # What may not be in the module: parts of machines and of other ways to call.
 FOREIGN = re.compile(r"\basm\b|x86|ppc|addrspace|\bgc\b|thread_local|@llvm\.frameaddress|@llvm\.va_|personality")
