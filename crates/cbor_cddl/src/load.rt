@@ -325,8 +325,8 @@ impl<'a> Loader<'a> {
         Ok(())
     }
 
-    /// The node of the rule with a name, or of the first one.
-    pub(crate) fn root(&mut self, name: Option<&[u8]>) -> Result<usize, Fault> {
+    /// The node of the rule with a name, or of the first one, which is before the byte `text_len`.
+    pub(crate) fn root(&mut self, name: Option<&[u8]>, text_len: usize) -> Result<usize, Fault> {
         let nowhere = Span { start: 0, end: 0 };
         let definition = match name {
             Some(name) => self.names.find(name),
@@ -338,6 +338,9 @@ impl<'a> Loader<'a> {
         let Some(definition) = self.names.definition(index) else {
             return Err(Fault::new(nowhere, FaultKind::Root));
         };
+        if name.is_none() && definition.name.start >= text_len {
+            return Err(Fault::new(nowhere, FaultKind::Root));
+        }
         let count = definition.parameters.len();
         if count > 0 {
             return Err(Fault::new(definition.name, FaultKind::Arguments(count)));

@@ -27,6 +27,7 @@ fn said(alloc: Global, text: &str) -> Result<String, Fail> {
 #[test]
 fn faults(rt: HostRuntime) -> Result<(), Fail> {
     let rows = [
+        ("; nothing", "0: no rule is there"),
         ("a = uit", "4: no rule uit is there; uint is one"),
         ("a = { b: }", "9: expected a type, found }"),
         (

@@ -69,8 +69,8 @@ impl Loader<'_> {
     fn load(&mut self, text_len: usize, root: Option<&str>) -> Result<usize, Fault> {
         self.load_all(text_len)?;
         let root = match root {
-            Some(name) => self.root(Some(name.as_bytes()))?,
-            None => self.root(None)?,
+            Some(name) => self.root(Some(name.as_bytes()), text_len)?,
+            None => self.root(None, text_len)?,
         };
         self.compute_all()?;
         self.need_type(root)?;
