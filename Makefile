@@ -209,6 +209,7 @@ check-docs: check-pages check-commands
 check-cat: $(DIST)/bin/cborcat
 	checks/cborcat $<
 	checks/compare/edn --count 1000 $<
+	checks/compare/cddl --count 300 $<
 
 # The scripts that edit and merge files of CBOR, with editors that are scripts and in repositories.
 check-editing: $(DIST)/bin/cborcat

@@ -1,6 +1,6 @@
 /*
  * cbor_diag.h - converts CBOR data items (RFC 8949, which replaced RFC 7049) between bytes, hex with comments,
- * diagnostic notation, EDN (the notation that people write) and JSON.
+ * diagnostic notation, EDN (the notation of RFC 8949 and RFC 8610) and JSON.
  *
  *     static const char notation[] = "[1, {\"a\": h'00ff'}]";
  *     unsigned char bytes[64];
