@@ -251,7 +251,9 @@ class Matcher:
         pattern = self.schema.literal(node.controller).value
         return None if re.fullmatch(pattern, item.value) else item.shown()
 
-    control_pcre = control_regexp
+    def control_pcre(self, node, item):
+        pattern = self.schema.literal(node.controller).value
+        return None if re.search(pattern, item.value) else item.shown()
 
     def compared(self, node, item):
         """`.eq`, `.ne`, and orders of numbers."""

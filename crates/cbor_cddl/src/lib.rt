@@ -27,8 +27,6 @@ mod parser;
 mod prelude;
 mod rank;
 mod schema;
-#[cfg(test)]
-mod tests;
 mod text;
 
 pub use compute::float_of;

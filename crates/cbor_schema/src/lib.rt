@@ -27,8 +27,6 @@ mod order;
 mod pattern;
 mod run;
 mod stop;
-#[cfg(test)]
-mod tests;
 mod types;
 
 pub use blame::Others;
