@@ -10,7 +10,7 @@ use std::test::Fail;
 fn reads_texts(rt: HostRuntime) -> Result<(), Fail> {
     let text =
         b"a = { ? b: int, * tstr => any }\nc<t> = [ 1*2 t // #6.32(tstr) ] ; x\n$d /= 1..5 / h'00ff' .size 3";
-    let ast = parse(rt.alloc(), text)?;
+    let ast = parse(rt.alloc(), text, text.len())?;
     assert_eq!(rt; ast.rules.len(), 3);
     Ok(())
 }
@@ -41,7 +41,7 @@ fn faults(rt: HostRuntime) -> Result<(), Fail> {
         ),
         (
             "a = (b: int)\nc = a",
-            "0: a is a group, and a type is wanted",
+            "0: the rule a is a group, and cannot be the root",
         ),
         (
             "a = int .abnf \"x\"",
@@ -49,7 +49,20 @@ fn faults(rt: HostRuntime) -> Result<(), Fail> {
         ),
         ("a = 1..2.5", "4: a range needs two integers or two floats"),
         ("a = \"x", "4: the string has no closing quote"),
-        ("a<t> = [t]\nb = a<int, int>", "15: a takes 1 argument"),
+        ("a = [int", "8: expected ], found the end"),
+        ("a = #6.1(b)\nb = a", "loads"),
+        (
+            "a = text .siz 3",
+            "9: no control .siz is there; .size is one",
+        ),
+        (
+            "a = text .regexp \"\\\\i\"",
+            "17: .regexp does not support \\i",
+        ),
+        (
+            "a<t> = [t]\nb = a<int, int>",
+            "15: a takes 1 argument, not 2",
+        ),
     ];
     for (text, wanted) in rows {
         let found = said(rt.alloc(), text)?;
