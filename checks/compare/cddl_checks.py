@@ -87,7 +87,7 @@ FAULTS = [
     ("a = b\nb = a", "a.cddl:1:1: the rule a is defined by itself: a -> b -> a"),
     ("a = {\n  b: }", "a.cddl:2:6: expected a type, found }"),
     ("a = tstr .abnf 'x'", "a.cddl:1:10: the control .abnf is not supported"),
-    ('a = tstr .regexp "[a-z-[aeiou]]"', "a.cddl:1:5: the pattern has a part that is not supported"),
+    ('a = tstr .regexp "[a-z-[aeiou]]"', "a.cddl:1:18: .regexp does not support -["),
     ("", "a.cddl: no rule is there"),
 ]
 

@@ -3,6 +3,7 @@
 use crate::fault::{Fault, FaultKind};
 use crate::load::Loader;
 use crate::lower::literal_node;
+use crate::pattern::unsupported_part;
 use crate::schema::{Floats, Node, Pending, Span, Value};
 use std::alloc::{AllocError, Global};
 use std::num::{nearest_i64_to_f64, nearest_u64_to_f64, saturating_f64_to_i64};
@@ -235,13 +236,25 @@ impl Loader<'_> {
         }
     }
 
-    /// The content of the text that a node is.
-    #[cycle(compute)]
-    fn pattern(&mut self, index: usize, depth: u32) -> Result<Span, Fault> {
-        match self.value(index, depth)? {
-            Value::Text(pattern) => Ok(pattern),
-            _ => Err(Fault::new(self.span(index), FaultKind::Operand("a text"))),
+    /// Refuses what XSD has in a pattern, and is not supported.
+    fn check_pattern(&self, index: usize, pattern: Span) -> Result<(), Fault> {
+        let content = self.ast.pool.get(pattern.start..pattern.end).unwrap_or(b"");
+        match unsupported_part(content) {
+            Some(part) => Err(Fault::new(self.span(index), FaultKind::XsdPattern(part))),
+            None => Ok(()),
         }
+    }
+
+    /// The content of the text that a node is, which is a pattern; of XSD if it is anchored.
+    #[cycle(compute)]
+    fn pattern(&mut self, index: usize, anchored: bool, depth: u32) -> Result<Span, Fault> {
+        let Value::Text(pattern) = self.value(index, depth)? else {
+            return Err(Fault::new(self.span(index), FaultKind::Operand("a text")));
+        };
+        if anchored {
+            self.check_pattern(index, pattern)?;
+        }
+        Ok(pattern)
     }
 
     /// The node that stands in the place of a pending one.
@@ -272,7 +285,7 @@ impl Loader<'_> {
                 anchored,
             } => Ok(Node::Pattern {
                 target,
-                pattern: self.pattern(pattern, depth)?,
+                pattern: self.pattern(pattern, anchored, depth)?,
                 anchored,
             }),
         }

@@ -3,7 +3,34 @@
 use crate::fault::{Fault, FaultKind};
 use crate::load::Loader;
 use crate::names::bytes_of;
+use crate::near::likeness;
 use crate::schema::{Comparison, Node, Pending, Span};
+
+/// The controls that are supported, without their points.
+static SUPPORTED: [&str; 19] = [
+    "size", "bits", "cbor", "cborseq", "regexp", "pcre", "lt", "le", "gt", "ge", "eq", "ne",
+    "default", "and", "within", "plus", "cat", "det", "feature",
+];
+
+/// The other ones of RFC 9165, and those of RFC 9741.
+static UNSUPPORTED: [&str; 16] = [
+    "abnf",
+    "abnfb",
+    "b64u",
+    "b64u-sloppy",
+    "b64c",
+    "b64c-sloppy",
+    "hex",
+    "hexlc",
+    "hexuc",
+    "b32",
+    "h32",
+    "b45",
+    "base10",
+    "printf",
+    "json",
+    "join",
+];
 
 impl Loader<'_> {
     /// Adds the node of a control.
@@ -20,7 +47,7 @@ impl Loader<'_> {
                 Some(node) => node,
                 None => match pending_control(bytes, target, operand) {
                     Some(pending) => Node::Pending(pending),
-                    None => return Err(Fault::new(name, FaultKind::Control)),
+                    None => return Err(Fault::new(name, refused(bytes))),
                 },
             },
         };
@@ -90,4 +117,30 @@ fn comparison_of(name: &[u8]) -> Option<Comparison> {
         b".ge" => Some(Comparison::GreaterOrEqual),
         _ => None,
     }
+}
+
+/// The fault of a control that is not supported. Its name begins with a point.
+fn refused(name: &[u8]) -> FaultKind {
+    let name = name.get(1..).unwrap_or(b"");
+    if UNSUPPORTED.iter().any(|known| known.as_bytes() == name) {
+        FaultKind::Control
+    } else {
+        FaultKind::NoControl(near(name))
+    }
+}
+
+/// The supported control that is most like this one, if one is.
+fn near(name: &[u8]) -> Option<&'static str> {
+    let mut found = None;
+    let mut least = usize::MAX;
+    for known in SUPPORTED {
+        match likeness(known.as_bytes(), name) {
+            Some(changed) if changed < least => {
+                least = changed;
+                found = Some(known);
+            }
+            _ => {}
+        }
+    }
+    found
 }

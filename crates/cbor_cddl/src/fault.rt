@@ -32,30 +32,34 @@ pub enum FaultKind {
     /// A rule is defined by itself: the next one on the way back to it, and how many these are.
     Cycle { next: Span, count: usize },
     /// A generic rule takes another number of arguments.
-    Arguments(usize),
+    Arguments { wanted: usize, given: usize },
     /// More than 10,000 instances of generic rules.
     Instances,
     /// A value is defined by itself.
     Endless,
     /// A group where a type is wanted.
     Group,
+    /// The root is a group.
+    GroupRoot,
     /// `~` before what is no map, array or tag.
     Unwrap,
     /// `&` before what is no group.
     Enumerate,
     /// A range between what are not two integers or two floats.
     Range,
-    /// A control that is not known.
+    /// A control that is known, and not supported.
     Control,
+    /// A control that is not known, and one with a name that is like it, without its point.
+    NoControl(Option<&'static str>),
     /// What is behind a control has to be this.
     Operand(&'static str),
     /// A head that no item has, as `#8`.
     Head,
     /// A pattern that is no regular expression.
     Pattern,
-    /// A pattern with a part that XSD has, and that is not supported.
-    XsdPattern,
-    /// A regular expression of Perl that is not supported, or is none.
+    /// A part of a pattern that XSD has, and that is not supported.
+    XsdPattern(&'static str),
+    /// There is no rule, or none with the name of the root.
     Root,
 }
 
@@ -155,34 +159,29 @@ impl SaidFault<'_> {
             FaultKind::Base64 => "b64'..' needs base 64",
             FaultKind::Number => "the number is too large",
             FaultKind::Deep => "the brackets are nested too deeply",
-            FaultKind::Instances => "there are more than 10,000 instances of generic rules",
+            FaultKind::Instances => "more than 10000 instances of generic rules",
             FaultKind::Endless => "the value is defined by itself",
             FaultKind::Unwrap => "~ needs the name of a map, an array or a tag",
             FaultKind::Enumerate => "& needs a group",
             FaultKind::Range => "a range needs two integers or two floats",
             FaultKind::Head => "no item has such a head",
             FaultKind::Pattern => "the pattern is no regular expression",
-            FaultKind::XsdPattern => "the pattern has a part that is not supported",
             FaultKind::Root => "no rule is there",
             _ => "",
         }
     }
-}
 
-impl fmt::Display for SaidFault<'_> {
-    fn fmt<W: fmt::Write>(&self, f: &mut fmt::Formatter<W>) -> fmt::Result {
+    /// The message on a name that has no rule, or more than one, or leads to itself.
+    fn fmt_name<W: fmt::Write>(&self, f: &mut fmt::Formatter<W>) -> fmt::Result {
         let found = self.found();
         match self.fault.kind {
-            FaultKind::Character => write!(f, "{found} begins nothing in CDDL"),
-            FaultKind::Expected(wanted) => write!(f, "expected {wanted}, found {found}"),
-            FaultKind::NoRule(None) => write!(f, "no rule {found} is there"),
             FaultKind::NoRule(Some(near)) => {
                 let near = self.text(near);
                 write!(f, "no rule {found} is there; {near} is one")
             }
             FaultKind::Twice(first) => {
                 let line = position_of(self.source, first.start).line;
-                write!(f, "the rule {found} is there already, in line {line}")
+                write!(f, "the rule {found} is in line {line} already")
             }
             FaultKind::Cycle { next, count } => {
                 let next = self.text(next);
@@ -193,11 +192,46 @@ impl fmt::Display for SaidFault<'_> {
                     _ => write!(f, " -> {next} -> .. -> {found}"),
                 }
             }
-            FaultKind::Arguments(1) => write!(f, "{found} takes 1 argument"),
-            FaultKind::Arguments(wanted) => write!(f, "{found} takes {wanted} arguments"),
-            FaultKind::Group => write!(f, "{found} is a group, and a type is wanted"),
+            _ => write!(f, "no rule {found} is there"),
+        }
+    }
+
+    /// The message on a rule that stands where another one has to.
+    fn fmt_rule<W: fmt::Write>(&self, f: &mut fmt::Formatter<W>) -> fmt::Result {
+        let found = self.found();
+        match self.fault.kind {
+            FaultKind::Arguments { wanted, given } => {
+                let ending = if wanted == 1 { "" } else { "s" };
+                write!(f, "{found} takes {wanted} argument{ending}, not {given}")
+            }
+            FaultKind::GroupRoot => {
+                write!(f, "the rule {found} is a group, and cannot be the root")
+            }
+            _ => write!(f, "{found} is a group, and a type is wanted"),
+        }
+    }
+}
+
+impl fmt::Display for SaidFault<'_> {
+    fn fmt<W: fmt::Write>(&self, f: &mut fmt::Formatter<W>) -> fmt::Result {
+        let found = self.found();
+        match self.fault.kind {
+            FaultKind::Character => write!(f, "{found} begins nothing in CDDL"),
+            FaultKind::Expected(wanted) | FaultKind::Operand(wanted) => {
+                write!(f, "expected {wanted}, found {found}")
+            }
+            FaultKind::NoRule(_) | FaultKind::Twice(_) | FaultKind::Cycle { .. } => {
+                self.fmt_name(f)
+            }
+            FaultKind::Arguments { .. } | FaultKind::Group | FaultKind::GroupRoot => {
+                self.fmt_rule(f)
+            }
             FaultKind::Control => write!(f, "the control {found} is not supported"),
-            FaultKind::Operand(wanted) => write!(f, "expected {wanted}, found {found}"),
+            FaultKind::NoControl(None) => write!(f, "no control {found} is there"),
+            FaultKind::NoControl(Some(near)) => {
+                write!(f, "no control {found} is there; .{near} is one")
+            }
+            FaultKind::XsdPattern(part) => write!(f, ".regexp does not support {part}"),
             _ => f.write_str(self.plain()),
         }
     }

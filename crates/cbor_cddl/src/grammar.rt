@@ -202,15 +202,15 @@ impl<'a> Parser<'a> {
         let group = self.group(inner)?;
         match open.kind {
             TokenKind::OpenBrace => {
-                self.need(TokenKind::CloseBrace, "an entry or }")?;
+                self.need(TokenKind::CloseBrace, "}")?;
                 self.add(Expr::Map(group), open.span.start)
             }
             TokenKind::OpenBracket => {
-                self.need(TokenKind::CloseBracket, "an entry or ]")?;
+                self.need(TokenKind::CloseBracket, "]")?;
                 self.add(Expr::Array(group), open.span.start)
             }
             _ => {
-                self.need(TokenKind::CloseParen, "an entry or )")?;
+                self.need(TokenKind::CloseParen, ")")?;
                 Ok(group)
             }
         }
@@ -390,12 +390,12 @@ impl<'a> Parser<'a> {
     /// A rule.
     fn rule(&mut self) -> Result<(), Fault> {
         let name = self.peek().span;
-        self.need(TokenKind::Name, "the name of a rule")?;
+        self.need(TokenKind::Name, "a rule")?;
         let parameters = self.parameters()?;
         let assign = self.peek().kind;
         match assign {
             TokenKind::Assign | TokenKind::AssignType | TokenKind::AssignGroup => self.step(),
-            _ => return Err(self.wanted("=, /= or //=")),
+            _ => return Err(self.wanted("=")),
         };
         let body = self.entry(DEEPEST)?;
         self.ast.rules.push(RuleText {
@@ -408,9 +408,9 @@ impl<'a> Parser<'a> {
     }
 }
 
-/// Reads a text.
-pub(crate) fn parse(alloc: Global, text: &[u8]) -> Result<Ast, Fault> {
-    let mut parser = Parser::new(alloc, text)?;
+/// Reads the rules of a text from the byte `start` on. They go behind those of `ast`.
+fn rules_from(alloc: Global, text: &[u8], start: usize, ast: Ast) -> Result<Ast, Fault> {
+    let mut parser = Parser::new(alloc, text, start, ast)?;
     for _ in 0..text.len() {
         if parser.is(TokenKind::End) {
             break;
@@ -418,4 +418,12 @@ pub(crate) fn parse(alloc: Global, text: &[u8]) -> Result<Ast, Fault> {
         parser.rule()?;
     }
     Ok(parser.into_ast())
+}
+
+/// Reads a source. The prelude begins at the byte `text_len`, and no rule of the text runs on into
+/// it.
+pub(crate) fn parse(alloc: Global, source: &[u8], text_len: usize) -> Result<Ast, Fault> {
+    let text = source.get(..text_len).unwrap_or(source);
+    let ast = rules_from(alloc, text, 0, Ast::new(alloc))?;
+    rules_from(alloc, source, text_len, ast)
 }

@@ -25,9 +25,17 @@ impl Loader<'_> {
     }
 
     /// Refuses a group.
-    pub(crate) fn need_type(&self, index: usize) -> Result<(), Fault> {
+    fn need_type(&self, index: usize) -> Result<(), Fault> {
         if self.is_group(index) {
             return Err(Fault::new(self.span(index), FaultKind::Group));
+        }
+        Ok(())
+    }
+
+    /// Refuses a group as the root.
+    pub(crate) fn need_root(&self, index: usize) -> Result<(), Fault> {
+        if self.is_group(index) {
+            return Err(Fault::new(self.span(index), FaultKind::GroupRoot));
         }
         Ok(())
     }

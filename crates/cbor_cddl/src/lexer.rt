@@ -328,10 +328,10 @@ fn token_at(text: &[u8], at: usize) -> Result<Token, Fault> {
     }
 }
 
-/// The tokens of a text. The last one is its end.
-pub(crate) fn tokens_of(alloc: Global, text: &[u8]) -> Result<Vec<Token>, Fault> {
+/// The tokens of a text from the byte `start` on. The last one is its end.
+pub(crate) fn tokens_of(alloc: Global, text: &[u8], start: usize) -> Result<Vec<Token>, Fault> {
     let mut tokens = Vec::new(alloc);
-    let mut at = 0usize;
+    let mut at = start;
     for _ in 0..text.len() {
         at = after_blanks(text, at);
         if at >= text.len() {

@@ -24,6 +24,7 @@ mod lower;
 mod names;
 mod near;
 mod parser;
+mod pattern;
 mod prelude;
 mod rank;
 mod schema;

@@ -341,9 +341,10 @@ impl<'a> Loader<'a> {
         if name.is_none() && definition.name.start >= text_len {
             return Err(Fault::new(nowhere, FaultKind::Root));
         }
-        let count = definition.parameters.len();
-        if count > 0 {
-            return Err(Fault::new(definition.name, FaultKind::Arguments(count)));
+        let wanted = definition.parameters.len();
+        if wanted > 0 {
+            let kind = FaultKind::Arguments { wanted, given: 0 };
+            return Err(Fault::new(definition.name, kind));
         }
         self.instance(index, Mode::Plain, &[], definition.name)
     }

@@ -32,8 +32,13 @@ impl Loader<'_> {
             None => 0,
         };
         let given = self.lower_all(arguments, env, depth)?;
-        if given.len() != wanted {
-            return Err(Fault::new(name, FaultKind::Arguments(wanted)));
+        let given_count = given.len();
+        if given_count != wanted {
+            let kind = FaultKind::Arguments {
+                wanted,
+                given: given_count,
+            };
+            return Err(Fault::new(name, kind));
         }
         self.instance(index, mode, &given, name)
     }

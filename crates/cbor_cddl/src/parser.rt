@@ -18,15 +18,20 @@ pub(crate) struct Parser<'a> {
 }
 
 impl<'a> Parser<'a> {
-    /// At the beginning of a text.
-    pub(crate) fn new(alloc: Global, text: &'a [u8]) -> Result<Parser<'a>, Fault> {
-        let tokens = tokens_of(alloc, text)?;
+    /// At the byte `start` of a text. What is read from there on goes into `ast`.
+    pub(crate) fn new(
+        alloc: Global,
+        text: &'a [u8],
+        start: usize,
+        ast: Ast,
+    ) -> Result<Parser<'a>, Fault> {
+        let tokens = tokens_of(alloc, text, start)?;
         Ok(Parser {
             alloc,
             text,
             tokens,
             at: 0,
-            ast: Ast::new(alloc),
+            ast,
         })
     }
 

@@ -32,7 +32,7 @@ fn parts_of(
     text_len: usize,
     root: Option<&str>,
 ) -> Result<Parts, Fault> {
-    let ast = parse(alloc, source)?;
+    let ast = parse(alloc, source, text_len)?;
     let mut loader = Loader::new(alloc, source, text_len, ast)?;
     let root = loader.load(text_len, root)?;
     Ok(Parts {
@@ -73,7 +73,7 @@ impl Loader<'_> {
             None => self.root(None, text_len)?,
         };
         self.compute_all()?;
-        self.need_type(root)?;
+        self.need_root(root)?;
         self.check_kinds()?;
         self.rank_all()?;
         Ok(root)

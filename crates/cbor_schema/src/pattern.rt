@@ -4,34 +4,8 @@ use cbor_cddl::{Fault, FaultKind, Node, Schema, Span};
 use regex::{Error, Regex};
 use std::alloc::Global;
 
-/// Whether a pattern has a class without another one, `-[..]`, which only XSD has.
-fn has_difference(pattern: &[u8]) -> bool {
-    let mut in_class = false;
-    let mut before = 0u8;
-    let mut escaped = false;
-    for byte in pattern {
-        if escaped {
-            escaped = false;
-            before = 0;
-            continue;
-        }
-        match *byte {
-            b'\\' => escaped = true,
-            b'[' if in_class => return before == b'-',
-            b'[' => in_class = true,
-            b']' => in_class = false,
-            _ => {}
-        }
-        before = *byte;
-    }
-    false
-}
-
 /// The regular expression of a pattern.
 fn compiled(alloc: Global, pattern: &str, anchored: bool, span: Span) -> Result<Regex, Fault> {
-    if anchored && has_difference(pattern.as_bytes()) {
-        return Err(Fault::new(span, FaultKind::XsdPattern));
-    }
     let made = if anchored {
         let text = format!(in alloc; "^(?:{pattern})$")?;
         Regex::new(alloc, &text)
