@@ -4,6 +4,7 @@ mod rfc8610;
 
 use crate::checker::Checker;
 use cbor_cddl::Schema;
+use cbor_places::Piece;
 use std::alloc::Global;
 use std::test::Fail;
 
@@ -11,6 +12,10 @@ use std::test::Fail;
 fn said(alloc: Global, cddl: &str, item: &[u8]) -> Result<String, Fail> {
     let schema = Schema::load(alloc, cddl, None)?;
     let checker = Checker::new(alloc, schema)?;
+    let item = Piece {
+        begins: 0,
+        bytes: item,
+    };
     match checker.misfit(alloc, item)? {
         None => Ok(String::from_str(alloc, "fits")?),
         Some(misfit) => {
