@@ -1,6 +1,6 @@
 //! What a group takes of the members of an array: ordered choice, greedy occurrences.
 
-use crate::blame::{Found, Tried, Want};
+use crate::blame::{Found, Want};
 use crate::run::Run;
 use crate::stop::Stop;
 use cbor_cddl::{List, Node, Occurrence};
@@ -49,17 +49,20 @@ impl<'a> Run<'a> {
         let item = self.items.item(index);
         let Some(part) = self.items.part(item, at) else {
             let gained = self.gained;
-            let whole = item.span.end.saturating_sub(item.span.start);
-            self.gained = gained.saturating_add(whole);
-            self.miss(Want::Type(node), item.place, Found::ArrayEnd(item.count))?;
+            self.gained = gained.saturating_add(self.items.len_before(item, at));
+            self.miss(Want::Type(node), index, Found::ArrayEnd(item.count))?;
             self.gained = gained;
             return Ok(None);
         };
-        if self.fits_part(node, part, index, depth)? {
-            Ok(Some(at.saturating_add(1)))
+        let gained = self.gained;
+        self.gained = gained.saturating_add(self.items.len_before(item, at));
+        let fits = self.fits(node, part, depth)?;
+        self.gained = gained;
+        Ok(if fits {
+            Some(at.saturating_add(1))
         } else {
-            Ok(None)
-        }
+            None
+        })
     }
 
     /// Takes what the group of a rule does.
@@ -78,15 +81,13 @@ impl<'a> Run<'a> {
         if keeps && let Some(known) = self.known(rule, place) {
             return Ok(known.checked_sub(1));
         }
-        let (name, outer_rule) = (self.name, self.rule);
+        let name = self.name;
         if let Some(own) = self.rule_name(rule) {
             self.name = own;
-            self.rule = own;
         }
         let body = self.rule_node(rule);
         let outcome = self.array_takes(body, index, at, depth)?;
         self.name = name;
-        self.rule = outer_rule;
         if keeps {
             let kept = match outcome {
                 Some(after) => after.saturating_add(1),
@@ -126,20 +127,13 @@ impl<'a> Run<'a> {
         at: usize,
         depth: u32,
     ) -> Result<Option<usize>, Stop> {
-        let reach = self.blame.reach;
-        let mut tried = Tried::NONE;
         for place in list.start..list.end {
-            self.blame.reach = 0;
             let part = self.listed(place);
-            if let Some(after) = self.array_takes(part, index, at, depth)? {
-                self.blame.reach = reach;
-                return Ok(Some(after));
+            let taken = self.array_takes(part, index, at, depth)?;
+            if taken.is_some() {
+                return Ok(taken);
             }
-            tried.add(self.blame.reach);
         }
-        self.blame.reach = reach.max(tried.top());
-        let rule = self.rule;
-        self.blame.note_others(tried, rule);
         Ok(None)
     }
 
@@ -155,9 +149,7 @@ impl<'a> Run<'a> {
         depth: u32,
     ) -> Result<Option<usize>, Stop> {
         let name = self.name;
-        if let Node::Text(_) = self.schema.node(key) {
-            self.name = self.schema.span(key);
-        }
+        self.name = self.entry_name(key);
         let outcome = self.array_repeated(value, occurrence, index, at, depth)?;
         self.name = name;
         Ok(outcome)

@@ -1,4 +1,4 @@
-//! `Blame`: what did not fit, of the alternative that came furthest.
+//! `Blame`: which misfit is told: the one that came furthest, and of those the last in the data.
 
 use cbor_cddl::Span;
 use std::alloc::{AllocError, Global};
@@ -19,12 +19,12 @@ pub(crate) enum Want {
 /// What was there in its place.
 #[derive(Clone, Copy, PartialEq, Eq, Debug)]
 pub(crate) enum Found {
-    /// An item.
-    Item(usize),
-    /// A string, with its length.
-    Sized(usize),
-    /// A bit that is set, of an item.
-    Bit(u64, usize),
+    /// The item.
+    Item,
+    /// The string, with its length.
+    Sized,
+    /// A bit that is set, of the item.
+    Bit(u64),
     /// A byte string that is no CBOR.
     NoCbor,
     /// The end of an array of this many items.
@@ -32,18 +32,17 @@ pub(crate) enum Found {
     /// A map of this many pairs, without the key.
     Without(usize),
     /// A key that is like the one that is wanted.
-    LikeKey(usize),
-    /// A key that no entry has, of a map that has to fit a group.
-    OtherKey { key: usize, group: usize },
+    LikeKey,
+    /// A key that no entry has, of a map that has to fit this group.
+    OtherKey(usize),
 }
 
-/// Other alternatives of a rule.
-#[derive(Clone, Copy, PartialEq, Eq, Debug)]
-pub struct Others {
-    /// How many there are.
-    pub count: usize,
-    /// The name of the rule, in the source of the schema.
-    pub rule: Span,
+/// How many alternatives came less far.
+#[derive(Clone, Copy)]
+pub(crate) struct LessFar {
+    pub(crate) count: usize,
+    /// The name of what they are alternatives of, in the source of the schema.
+    pub(crate) name: Span,
 }
 
 /// A place where an item did not fit.
@@ -51,36 +50,89 @@ pub struct Others {
 pub(crate) struct Miss {
     /// How many bytes fit before.
     pub(crate) gained: usize,
-    /// Where it is in the data.
+    /// The item there.
+    pub(crate) index: usize,
+    /// Where that is in the data, and where it begins itself.
     pub(crate) place: usize,
+    pub(crate) start: usize,
     pub(crate) found: Found,
-    /// The name of the rule or of the key that is innermost there.
+    /// The name of the rule or of the entry that is innermost there.
     pub(crate) name: Span,
+}
+
+/// A miss, and all that was wanted there.
+#[derive(Clone, Copy)]
+pub(crate) struct Best {
+    pub(crate) miss: Miss,
+    /// What was wanted, in [`Blame::wants`].
+    wants: Span,
+    pub(crate) less_far: Option<LessFar>,
 }
 
 /// What did not fit.
 #[derive(Drop)]
 pub(crate) struct Blame {
-    pub(crate) miss: Option<Miss>,
-    /// What was wanted there.
-    pub(crate) wants: Vec<Want>,
-    pub(crate) others: Option<Others>,
-    /// How far an alternative came: one more than the number of bytes that fit, or 0 for none.
-    pub(crate) reach: usize,
+    /// The miss that came furthest.
+    pub(crate) best: Option<Best>,
+    /// What was wanted at misses that may be told.
+    wants: Vec<Want>,
     /// How many parts are being tried whose misses do not count.
     pub(crate) muted: usize,
+}
+
+/// What was to be told before a part was tried.
+#[derive(Clone, Copy)]
+pub(crate) struct Mark {
+    pub(crate) best: Option<Best>,
+    wants: usize,
+}
+
+impl Best {
+    /// Whether another one is at the same place, after as many bytes.
+    pub(crate) fn ties(self, other: Best) -> bool {
+        self.miss.gained == other.miss.gained && self.miss.place == other.miss.place
+    }
+
+    /// Whether it is told, and not the other one, which does not tie.
+    pub(crate) fn beats(self, other: Best) -> bool {
+        let (own, others) = (self.miss.gained, other.miss.gained);
+        own > others || own == others && self.miss.place > other.miss.place
+    }
 }
 
 impl Blame {
     /// All fits so far.
     pub(crate) fn new(alloc: Global) -> Blame {
         Blame {
-            miss: None,
+            best: None,
             wants: Vec::new(alloc),
-            others: None,
-            reach: 0,
             muted: 0,
         }
+    }
+
+    /// What is to be told now.
+    pub(crate) fn mark(&self) -> Mark {
+        Mark {
+            best: self.best,
+            wants: self.wants.len(),
+        }
+    }
+
+    /// Forgets what was noted since the mark.
+    pub(crate) fn restore(&mut self, mark: Mark) {
+        self.best = mark.best;
+        self.wants.truncate(mark.wants);
+    }
+
+    /// Goes on from a mark with what was noted since, which came further by these bytes.
+    pub(crate) fn resume(&mut self, mark: Mark, gained: usize) -> Result<(), AllocError> {
+        let since = self.best;
+        self.best = mark.best;
+        if let Some(mut best) = since {
+            best.miss.gained = best.miss.gained.saturating_add(gained);
+            self.merge(best)?;
+        }
+        Ok(())
     }
 
     /// Takes note of a miss.
@@ -88,76 +140,161 @@ impl Blame {
         if self.muted > 0 {
             return Ok(());
         }
-        let gained = miss.gained.saturating_add(1);
-        self.reach = self.reach.max(gained);
-        let best = self.miss;
-        match best {
-            Some(best) if best.gained > miss.gained => return Ok(()),
-            Some(best) if best.gained == miss.gained => {
-                if best.place != miss.place || self.wants.contains(&want) {
-                    return Ok(());
-                }
-                return self.push(want);
-            }
-            _ => {}
+        let start = self.wants.len();
+        let end = start.saturating_add(1);
+        let one = Best {
+            miss,
+            wants: Span { start, end },
+            less_far: None,
+        };
+        if let Some(best) = self.best
+            && best.beats(one)
+        {
+            return Ok(());
         }
-        self.miss = Some(miss);
-        self.others = None;
-        self.wants.truncate(0);
-        self.push(want)
+        self.wants.push(want)?;
+        self.merge(one)
     }
 
-    /// Adds what was wanted, too.
-    fn push(&mut self, want: Want) -> Result<(), AllocError> {
-        self.wants.push(want)?;
+    /// Tells another miss if it beats the best one, or both if they tie.
+    pub(crate) fn merge(&mut self, other: Best) -> Result<(), AllocError> {
+        let Some(best) = self.best else {
+            self.best = Some(other);
+            return Ok(());
+        };
+        if best.ties(other) {
+            let wants = self.joined(best.wants, other.wants)?;
+            self.best = Some(Best {
+                miss: best.miss,
+                wants,
+                less_far: best.less_far,
+            });
+        } else if other.beats(best) {
+            self.best = Some(other);
+        }
         Ok(())
     }
 
-    /// Takes note of how far alternatives came. None of them fits.
-    pub(crate) fn note_others(&mut self, tried: Tried, rule: Span) {
-        let count = tried.count.saturating_sub(tried.at_top);
-        if self.muted > 0 || count == 0 {
+    /// What is wanted at a miss.
+    pub(crate) fn wants(&self, best: Best) -> &[Want] {
+        self.wants
+            .get(best.wants.start..best.wants.end)
+            .unwrap_or(&[])
+    }
+
+    /// The want at a place.
+    fn want(&self, place: usize) -> Want {
+        self.wants.get(place).copied().unwrap_or(Want::MapEnd)
+    }
+
+    /// Whether a want is among some.
+    fn has(&self, wants: Span, want: Want) -> bool {
+        let wants = self.wants.get(wants.start..wants.end).unwrap_or(&[]);
+        wants.contains(&want)
+    }
+
+    /// The wants of two misses, each once: the first ones alone if they have the others.
+    fn joined(&mut self, first: Span, other: Span) -> Result<Span, AllocError> {
+        let mut joined = first;
+        for place in other.start..other.end {
+            let want = self.want(place);
+            if self.has(joined, want) {
+                continue;
+            }
+            if joined.end != self.wants.len() {
+                joined = self.copied(joined)?;
+            }
+            self.wants.push(want)?;
+            joined.end = self.wants.len();
+        }
+        Ok(joined)
+    }
+
+    /// A copy of some wants, behind all others.
+    fn copied(&mut self, wants: Span) -> Result<Span, AllocError> {
+        let start = self.wants.len();
+        for place in wants.start..wants.end {
+            let want = self.want(place);
+            self.wants.push(want)?;
+        }
+        let end = self.wants.len();
+        Ok(Span { start, end })
+    }
+
+    /// Keeps only the wants of the best miss, of those since the mark.
+    pub(crate) fn compact(&mut self, mark: Mark) {
+        let Some(best) = self.best else {
+            self.wants.truncate(mark.wants);
+            return;
+        };
+        let Span { start, end } = best.wants;
+        if start < mark.wants {
+            self.wants.truncate(end.max(mark.wants));
             return;
         }
-        if let Some(best) = self.miss
-            && tried.top == best.gained.saturating_add(1)
-        {
-            self.others = Some(Others { count, rule });
+        let mut next = mark.wants;
+        for place in start..end {
+            let want = self.want(place);
+            if let Some(slot) = self.wants.get_mut(next) {
+                *slot = want;
+            }
+            next = next.saturating_add(1);
         }
+        self.wants.truncate(next);
+        self.best = Some(Best {
+            miss: best.miss,
+            wants: Span {
+                start: mark.wants,
+                end: next,
+            },
+            less_far: best.less_far,
+        });
     }
 }
 
-/// How far the alternatives of a choice came.
+/// The alternatives of a choice that were tried, none of which fits.
 #[derive(Clone, Copy)]
 pub(crate) struct Tried {
+    /// The miss of the one that came furthest.
+    pub(crate) best: Option<Best>,
     count: usize,
-    /// How far the best ones came, and how many these are.
-    top: usize,
-    at_top: usize,
+    /// How many came as far.
+    furthest: usize,
+    /// Whether those that are told together have several names.
+    pub(crate) names_differ: bool,
 }
 
 impl Tried {
     /// None was tried.
     pub(crate) const NONE: Tried = Tried {
+        best: None,
         count: 0,
-        top: 0,
-        at_top: 0,
+        furthest: 0,
+        names_differ: false,
     };
 
-    /// Adds an alternative that came this far.
-    pub(crate) fn add(&mut self, reach: usize) {
+    /// Counts the miss of an alternative. If it ties, its name is the same or not.
+    pub(crate) fn count(&mut self, one: Best, has_same_name: bool) {
         self.count = self.count.saturating_add(1);
-        if reach > self.top {
-            self.top = reach;
-            self.at_top = 0;
+        let Some(best) = self.best else {
+            self.furthest = 1;
+            return;
+        };
+        if one.miss.gained > best.miss.gained {
+            self.furthest = 0;
         }
-        if reach == self.top {
-            self.at_top = self.at_top.saturating_add(1);
+        if one.miss.gained >= best.miss.gained {
+            self.furthest = self.furthest.saturating_add(1);
+        }
+        if best.ties(one) {
+            self.names_differ |= !has_same_name;
+        } else if one.beats(best) {
+            self.names_differ = false;
         }
     }
 
-    /// How far the best one came.
-    pub(crate) fn top(self) -> usize {
-        self.top
+    /// How many came less far.
+    pub(crate) fn less_far(self) -> usize {
+        self.count.saturating_sub(self.furthest)
     }
 }

@@ -1,15 +1,16 @@
 //! `Checker`: matches items against a schema.
 
-use crate::misfit::Misfit;
+use crate::message::Misfit;
 use crate::pattern::pattern_of;
 use crate::run::Run;
 use crate::stop::Stop;
 use cbor_cddl::{Fault, Node, Schema, Span};
+use cbor_places::Piece;
 use regex::{Matcher, Regex};
 use std::alloc::{AllocError, Global};
 
 /// How deeply types and groups may be nested in each other, with the items that fit them.
-const DEEPEST: u32 = 560;
+const DEEPEST: u32 = 700;
 
 /// A schema that is ready to be matched.
 #[derive(Drop)]
@@ -82,8 +83,9 @@ impl Checker {
         Ok(matchers)
     }
 
-    /// Why an item does not fit the schema; `None` if it does.
-    pub fn misfit(&self, alloc: Global, item: &[u8]) -> Result<Option<Misfit>, Stop> {
+    /// Why an item does not fit the schema; `None` if it does. Long keys of a path are named by
+    /// their places in the data.
+    pub fn misfit(&self, alloc: Global, item: Piece) -> Result<Option<Misfit>, Stop> {
         let matchers = self.matchers(alloc)?;
         let mut run = Run::new(
             alloc,
@@ -91,11 +93,11 @@ impl Checker {
             &self.groups,
             &self.patterns,
             matchers,
-            item,
+            item.bytes,
         );
         let whole = Span {
             start: 0,
-            end: item.len(),
+            end: item.bytes.len(),
         };
         let Some(index) = run.items.read(whole, None)? else {
             return Err(Stop::NoItem);
@@ -104,9 +106,9 @@ impl Checker {
         if run.fits(root, index, DEEPEST)? {
             return Ok(None);
         }
-        if run.blame.miss.is_none() {
+        if run.blame.best.is_none() {
             run.miss_item(root, index)?;
         }
-        Ok(Some(run.misfit()?))
+        Ok(Some(run.misfit(item.begins)?))
     }
 }

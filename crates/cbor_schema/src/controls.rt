@@ -106,16 +106,16 @@ impl<'a> Run<'a> {
             Kind::Text(span) | Kind::Bytes(span) => {
                 let len = span_len(span);
                 let fits = self.fits_number(sizes, i128::from(len as u64), depth)?;
-                (fits, Found::Sized(index))
+                (fits, Found::Sized)
             }
             Kind::Integer(number) if number >= 0 => {
                 let fits = self.fits_width(sizes, bytes_of(number), depth)?;
-                (fits, Found::Item(index))
+                (fits, Found::Item)
             }
-            _ => (false, Found::Item(index)),
+            _ => (false, Found::Item),
         };
         if !fits {
-            self.miss(Want::Type(node), item.place, found)?;
+            self.miss(Want::Type(node), index, found)?;
         }
         Ok(fits)
     }
@@ -151,7 +151,7 @@ impl<'a> Run<'a> {
         let Some(bit) = other else {
             return Ok(true);
         };
-        self.miss(Want::Type(node), item.place, Found::Bit(bit, index))?;
+        self.miss(Want::Type(node), index, Found::Bit(bit))?;
         Ok(false)
     }
 
@@ -213,12 +213,11 @@ impl<'a> Run<'a> {
         let Kind::Bytes(content) = item.kind else {
             return Ok(None);
         };
-        let place = self.items.place_inside(content, item);
         let alloc = self.alloc;
         let inner = if is_sequence {
-            self.items.read_sequence(content, place, alloc)?
+            self.items.read_sequence(content, index, alloc)?
         } else {
-            self.items.read(content, place)?
+            self.items.read(content, Some(index))?
         };
         let kept = match inner {
             Some(inner) => inner.saturating_add(1),
@@ -238,14 +237,19 @@ impl<'a> Run<'a> {
         depth: u32,
     ) -> Result<bool, Stop> {
         let is_sequence = matches!(self.schema.node(node), Node::EncodedSequence { .. });
-        let item = self.items.item(index);
-        let Some(inner) = self.inner_item(index, is_sequence)? else {
-            self.miss(Want::Type(node), item.place, Found::NoCbor)?;
-            return Ok(false);
-        };
+        let inner = self.inner_item(index, is_sequence)?;
         let gained = self.gained;
-        self.gained = gained.saturating_add(1);
-        let fits = self.fits(wanted, inner, depth)?;
+        // An array of several items has the head of the string itself.
+        if !is_sequence || inner.is_none() {
+            self.gained = gained.saturating_add(self.items.item(index).head);
+        }
+        let fits = match inner {
+            Some(inner) => self.fits(wanted, inner, depth)?,
+            None => {
+                self.miss(Want::Type(node), index, Found::NoCbor)?;
+                false
+            }
+        };
         self.gained = gained;
         Ok(fits)
     }

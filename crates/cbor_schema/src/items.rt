@@ -40,6 +40,10 @@ pub(crate) struct Item {
     pub(crate) count: usize,
     /// Where it is in the data: its first byte, or that of the string in chunks around it.
     pub(crate) place: usize,
+    /// How many bytes are before its content: those of its head, but none of a string in chunks.
+    pub(crate) head: usize,
+    /// The byte string that it is in.
+    pub(crate) holder: Option<usize>,
 }
 
 /// A container whose parts are being read.
@@ -73,6 +77,14 @@ fn float_of(bits: u64, width: FloatWidth) -> f64 {
     }
 }
 
+/// How many bytes are before the content of an item at a place, which has this behind its head.
+fn head_len(kind: Kind, at: usize, body: usize) -> usize {
+    match kind {
+        Kind::Text(content) | Kind::Bytes(content) if content.start != body => 0,
+        _ => body.saturating_sub(at),
+    }
+}
+
 /// No item.
 const NOTHING: Item = Item {
     kind: Kind::Simple(0),
@@ -80,6 +92,8 @@ const NOTHING: Item = Item {
     first: 0,
     count: 0,
     place: 0,
+    head: 0,
+    holder: None,
 };
 
 impl<'a> Items<'a> {
@@ -93,6 +107,31 @@ impl<'a> Items<'a> {
             open: Vec::new(alloc),
             waiting: Vec::new(alloc),
         }
+    }
+
+    /// How many items there are.
+    pub(crate) fn count(&self) -> usize {
+        self.items.len()
+    }
+
+    /// The content of the byte string that holds an item, or all of the data.
+    pub(crate) fn content_around(&self, item: Item) -> Span {
+        if let Some(holder) = item.holder
+            && let Kind::Bytes(content) = self.item(holder).kind
+        {
+            return content;
+        }
+        Span {
+            start: 0,
+            end: self.data.len(),
+        }
+    }
+
+    /// Where the content of the string around an item is in the data: where that string is if its
+    /// chunks were joined.
+    pub(crate) fn place_of(&self, content: Span, item: Item) -> usize {
+        self.place_inside(content, item.holder)
+            .unwrap_or(content.start)
     }
 
     /// How many parts there are.
@@ -221,15 +260,9 @@ impl<'a> Items<'a> {
     }
 
     /// Adds an item, which waits for the container that it is in.
-    fn add(&mut self, kind: Kind, span: Span, place: usize) -> Result<usize, AllocError> {
+    fn add(&mut self, item: Item) -> Result<usize, AllocError> {
         let index = self.items.len();
-        self.items.push(Item {
-            kind,
-            span,
-            first: 0,
-            count: 0,
-            place,
-        })?;
+        self.items.push(item)?;
         self.waiting.push(index)?;
         Ok(index)
     }
@@ -326,9 +359,10 @@ impl<'a> Items<'a> {
         Ok(at)
     }
 
-    /// Reads the item at the front of a span, whose bytes begin with one. The items in it are said
-    /// to be at `place`, if that is given, and else where they are. Returns the item and its end.
-    fn read_front(&mut self, span: Span, place: Option<usize>) -> Result<(usize, usize), Stop> {
+    /// Reads the item at the front of a span, whose bytes begin with one, and are in a byte string
+    /// if one holds them. Returns the item and its end.
+    fn read_front(&mut self, span: Span, holder: Option<usize>) -> Result<(usize, usize), Stop> {
+        let place = self.place_inside(span, holder);
         let mut at = span.start;
         let root = self.items.len();
         for _ in span.start..span.end {
@@ -342,11 +376,18 @@ impl<'a> Items<'a> {
             let start = span.end.saturating_sub(rest.len());
             let end = span.end;
             let (kind, after) = self.leaf(head, Span { start, end })?;
-            let whole = Span {
-                start: at,
-                end: after,
-            };
-            let item = self.add(kind, whole, place.unwrap_or(at))?;
+            let item = self.add(Item {
+                kind,
+                span: Span {
+                    start: at,
+                    end: after,
+                },
+                first: 0,
+                count: 0,
+                place: place.unwrap_or(at),
+                head: head_len(kind, at, start),
+                holder,
+            })?;
             self.open(head, item)?;
             at = self.close_all(after, span)?;
             if self.open.is_empty() {
@@ -366,20 +407,24 @@ impl<'a> Items<'a> {
     }
 
     /// Reads the item that the bytes of a span are; `None` if they are none.
-    pub(crate) fn read(&mut self, span: Span, place: Option<usize>) -> Result<Option<usize>, Stop> {
+    pub(crate) fn read(
+        &mut self,
+        span: Span,
+        holder: Option<usize>,
+    ) -> Result<Option<usize>, Stop> {
         if self.front_len(span) != Some(span.end.saturating_sub(span.start)) {
             return Ok(None);
         }
-        let (item, _) = self.read_front(span, place)?;
+        let (item, _) = self.read_front(span, holder)?;
         Ok(Some(item))
     }
 
-    /// Reads the items that the bytes of a span are, as the members of an array; `None` if they
-    /// are no items.
+    /// Reads the items that the content of a byte string is, as the members of an array that is at
+    /// the place of the string; `None` if it is no items.
     pub(crate) fn read_sequence(
         &mut self,
         span: Span,
-        place: Option<usize>,
+        holder: usize,
         alloc: Global,
     ) -> Result<Option<usize>, Stop> {
         let mut members = Vec::new(alloc);
@@ -395,7 +440,7 @@ impl<'a> Items<'a> {
             if self.front_len(rest).is_none() {
                 return Ok(None);
             }
-            let (item, end) = self.read_front(rest, place)?;
+            let (item, end) = self.read_front(rest, Some(holder))?;
             members.push(item)?;
             at = end;
         }
@@ -404,23 +449,44 @@ impl<'a> Items<'a> {
             self.parts.push(*member)?;
         }
         let index = self.items.len();
+        let string = self.item(holder);
         self.items.push(Item {
             kind: Kind::Array,
-            span,
+            span: string.span,
             first,
             count: members.len(),
-            place: place.unwrap_or(span.start),
+            place: string.place,
+            head: string.head,
+            holder: string.holder,
         })?;
         Ok(Some(index))
     }
 
     /// The place that is said of the items in the content of a string: that of the string if its
     /// chunks were joined.
-    pub(crate) fn place_inside(&self, content: Span, item: Item) -> Option<usize> {
+    fn place_inside(&self, content: Span, holder: Option<usize>) -> Option<usize> {
+        let item = self.item(holder?);
         if content.start >= self.data.len() || item.place != item.span.start {
             Some(item.place)
         } else {
             None
         }
+    }
+
+    /// How many bytes of an array, with its head, are before the part at a place; all of them if
+    /// there is none.
+    pub(crate) fn len_before(&self, item: Item, place: usize) -> usize {
+        let Some(first) = self.part(item, 0) else {
+            return item.head;
+        };
+        let end = match self.part(item, place) {
+            Some(part) => self.item(part).span.start,
+            None => match self.part(item, item.count.saturating_sub(1)) {
+                Some(last) => self.item(last).span.end,
+                None => 0,
+            },
+        };
+        let len = end.saturating_sub(self.item(first).span.start);
+        item.head.saturating_add(len)
     }
 }

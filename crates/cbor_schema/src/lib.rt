@@ -3,14 +3,20 @@
 //!
 //! ```rust
 //! use cbor_cddl::Schema;
+//! use cbor_places::Piece;
 //! use cbor_schema::Checker;
 //!
 //! let schema = Schema::load(alloc, "event = { at: uint, ? kind: \"open\" / \"close\" }", None)?;
 //! let checker = Checker::new(alloc, schema)?;
 //! // {"at": 1, "kind": 2}
-//! let misfit = checker.misfit(alloc, b"\xa2\x62at\x01\x64kind\x02")?;
+//! let item = Piece {
+//!     begins: 0,
+//!     bytes: b"\xa2\x62at\x01\x64kind\x02",
+//! };
+//! let misfit = checker.misfit(alloc, item)?;
 //! let Some(misfit) = misfit else { return Ok(()) };
 //! assert_eq!(rt; misfit.place, 10);
+//! assert_eq!(rt; misfit.path.as_str(), "kind");
 //! assert_eq!(rt; misfit.expected.as_str(), "\"open\" / \"close\"");
 //! assert_eq!(rt; misfit.found.as_str(), "2");
 //! ```
@@ -22,14 +28,15 @@ mod checker;
 mod controls;
 mod items;
 mod maps;
+mod message;
 mod misfit;
 mod order;
+mod paths;
 mod pattern;
 mod run;
 mod stop;
 mod types;
 
-pub use blame::Others;
 pub use checker::Checker;
-pub use misfit::Misfit;
+pub use message::{Misfit, Others};
 pub use stop::Stop;

@@ -1,6 +1,6 @@
 //! What a group takes of the pairs of a map: ordered choice, greedy occurrences, and cuts.
 
-use crate::blame::{Found, Tried, Want};
+use crate::blame::{Found, Want};
 use crate::items::{Item, Kind};
 use crate::run::Run;
 use crate::stop::Stop;
@@ -79,20 +79,25 @@ impl<'a> Run<'a> {
         }
         self.gained = self.gained_in(frame);
         if let Some(key) = self.first_left(frame) {
-            let place = self.items.item(key).place;
-            self.miss(Want::MapEnd, place, Found::OtherKey { key, group })?;
+            self.miss(Want::MapEnd, key, Found::OtherKey(group))?;
         }
         Ok(false)
     }
 
-    /// The first key in the bytes that is not taken.
+    /// The first key in the bytes that is not taken; none if the value of such a key is blamed.
     fn first_left(&self, frame: Frame) -> Option<usize> {
         let mut found = None;
         let mut first = usize::MAX;
         for place in 0..frame.item.count / 2 {
             let pair = self.pair(frame, place)?;
             let start = self.items.item(pair.key).span.start;
-            if !self.is_taken(pair) && start < first {
+            if self.is_taken(pair) {
+                continue;
+            }
+            if self.is_blamed(pair.value) {
+                return None;
+            }
+            if start < first {
                 first = start;
                 found = Some(pair.key);
             }
@@ -104,7 +109,7 @@ impl<'a> Run<'a> {
     fn gained_in(&self, frame: Frame) -> usize {
         frame
             .base
-            .saturating_add(1)
+            .saturating_add(frame.item.head)
             .saturating_add(self.taken_bytes)
     }
 
@@ -198,15 +203,13 @@ impl<'a> Run<'a> {
     /// What the group of a rule does.
     #[cycle(fits)]
     fn map_rule(&mut self, rule: usize, frame: Frame, depth: u32) -> Result<Outcome, Stop> {
-        let (name, outer_rule) = (self.name, self.rule);
+        let name = self.name;
         if let Some(own) = self.rule_name(rule) {
             self.name = own;
-            self.rule = own;
         }
         let body = self.rule_node(rule);
         let outcome = self.map_takes(body, frame, depth)?;
         self.name = name;
-        self.rule = outer_rule;
         Ok(outcome)
     }
 
@@ -227,26 +230,16 @@ impl<'a> Run<'a> {
     #[cycle(fits)]
     fn map_choice(&mut self, list: List, frame: Frame, depth: u32) -> Result<Outcome, Stop> {
         let mark = self.trail.len();
-        let reach = self.blame.reach;
-        let mut tried = Tried::NONE;
         let mut outcome = Outcome::Refuses;
         for place in list.start..list.end {
-            self.blame.reach = 0;
             let part = self.listed(place);
             match self.map_takes(part, frame, depth)? {
-                Outcome::Takes => {
-                    self.blame.reach = reach;
-                    return Ok(Outcome::Takes);
-                }
+                Outcome::Takes => return Ok(Outcome::Takes),
                 Outcome::Cuts => outcome = Outcome::Cuts,
                 Outcome::Refuses => {}
             }
             self.undo(mark);
-            tried.add(self.blame.reach);
         }
-        self.blame.reach = reach.max(tried.top());
-        let rule = self.rule;
-        self.blame.note_others(tried, rule);
         Ok(outcome)
     }
 
@@ -280,7 +273,7 @@ impl<'a> Run<'a> {
         Ok(Outcome::Takes)
     }
 
-    /// Whether the value of a pair fits that of an entry.
+    /// Whether the value of a pair fits that of an entry. Bytes before its key do not count.
     #[cycle(fits)]
     fn fits_value(
         &mut self,
@@ -290,41 +283,41 @@ impl<'a> Run<'a> {
         depth: u32,
     ) -> Result<bool, Stop> {
         let name = self.name;
-        if let Node::Text(_) = self.schema.node(entry.key) {
-            self.name = self.schema.span(entry.key);
-        }
+        self.name = self.entry_name(entry.key);
         let key = self.items.item(pair.key).span;
-        let key_len = key.end.saturating_sub(key.start);
-        self.gained = self.gained_in(frame).saturating_add(key_len);
+        self.gained = key.end.saturating_sub(key.start);
         let fits = self.fits(entry.value, pair.value, depth)?;
         self.name = name;
         self.gained = frame.base;
         Ok(fits)
     }
 
-    /// Takes the pairs of an entry.
+    /// Takes the pairs of an entry. Values that do not fit are blamed as if they came after those
+    /// that do.
     #[cycle(fits)]
     fn map_entry(&mut self, entry: Entry, frame: Frame, depth: u32) -> Result<Outcome, Stop> {
+        let mark = self.blame.mark();
+        self.blame.best = None;
         let mut count = 0u64;
+        let mut all_fit = true;
         for place in 0..frame.item.count / 2 {
-            let is_full = count >= entry.occurrence.most;
-            if is_full && !entry.cut {
-                break;
-            }
             let Some(pair) = self.pair(frame, place) else {
                 break;
             };
             if self.is_taken(pair) || !self.fits_muted(entry.key, pair.key, depth)? {
                 continue;
             }
-            if self.fits_value(entry, pair, frame, depth)? {
-                if !is_full {
-                    self.take(pair)?;
-                    count = count.saturating_add(1);
-                }
-            } else if entry.cut {
-                return Ok(Outcome::Cuts);
+            if !self.fits_value(entry, pair, frame, depth)? {
+                all_fit = false;
+            } else if count < entry.occurrence.most {
+                self.take(pair)?;
+                count = count.saturating_add(1);
             }
+        }
+        let gained = self.gained_in(frame);
+        self.blame.resume(mark, gained)?;
+        if entry.cut && !all_fit {
+            return Ok(Outcome::Cuts);
         }
         if count >= entry.occurrence.least {
             return Ok(Outcome::Takes);
@@ -339,12 +332,11 @@ impl<'a> Run<'a> {
         let want = Want::Key(node);
         match self.like_key(node, frame) {
             Some(key) => {
-                let place = self.items.item(key).place;
-                self.miss(want, place, Found::LikeKey(key))?;
+                self.miss(want, key, Found::LikeKey)?;
             }
             None => {
                 let found = Found::Without(frame.item.count / 2);
-                self.miss(want, frame.item.place, found)?;
+                self.miss(want, frame.index, found)?;
             }
         }
         self.gained = frame.base;

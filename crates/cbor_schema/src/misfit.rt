@@ -1,7 +1,8 @@
-//! `Misfit`: why an item does not fit, in words.
+//! Why an item does not fit, in words: the parts of a [`Misfit`].
 
-use crate::blame::{Found, Miss, Others, Want};
-use crate::items::{Item, Kind};
+use crate::blame::{Best, Found, Miss, Want};
+use crate::items::Kind;
+use crate::message::{Misfit, Others};
 use crate::run::Run;
 use crate::stop::Stop;
 use cbor_cddl::{Node, Span, likeness};
@@ -15,82 +16,57 @@ const LONGEST: usize = 60;
 /// The most nodes of a group that are looked at for a key that is like another.
 const MOST_NODES: usize = 1000;
 
-/// Why an item does not fit.
-#[derive(Drop)]
-pub struct Misfit {
-    /// The byte of the item where it does not fit.
-    pub place: usize,
-    /// What the schema wants there.
-    pub expected: String,
-    /// The innermost rule or key that wants it.
-    pub name: String,
-    /// Where that is in the source of the schema.
-    pub name_place: usize,
-    /// What is there.
-    pub found: String,
-    /// The alternatives of a rule that came less far.
-    pub others: Option<Others>,
-}
-
 impl<'a> Run<'a> {
-    /// The misfit that was found.
-    pub(crate) fn misfit(&mut self) -> Result<Misfit, Stop> {
-        let Some(miss) = self.blame.miss else {
+    /// The misfit that was found, of an item that begins at this byte of the data.
+    pub(crate) fn misfit(&self, begins: usize) -> Result<Misfit, Stop> {
+        let Some(best) = self.blame.best else {
             return Err(Stop::NoItem);
         };
-        let name = self.schema.text(miss.name);
-        let name = name.strip_prefix('"').unwrap_or(name);
-        let name = name.strip_suffix('"').unwrap_or(name);
+        let miss = best.miss;
         Ok(Misfit {
             place: miss.place,
-            expected: self.expected()?,
-            name: String::from_str(self.alloc, name)?,
+            path: self.path(miss.index, begins)?,
+            is_inside: self.items.item(miss.index).holder.is_some(),
+            expected: self.expected(best)?,
+            name: self.name_text(miss.name)?,
             name_place: miss.name.start,
             found: self.found(miss)?,
-            others: self.blame.others,
+            others: match best.less_far {
+                Some(others) => Some(Others {
+                    count: others.count,
+                    name: self.name_text(others.name)?,
+                    name_place: others.name.start,
+                }),
+                None => None,
+            },
         })
     }
 
-    /// What was wanted.
-    fn expected(&self) -> Result<String, AllocError> {
+    /// A name in the source of the schema, without the quotes of a text.
+    fn name_text(&self, name: Span) -> Result<String, AllocError> {
+        let name = self.schema.text(name);
+        let name = name.strip_prefix('"').unwrap_or(name);
+        let name = name.strip_suffix('"').unwrap_or(name);
+        String::from_str(self.alloc, name)
+    }
+
+    /// What was wanted, each once.
+    fn expected(&self, best: Best) -> Result<String, AllocError> {
+        let mut said: Vec<String> = Vec::new(self.alloc);
         let mut out = String::new(self.alloc);
-        for (place, want) in self.blame.wants.iter().enumerate() {
-            let before = self.blame.wants.get(..place).unwrap_or(&[]);
-            if before.iter().any(|other| self.is_same(*other, *want)) {
+        for want in self.blame.wants(best) {
+            let mut one = String::new(self.alloc);
+            self.push_want(&mut one, *want)?;
+            if said.iter().any(|other| other.as_str() == one.as_str()) {
                 continue;
             }
-            if place > 0 {
+            if !out.is_empty() {
                 out.push_str(" / ")?;
             }
-            self.push_want(&mut out, *want)?;
+            out.push_str(&one)?;
+            said.push(one)?;
         }
         Ok(out)
-    }
-
-    /// Whether two types or two keys are said alike.
-    fn is_same(&self, first: Want, second: Want) -> bool {
-        match (first, second) {
-            (Want::Type(first), Want::Type(second)) if self.is_array(first) => self.is_array(
-                second,
-            ),
-            (Want::Type(first), Want::Type(second)) if self.is_map(first) => self.is_map(second),
-            (Want::Type(first), Want::Type(second)) | (Want::Key(first), Want::Key(second)) => {
-                let first = self.schema.text(self.schema.span(first));
-                let second = self.schema.text(self.schema.span(second));
-                first == second
-            }
-            _ => first == second,
-        }
-    }
-
-    /// Whether a node is an array.
-    fn is_array(&self, node: usize) -> bool {
-        matches!(self.schema.node(node), Node::Array(_))
-    }
-
-    /// Whether a node is a map.
-    fn is_map(&self, node: usize) -> bool {
-        matches!(self.schema.node(node), Node::Map(_))
     }
 
     /// Appends what was wanted.
@@ -107,7 +83,7 @@ impl<'a> Run<'a> {
     /// Appends a key that is wanted.
     fn push_key(&self, out: &mut String, node: usize) -> Result<(), AllocError> {
         let Node::Text(span) = self.schema.node(node) else {
-            out.push_str("a key ")?;
+            out.push_str("the key ")?;
             return self.push_type(out, node);
         };
         out.push_str("the key \"")?;
@@ -120,6 +96,8 @@ impl<'a> Run<'a> {
         match self.schema.node(node) {
             Node::Array(_) => return out.push_str("an array"),
             Node::Map(_) => return out.push_str("a map"),
+            Node::Tag { number, .. } => return write!(out, "tag {number}"),
+            Node::AnyTag { .. } => return out.push_str("a tag"),
             Node::Choice(list) if list.start == list.end => {
                 return out.push_str("nothing, since the socket is empty");
             }
@@ -132,24 +110,24 @@ impl<'a> Run<'a> {
     fn found(&self, miss: Miss) -> Result<String, AllocError> {
         let mut out = String::new(self.alloc);
         match miss.found {
-            Found::Item(index) => self.push_item(&mut out, index)?,
-            Found::Sized(index) => self.push_sized(&mut out, index)?,
-            Found::Bit(bit, index) => {
+            Found::Item => self.push_item(&mut out, miss.index)?,
+            Found::Sized => self.push_sized(&mut out, miss.index)?,
+            Found::Bit(bit) => {
                 write!(out, "bit {bit} of ")?;
-                self.push_item(&mut out, index)?;
+                self.push_item(&mut out, miss.index)?;
             }
             Found::NoCbor => out.push_str("bytes that are no CBOR")?,
             Found::ArrayEnd(count) => write!(out, "the end of the array of {count}")?,
             Found::Without(count) => write!(out, "a map of {count} without it")?,
-            Found::LikeKey(index) => {
+            Found::LikeKey => {
                 out.push_str("the key ")?;
-                self.push_item(&mut out, index)?;
+                self.push_item(&mut out, miss.index)?;
             }
-            Found::OtherKey { key, group } => {
+            Found::OtherKey(group) => {
                 out.push_str("the key ")?;
-                self.push_item(&mut out, key)?;
+                self.push_item(&mut out, miss.index)?;
                 out.push_str(", which is in no entry")?;
-                self.push_like(&mut out, key, group)?;
+                self.push_like(&mut out, miss.index, group)?;
             }
         }
         Ok(out)

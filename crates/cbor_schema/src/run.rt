@@ -29,10 +29,8 @@ pub(crate) struct Run<'a> {
     pub(crate) blame: Blame,
     /// How many bytes fit before what is matched now.
     pub(crate) gained: usize,
-    /// The name of the innermost rule or key.
+    /// The name of the innermost rule or entry.
     pub(crate) name: Span,
-    /// The name of the innermost rule.
-    pub(crate) rule: Span,
     steps: u64,
     /// Where rules took part: 0 where they do not fit, and otherwise one more than the place after.
     kept: BTreeMap<(usize, usize), usize>,
@@ -66,7 +64,6 @@ impl<'a> Run<'a> {
             blame: Blame::new(alloc),
             gained: 0,
             name: nowhere,
-            rule: nowhere,
             steps: 0,
             kept: BTreeMap::new(alloc),
             inner: BTreeMap::new(alloc),
@@ -106,16 +103,19 @@ impl<'a> Run<'a> {
         Ok(())
     }
 
-    /// Takes note that something is not what was wanted.
+    /// Takes note that something else was wanted at an item.
     pub(crate) fn miss(
         &mut self,
         want: Want,
-        place: usize,
+        index: usize,
         found: Found,
     ) -> Result<(), AllocError> {
+        let item = self.items.item(index);
         let miss = Miss {
             gained: self.gained,
-            place,
+            index,
+            place: item.place,
+            start: item.span.start,
             found,
             name: self.name,
         };
@@ -124,9 +124,39 @@ impl<'a> Run<'a> {
 
     /// Takes note that an item does not fit a node, and returns `false`.
     pub(crate) fn miss_item(&mut self, node: usize, index: usize) -> Result<bool, Stop> {
-        let place = self.items.item(index).place;
-        self.miss(Want::Type(node), place, Found::Item(index))?;
+        self.miss(Want::Type(node), index, Found::Item)?;
         Ok(false)
+    }
+
+    /// Whether the misfit that is told is inside an item.
+    pub(crate) fn is_blamed(&self, index: usize) -> bool {
+        let span = self.items.item(index).span;
+        match self.blame.best {
+            Some(best) => span.start <= best.miss.start && best.miss.start < span.end,
+            None => false,
+        }
+    }
+
+    /// The name that a message has for an entry: its key, if that is a name or a text, and
+    /// otherwise the name of what the entry is in.
+    pub(crate) fn entry_name(&self, key: usize) -> Span {
+        let span = self.schema.span(key);
+        if self.schema.is_prelude(span) {
+            return self.name;
+        }
+        match self.schema.node(key) {
+            Node::Text(_) => span,
+            Node::Rule(_) => {
+                let text = self.schema.text(span);
+                let len = text.find('<').unwrap_or(text.len());
+                let start = span.start;
+                Span {
+                    start,
+                    end: start.saturating_add(len),
+                }
+            }
+            _ => self.name,
+        }
     }
 
     /// Whether a node is a group.

@@ -1,11 +1,12 @@
 //! Whether an item fits a type.
 
-use crate::blame::{Found, Tried, Want};
+use crate::blame::{Found, LessFar, Tried, Want};
 use crate::items::{Item, Kind};
 use crate::run::Run;
 use crate::stop::Stop;
 use cbor_cddl::{Floats, List, Node, Span};
 use cbor_floats::{EncodedFloat, Width};
+use std::alloc::AllocError;
 
 /// The number of the major type of an item.
 fn major_of(kind: Kind) -> u8 {
@@ -124,14 +125,24 @@ impl<'a> Run<'a> {
         }
     }
 
-    /// Whether an item fits a node.
+    /// Whether an item fits a node. If it does, no misfit in it is blamed.
     #[cycle(fits)]
     pub(crate) fn fits(&mut self, node: usize, index: usize, depth: u32) -> Result<bool, Stop> {
         if depth == 0 {
             return Err(Stop::Deep);
         }
-        let inner = depth - 1;
         self.step()?;
+        let mark = self.blame.mark();
+        let fits = self.fits_node(node, index, depth - 1)?;
+        if fits {
+            self.blame.restore(mark);
+        }
+        Ok(fits)
+    }
+
+    /// Whether an item fits a node; what was noted in it stays.
+    #[cycle(fits)]
+    fn fits_node(&mut self, node: usize, index: usize, inner: u32) -> Result<bool, Stop> {
         let item = self.items.item(index);
         match (self.schema.node(node), item.kind) {
             (Node::Rule(rule), _) => self.fits_rule(rule, node, index, inner),
@@ -195,22 +206,39 @@ impl<'a> Run<'a> {
     ) -> Result<bool, Stop> {
         let body = self.rule_node(rule);
         let Some(name) = self.rule_name(rule) else {
-            if self.fits_muted(body, index, depth)? {
-                return Ok(true);
-            }
-            return self.miss_item(node, index);
+            return self.fits_prelude(body, node, index, depth);
         };
         if let Some(known) = self.known(rule, index) {
             return Ok(known > 0);
         }
-        let (outer_name, outer_rule) = (self.name, self.rule);
+        let outer = self.name;
         self.name = name;
-        self.rule = name;
         let fits = self.fits(body, index, depth)?;
-        self.name = outer_name;
-        self.rule = outer_rule;
+        self.name = outer;
         self.keep(rule, index, usize::from(fits))?;
         Ok(fits)
+    }
+
+    /// Whether an item fits a rule of the prelude, which the node names. The name is what is wanted,
+    /// but for the content of its tag.
+    #[cycle(fits)]
+    fn fits_prelude(
+        &mut self,
+        body: usize,
+        node: usize,
+        index: usize,
+        depth: u32,
+    ) -> Result<bool, Stop> {
+        if let Node::Tag { number, .. } = self.schema.node(body)
+            && let Kind::Tag(found) = self.items.item(index).kind
+            && number == found
+        {
+            return self.fits(body, index, depth);
+        }
+        if self.fits_muted(body, index, depth)? {
+            return Ok(true);
+        }
+        self.miss_item(node, index)
     }
 
     /// Whether an item fits one of several types.
@@ -222,24 +250,60 @@ impl<'a> Run<'a> {
         index: usize,
         depth: u32,
     ) -> Result<bool, Stop> {
-        let reach = self.blame.reach;
-        let mut tried = Tried::NONE;
-        for place in list.start..list.end {
-            self.blame.reach = 0;
-            let alternative = self.listed(place);
-            if self.fits(alternative, index, depth)? {
-                self.blame.reach = reach;
-                return Ok(true);
-            }
-            tried.add(self.blame.reach);
-        }
-        self.blame.reach = reach.max(tried.top());
         if list.start == list.end {
             return self.miss_item(node, index);
         }
-        let rule = self.rule;
-        self.blame.note_others(tried, rule);
+        let mark = self.blame.mark();
+        let mut tried = Tried::NONE;
+        for place in list.start..list.end {
+            self.blame.best = None;
+            let alternative = self.listed(place);
+            if self.fits(alternative, index, depth)? {
+                return Ok(true);
+            }
+            self.add_tried(&mut tried)?;
+        }
+        self.blame.best = mark.best;
+        if let Some(mut best) = tried.best {
+            if tried.names_differ {
+                best.miss.name = self.name;
+            }
+            if tried.less_far() > 0 {
+                best.less_far = Some(LessFar {
+                    count: tried.less_far(),
+                    name: self.name,
+                });
+            }
+            self.blame.merge(best)?;
+            self.blame.compact(mark);
+        }
         Ok(false)
+    }
+
+    /// Adds the alternative that was tried last to those before it.
+    fn add_tried(&mut self, tried: &mut Tried) -> Result<(), AllocError> {
+        let Some(one) = self.blame.best else {
+            return Ok(());
+        };
+        let has_same_name = match tried.best {
+            Some(best) => self.is_same_name(best.miss.name, one.miss.name),
+            None => true,
+        };
+        tried.count(one, has_same_name);
+        self.blame.best = tried.best;
+        self.blame.merge(one)?;
+        tried.best = self.blame.best;
+        Ok(())
+    }
+
+    /// Whether two names are alike, in one line.
+    fn is_same_name(&self, first: Span, other: Span) -> bool {
+        if self.schema.text(first) != self.schema.text(other) {
+            return false;
+        }
+        let start = first.start.min(other.start);
+        let end = first.start.max(other.start);
+        !self.schema.text(Span { start, end }).contains('\n')
     }
 
     /// Whether an item with a tag fits a tag.
@@ -270,23 +334,9 @@ impl<'a> Run<'a> {
         if !fits {
             return self.miss_item(node, index);
         }
-        self.fits_part(content, part, index, depth)
-    }
-
-    /// Whether a part of an item fits, which all bytes before it fit.
-    #[cycle(fits)]
-    pub(crate) fn fits_part(
-        &mut self,
-        node: usize,
-        part: usize,
-        index: usize,
-        depth: u32,
-    ) -> Result<bool, Stop> {
         let gained = self.gained;
-        let start = self.items.item(index).span.start;
-        let before = self.items.item(part).span.start.saturating_sub(start);
-        self.gained = gained.saturating_add(before);
-        let fits = self.fits(node, part, depth)?;
+        self.gained = gained.saturating_add(item.head);
+        let fits = self.fits(content, part, depth)?;
         self.gained = gained;
         Ok(fits)
     }
@@ -306,11 +356,12 @@ impl<'a> Run<'a> {
         let Some(part) = self.items.part(item, after) else {
             return Ok(true);
         };
-        let found = self.items.item(part);
+        if self.is_blamed(part) {
+            return Ok(false);
+        }
         let gained = self.gained;
-        let before = found.span.start.saturating_sub(item.span.start);
-        self.gained = gained.saturating_add(before);
-        self.miss(Want::ArrayEnd(after), found.place, Found::Item(part))?;
+        self.gained = gained.saturating_add(self.items.len_before(item, after));
+        self.miss(Want::ArrayEnd(after), part, Found::Item)?;
         self.gained = gained;
         Ok(false)
     }

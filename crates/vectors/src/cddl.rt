@@ -4,7 +4,7 @@
 use crate::row::Row;
 use cbor_cddl::{Fault, Schema, position_of, source_of};
 use cbor_edn::edn_to_bytes;
-use cbor_places::{Around, Piece};
+use cbor_places::Piece;
 use cbor_schema::{Checker, Misfit};
 use cbor_tokens::decode_hex;
 use std::alloc::{AllocError, Global};
@@ -74,9 +74,13 @@ fn push_item(
     let Some(item) = bytes_of(alloc, line)? else {
         return out.push_str("no item");
     };
-    match checker.misfit(alloc, &item) {
+    let piece = Piece {
+        begins: 0,
+        bytes: &item,
+    };
+    match checker.misfit(alloc, piece) {
         Ok(None) => out.push_str("fits"),
-        Ok(Some(misfit)) if in_words => push_message(out, checker, &misfit, &item),
+        Ok(Some(misfit)) if in_words => push_message(out, checker, &misfit),
         Ok(Some(misfit)) => write!(out, "misfit {}", misfit.place),
         Err(stop) => write!(out, "{stop}"),
     }
@@ -90,49 +94,27 @@ fn bytes_of(alloc: Global, line: &str) -> Result<Option<Vec<u8>>, AllocError> {
     }
 }
 
-/// Appends the message of a misfit.
-fn push_message(
-    out: &mut String,
-    checker: &Checker,
-    misfit: &Misfit,
-    item: &[u8],
-) -> Result<(), AllocError> {
+/// The line of a place in the text of a checker, as a message has it.
+fn line_of(alloc: Global, checker: &Checker, place: usize) -> Result<String, AllocError> {
+    let position = position_of(&checker.schema().source, place);
+    format!(in alloc; ":{}", position.line)
+}
+
+/// Appends the message of a misfit, and its path and other alternatives in a line of their own.
+fn push_message(out: &mut String, checker: &Checker, misfit: &Misfit) -> Result<(), AllocError> {
     let alloc = *out.allocator();
-    let source = checker.schema().source.as_str();
-    let line = position_of(source, misfit.name_place).line;
-    let (expected, name) = (&misfit.expected, &misfit.name);
-    write!(
-        out,
-        "{} expected {expected} for {name} (:{line}), found {}",
-        misfit.place, misfit.found
-    )?;
-    let piece = Piece {
-        begins: 0,
-        bytes: item,
-    };
-    let around = Around::new(alloc, piece, misfit.place)?;
-    let path = match around.path.as_str() {
-        "/" => "",
-        path => path,
-    };
-    let separator = match (path.is_empty(), misfit.others) {
-        (true, None) => return Ok(()),
-        (false, Some(_)) => "; ",
-        _ => "",
-    };
-    out.push('\n')?;
-    if !path.is_empty() {
-        write!(out, "at {path}{separator}")?;
+    write!(out, "{} ", misfit.place)?;
+    let line = line_of(alloc, checker, misfit.name_place)?;
+    misfit.push_message(out, &line)?;
+    let mut before = "\n";
+    if !misfit.path.is_empty() {
+        write!(out, "\nat {}", misfit.path)?;
+        before = "; ";
     }
-    let Some(others) = misfit.others else {
+    let Some(others) = &misfit.others else {
         return Ok(());
     };
-    let ending = if others.count == 1 { "" } else { "s" };
-    let rule = checker.schema().text(others.rule);
-    let line = position_of(source, others.rule.start).line;
-    write!(
-        out,
-        "{} other alternative{ending} of {rule} (:{line}) came less far",
-        others.count
-    )
+    out.push_str(before)?;
+    let line = line_of(alloc, checker, others.name_place)?;
+    others.push_message(out, &line)
 }

@@ -8,17 +8,20 @@ decreases-fits l = l.depth * 8
 abbrev pub decreases-fits_muted : goal.decreases-fits_muted
 decreases-fits_muted l = l.depth * 8 + 1
 
+abbrev pub decreases-fits_node : goal.decreases-fits_node
+decreases-fits_node l = l.inner * 8 + 4
+
 abbrev pub decreases-fits_rule : goal.decreases-fits_rule
-decreases-fits_rule l = l.depth * 8 + 2
+decreases-fits_rule l = l.depth * 8 + 3
+
+abbrev pub decreases-fits_prelude : goal.decreases-fits_prelude
+decreases-fits_prelude l = l.depth * 8 + 2
 
 abbrev pub decreases-fits_choice : goal.decreases-fits_choice
 decreases-fits_choice l = l.depth * 8 + 2
 
 abbrev pub decreases-fits_tag : goal.decreases-fits_tag
 decreases-fits_tag l = l.depth * 8 + 2
-
-abbrev pub decreases-fits_part : goal.decreases-fits_part
-decreases-fits_part l = l.depth * 8 + 1
 
 abbrev pub decreases-fits_array : goal.decreases-fits_array
 decreases-fits_array l = l.depth * 8 + 1
