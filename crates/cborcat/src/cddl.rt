@@ -4,11 +4,11 @@
 use crate::messages::{label, say};
 use crate::status::Status;
 use cbor_bytes::{Extent, extent};
-use cbor_cddl::{Fault, FaultKind, Schema, Span, position_of, source_of};
+use cbor_cddl::{Fault, FaultKind, Schema, position_of, source_of};
+use cbor_places::Piece;
 use cbor_schema::{Checker, Misfit, Stop};
 use cborcat_arguments::Job;
 use std::alloc::{AllocError, Global};
-use std::fmt::Write;
 use std::fs;
 
 /// The files of `--cddl`, which are read as one text.
@@ -34,6 +34,8 @@ pub struct Said {
     pub place: usize,
     /// What was wanted, and what is there.
     pub text: String,
+    /// The path to it, if that leads into a byte string.
+    pub path: Option<String>,
     /// What else is known; empty for nothing.
     pub more: String,
 }
@@ -64,13 +66,12 @@ impl<'a> Files<'a> {
         found
     }
 
-    /// Appends the name of the file that has a byte of the text, and the line.
-    fn push_line(&self, out: &mut String, place: usize) -> Result<(), AllocError> {
+    /// The name of the file that has a byte of the text, and the line.
+    fn line(&self, alloc: Global, place: usize) -> Result<String, AllocError> {
         let (name, begins) = self.with(place);
         let text = self.text.as_str().get(begins..).unwrap_or("");
         let position = position_of(text, place.saturating_sub(begins));
-        out.push_str(label(name))?;
-        write!(out, ":{}", position.line)
+        format!(in alloc; "{}:{}", label(name), position.line)
     }
 
     /// Says what is wrong with the text.
@@ -143,16 +144,19 @@ fn checker_of(alloc: Global, text: &str, rule: Option<&str>) -> Result<Checker, 
 
 impl Cddl<'_> {
     /// What is said of the first of some whole items that does not fit; `None` if all fit.
-    pub fn first_misfit(&self, alloc: Global, items: &[u8]) -> Result<Option<Said>, Stop> {
+    pub fn first_misfit(&self, alloc: Global, items: Piece) -> Result<Option<Said>, Stop> {
         let mut at = 0usize;
-        for _ in 0..items.len() {
-            let rest = items.get(at..).unwrap_or(b"");
+        for _ in 0..items.bytes.len() {
+            let rest = items.bytes.get(at..).unwrap_or(b"");
             let Extent::Item(len) = extent(rest) else {
                 break;
             };
-            let item = rest.get(..len).unwrap_or(b"");
+            let item = Piece {
+                begins: items.number(at),
+                bytes: rest.get(..len).unwrap_or(b""),
+            };
             if let Some(misfit) = self.checker.misfit(alloc, item)? {
-                return Ok(Some(self.said(alloc, &misfit, at)?));
+                return Ok(Some(self.said(alloc, misfit, at)?));
             }
             at = at.saturating_add(len);
         }
@@ -160,33 +164,21 @@ impl Cddl<'_> {
     }
 
     /// What is said of an item that begins at a byte.
-    fn said(&self, alloc: Global, misfit: &Misfit, at: usize) -> Result<Said, AllocError> {
+    fn said(&self, alloc: Global, misfit: Misfit, at: usize) -> Result<Said, AllocError> {
         let mut text = String::new(alloc);
-        write!(text, "expected {} for {} (", misfit.expected, misfit.name)?;
-        self.files.push_line(&mut text, misfit.name_place)?;
-        write!(text, "), found {}", misfit.found)?;
+        let line = self.files.line(alloc, misfit.name_place)?;
+        misfit.push_message(&mut text, &line)?;
+        let mut more = String::new(alloc);
+        if let Some(others) = &misfit.others {
+            let line = self.files.line(alloc, others.name_place)?;
+            others.push_message(&mut more, &line)?;
+        }
+        let is_inside = misfit.is_inside;
         Ok(Said {
             place: at.saturating_add(misfit.place),
             text,
-            more: self.more(alloc, misfit)?,
+            path: if is_inside { Some(misfit.path) } else { None },
+            more,
         })
-    }
-
-    /// What is said of other alternatives.
-    fn more(&self, alloc: Global, misfit: &Misfit) -> Result<String, AllocError> {
-        let mut more = String::new(alloc);
-        let Some(others) = misfit.others else {
-            return Ok(more);
-        };
-        let Span { start, .. } = others.rule;
-        let rule = self.checker.schema().text(others.rule);
-        let noun = match others.count {
-            1 => "other alternative",
-            _ => "other alternatives",
-        };
-        write!(more, "{} {noun} of {rule} (", others.count)?;
-        self.files.push_line(&mut more, start)?;
-        more.push_str(") came less far")?;
-        Ok(more)
     }
 }

@@ -167,28 +167,54 @@ pub fn report_byte(
     left: Piece,
     message: (usize, &str),
 ) -> Result<(), Error> {
-    report_byte_with(rt, place, left, message, "")
+    let more = More {
+        path: None,
+        text: "",
+    };
+    report_byte_with(rt, place, left, message, more)
 }
 
-/// Says the same, and more behind where that is in the item.
+/// What is said of a byte behind the message.
+#[derive(Clone, Copy)]
+pub struct More<'a> {
+    /// The path, if it leads into a byte string.
+    pub path: Option<&'a str>,
+    /// What follows behind where the byte is in the item; empty for nothing.
+    pub text: &'a str,
+}
+
+/// Says the same, and more.
 pub fn report_byte_with(
     rt: &HostRuntime,
     place: &Place,
     left: Piece,
     message: (usize, &str),
-    more: &str,
+    more: More,
 ) -> Result<(), Error> {
     let (at_fault, what) = message;
-    let byte = left.number(at_fault);
-    let (_, item) = item_with(left, byte);
-    let around = Around::new(rt.alloc(), item, byte.saturating_sub(item.begins))?;
-    let mut words = around.words(place, true)?;
-    if !more.is_empty() && !words.is_empty() {
+    let mut words = match more.path {
+        Some(path) => format!(in rt.alloc(); "at {path}")?,
+        None => words_around(rt, place, left, at_fault)?,
+    };
+    if !more.text.is_empty() && !words.is_empty() {
         words.push_str("; ")?;
     }
-    words.push_str(more)?;
+    words.push_str(more.text)?;
     say_byte(rt, place, left, at_fault, (what, &words));
     Ok(())
+}
+
+/// Where in its item one of the bytes is that are left.
+fn words_around(
+    rt: &HostRuntime,
+    place: &Place,
+    left: Piece,
+    at: usize,
+) -> Result<String, AllocError> {
+    let byte = left.number(at);
+    let (_, item) = item_with(left, byte);
+    let around = Around::new(rt.alloc(), item, byte.saturating_sub(item.begins))?;
+    around.words(place, true)
 }
 
 /// Says where in the item something is wrong, in a line of its own.

@@ -2,7 +2,7 @@
 //! and of rules.
 
 use super::Conversion;
-use crate::messages::{label, report_byte, report_byte_with};
+use crate::messages::{More, label, report_byte, report_byte_with};
 use crate::status::Status;
 use cbor_grammar::Error;
 use cbor_inspect::two_byte_simple;
@@ -60,11 +60,15 @@ impl<'a> Conversion<'a> {
         let begins = self.begins().saturating_sub(passed);
         let bytes = self.stream.passed(passed);
         let items = Piece { begins, bytes };
-        match cddl.first_misfit(self.rt.alloc(), bytes) {
+        match cddl.first_misfit(self.rt.alloc(), items) {
             Ok(None) => {}
             Ok(Some(said)) => {
                 let message = (said.place, said.text.as_str());
-                report_byte_with(self.rt, self.place, items, message, &said.more)?;
+                let more = More {
+                    path: said.path.as_deref(),
+                    text: &said.more,
+                };
+                report_byte_with(self.rt, self.place, items, message, more)?;
                 self.broken = true;
                 self.ended(Status::Bad);
             }
