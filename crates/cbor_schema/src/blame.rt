@@ -1,4 +1,4 @@
-//! `Blame`: which misfit is told: the one that came furthest, and of those the last in the data.
+//! `Blame`: which misfit is reported: the one that came furthest, and of those the last in the data.
 
 use cbor_cddl::Span;
 use std::alloc::{AllocError, Global};
@@ -74,13 +74,13 @@ pub(crate) struct Best {
 pub(crate) struct Blame {
     /// The miss that came furthest.
     pub(crate) best: Option<Best>,
-    /// What was wanted at misses that may be told.
+    /// What was wanted at misses that may be reported.
     wants: Vec<Want>,
     /// How many parts are being tried whose misses do not count.
     pub(crate) muted: usize,
 }
 
-/// What was to be told before a part was tried.
+/// What was to be reported before a part was tried.
 #[derive(Clone, Copy)]
 pub(crate) struct Mark {
     pub(crate) best: Option<Best>,
@@ -93,7 +93,7 @@ impl Best {
         self.miss.gained == other.miss.gained && self.miss.place == other.miss.place
     }
 
-    /// Whether it is told, and not the other one, which does not tie.
+    /// Whether this one is reported, and not the other one, which does not tie.
     pub(crate) fn beats(self, other: Best) -> bool {
         let (own, others) = (self.miss.gained, other.miss.gained);
         own > others || own == others && self.miss.place > other.miss.place
@@ -110,7 +110,7 @@ impl Blame {
         }
     }
 
-    /// What is to be told now.
+    /// What is to be reported now.
     pub(crate) fn mark(&self) -> Mark {
         Mark {
             best: self.best,
@@ -252,7 +252,7 @@ impl Blame {
     }
 }
 
-/// The alternatives of a choice that were tried, none of which fits.
+/// The alternatives of a choice that were tried, if none fits.
 #[derive(Clone, Copy)]
 pub(crate) struct Tried {
     /// The miss of the one that came furthest.
@@ -260,7 +260,7 @@ pub(crate) struct Tried {
     count: usize,
     /// How many came as far.
     furthest: usize,
-    /// Whether those that are told together have several names.
+    /// Whether those that are reported together have several names.
     pub(crate) names_differ: bool,
 }
 

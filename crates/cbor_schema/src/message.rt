@@ -24,7 +24,7 @@ pub struct Misfit {
     pub others: Option<Others>,
 }
 
-/// Alternatives that came less far than the one that is told.
+/// Alternatives that came less far than the one that is reported.
 #[derive(Drop)]
 pub struct Others {
     /// How many there are.

@@ -128,7 +128,7 @@ impl<'a> Run<'a> {
         Ok(false)
     }
 
-    /// Whether the misfit that is told is inside an item.
+    /// Whether the reported misfit is inside an item.
     pub(crate) fn is_blamed(&self, index: usize) -> bool {
         let span = self.items.item(index).span;
         match self.blame.best {
