@@ -4,19 +4,25 @@
 use crate::messages::{label, say};
 use crate::status::Status;
 use cbor_bytes::{Extent, extent};
-use cbor_cddl::{Fault, FaultKind, Schema, position_of, source_of};
+use cbor_cddl::{Fault, FaultKind, Position, Schema, position_of, source_of};
 use cbor_places::Piece;
 use cbor_schema::{Checker, Misfit, Stop};
 use cborcat_arguments::Job;
 use std::alloc::{AllocError, Global};
 use std::fs;
 
+/// A file of `--cddl`: its name, and its part of the text.
+#[derive(Clone, Copy)]
+struct File<'a> {
+    name: &'a str,
+    begins: usize,
+    end: usize,
+}
+
 /// The files of `--cddl`, which are read as one text.
 #[derive(Drop)]
 struct Files<'a> {
-    names: Vec<&'a str>,
-    /// Where each begins in the text.
-    begins: Vec<usize>,
+    list: Vec<File<'a>>,
     text: String,
 }
 
@@ -34,10 +40,8 @@ pub struct Said {
     pub place: usize,
     /// What was wanted, and what is there.
     pub text: String,
-    /// The path to it, if that leads into a byte string.
-    pub path: Option<String>,
-    /// What else is known; empty for nothing.
-    pub more: String,
+    /// The path to that in the item, and what other alternatives there are; empty for nothing.
+    pub in_item: String,
 }
 
 /// Says that memory ran out.
@@ -47,30 +51,43 @@ fn no_memory(rt: &HostRuntime) -> Status {
 }
 
 impl<'a> Files<'a> {
-    /// Adds a file.
+    /// Adds a file, and a line feed behind it.
     fn add(&mut self, name: &'a str, text: &str) -> Result<(), AllocError> {
-        self.names.push(name)?;
-        self.begins.push(self.text.len())?;
+        let begins = self.text.len();
         self.text.push_str(text)?;
+        self.list.push(File {
+            name,
+            begins,
+            end: self.text.len(),
+        })?;
         self.text.push('\n')
     }
 
-    /// The file that has a byte of the text, and where it begins.
-    fn with(&self, place: usize) -> (&'a str, usize) {
-        let mut found = ("", 0);
-        for (name, begins) in self.names.iter().zip(self.begins.iter()) {
-            if *begins <= place {
-                found = (*name, *begins);
+    /// The file that has a byte of the text.
+    fn with(&self, place: usize) -> File<'a> {
+        let mut found = File {
+            name: "",
+            begins: 0,
+            end: self.text.len(),
+        };
+        for file in &self.list {
+            if file.begins <= place {
+                found = *file;
             }
         }
         found
     }
 
+    /// Where a byte of the text is in its file, whose end is the last place.
+    fn position(&self, place: usize) -> (&'a str, Position) {
+        let File { name, begins, end } = self.with(place);
+        let text = self.text.as_str().get(begins..end).unwrap_or("");
+        (name, position_of(text, place.saturating_sub(begins)))
+    }
+
     /// The name of the file that has a byte of the text, and the line.
     fn line(&self, alloc: Global, place: usize) -> Result<String, AllocError> {
-        let (name, begins) = self.with(place);
-        let text = self.text.as_str().get(begins..).unwrap_or("");
-        let position = position_of(text, place.saturating_sub(begins));
+        let (name, position) = self.position(place);
         format!(in alloc; "{}:{}", label(name), position.line)
     }
 
@@ -79,7 +96,7 @@ impl<'a> Files<'a> {
         let Ok(source) = source_of(rt.alloc(), &self.text) else {
             return no_memory(rt);
         };
-        let (name, begins) = self.with(fault.span.start);
+        let (name, position) = self.position(fault.span.start);
         let name = label(name);
         if fault.kind == FaultKind::Memory {
             return no_memory(rt);
@@ -92,8 +109,6 @@ impl<'a> Files<'a> {
             let _ = eprintln!(rt; "cborcat: {name}: no rule{blank}{rule} is there");
             return Status::Trouble;
         }
-        let text = self.text.as_str().get(begins..).unwrap_or("");
-        let position = position_of(text, fault.span.start.saturating_sub(begins));
         let (line, column) = (position.line, position.column);
         let said = fault.said(&source);
         let _ = eprintln!(rt; "cborcat: {name}:{line}:{column}: {said}");
@@ -105,8 +120,7 @@ impl<'a> Files<'a> {
 fn files_of<'a>(rt: &HostRuntime, job: &'a Job<'_>) -> Result<Files<'a>, Status> {
     let alloc = rt.alloc();
     let mut files = Files {
-        names: Vec::new(alloc),
-        begins: Vec::new(alloc),
+        list: Vec::new(alloc),
         text: String::new(alloc),
     };
     for name in &job.schemas {
@@ -168,17 +182,21 @@ impl Cddl<'_> {
         let mut text = String::new(alloc);
         let line = self.files.line(alloc, misfit.name_place)?;
         misfit.push_message(&mut text, &line)?;
-        let mut more = String::new(alloc);
-        if let Some(others) = &misfit.others {
-            let line = self.files.line(alloc, others.name_place)?;
-            others.push_message(&mut more, &line)?;
+        let mut in_item = String::new(alloc);
+        if !misfit.path.is_empty() {
+            write!(in_item, "at {}", misfit.path)?;
         }
-        let is_inside = misfit.is_inside;
+        if let Some(others) = &misfit.others {
+            if !in_item.is_empty() {
+                in_item.push_str("; ")?;
+            }
+            let line = self.files.line(alloc, others.name_place)?;
+            others.push_message(&mut in_item, &line)?;
+        }
         Ok(Said {
             place: at.saturating_add(misfit.place),
             text,
-            path: if is_inside { Some(misfit.path) } else { None },
-            more,
+            in_item,
         })
     }
 }

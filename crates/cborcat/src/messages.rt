@@ -167,39 +167,8 @@ pub fn report_byte(
     left: Piece,
     message: (usize, &str),
 ) -> Result<(), Error> {
-    let more = More {
-        path: None,
-        text: "",
-    };
-    report_byte_with(rt, place, left, message, more)
-}
-
-/// What is said of a byte behind the message.
-#[derive(Clone, Copy)]
-pub struct More<'a> {
-    /// The path, if it leads into a byte string.
-    pub path: Option<&'a str>,
-    /// What follows behind where the byte is in the item; empty for nothing.
-    pub text: &'a str,
-}
-
-/// Says the same, and more.
-pub fn report_byte_with(
-    rt: &HostRuntime,
-    place: &Place,
-    left: Piece,
-    message: (usize, &str),
-    more: More,
-) -> Result<(), Error> {
     let (at_fault, what) = message;
-    let mut words = match more.path {
-        Some(path) => format!(in rt.alloc(); "at {path}")?,
-        None => words_around(rt, place, left, at_fault)?,
-    };
-    if !more.text.is_empty() && !words.is_empty() {
-        words.push_str("; ")?;
-    }
-    words.push_str(more.text)?;
+    let words = words_around(rt, place, left, at_fault)?;
     say_byte(rt, place, left, at_fault, (what, &words));
     Ok(())
 }
@@ -225,7 +194,13 @@ fn say_where(rt: &HostRuntime, words: &str) {
 }
 
 /// Says what is wrong at one of the bytes that are left, and where in the item that is.
-fn say_byte(rt: &HostRuntime, place: &Place, left: Piece, at_fault: usize, words: (&str, &str)) {
+pub fn say_byte(
+    rt: &HostRuntime,
+    place: &Place,
+    left: Piece,
+    at_fault: usize,
+    words: (&str, &str),
+) {
     let (what, in_item) = words;
     let byte = left.number(at_fault);
     match place.digits(byte) {

@@ -2,7 +2,7 @@
 //! and of rules.
 
 use super::Conversion;
-use crate::messages::{More, label, report_byte, report_byte_with};
+use crate::messages::{label, report_byte, say_byte};
 use crate::status::Status;
 use cbor_grammar::Error;
 use cbor_inspect::two_byte_simple;
@@ -63,12 +63,8 @@ impl<'a> Conversion<'a> {
         match cddl.first_misfit(self.rt.alloc(), items) {
             Ok(None) => {}
             Ok(Some(said)) => {
-                let message = (said.place, said.text.as_str());
-                let more = More {
-                    path: said.path.as_deref(),
-                    text: &said.more,
-                };
-                report_byte_with(self.rt, self.place, items, message, more)?;
+                let words = (said.text.as_str(), said.in_item.as_str());
+                say_byte(self.rt, self.place, items, said.place, words);
                 self.broken = true;
                 self.ended(Status::Bad);
             }
