@@ -88,7 +88,7 @@ pub struct Conversion<'a> {
 impl<'a> Conversion<'a> {
     /// A conversion of an input that begins with these bytes.
     pub fn new(run: &'a mut Runner<'_>, place: &'a Place<'a>, first: Vec<u8>) -> Conversion<'a> {
-        let (rt, job, tables) = (run.rt, run.job, run.tables);
+        let (rt, job, tables, cddl) = (run.rt, run.job, run.tables, run.cddl);
         let came = first.len();
         let mut first = first;
         let skipped = job.offset.min(came);
@@ -102,7 +102,7 @@ impl<'a> Conversion<'a> {
             page: Page::new(rt.alloc()),
             place,
             tables,
-            cddl: run.cddl,
+            cddl,
             status: Status::Fine,
             stream: Stream::new(first),
             changes: Changes::new(rt, job, place, tables),
