@@ -1,4 +1,5 @@
-//! The grammar: types, groups, entries and rules (RFC 8610, appendix B, with RFC 9682).
+//! Parses the types, groups, entries and rules of a CDDL text (RFC 8610, appendix B, with RFC
+//! 9682).
 
 use crate::ast::{Ast, Expr, Number, RuleText};
 use crate::fault::{Fault, FaultKind};

@@ -1,4 +1,5 @@
-//! Where types have to stand, and no groups.
+//! Checks that types and groups of CDDL stand where the grammar allows them: no group where a type
+//! is needed.
 
 use crate::fault::{Fault, FaultKind};
 use crate::load::Loader;

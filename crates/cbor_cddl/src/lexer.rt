@@ -1,4 +1,4 @@
-//! The tokens of a CDDL text.
+//! Splits a CDDL text into tokens, such as names, numbers, strings and brackets.
 
 use crate::fault::{Fault, FaultKind};
 use crate::schema::Span;

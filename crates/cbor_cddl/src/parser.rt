@@ -1,5 +1,5 @@
-//! `Parser`: where the reader of a CDDL text is, and what it has read. The grammar is in
-//! `grammar.rt`.
+//! `Parser`: the place of the reader in a CDDL text, and what it has parsed so far. The grammar is
+//! in `grammar.rt`.
 
 use crate::ast::{Ast, Expr};
 use crate::fault::{Fault, FaultKind};

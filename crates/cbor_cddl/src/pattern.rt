@@ -1,4 +1,5 @@
-//! What XSD allows in a pattern of `.regexp`, and the library for regular expressions does not.
+//! Finds what XSD allows in a pattern of `.regexp` and the kit's library for regular expressions
+//! does not.
 
 /// A class of characters of XSD with this letter.
 fn class_of(letter: u8) -> Option<&'static str> {

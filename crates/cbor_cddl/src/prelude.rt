@@ -1,4 +1,4 @@
-//! The prelude, which stands behind each text (RFC 8610, appendix D).
+//! The text of CDDL's prelude, whose rules each CDDL text can use (RFC 8610, appendix D).
 
 /// The rules that are always there.
 pub(crate) const PRELUDE: &str = "

@@ -1,4 +1,5 @@
-//! Ranks of rules: no rule leads back to itself at the same item, or at the same place of a group.
+//! Ranks the rules, or finds one that leads back to itself at the same item or at the same place of
+//! a group.
 
 use crate::fault::{Fault, FaultKind};
 use crate::load::Loader;

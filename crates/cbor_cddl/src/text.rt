@@ -1,4 +1,4 @@
-//! Loads a CDDL text.
+//! `Schema::load`: parses a CDDL text, resolves its names and checks it.
 
 use crate::fault::Fault;
 use crate::grammar::parse;

@@ -1,4 +1,4 @@
-//! The members of two maps, matched by their keys.
+//! Matches the members of two maps by their keys.
 
 use crate::level::{Next, key_of};
 use cbor_bytes::head::read_head;

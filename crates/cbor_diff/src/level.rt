@@ -1,5 +1,5 @@
-//! A pair of containers that are compared, and what to compare next in them: members of arrays by
-//! their index, values of maps by their key.
+//! A pair of containers that are compared, and which of their members are compared next: members of
+//! arrays by their index, values of maps by their key.
 
 use cbor_bytes::{Extent, extent};
 use cbor_paths::{At, Members};

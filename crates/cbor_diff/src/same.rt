@@ -1,4 +1,4 @@
-//! Whether items are the same: byte for byte, or in their core deterministic encodings.
+//! Compares items: byte for byte, or by their core deterministic encodings.
 ghost use Rattle.std.specs.Prelude.{◌≡◌, ◌↔◌, ℕ, true, false, List, None, IfOk, IfSome};
 ghost use Rattle.cbor_rules.specs.declared.rules.TheConstants.Rules.{CORE};
 ghost use Rattle.cbor_reencode.specs.Reencoded.{IsReencoded};

@@ -1,4 +1,4 @@
-//! The families of network addresses in notes of a dump (RFC 9164).
+//! `Family`: IPv4 or IPv6, for the notes of a dump on network addresses (RFC 9164).
 
 /// A family of network addresses.
 #[derive(Clone, Copy)]

@@ -1,4 +1,4 @@
-//! Writes the notes of a dump, which are lines without digits.
+//! Writes the notes of a dump: lines of comments alone, below the value that they explain.
 ghost use Rattle.std.specs.Prelude.{◌<◌, ◌∷◌, [], OnOk};
 ghost use Rattle.cbor_dump.specs.Dump as spec;
 ghost use Rattle.cbor_dump.specs.mirror.NotesView.{note_view};

@@ -1,4 +1,5 @@
-//! The text of a dump that is being written, and its layout.
+//! `Writer`: the text of a dump as it grows, the width of its column of digits, and what stands
+//! before each of its lines.
 ghost use Rattle.std.specs.Prelude.{◌≡◌, ◌<◌, ◌*◌, ◌++◌, [], IfOk, OnOk};
 ghost use Rattle.std.specs.String.{string_bytes};
 ghost use Rattle.cbor_notes.specs.Layout.{gap};

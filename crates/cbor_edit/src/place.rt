@@ -1,5 +1,5 @@
-//! `Place` and `Change`: bytes of an item, the byte strings that they are in, and what takes their
-//! place.
+//! `Place`: bytes of an item, and the byte strings that they are in. `Change`: a place, and the
+//! bytes that are put there.
 ghost use Rattle.std.specs.Prelude.{◌≡◌, ℕ, ◌≤◌, ◌++◌, List, length, IfOk, IfSome};
 ghost use Rattle.cbor_edit.specs.Edited.{changed};
 

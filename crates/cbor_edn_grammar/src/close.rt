@@ -1,4 +1,4 @@
-//! The type of what may close a list of EDN. Error messages name it too.
+//! `Close`: what closes a list of EDN, such as `]`, and the messages that name it.
 ghost use Rattle.std.specs.Prelude.{◌≡◌};
 ghost use Rattle.cbor_edn_grammar.specs.Expectations.{missing};
 

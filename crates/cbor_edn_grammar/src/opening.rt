@@ -1,4 +1,4 @@
-//! The type of what a piece of an EDN string may begin with.
+//! `Opening`: what a piece of an EDN string begins with, such as a quote or `h'`.
 ghost use Rattle.std.specs.Prelude.{◌≡◌};
 ghost use Rattle.cbor_edn_grammar.specs.Strings.{kind_of};
 ghost use Rattle.cbor_edn_grammar.specs.Digits.{slashes_in};

@@ -1,5 +1,5 @@
-//! Reads numbers, simple values, and what follows the prefixes `float'`, `dt'`, `DT'`, `ip'` and
-//! `IP'`.
+//! Reads numbers and simple values of EDN, and what follows the prefixes `float'`, `dt'`, `DT'`,
+//! `ip'` and `IP'`, and appends the bytes of each item.
 ghost use Rattle.std.specs.Prelude.{◌≡◌, ◌<◌, ◌≤◌, length, option_map, IfOk, IfSome};
 ghost use Rattle.cbor_grammar.specs.WellFormed.{levels_left};
 ghost use Rattle.std.specs.Prelude.{Some};

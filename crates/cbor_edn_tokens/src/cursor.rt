@@ -1,4 +1,5 @@
-//! The text that is still to be read, as a cursor, and functions that take tokens from its front.
+//! `Cursor`: the part of an EDN text that is still to be read. Functions take tokens from its front
+//! and return them.
 //!
 //! A function that reads at a cursor moves it past what it read. After an error, the cursor is at
 //! the place of the error.

@@ -1,4 +1,5 @@
-//! Reads quoted text of EDN, with JSON's escapes.
+//! Reads text of EDN between quotes, with the escapes of JSON, as the characters that it stands
+//! for.
 ghost use Rattle.std.specs.Prelude.{◌≡◌, ◌<◌, ◌≤◌, ◌^◌, ◌++◌, true, length, take, drop, IfOk};
 ghost use Rattle.std.specs.Prelude.{IfSome};
 ghost use Rattle.std.specs.Prelude.{option_map};

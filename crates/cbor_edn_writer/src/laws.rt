@@ -1,4 +1,5 @@
-//! Laws of written EDN, as contracts of functions that nobody calls.
+//! The law that EDN, written with one item on each line, is read back as the same bytes. No code
+//! calls this function.
 ghost use Rattle.std.specs.Prelude.{◌≡◌, ℕ, List, Some};
 ghost use Rattle.std.specs.List.{AllByRecursion};
 ghost use Rattle.cbor_grammar.specs.Item.{Item, items_of};

@@ -1,5 +1,5 @@
-//! Writes an item as a part of a container whose text somebody else writes, as `--partial` does for
-//! a truncated item.
+//! Writes an item in EDN as one part of a container whose brackets and commas the caller writes, as
+//! `--partial` does for a truncated item.
 
 ghost use Rattle.std.specs.Prelude.{◌≤◌, ◌*◌};
 ghost use Rattle.cbor_grammar.specs.NotationText.{indent_of};

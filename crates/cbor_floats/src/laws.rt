@@ -1,4 +1,6 @@
-//! Laws of floats as numbers. Each is the contract of a function that no code calls.
+//! Laws of floats as numbers: a number has one encoding in each width, one shortest and one
+//! preferred encoding; a decimal text stands for one number; and the text of a float reads back as
+//! that float. No code calls these functions.
 ghost use Rattle.std.specs.Prelude.{◌≡◌, ℕ, List};
 ghost use Rattle.std.specs.Float.Ieee.{Float};
 ghost use Rattle.cbor_floats.specs.Decimal.{IsNumber, IsReadAs};

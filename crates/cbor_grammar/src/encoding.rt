@@ -1,4 +1,4 @@
-//! `Encoding`: the notation for the bytes of a byte string, base 16 or base 64.
+//! `Encoding`: the base in which notation writes the bytes of a byte string, 16 or 64.
 
 /// How bytes are written between quotes (RFC 4648).
 #[derive(Clone, Copy)]

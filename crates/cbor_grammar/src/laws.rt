@@ -1,5 +1,6 @@
-//! Laws of the definitions in `specs/`. They hold for all bytes: for an item, and for truncated and
-//! malformed bytes. No code calls these functions.
+//! Laws of the definitions in `specs/`: any bytes encode an item, are truncated or are malformed,
+//! and only one of these; which items a byte string embeds; and how many turns reading takes. No
+//! code calls these functions.
 ghost use Rattle.std.specs.Prelude.{◌≡◌, ℕ, ◌+◌, ◌<◌, ◌≤◌, List, slice_index};
 ghost use Rattle.cbor_grammar.specs.WellFormed.{deepest};
 ghost use Rattle.cbor_grammar.specs.Embedded.{EmbedsExactly, RejectsExactly};

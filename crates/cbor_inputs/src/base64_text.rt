@@ -1,5 +1,5 @@
-//! Base 64 as people paste it: in either alphabet, with padding or without, with blanks and line
-//! ends between the digits.
+//! Decodes base 64 as people paste it: in either alphabet, with padding or without, with blanks and
+//! line ends between the digits.
 ghost use Rattle.std.specs.Prelude.{◌≡◌, IfOk, IfSome, IfNone, List, ℕ};
 ghost use Rattle.cbor_edn_grammar.specs.Digits.{is_padded, to_standard, to_url_safe};
 ghost use Rattle.cbor_inputs.specs.Base64.{is_blank, digits_of, in_one_alphabet, Encodes};

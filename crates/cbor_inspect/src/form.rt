@@ -1,4 +1,5 @@
-//! The forms in which a viewer writes items, and the style of their texts: layout, widths, notes.
+//! `Form` and `Style`: the form in which a viewer writes items, and the layout, widths and notes of
+//! their texts.
 ghost use Rattle.std.specs.Prelude.{◌≡◌};
 ghost use Rattle.cbor_inspect.specs.Forms.{edn_style};
 

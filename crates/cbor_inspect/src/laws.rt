@@ -1,4 +1,5 @@
-//! Laws of what viewers show, as contracts of a function that nobody calls.
+//! The law that items shown as EDN, one after the other, are read back as the same items. No code
+//! calls this function.
 ghost use Rattle.std.specs.Prelude.{◌≡◌, ◌++◌, ℕ, ◌<◌, List, [], Some};
 ghost use Rattle.std.specs.List.{AllByRecursion};
 ghost use Rattle.cbor_grammar.specs.Item.{Item, items_of};

@@ -1,5 +1,5 @@
-//! Why bytes are not written as JSON: they are no item, two keys become the same, or JSON does not
-//! keep something.
+//! `JsonError`: why bytes are not written as JSON: they are no item, two keys become the same, or
+//! JSON does not keep something.
 
 use cbor_grammar::Error;
 use std::alloc::AllocError;

@@ -1,4 +1,4 @@
-//! Finds the first thing from the left that JSON does not keep.
+//! Finds the first value from the left that JSON does not keep, such as a NaN.
 #![tactic(auto)]
 
 ghost use Rattle.std.specs.Prelude.{◌≡◌, ◌+◌, ◌≤◌, ℕ, List, IfOk, IfErr, IfSome, IfNone, Ok};

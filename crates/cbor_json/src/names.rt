@@ -1,4 +1,5 @@
-//! The names of an open object, by where they stand in its text, and which two of them are equal.
+//! The names of the members of an open JSON object, by their places in its text, and which two of
+//! them are equal.
 #![tactic(auto)]
 
 ghost use Rattle.std.specs.Prelude.{◌≡◌, ◌≢◌, ℕ, ◌<◌, List, length, map, IsTrue, IsSorted};

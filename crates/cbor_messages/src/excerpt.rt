@@ -1,4 +1,5 @@
-//! The part of an input that a message shows, with a mark below what is wrong. It takes no memory.
+//! Writes the part of an input that a message shows, with a mark below what is wrong. It takes no
+//! memory.
 
 use arrayvec::ArrayString;
 use std::fmt;

@@ -1,5 +1,5 @@
-//! The message for a path that leads nowhere: at which step, and what is there, such as the first
-//! keys of the map.
+//! Writes the message for a path that leads nowhere: at which step, and what is there, such as the
+//! first keys of the map.
 
 use crate::way::way_to;
 use cbor_bytes::{Extent, extent};

@@ -1,5 +1,5 @@
-//! The message for the first violation of a set of rules, and for items that cannot be re-encoded
-//! by it.
+//! Writes the message for the first violation of a set of rules, and for items that cannot be
+//! re-encoded by it.
 
 use crate::kind::{kind_number, kind_text};
 use crate::widths::{major_of, push_integer_float, push_long_float, push_long_head};

@@ -1,4 +1,4 @@
-//! The path to an item as it is read without names: with `@` for the item in a byte string.
+//! Finds the path to an item as it is read without names, with `@` for the item in a byte string.
 //! `lost.rt` uses it.
 
 use cbor_bytes::{Extent, extent};

@@ -1,5 +1,5 @@
-//! The words for violations of widths: heads and floats that are longer than they have to be, and
-//! floats that are integers.
+//! Writes the words for violations of widths: heads and floats that are longer than they have to
+//! be, and floats that are integers.
 
 use cbor_floats::{EncodedFloat, push_number};
 use cbor_grammar::IntegerWidth;

@@ -1,5 +1,5 @@
-//! The context of an item in a notation text. It decides how the item is written, besides the item
-//! itself.
+//! `NotationContext`: the level, the layout and, for byte strings, the base that an item is written
+//! with. Tags around an item change it.
 ghost use Rattle.std.specs.Prelude.{◌≡◌, ◌+◌, ◌≤◌};
 ghost use Rattle.cbor_grammar.specs.declared.encoding.Encoding.TheVariants.{Base16};
 ghost use Rattle.cbor_grammar.specs.WellFormed.{deepest};

@@ -1,5 +1,5 @@
-//! Laws of the definitions in `specs/`, whatever the code does: what holds for all days, dates and
-//! texts. Nothing calls these functions.
+//! Laws of dates: day numbers, dates, moments and their texts agree with each other and with the
+//! kit's `jiff`. No code calls these functions.
 ghost use Rattle.std.specs.Prelude.{◌≡◌, ℕ, ◌<◌, ℤ, pos, List, IfSome};
 ghost use Rattle.std.specs.Prelude.{IsSome};
 ghost use Rattle.std.specs.Int.{int_div_euclid};

@@ -1,4 +1,4 @@
-//! Lists the constant pieces that lines are made of.
+//! `Mark`: the constant pieces of HTML that the lines of a page are made of.
 ghost use Rattle.std.specs.Prelude.{◌≡◌};
 ghost use Rattle.cbor_page.specs.Markup.{mark_text};
 

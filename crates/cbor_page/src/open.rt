@@ -1,4 +1,4 @@
-//! Says which items are open where a page is written, and finds the steps of paths to their parts.
+//! `Open`: an item that is open while a page is written. Finds the steps of paths to its parts.
 
 use crate::mark::Mark;
 use crate::token::Closer;

@@ -1,4 +1,4 @@
-//! Collects the pieces that are to be written of a line, and the data in them.
+//! `Plan`: the pieces of a line of the page in the order in which they are written, and their data.
 
 use crate::mark::Mark;
 use crate::source::Event;

@@ -1,8 +1,8 @@
-//! Writes lines piece by piece: constants, and the parts of a text and of bytes, one after the
-//! other.
+//! Writes the HTML of a line of the page piece by piece: constants, parts of the text in EDN, and
+//! parts of the bytes.
 //!
-//! Whatever pieces are asked for, what is written shows the text and the bytes, each byte of them
-//! once and in order: a piece ends at most where they do, and begins where the last one ended.
+//! Whatever pieces the caller asks for, the whole text and all bytes are written, once and in
+//! order: each piece begins where the last one ended, and ends within the text or the bytes.
 ghost use Rattle.std.specs.Prelude.{◌≡◌, ◌≤◌, length, IfOk, OnOk};
 ghost use Rattle.cbor_page.specs.Written.{Writes, IsWithin, IsAll};
 

@@ -1,5 +1,5 @@
-//! Compares a key in a path with a key of a map, and reads a key as the index of an array or as a
-//! name.
+//! Compares a key in a path with a key of a map, and reads a step of a path as the index of an
+//! array or as a name.
 
 use cbor_bytes::head::read_head;
 use cbor_bytes::strings::split_at;

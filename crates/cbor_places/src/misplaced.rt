@@ -1,5 +1,5 @@
-//! What is wrong with bytes that are malformed, in words: the text of the error or, for
-//! `Error::Head`, why the head at their end cannot be there.
+//! Writes why bytes are malformed: the text of the error or, for `Error::Head`, why the head at
+//! their end cannot be there.
 
 use crate::around::{Around, LONGEST};
 use crate::nouns::noun_of_open;

@@ -1,4 +1,4 @@
-//! The errors of re-encoding.
+//! `ReencodeError`: why bytes cannot be re-encoded by rules.
 ghost use Rattle.std.specs.Prelude.{◌≡◌};
 ghost use Rattle.cbor_reencode.specs.declared.error.ReencodeError.TheVariants.{Memory};
 

@@ -1,4 +1,5 @@
-//! Which rule one head breaks, by its number, its bits or the bytes after it.
+//! Finds the rule that a single head breaks, if any: by its argument, its bits or the bytes after
+//! it.
 ghost use Rattle.std.specs.Prelude.{◌≡◌, ℕ, List, None, true};
 ghost use Rattle.cbor_floats.specs.Preferred.{FitsWidth};
 ghost use Rattle.cbor_grammar.specs.Reading.{read_head};

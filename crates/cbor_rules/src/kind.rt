@@ -1,4 +1,4 @@
-//! `Violation`: where an encoding breaks a rule, and which rule it breaks how.
+//! `Violation`: the place where an encoding breaks a rule, and which rule it breaks there.
 use cbor_floats::EncodedFloat;
 use cbor_grammar::{Error, IntegerWidth};
 

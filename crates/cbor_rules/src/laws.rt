@@ -1,4 +1,5 @@
-//! Laws of rules and violations, as contracts of functions that nobody calls.
+//! Laws of rules: under deterministic rules, items have one encoding; and each set with a name has
+//! the rules that its definition says. No code calls these functions.
 ghost use Rattle.std.specs.Prelude.{◌≡◌, ℕ, List};
 ghost use Rattle.cbor_grammar.specs.Item.{Items};
 ghost use Rattle.cbor_rules.specs.declared.rules.Rules.{Rules};

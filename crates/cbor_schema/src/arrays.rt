@@ -1,4 +1,4 @@
-//! What a group takes of the members of an array: ordered choice, greedy occurrences.
+//! Finds which members of an array a group takes: ordered choice, greedy occurrences.
 
 use crate::blame::{Found, Want};
 use crate::run::Run;

@@ -1,4 +1,4 @@
-//! Whether an item fits a type with a control.
+//! Checks whether an item fits a type with a control, such as `.size` or `.cbor`.
 
 use crate::blame::{Found, Want};
 use crate::items::{Item, Kind};

@@ -1,4 +1,4 @@
-//! `Items`: an item with all its parts, in a vector, as the matcher goes over them.
+//! `Items`: an item with all its parts, read from bytes into vectors, for the matcher.
 
 use crate::stop::Stop;
 use cbor_bytes::head::read_head;

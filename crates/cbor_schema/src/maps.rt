@@ -1,4 +1,4 @@
-//! What a group takes of the pairs of a map: ordered choice, greedy occurrences, and cuts.
+//! Finds which pairs of a map a group takes: ordered choice, greedy occurrences, and cuts.
 
 use crate::blame::{Found, Want};
 use crate::items::{Item, Kind};

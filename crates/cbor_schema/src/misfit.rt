@@ -1,4 +1,4 @@
-//! Why an item does not fit, in words: the parts of a [`Misfit`].
+//! Writes why an item does not fit, in words: the parts of a [`Misfit`].
 
 use crate::blame::{Best, Found, Miss, Want};
 use crate::items::Kind;

@@ -1,4 +1,5 @@
-//! The path to a misfit: through arrays and maps, and on in the byte strings that hold items.
+//! Writes the path to a misfit: through arrays and maps, and on inside the byte strings that hold
+//! items.
 
 use crate::run::Run;
 use cbor_bytes::{Extent, extent};

@@ -1,4 +1,4 @@
-//! Patterns: `.regexp`, as XSD has regular expressions, and `.pcre`.
+//! Compiles the patterns of `.regexp`, as XSD has regular expressions, and of `.pcre`.
 
 use cbor_cddl::{Fault, FaultKind, Node, Schema, Span};
 use regex::{Error, Regex};

@@ -1,5 +1,5 @@
-//! `Run`: one item that is matched. Types are in `types.rt`, controls in `controls.rt`, groups in
-//! `arrays.rt` and `maps.rt`.
+//! `Run`: the state while one item is matched: what it was compared with, and the misfit to report.
+//! Types are in `types.rt`, controls in `controls.rt`, groups in `arrays.rt` and `maps.rt`.
 
 use crate::blame::{Blame, Found, Miss, Want};
 use crate::items::{Item, Items};

@@ -1,4 +1,4 @@
-//! Whether an item fits a type.
+//! Checks whether an item fits a type.
 
 use crate::blame::{Found, LessFar, Tried, Want};
 use crate::items::{Item, Kind};

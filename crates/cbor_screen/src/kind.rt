@@ -1,4 +1,5 @@
-//! The kinds of tokens, and the escape sequences that begin and end the colour of each.
+//! `Kind`: what a token of a shown text is, such as a key or a comment, and the escape sequences of
+//! its colour.
 ghost use Rattle.std.specs.Prelude.{◌≡◌};
 ghost use Rattle.cbor_screen.specs.Colored.{start_of, end_of};
 

@@ -1,5 +1,5 @@
-//! Where a string between quotes, or a comment, ends in a line. The tokens of `token.rt` and the
-//! cuts of `elide.rt` use it.
+//! Finds where a string between quotes, or a comment, ends in a line. `token.rt` and `elide.rt` use
+//! it.
 ghost use Rattle.std.specs.Prelude.{◌≡◌, ◌+◌, ◌≤◌, length};
 
 /// The byte at a place, or 0 past the end.

@@ -1,5 +1,5 @@
-//! What is counted of the values at one path: how many there are, their bytes and kinds, and the
-//! bounds of their numbers and lengths.
+//! `Entry`: what is counted of the values at one path: how many there are, their bytes and kinds,
+//! and the least and greatest number and length.
 
 use cbor_floats::{EncodedFloat, push_number};
 use cbor_grammar::argument::Argument;

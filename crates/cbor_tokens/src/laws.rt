@@ -1,4 +1,5 @@
-//! Laws of the definitions of tokens and digits alone. No code calls these functions.
+//! Laws of base 64: its alphabets are those of RFC 4648, and digits decode to bytes if and only if
+//! they encode these bytes. No code calls these functions.
 ghost use Rattle.std.specs.Prelude.{◌≡◌, ℕ, ◌++◌, Bool, true, List, Some};
 ghost use Rattle.std.specs.Prelude.{codes};
 ghost use Rattle.std.specs.List.{range_with_len};

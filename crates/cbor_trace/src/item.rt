@@ -1,4 +1,4 @@
-//! Finds the head of an item, and where the item ends.
+//! Finds the head of the item at a place, and the place after the item.
 ghost use Rattle.std.specs.Prelude.{◌≡◌, ℕ, ◌≤◌, IfSome, Some};
 ghost use Rattle.cbor_grammar.specs.declared.head.ItemHead.{ItemHead};
 ghost use Rattle.cbor_trace.specs.Around.{EndsAt, IsHeadAt};

@@ -1,4 +1,5 @@
-//! Laws of what is open at a byte. Each is the contract of a function that no code calls.
+//! Laws of the containers that are open at a byte: before the part with the byte stand the
+//! container's head and whole parts. No code calls these functions.
 ghost use Rattle.std.specs.Prelude.{◌≡◌, ◌↔◌, ℕ, ◌<◌, ◌≤◌, List, ◌++◌, drop};
 ghost use Rattle.std.specs.Prelude.{slice_index};
 ghost use Rattle.cbor_grammar.specs.Refused.{SpelledParts, Next, Inside, NoBreakAt};

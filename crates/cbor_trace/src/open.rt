@@ -1,4 +1,5 @@
-//! `Open`: a container that is open before one of its parts.
+//! `Open`: a container that is open before one of its parts: which part it is, and how many the
+//! container has.
 ghost use Rattle.std.specs.Prelude.{◌≡◌, ◌↔◌, ◌<◌, ◌^◌, IsTrue};
 ghost use Rattle.cbor_trace.specs.Around.{parts_before, GoesOn};
 ghost use Rattle.cbor_trace.specs.mirror.Steps.{opened_by, next_of};

@@ -1,4 +1,5 @@
-//! Finds the child of a container that contains a byte.
+//! `part_at` finds the child of a container that contains a byte. `Spot` is where an item begins,
+//! and `Part` such a child.
 ghost use Rattle.std.specs.Prelude.{◌≡◌, ℕ, ◌+◌, ◌<◌, ◌≤◌, List, length, IfSome, IfNone, Ok, Some};
 ghost use Rattle.cbor_grammar.specs.Item.{Item};
 ghost use Rattle.cbor_grammar.specs.Reading.{read_head, read_item};

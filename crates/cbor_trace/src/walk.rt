@@ -1,4 +1,4 @@
-//! Finds the innermost item that contains a byte.
+//! Finds the innermost item that contains a byte, and returns its start and its level.
 ghost use Rattle.std.specs.Prelude.{◌≡◌, ℕ, ◌<◌, ◌≤◌, List, length, drop};
 ghost use Rattle.cbor_grammar.specs.Item.{Item};
 ghost use Rattle.cbor_grammar.specs.Facts.{BeginsWithItem, IsCut, HasFault};

@@ -1,5 +1,5 @@
-//! Laws of the definitions in `specs/`, whatever the code does: which output the filter has for
-//! given bytes. Nothing calls these functions.
+//! The law that the filter has one output for given bytes, and that the output of the first items
+//! is the beginning of it. No code calls this function.
 ghost use Rattle.std.specs.Prelude.{◌≡◌, ℕ, List, ◌++◌};
 ghost use Rattle.cbor_grammar.specs.declared.error.Error.{Error};
 ghost use Rattle.cbor_diag.specs.declared.conversion.form.To.{To};

@@ -1,5 +1,5 @@
-//! Items that are checked by CDDL: the files of `--cddl`, and what is said of an item that does not
-//! fit them.
+//! `--cddl`: reads the files with rules, checks each item, and writes the message for one that does
+//! not fit.
 
 use crate::messages::{label, say};
 use crate::status::Status;

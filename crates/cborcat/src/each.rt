@@ -1,5 +1,5 @@
-//! Shows items one by one, for the outputs that need the bytes of each item: `ShowsItem` and
-//! `show_each`.
+//! `show_each` shows items one by one. The trait `ShowsItem` is for outputs that need the bytes of
+//! each item.
 
 use crate::status::Status;
 use cbor_grammar::Error;

@@ -1,5 +1,4 @@
-//! `--encode`: re-encodes each item by rules before it is shown, or says why it has no such
-//! encoding.
+//! `--encode`: re-encodes each item by rules before it is shown, or reports why that is impossible.
 
 use crate::dumps::Dumps;
 use crate::each::ShowsItem;

@@ -1,5 +1,5 @@
-//! What `cbor_inspect` is asked to show, by the arguments: the style, the names, the path, and
-//! whether one item alone.
+//! Turns the arguments into what `cbor_inspect` is asked to show: the style, the names, the path,
+//! and whether one item alone.
 
 use crate::naming::Tables;
 use cbor_grammar::Error;

@@ -1,5 +1,7 @@
-//! Rows of CDDL: `cddl_fits` and `cddl_message`, whether items fit a text and what is said of those
-//! that do not, and `cddl_fault`, what is wrong with a text.
+//! Answers the rows of the vectors on CDDL.
+//!
+//! `cddl_fits` and `cddl_message`, whether items fit a text and what is said of those that do not,
+//! and `cddl_fault`, what is wrong with a text.
 
 use crate::row::Row;
 use cbor_cddl::{Fault, Schema, position_of, source_of};

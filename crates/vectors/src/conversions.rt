@@ -1,5 +1,7 @@
-//! One item from a form to another: `convert FROM TO`, where FROM is `bytes`, `hex` or `diag`, and
-//! TO is `bytes`, `hex`, `diag` or `pretty`. An output in bytes is shown in hex digits.
+//! Answers the rows of the vectors on conversions of one form to another.
+//!
+//! `convert FROM TO`, where FROM is `bytes`, `hex` or `diag`, and TO is `bytes`, `hex`, `diag` or
+//! `pretty`. An output in bytes is shown in hex digits.
 
 use crate::row::Row;
 use crate::texts::{hex_text, lines_text, refused_text, text_of};

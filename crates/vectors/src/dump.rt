@@ -1,7 +1,9 @@
-//! Dumps: `bytes_to_hex`, `hex_to_hex` and `diag_to_hex` give the dump of an item, or the name of
-//! the error. A word behind the name says what is given of the dump: `first`, its first line;
-//! `end`, as much of its end as the row has; `lines`, how many lines it has, if their comments
-//! stand in one column; `count WORDS`, how often it has these words.
+//! Answers the rows of the vectors on dumps.
+//!
+//! `bytes_to_hex`, `hex_to_hex` and `diag_to_hex` give the dump of an item, or the name of the
+//! error. A word behind the name says what is given of the dump: `first`, its first line; `end`, as
+//! much of its end as the row has; `lines`, how many lines it has, if their comments stand in one
+//! column; `count WORDS`, how often it has these words.
 //!
 //! `bytes_to_note` and `diag_to_note` give its lines without digits: the notes, and the `""` of
 //! empty strings. A line is indented as in the comments, and one deeper than the outermost item is

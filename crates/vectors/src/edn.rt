@@ -1,4 +1,4 @@
-//! EDN, the notation that people write.
+//! Answers the rows of the vectors on EDN.
 //!
 //! - `edn_to_bytes` gives the bytes of the items of a text, or the place of its error and what is
 //!   wrong there; `parse_edn` gives those of one item.

@@ -1,4 +1,4 @@
-//! Floats of 16, 32 and 64 bits, each as CBOR encodes it.
+//! Answers the rows of the vectors on floats.
 //!
 //! - `parse_number` gives the number of a decimal text in its shortest width, `parse_in_width
 //!   WIDTH` in 16, 32 or 64 bits, and `nearest_half` the half that is nearest to it; or each an

@@ -1,7 +1,10 @@
-//! Hex with comments: `parse_hex` gives the fields of an item, `hex_to_bytes` its encoding and
-//! `hex_bytes` the bytes that the digits are, or the name of the error; `hex_fault` an error and
-//! its place; `hex_place N` where the digits of byte N stand. `utf8_fault` gives where bytes stop
-//! being UTF-8.
+//! Answers the rows of the vectors on hex with comments.
+//!
+//! - `parse_hex` gives the fields of an item, `hex_to_bytes` its encoding, and `hex_bytes` the
+//!   bytes that the digits stand for, or the name of the error.
+//! - `hex_fault` gives an error and its place.
+//! - `hex_place N` gives the place of the digits of byte N.
+//! - `utf8_fault` gives the place where bytes stop being UTF-8.
 
 use crate::bytes::{bytes_text, fault_text, item_text, place_text};
 use crate::row::Row;

@@ -1,6 +1,8 @@
-//! An item in each form: `item` gives a line `edn` with its EDN, a line `json` with its JSON, a
-//! line `core` with its core deterministic encoding in hex, and then its dump. In place of a text
-//! that the item does not have stands `none`.
+//! Answers the rows of the vectors on an item in each form.
+//!
+//! `item` gives a line `edn` with its EDN, a line `json` with its JSON, a line `core` with its core
+//! deterministic encoding in hex, and then its dump. In place of a text that the item does not have
+//! stands `none`.
 
 use crate::row::Row;
 use crate::texts::hex_text;

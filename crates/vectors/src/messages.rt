@@ -1,3 +1,5 @@
+//! Answers the rows of the vectors on messages.
+//!
 //! Messages on items that begin at byte 10 of an input: `first_violation SET`, `not_encoded SET`,
 //! `not_json`, `not_json strict`, `lost_words PATH`. Lines of an input with a mark below a place:
 //! `excerpt_of_bytes PLACE`, `excerpt_of_text PLACE MARK`; and `position_of PLACE`, the line and

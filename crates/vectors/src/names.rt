@@ -1,4 +1,4 @@
-//! Names of members, keys, tags and values.
+//! Answers the rows of the vectors on names.
 //!
 //! - `names TYPE`: a line for each name in an item, with the place of what has it, by the tables of
 //!   `known_names`. The type of the item is left out if its tag says it.

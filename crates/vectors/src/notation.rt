@@ -1,6 +1,8 @@
-//! Diagnostic notation: `bytes_to_diag`, `hex_to_diag` and `diag_to_diag` give the text of an item,
-//! and so do `bytes_to_diag_pretty` and its like; `diag_to_bytes` gives its bytes, and `parse_diag`
-//! its fields, or the name of the error. `diag_fault` gives an error and its place.
+//! Answers the rows of the vectors on diagnostic notation.
+//!
+//! `bytes_to_diag`, `hex_to_diag` and `diag_to_diag` give the text of an item, and so do
+//! `bytes_to_diag_pretty` and its like; `diag_to_bytes` gives its bytes, and `parse_diag` its
+//! fields, or the name of the error. `diag_fault` gives an error and its place.
 //! `push_bytes_to_diag` and its like append to `before:`, and a line says what they return.
 
 use crate::bytes::{bytes_text, fault_text, item_text, shown_text};

@@ -1,3 +1,5 @@
+//! Answers the rows of the vectors on texts of comments.
+//!
 //! The calls of `cbor_notes`, by their names. Numbers are decimal; what is bytes is hex. `none`
 //! says that a call found nothing.
 //!

@@ -1,3 +1,5 @@
+//! Answers the rows of the vectors on paths.
+//!
 //! The parts that a path leads to, in EDN, a line each: `show_items PATH`. The result is `lost` and
 //! the number of bytes of the item if the path leads to none.
 

@@ -1,3 +1,5 @@
+//! Answers the rows of the vectors on places in an item.
+//!
 //! Words on places in an item that begins at byte 10 of an input: `words` and `cut_words` on the
 //! end of the bytes, `fault_words`, `words PLACE` on a place in a whole item. Of items from byte 10
 //! on: `lines_at BYTE` and `leaves`, also with `embedded`, and `leaves places`. EDN of a truncated

@@ -1,5 +1,5 @@
-//! Prints each row of a file whose result differs, with that result, and how many rows the file
-//! has.
+//! Prints each row of a file of vectors whose result differs from the expected one, and counts the
+//! rows of the file.
 
 use crate::row::Row;
 use std::io;

@@ -1,3 +1,5 @@
+//! Answers the rows of the vectors on what a screen shows.
+//!
 //! What a screen shows of EDN and of dumps: `push_colored edn` and `push_colored dump`, where an
 //! escape character is `\e` in the result; `push_elided MOST` and `push_without_widths` of EDN;
 //! `push_dump` of the items that the bytes encode, with the words `embedded`, `elide=MOST`, and

@@ -1,3 +1,5 @@
+//! Answers the rows of the vectors on tokens and digits.
+//!
 //! The calls of `cbor_tokens`, by their names: decoders of digits, whose results are in hex, and
 //! the tokens of notation.
 //!

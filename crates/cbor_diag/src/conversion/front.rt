@@ -1,4 +1,5 @@
-//! Converts the item at the front of bytes to another form. More bytes may follow the item.
+//! `push_front` converts the item at the front of bytes to any form: bytes, a dump, or notation.
+//! More bytes may follow the item.
 ghost use Rattle.std.specs.Prelude.{◌≡◌, ◌≢◌, [], ◌∷◌, ◌++◌, Ok, None};
 ghost use Rattle.std.specs.Prelude.{IfOk, IfErr, IfSome, OnErr};
 ghost use Rattle.std.specs.String.{string_bytes};

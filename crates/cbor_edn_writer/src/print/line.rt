@@ -1,5 +1,5 @@
-//! Decides which containers are on one line: those whose line fits into the columns, with all that
-//! stands before and after them. The file `measure.rt` says how many columns a text takes.
+//! Decides which containers of EDN are written on one line: those that fit into the columns
+//! together with what stands before and after them on the line. `measure.rt` counts the columns.
 
 use crate::print::columns::length_columns;
 use crate::print::measure::fits_in;

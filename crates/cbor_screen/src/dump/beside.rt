@@ -1,4 +1,5 @@
-//! The names and meanings in the comments of a dump: which of them stand at the next head.
+//! Finds the name and the meaning that a dump shows in the comment of the next head, and writes
+//! them there.
 
 use cbor_names::Note;
 use std::alloc::AllocError;
