@@ -1,7 +1,8 @@
 //! Answers the rows of the vectors on CDDL.
 //!
-//! `cddl_fits` and `cddl_message`, whether items fit a text and what is said of those that do not,
-//! and `cddl_fault`, what is wrong with a text.
+//! - `cddl_fits` says whether items fit a CDDL text.
+//! - `cddl_message` gives the message for an item that does not fit.
+//! - `cddl_fault` says what is wrong with a text.
 
 use crate::row::Row;
 use cbor_cddl::{Fault, Schema, position_of, source_of};

@@ -1,7 +1,7 @@
 //! Answers the rows of the vectors on conversions of one form to another.
 //!
-//! `convert FROM TO`, where FROM is `bytes`, `hex` or `diag`, and TO is `bytes`, `hex`, `diag` or
-//! `pretty`. An output in bytes is shown in hex digits.
+//! `convert FROM TO` converts an item. FROM is `bytes`, `hex` or `diag`, and TO is `bytes`, `hex`,
+//! `diag` or `pretty`. An output in bytes is shown in hex digits.
 
 use crate::row::Row;
 use crate::texts::{hex_text, lines_text, refused_text, text_of};
