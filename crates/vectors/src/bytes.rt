@@ -1,10 +1,12 @@
 //! Answers the rows of the vectors on bytes.
 //!
-//! `parse_bytes` gives the fields of an item or the name of the error; `parse_bytes_partial` first
-//! how many bytes the item takes, or `truncated`; `parse_bytes_counted` the turns, and that number
-//! without the fields; `bytes_to_bytes` the encoding; `extent` how bytes begin, and `feed N` what a
-//! `Scanner` says of the last of the pieces of N bytes. `error_text` gives the name and the text of
-//! the error of a number.
+//! - `parse_bytes` gives the fields of an item, or the name of the error. `parse_bytes_partial`
+//!   first gives how many bytes the item takes, or `truncated`.
+//! - `parse_bytes_counted` gives the turns and the number of bytes, without the fields.
+//! - `bytes_to_bytes` gives the encoding.
+//! - `extent` says how bytes begin. `feed N` gives what a `Scanner` reports after the last of the
+//!   pieces of N bytes.
+//! - `error_text` gives the name and the text of the error of a number.
 
 use crate::row::Row;
 use crate::texts::hex_text;

@@ -1,14 +1,14 @@
 //! Answers the rows of the vectors on dumps.
 //!
 //! - `bytes_to_hex`, `hex_to_hex` and `diag_to_hex` give the dump of an item, or the name of the
-//!   error. A word behind the name gives a part of the dump: `first`, its first line; `end`, as much
-//!   of its end as the row has; `lines`, how many lines it has, if their comments are in one column;
-//!   `count WORDS`, how often it has these words.
+//!   error. A word behind the name gives a part of the dump: `first`, its first line; `end`, as
+//!   much of its end as the row has; `lines`, how many lines it has, if their comments are in one
+//!   column; `count WORDS`, how often it has these words.
 //! - `bytes_to_note` and `diag_to_note` give the lines without digits: the notes, and the `""` of
 //!   empty strings. A line is indented as in the comments, so a line one level below the outermost
 //!   item is not. With `flat` no line is.
-//! - `push_bytes_to_hex` and `push_bytes_to_hex_partial` append to the line `before`, and a line says
-//!   what they return.
+//! - `push_bytes_to_hex` and `push_bytes_to_hex_partial` append to the line `before`, and a line
+//!   says what they return.
 
 use crate::row::Row;
 use crate::texts::lines_text;

@@ -1,10 +1,12 @@
 //! Answers the rows of the vectors on JSON.
 //!
-//! `bytes_to_json STYLE` gives the JSON of an item, or what is wrong: after the place of what JSON
-//! does not keep, or after those of two keys that become the same. STYLE is none, `embedded` or
-//! `strict`. `push_bytes_to_json_partial STYLE` gives how many bytes the item at the front takes,
-//! and its JSON, or `truncated`. `bytes_to_json_named STYLE PLACE=NAME..` gives the JSON with these
-//! names for the keys at these places.
+//! - `bytes_to_json STYLE` gives the JSON of an item. STYLE is none, `embedded` or `strict`. If
+//!   there is no JSON, it gives what is wrong and its place, or the places of two keys that become
+//!   the same.
+//! - `push_bytes_to_json_partial STYLE` gives how many bytes the item at the front takes, and its
+//!   JSON, or `truncated`.
+//! - `bytes_to_json_named STYLE PLACE=NAME..` gives the JSON with these names for the keys at these
+//!   places.
 
 use crate::row::Row;
 use cbor_json::{

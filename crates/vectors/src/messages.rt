@@ -1,9 +1,10 @@
 //! Answers the rows of the vectors on messages.
 //!
-//! Messages on items that begin at byte 10 of an input: `first_violation SET`, `not_encoded SET`,
-//! `not_json`, `not_json strict`, `lost_words PATH`. Lines of an input with a mark below a place:
-//! `excerpt_of_bytes PLACE`, `excerpt_of_text PLACE MARK`; and `position_of PLACE`, the line and
-//! column.
+//! - `first_violation SET`, `not_encoded SET`, `not_json`, `not_json strict` and `lost_words PATH`
+//!   give the message on items that begin at byte 10 of an input.
+//! - `excerpt_of_bytes PLACE` and `excerpt_of_text PLACE MARK` give the lines of an input that a
+//!   message shows, with a mark below the place.
+//! - `position_of PLACE` gives the line and the column of a place.
 
 use crate::row::Row;
 use crate::texts::{number_of, refused_text};

@@ -1,9 +1,11 @@
 //! Answers the rows of the vectors on diagnostic notation.
 //!
-//! `bytes_to_diag`, `hex_to_diag` and `diag_to_diag` give the text of an item, and so do
-//! `bytes_to_diag_pretty` and its like; `diag_to_bytes` gives its bytes, and `parse_diag` its
-//! fields, or the name of the error. `diag_fault` gives an error and its place.
-//! `push_bytes_to_diag` and its like append to `before:`, and a line says what they return.
+//! - `bytes_to_diag`, `hex_to_diag`, `diag_to_diag` and the same with `_pretty` give the text of an
+//!   item, or the name of the error.
+//! - `diag_to_bytes` gives the bytes of an item, and `parse_diag` its fields, or the name of the
+//!   error.
+//! - `diag_fault` gives an error and its place.
+//! - `push_bytes_to_diag` and its like append to `before:`, and a line says what they return.
 
 use crate::bytes::{bytes_text, fault_text, item_text, shown_text};
 use crate::row::Row;

@@ -1,10 +1,9 @@
 //! Answers the rows of the vectors on texts of comments.
 //!
-//! The calls of `cbor_notes`, by their names. Numbers are decimal; what is bytes is hex. `none`
-//! says that a call found nothing.
-//!
-//! Words behind a name: `grouped negative`; `element_text TAG`; `base64_lines url`; `uuid_lines
-//! first`, which gives the first of the lines.
+//! They are the calls of `cbor_notes`, by their names. Numbers are decimal, and bytes are in hex.
+//! `none` says that a call found nothing. A word may follow a name: `grouped negative`,
+//! `element_text TAG`, `base64_lines url`, and `uuid_lines first`, which gives the first of the
+//! lines.
 
 use crate::row::Row;
 use cbor_notes::{

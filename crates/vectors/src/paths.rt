@@ -1,7 +1,7 @@
 //! Answers the rows of the vectors on paths.
 //!
-//! The parts that a path leads to, in EDN, a line each: `show_items PATH`. The result is `lost` and
-//! the number of bytes of the item if the path leads to none.
+//! `show_items PATH` gives the parts that a path leads to, in EDN, a line each. If it leads to
+//! none, the result is `lost` and the number of bytes of the item.
 
 use crate::row::Row;
 use crate::texts::{lines_text, refused_text, text_of};

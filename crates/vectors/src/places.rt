@@ -1,9 +1,10 @@
-//! Answers the rows of the vectors on places in an item.
+//! Answers the rows of the vectors on places in an item that begins at byte 10 of an input.
 //!
-//! Words on places in an item that begins at byte 10 of an input: `words` and `cut_words` on the
-//! end of the bytes, `fault_words`, `words PLACE` on a place in a whole item. Of items from byte 10
-//! on: `lines_at BYTE` and `leaves`, also with `embedded`, and `leaves places`. EDN of a truncated
-//! or malformed item: `partial_edn`, `partial_edn COLUMNS`.
+//! - `words` and `cut_words` describe the end of the bytes, `fault_words` an error, and `words
+//!   PLACE` a place in a whole item.
+//! - `lines_at BYTE` and `leaves`, also with `embedded`, and `leaves places` list items from byte
+//!   10 on.
+//! - `partial_edn` and `partial_edn COLUMNS` give the EDN of a truncated or malformed item.
 
 use crate::row::Row;
 use crate::texts::{lines_text, number_of, refused_text};

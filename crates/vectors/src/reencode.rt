@@ -1,7 +1,7 @@
 //! Answers the rows of the vectors on re-encoding.
 //!
-//! `reencode RULES`, with RULES as in `rules`. The result is bytes in hex, or why there are none,
-//! with places: of the input, or after `Written` of what was written.
+//! `reencode RULES` re-encodes items, with RULES as in `rules`. The result is bytes in hex, or why
+//! there are none, with places: of the input, or after `Written` of the output.
 
 use crate::row::Row;
 use crate::rules::{rules_of, violation_text};

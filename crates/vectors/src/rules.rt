@@ -1,9 +1,10 @@
 //! Answers the rows of the vectors on rules of an encoding.
 //!
-//! `violation RULES`, `violation_in RULES`, `violation_of RULES`, and `violations`, which gives a
-//! line for each set that is violated. RULES is the name of a set, such as `core`, or names of
-//! single rules, such as `shortest_heads`. Single rules are added to the set before them, or to the
-//! grammar of RFC 8949.
+//! - `violation RULES`, `violation_in RULES` and `violation_of RULES` give the first violation.
+//! - `violations` gives a line for each set that is violated.
+//!
+//! RULES is the name of a set, such as `core`, or names of single rules, such as `shortest_heads`.
+//! Single rules are added to the set before them, or to the grammar of RFC 8949.
 
 use crate::lines::{lines_or, push_line};
 use crate::row::Row;

@@ -1,10 +1,12 @@
 //! Answers the rows of the vectors on what a screen shows.
 //!
-//! What a screen shows of EDN and of dumps: `push_colored edn` and `push_colored dump`, where an
-//! escape character is `\e` in the result; `push_elided MOST` and `push_without_widths` of EDN;
-//! `push_dump` of the items that the bytes encode, with the words `embedded`, `elide=MOST`, and
-//! `names` or `names=TYPE` by the tables of [`tables`]; `push_partial_dump`, with the same words,
-//! of bytes in which an item is truncated or malformed.
+//! - `push_colored edn` and `push_colored dump` colour a text. An escape character is `\e` in the
+//!   result.
+//! - `push_elided MOST` and `push_without_widths` shorten EDN.
+//! - `push_dump` gives the dump of items, with the words `embedded`, `elide=MOST`, and `names` or
+//!   `names=TYPE` by the tables of [`tables`].
+//! - `push_partial_dump` does so, with the same words, for bytes in which an item is truncated or
+//!   malformed.
 
 use crate::row::Row;
 use crate::texts::{lines_text, number_of, refused_text, text_of};

@@ -1,7 +1,7 @@
 //! Answers the rows of the vectors on tags.
 //!
-//! `tag_name` gives the name of a tag by its number, or `none`; `tags` the numbers of the constants
-//! of `Tag`, and a line with those of `Simple`.
+//! `tag_name` gives the name of a tag by its number, or `none`. `tags` gives the numbers of the
+//! constants of `Tag`, and a line with those of `Simple`.
 
 use crate::row::Row;
 use cbor_grammar::{Simple, Tag};
