@@ -1,7 +1,7 @@
 //! Answers the rows of the vectors on diagnostic notation.
 //!
-//! - `bytes_to_diag`, `hex_to_diag`, `diag_to_diag` and the same with `_pretty` give the text of an
-//!   item, or the name of the error.
+//! - `bytes_to_diag`, `hex_to_diag`, `diag_to_diag` and their like for pretty text give the text of
+//!   an item, or the name of the error.
 //! - `diag_to_bytes` gives the bytes of an item, and `parse_diag` its fields, or the name of the
 //!   error.
 //! - `diag_fault` gives an error and its place.
