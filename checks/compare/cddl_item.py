@@ -37,6 +37,18 @@ class Item:
         """Keys and values, in the order of the core encodings of the keys."""
         return sorted(zip(self.parts[::2], self.parts[1::2]), key=lambda pair: pair[0].core())
 
+    def second_key(self):
+        """The first key in it that its map has had before, or None."""
+        seen = set()
+        for at, part in enumerate(self.parts):
+            if self.kind == "map" and at % 2 == 0 and part.core() in seen:
+                return part
+            if self.kind == "map" and at % 2 == 0:
+                seen.add(part.core())
+            if second := part.second_key():
+                return second
+        return None
+
     def core(self):
         """The core deterministic encoding."""
         own = self.data[self.start:self.end]

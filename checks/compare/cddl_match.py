@@ -65,6 +65,9 @@ class Matcher:
 
     def misfit(self, item):
         """The misfit of an item, or None."""
+        if second := item.second_key():
+            self.note(0, second, "each key once", f"the key {second.shown()} for the second time")
+            return self.best
         if self.fits(self.schema.root, item, 0):
             return None
         assert self.best, "a misfit that nobody noted"
@@ -222,6 +225,9 @@ class Matcher:
         inner = reach + (item.inside or item.start) - item.start
         if items is None or node.name == "cbor" and len(items) != 1:
             self.note(inner, item, self.wanted(node), "bytes that are no CBOR")
+            return False
+        for second in filter(None, (one.second_key() for one in items)):
+            self.note(inner, second, "each key once", f"the key {second.shown()} for the second time")
             return False
         if node.name == "cbor":
             return self.fits(node.controller, items[0], inner)

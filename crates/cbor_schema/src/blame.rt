@@ -14,6 +14,8 @@ pub(crate) enum Want {
     ArrayEnd(usize),
     /// The end of a map.
     MapEnd,
+    /// A key that the map does not have yet.
+    OtherKey,
 }
 
 /// What was there in its place.
@@ -35,6 +37,8 @@ pub(crate) enum Found {
     LikeKey,
     /// A key that no entry has, of a map that has to fit this group.
     OtherKey(usize),
+    /// A key that the map has had before.
+    SecondKey,
 }
 
 /// How many alternatives came less far.

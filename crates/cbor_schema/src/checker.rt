@@ -83,8 +83,8 @@ impl Checker {
         Ok(matchers)
     }
 
-    /// Why an item does not fit the schema; `None` if it does. Long keys of a path are named by
-    /// their places in the data.
+    /// Why an item does not fit the schema; `None` if it does. An item in which a map has a key
+    /// twice fits nothing. Long keys of a path are named by their places in the data.
     pub fn misfit(&self, alloc: Global, item: Piece) -> Result<Option<Misfit>, Stop> {
         let matchers = self.matchers(alloc)?;
         let mut run = Run::new(
@@ -103,7 +103,11 @@ impl Checker {
             return Err(Stop::NoItem);
         };
         let root = self.schema.root;
-        if run.fits(root, index, DEEPEST)? {
+        let fits = match run.items.second_key {
+            Some(key) => run.miss_second_key(key)?,
+            None => run.fits(root, index, DEEPEST)?,
+        };
+        if fits {
             return Ok(None);
         }
         if run.blame.best.is_none() {

@@ -2,7 +2,7 @@
 
 use crate::blame::{Found, Want};
 use crate::items::{Item, Kind};
-use crate::run::Run;
+use crate::run::{Inner, Run};
 use crate::stop::Stop;
 use cbor_cddl::{Comparison, Node, Span, Value, float_of};
 
@@ -205,25 +205,26 @@ impl<'a> Run<'a> {
     }
 
     /// The item or the items that a byte string holds.
-    fn inner_item(&mut self, index: usize, is_sequence: bool) -> Result<Option<usize>, Stop> {
+    fn inner_item(&mut self, index: usize, is_sequence: bool) -> Result<Inner, Stop> {
         if let Some(known) = self.inner.get(&(index, is_sequence)) {
-            return Ok(known.checked_sub(1));
+            return Ok(*known);
         }
         let item = self.items.item(index);
         let Kind::Bytes(content) = item.kind else {
-            return Ok(None);
+            return Ok(Inner::Nothing);
         };
         let alloc = self.alloc;
-        let inner = if is_sequence {
+        let found = if is_sequence {
             self.items.read_sequence(content, index, alloc)?
         } else {
             self.items.read(content, Some(index))?
         };
-        let kept = match inner {
-            Some(inner) => inner.saturating_add(1),
-            None => 0,
+        let inner = match (found, self.items.second_key) {
+            (None, _) => Inner::Nothing,
+            (Some(_), Some(key)) => Inner::KeyTwice(key),
+            (Some(item), None) => Inner::Item(item),
         };
-        self.inner.insert((index, is_sequence), kept)?;
+        self.inner.insert((index, is_sequence), inner)?;
         Ok(inner)
     }
 
@@ -240,15 +241,16 @@ impl<'a> Run<'a> {
         let inner = self.inner_item(index, is_sequence)?;
         let gained = self.gained;
         // An array of several items has the head of the string itself.
-        if !is_sequence || inner.is_none() {
+        if !(is_sequence && matches!(inner, Inner::Item(_))) {
             self.gained = gained.saturating_add(self.items.item(index).head);
         }
         let fits = match inner {
-            Some(inner) => self.fits(wanted, inner, depth)?,
-            None => {
+            Inner::Item(inner) => self.fits(wanted, inner, depth)?,
+            Inner::Nothing => {
                 self.miss(Want::Type(node), index, Found::NoCbor)?;
                 false
             }
+            Inner::KeyTwice(key) => self.miss_second_key(key)?,
         };
         self.gained = gained;
         Ok(fits)

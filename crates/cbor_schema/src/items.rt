@@ -66,6 +66,8 @@ pub(crate) struct Items<'a> {
     pub(crate) parts: Vec<usize>,
     open: Vec<Open>,
     waiting: Vec<usize>,
+    /// The first key in the item that was read last that its map has had before.
+    pub(crate) second_key: Option<usize>,
 }
 
 /// The number of a float, by its bits.
@@ -106,6 +108,7 @@ impl<'a> Items<'a> {
             parts: Vec::new(alloc),
             open: Vec::new(alloc),
             waiting: Vec::new(alloc),
+            second_key: None,
         }
     }
 
@@ -287,17 +290,6 @@ impl<'a> Items<'a> {
         Ok(())
     }
 
-    /// Puts the parts of a map in the order of its keys.
-    fn sort(&mut self, first: usize, count: usize) -> Result<(), AllocError> {
-        let sorted = self.sorted_parts(first, count)?;
-        for (place, part) in sorted.iter().enumerate() {
-            if let Some(slot) = self.parts.get_mut(first.saturating_add(place)) {
-                *slot = *part;
-            }
-        }
-        Ok(())
-    }
-
     /// Closes a container, whose parts are the last that wait.
     fn close(&mut self, open: Open, end: usize) -> Result<(), AllocError> {
         let first = self.parts.len();
@@ -412,6 +404,7 @@ impl<'a> Items<'a> {
         span: Span,
         holder: Option<usize>,
     ) -> Result<Option<usize>, Stop> {
+        self.second_key = None;
         if self.front_len(span) != Some(span.end.saturating_sub(span.start)) {
             return Ok(None);
         }
@@ -427,6 +420,7 @@ impl<'a> Items<'a> {
         holder: usize,
         alloc: Global,
     ) -> Result<Option<usize>, Stop> {
+        self.second_key = None;
         let mut members = Vec::new(alloc);
         let mut at = span.start;
         for _ in span.start..span.end {

@@ -77,6 +77,7 @@ impl<'a> Run<'a> {
             Want::ArrayEnd(1) => out.push_str("the end of the array after 1 item"),
             Want::ArrayEnd(count) => write!(out, "the end of the array after {count} items"),
             Want::MapEnd => out.push_str("the end of the map"),
+            Want::OtherKey => out.push_str("each key once"),
         }
     }
 
@@ -122,6 +123,11 @@ impl<'a> Run<'a> {
             Found::LikeKey => {
                 out.push_str("the key ")?;
                 self.push_item(&mut out, miss.index)?;
+            }
+            Found::SecondKey => {
+                out.push_str("the key ")?;
+                self.push_item(&mut out, miss.index)?;
+                out.push_str(" for the second time")?;
             }
             Found::OtherKey(group) => {
                 out.push_str("the key ")?;

@@ -38,6 +38,22 @@ fn integer_order(number: i128) -> (u8, u64) {
     }
 }
 
+impl KeyOrder<'_> {
+    /// Whether the next one in the order is the same key.
+    fn is_key_of(self, next: KeyOrder<'_>) -> bool {
+        (self.major, self.width, self.argument) == (next.major, next.width, next.argument)
+            && self.content == next.content
+    }
+}
+
+/// The keys and values of a map, in the order of the keys.
+#[derive(Drop)]
+struct SortedParts {
+    parts: Vec<usize>,
+    /// The first key in the bytes that the map has had before.
+    second_key: Option<usize>,
+}
+
 impl Items<'_> {
     /// Where a key stands among others, which is that of a pair.
     fn order_of(&self, key: usize, pair: usize) -> KeyOrder<'_> {
@@ -68,12 +84,29 @@ impl Items<'_> {
         }
     }
 
+    /// The first key in the bytes that stands twice, of sorted ones. Equal keys are in the order of
+    /// the bytes. The parts of the map begin at `first`.
+    fn second_key(&self, keys: &[KeyOrder<'_>], first: usize) -> Option<usize> {
+        let mut found = None;
+        let mut least = usize::MAX;
+        for place in 1..keys.len() {
+            let (Some(one), Some(next)) = (keys.get(place - 1), keys.get(place)) else {
+                break;
+            };
+            if one.is_key_of(*next) && next.pair < least {
+                least = next.pair;
+                found = self.parts.get(first.saturating_add(least.saturating_mul(2))).copied();
+            }
+        }
+        found
+    }
+
     /// The keys and values of a map, whose parts begin at `first`, in the order of the keys.
-    pub(crate) fn sorted_parts(
+    fn sorted_parts(
         &self,
         first: usize,
         count: usize,
-    ) -> Result<Vec<usize>, AllocError> {
+    ) -> Result<SortedParts, AllocError> {
         let alloc = *self.parts.allocator();
         let mut keys = Vec::new(alloc);
         for pair in 0..count / 2 {
@@ -93,6 +126,22 @@ impl Items<'_> {
                 parts.push(*part)?;
             }
         }
-        Ok(parts)
+        let second_key = self.second_key(&keys, first);
+        Ok(SortedParts { parts, second_key })
+    }
+
+    /// Puts the parts of a map in the order of its keys, and takes note of a key that stands twice.
+    pub(crate) fn sort(&mut self, first: usize, count: usize) -> Result<(), AllocError> {
+        let sorted = self.sorted_parts(first, count)?;
+        for (place, part) in sorted.parts.iter().enumerate() {
+            if let Some(slot) = self.parts.get_mut(first.saturating_add(place)) {
+                *slot = *part;
+            }
+        }
+        if let Some(key) = sorted.second_key {
+            let known = self.second_key.unwrap_or(usize::MAX);
+            self.second_key = Some(known.min(key));
+        }
+        Ok(())
     }
 }

@@ -15,6 +15,17 @@ const MOST_STEPS: u64 = 10_000_000;
 /// After this many steps, what fits is kept.
 const KEPT_FROM: u64 = 10_000;
 
+/// What the content of a byte string holds.
+#[derive(Clone, Copy)]
+pub(crate) enum Inner {
+    /// The item, or the array of the items.
+    Item(usize),
+    /// No items.
+    Nothing,
+    /// Items with a map that has this key twice.
+    KeyTwice(usize),
+}
+
 /// One item that is matched.
 #[derive(Drop)]
 pub(crate) struct Run<'a> {
@@ -34,8 +45,8 @@ pub(crate) struct Run<'a> {
     steps: u64,
     /// Where rules took part: 0 where they do not fit, and otherwise one more than the place after.
     kept: BTreeMap<(usize, usize), usize>,
-    /// The items in byte strings: 0 for none, and otherwise one more than the index.
-    pub(crate) inner: BTreeMap<(usize, bool), usize>,
+    /// The items in byte strings.
+    pub(crate) inner: BTreeMap<(usize, bool), Inner>,
     /// Which parts of maps are taken, and in which order.
     pub(crate) taken: Vec<bool>,
     pub(crate) trail: Vec<usize>,
@@ -125,6 +136,12 @@ impl<'a> Run<'a> {
     /// Takes note that an item does not fit a node, and returns `false`.
     pub(crate) fn miss_item(&mut self, node: usize, index: usize) -> Result<bool, Stop> {
         self.miss(Want::Type(node), index, Found::Item)?;
+        Ok(false)
+    }
+
+    /// Takes note of a key that its map has had before, and returns `false`.
+    pub(crate) fn miss_second_key(&mut self, key: usize) -> Result<bool, Stop> {
+        self.miss(Want::OtherKey, key, Found::SecondKey)?;
         Ok(false)
     }
 
