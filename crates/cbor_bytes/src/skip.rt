@@ -1,8 +1,8 @@
 //! `extent`: reports whether bytes begin with an item, are truncated or have an error. It builds no
-//! item and allocates nothing.
+//! item and allocates nothing. `after_front` returns the bytes after the item at the front.
 //!
-//! It loops over heads with a stack of the open containers. For each container it keeps how many
-//! parts are still to come. It skips the content of strings, but tests that texts are UTF-8. Each
+//! Both loop over heads with a stack of the open containers. For each container they keep how many
+//! parts are still to come. They skip the content of strings, but test that texts are UTF-8. Each
 //! private function takes the remaining bytes. It returns the bytes after what it skips, or why it
 //! stops.
 mod answer;

@@ -1,7 +1,7 @@
 //! Escapes texts for the quotes of JSON and EDN: the quote, the backslash, and each hidden
 //! character. A hidden character is a control character, ends a line, changes the direction of a
 //! text, or is the byte order mark. [`is_shown`] tests whether a text has none, and [`push_shown`]
-//! escapes those of lines of text.
+//! escapes them in lines of text, except line feeds.
 //!
 //! ```rust
 //! use cbor_tokens::push_escaped;

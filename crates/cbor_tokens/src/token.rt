@@ -1,6 +1,6 @@
-//! Finds blanks in diagnostic notation: whitespace and comments. `number` reads numbers, and
-//! `content` reads text and digits between quotes. Each call takes the longest token at the front
-//! of a text, or at a place in it.
+//! Finds blanks in diagnostic notation: whitespace and comments. The file `number.rt` reads
+//! numbers, and `content.rt` reads text and digits between quotes. Each call takes the longest
+//! token at the front of a text, or at a place in it.
 //!
 //! A text is given as bytes of UTF-8. The caller decides what a token means.
 
