@@ -1,4 +1,5 @@
-//! Reads strings without copying them: each is a slice of the bytes.
+//! Reads strings, and the chunks of indefinite-length strings, without copying them: each is a
+//! slice of the input.
 ghost use Rattle.std.specs.Prelude.{◌≡◌, ◌<◌, ◌≤◌, length, IfOk, IfSome, option_map};
 ghost use Rattle.cbor_grammar.specs.declared.width.IntegerWidth.{IntegerWidth};
 ghost use Rattle.cbor_grammar.specs.mirror.StringView.{kind_of, borrowed_chunk};

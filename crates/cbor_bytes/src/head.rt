@@ -1,5 +1,5 @@
-//! Reads heads from bytes (RFC 7049 section 2): the first byte of an item, and the number that goes
-//! with it.
+//! Reads the head of an item from bytes (RFC 7049 section 2): the first byte and the number that
+//! follows it. `read_item_head` also returns an error if the item is too deep.
 ghost use Rattle.std.specs.Prelude.{◌≡◌, ◌≢◌, ◌<◌, ◌≤◌, length, IfOk, IfErr};
 ghost use Rattle.std.specs.Int.{w8, w16, w32, w64};
 ghost use Rattle.std.specs.Result.{result_map_both};

@@ -1,7 +1,8 @@
-//! Reads bytes from hex with blanks and comments. The bytes need not encode an item.
+//! Decodes hex with spaces and comments to bytes (`hex_bytes`). The bytes need not encode an item.
+//! `place.rt` finds places in such a text.
 //!
-//! The text is read once, line by line. Comments are skipped, and the rest is gathered and then
-//! decoded.
+//! The text is read once, line by line. Spaces and comments are skipped, and the rest is gathered
+//! and then decoded.
 mod place;
 
 ghost use Rattle.std.specs.Prelude.{◌≡◌, ◌≢◌, ◌<◌, ◌≤◌, ◌++◌, ◌%◌, ◌⊎◌, ◌==◌, length, take, drop};

@@ -1,9 +1,10 @@
-//! Reads and writes the heads of CBOR items (RFC 7049 section 2), and finds where items end without
-//! building them.
+//! Reads and writes the heads of CBOR items (RFC 7049 section 2), reads strings, and finds where
+//! items end without building them.
 //!
-//! [`extent`] reports how bytes begin, and [`Scanner`] does so for bytes that come in pieces.
-//! `hex_text` reads the bytes of hex with comments. [`utf8_fault`] finds where bytes stop being
-//! UTF-8.
+//! [`extent`] reports whether bytes begin with an item, are truncated or have an error. [`Scanner`]
+//! does so for bytes that arrive in pieces. `hex_text` decodes hex with comments, and `quoted`
+//! writes a byte string in notation. [`utf8_fault`] finds where bytes stop being UTF-8. `strict`
+//! finds simple values in a non-minimal encoding.
 #![tactic(auto)]
 
 pub mod borrowed;

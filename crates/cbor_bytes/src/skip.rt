@@ -1,9 +1,10 @@
-//! Finds how bytes begin, without building an item: it loops over heads with a stack of the open
-//! containers. For each container it keeps how many parts are still to come. The content of strings
-//! is skipped.
+//! `extent`: reports whether bytes begin with an item, are truncated or have an error. It builds no
+//! item and allocates nothing. `after_front` returns the bytes after the item at the front.
 //!
-//! Each private function takes the remaining bytes. It returns the bytes after what it skips, or
-//! why it stops.
+//! Both loop over heads with a stack of the open containers. For each container they keep how many
+//! parts are still to come. They skip the content of strings, but test that texts are UTF-8. Each
+//! private function takes the remaining bytes. It returns the bytes after what it skips, or why it
+//! stops.
 mod answer;
 mod containers;
 mod due;

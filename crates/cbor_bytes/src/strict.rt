@@ -1,5 +1,5 @@
-//! Checks whether the bytes of an item have a simple value below 24 in a non-minimal encoding (such
-//! as `f8 00`). It goes from head to head, and keeps no stack of what is open.
+//! Tests whether the bytes of an item have no simple value below 24 in a non-minimal encoding (such
+//! as `f8 00`). It goes from head to head, without a stack of the open containers.
 ghost use Rattle.std.specs.Prelude.{◌≡◌, ◌≢◌, ◌↔◌, ◌<◌, ◌≤◌, ◌⊎◌, ◌/◌, ℕ, List, ◌∷◌, length, drop};
 ghost use Rattle.std.specs.Prelude.{IsTrue, IfSome};
 ghost use Rattle.cbor_grammar.specs.mirror.StrictHeads.{LongSimple, NoLongSimple, StrictHeads};

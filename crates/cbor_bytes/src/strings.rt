@@ -1,5 +1,5 @@
 //! Reads strings of definite length, and the chunks of indefinite-length strings, from bytes (RFC
-//! 7049 sections 2.1 and 2.2.2).
+//! 7049 sections 2.1 and 2.2.2). `read_string` and `read_chunks` copy the content.
 ghost use Rattle.std.specs.Prelude.{◌≡◌, ◌≢◌, ◌+◌, ◌*◌, ◌^◌, ◌<◌, ◌≤◌, length, IfOk};
 ghost use Rattle.std.specs.Prelude.{IfErr, map, option_map};
 ghost use Rattle.cbor_grammar.specs.mirror.MajorNumber.{major_number};

@@ -1,5 +1,5 @@
-//! `Turns`: counts the steps that a reader takes. Its contract uses the count to state that the
-//! work is linear.
+//! `Turns`: counts the steps of a reader. With this count, the contract of `parse_bytes_counted`
+//! states that its work is linear.
 ghost use Rattle.std.specs.Prelude.{◌≡◌, ℕ, ◌+◌, ◌<◌, ◌^◌};
 
 use std::marker::Model;

@@ -1,4 +1,5 @@
-//! Finds where bytes stop being UTF-8 (RFC 3629).
+//! Finds where bytes stop being UTF-8 (RFC 3629), and how many of the first bytes form complete
+//! characters.
 ghost use Rattle.std.specs.Prelude.{◌≡◌, ◌↔◌, ◌+◌, ◌<◌, ◌≤◌, length, take, None, IfSome, IsTrue};
 ghost use Rattle.std.specs.Prelude.{IsUtf8};
 ghost use Rattle.cbor_bytes.specs.Utf8.{BeginsText, IsUtf8Fault};

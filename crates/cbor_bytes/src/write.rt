@@ -1,5 +1,5 @@
-//! Writes the heads of items (RFC 7049 section 2), and the opening bytes and breaks of indefinite
-//! lengths.
+//! Writes heads of items, floats and simple values as bytes (RFC 7049 section 2). Also opens
+//! containers with a count or an indefinite length, and closes them.
 #![tactic(auto, using(cbor_tokens::proofs::texts::Appending::appending_steps))]
 
 ghost use Rattle.cbor_tokens.specs.Appends.{Appends};

@@ -1,4 +1,5 @@
-//! Converts an item from one form to another: bytes, hex with comments, diagnostic notation.
+//! Converts an item from one form to another: bytes, hex with comments, or diagnostic notation.
+//! `read_item` reads a `DataItem` from a form, and `write_item` writes one in a form.
 //!
 //! ```rust
 //! use cbor_diag::{Source, To, convert};

@@ -1,4 +1,4 @@
-//! Writes items: as bytes, as dumps, and in diagnostic notation.
+//! Writes a `DataItem`: as bytes, as a dump, and in diagnostic notation.
 mod bytes;
 mod dump;
 mod notation;

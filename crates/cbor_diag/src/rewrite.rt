@@ -1,5 +1,6 @@
-//! Converts bytes or hex to the bytes that their `DataItem` is written as. These are the same
-//! bytes, except that a simple value below 24 is written in one byte.
+//! Converts bytes, or hex with comments, to the encoding of the item in them. The result is the
+//! same bytes, except that a simple value below 24 in a non-minimal encoding (`f8 00`) becomes one
+//! byte.
 ghost use Rattle.std.specs.Prelude.{◌≡◌, ◌<◌, ◌++◌, ℕ, slice_index, None, Ok, IfSome, IsTrue};
 ghost use Rattle.std.specs.Prelude.{IfOk, IfErr, OnOk, OnErr, MatchResult};
 ghost use Rattle.cbor_grammar.specs.Item.{Item};

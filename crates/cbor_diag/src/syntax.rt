@@ -1,5 +1,5 @@
-//! The type `DataItem`: an item that keeps how it was encoded, that is, the widths of its numbers
-//! and whether its lengths are definite.
+//! `DataItem`: an item that keeps how it was encoded: the widths of its numbers, and whether its
+//! lengths are definite.
 mod clone;
 mod equal;
 mod well_formed;

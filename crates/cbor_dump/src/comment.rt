@@ -1,4 +1,4 @@
-//! Appends the comments of a dump to a text.
+//! `Comment`: the comment on a line of a dump, such as `array(2)`. `push` appends it to a text.
 ghost use Rattle.std.specs.Prelude.{◌≡◌, ◌++◌, OnOk, decimal};
 ghost use Rattle.std.specs.String.{string_bytes};
 ghost use Rattle.cbor_notes.specs.TagNames.{tag_name};

@@ -1,4 +1,5 @@
-//! The context of an item in a dump: its level and depth, and what the tags above it state.
+//! `DumpContext`: the level and the depth of an item in a dump, and what the tags above it state:
+//! the tag right above, the encoding of byte strings, and how many values were shared before.
 ghost use Rattle.std.specs.Prelude.{◌≡◌, ◌+◌};
 ghost use Rattle.cbor_dump.specs.Comments.{encoding_below};
 ghost use Rattle.cbor_dump.specs.Dump as spec;

@@ -1,4 +1,4 @@
-//! Converts bytes and hex to dumps, without building an item.
+//! Converts bytes, and hex with comments, to dumps. No item is built.
 ghost use Rattle.std.specs.Prelude.{◌≡◌, ℕ, ◌+◌, ◌++◌, IfOk, IfErr, IfSome, OnOk, OnErr};
 ghost use Rattle.std.specs.Prelude.{MatchResult};
 ghost use Rattle.std.specs.Prelude.{None, Ok};

@@ -1,5 +1,5 @@
-//! Examples of dumps, which test the definitions in `specs/`. Each is computed, or shown by a
-//! witness, when the crate is checked. Nothing calls these functions.
+//! Checks the definitions of dumps in `specs/` on a few inputs. The checker computes each example
+//! or shows it by a witness. No code calls these functions.
 ghost use Rattle.std.specs.Prelude.{◌≡◌, [], ◌∷◌, ◌++◌, codes, length, map, replicate};
 ghost use Rattle.cbor_grammar.specs.declared.strings.StringKind.TheVariants.{Bytes};
 ghost use Rattle.cbor_grammar.specs.Item.{atom, chunked_string};

@@ -1,4 +1,5 @@
-//! Writes the hex digits of a line of a dump.
+//! `HexStyle`: writes the hex digits of a line of a dump, for a head or for a piece of a string,
+//! and counts them.
 ghost use Rattle.std.specs.Prelude.{◌≡◌, ◌≤◌, ◌++◌, OnOk, length};
 ghost use Rattle.std.specs.String.{string_bytes};
 ghost use Rattle.cbor_dump.specs.Dump.{head_hex};

@@ -1,11 +1,11 @@
-//! Writes CBOR items as dumps, annotated hex, straight from their bytes. `specs/` defines the
-//! lines, comments and notes of a dump.
+//! Writes CBOR items as dumps (hex with a comment on each line), straight from their bytes.
+//! `specs/` defines the lines, comments and notes of a dump.
 //!
 //! A first recursion over the bytes finds the column of the comments. A second one writes each line
 //! as soon as it is read.
 //!
-//! Lines, comments, columns and notes are public: `cbor_screen` builds the dumps of `cborcat` from
-//! them, which also have names and the items in byte strings.
+//! Lines, comments, columns and notes are public. `cbor_screen` builds the dumps of `cborcat` from
+//! them; these also show names and the items in byte strings.
 #![tactic(auto)]
 
 pub mod addresses;

@@ -1,4 +1,5 @@
-//! Writes the lines of a dump for heads and strings.
+//! Writes the lines of a dump for heads, breaks and the content of strings. A byte string with the
+//! tag of a typed array gets a line for each element. These are methods of `Writer`.
 ghost use Rattle.std.specs.Prelude.{◌≡◌, ◌<◌, ◌≤◌, ◌+◌, ◌*◌, ◌==◌, ◌++◌, ◌∷◌, [], length, OnOk};
 ghost use Rattle.std.specs.Prelude.{if◌then◌else◌, replicate};
 ghost use Rattle.std.specs.String.{string_bytes};

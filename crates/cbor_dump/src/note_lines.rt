@@ -1,4 +1,5 @@
-//! Writes the notes of a dump: lines of comments alone, below the value that they explain.
+//! Writes the lines of notes in a dump: comments without hex digits, below the value that they
+//! explain. These are methods of `Writer`.
 ghost use Rattle.std.specs.Prelude.{◌<◌, ◌∷◌, [], OnOk};
 ghost use Rattle.cbor_dump.specs.Dump as spec;
 ghost use Rattle.cbor_dump.specs.mirror.NotesView.{note_view};

@@ -1,5 +1,5 @@
-//! Writes the lines of an item straight from its bytes: a line for each part as soon as it is read,
-//! and the notes on the values of tags. No item is built.
+//! Writes the dump of an item straight from its bytes: a line for each part as soon as it is read,
+//! and the notes on the values of tags, with the dumps of embedded items. No item is built.
 //!
 //! Each function takes the remaining bytes and returns those after what it wrote.
 ghost use Rattle.std.specs.Prelude.{◌≡◌, ◌≤◌, ◌+◌, ℕ, List, Ok, IfOk, IfErr, OnOk, option_copied};

@@ -1,5 +1,5 @@
-//! Finds how far the digits of a dump reach, from the bytes of the item. No item and no comment is
-//! built.
+//! Computes the width of the left column of a dump, which has the hex digits, from the bytes of the
+//! item. `text_cut` and `longest_piece` find the pieces in which strings are shown.
 //!
 //! Each function takes the remaining bytes and returns those after what it counted. Notes have no
 //! digits, so an item in a byte string counts as the bytes of the string.

@@ -1,5 +1,5 @@
-//! `Writer`: the text of a dump as it grows, the width of its column of digits, and what stands
-//! before each of its lines.
+//! `Writer`: the text of a dump as it grows, the width of its column of digits, and the text that
+//! comes before each line.
 ghost use Rattle.std.specs.Prelude.{◌≡◌, ◌<◌, ◌*◌, ◌++◌, [], IfOk, OnOk};
 ghost use Rattle.std.specs.String.{string_bytes};
 ghost use Rattle.cbor_notes.specs.Layout.{gap};

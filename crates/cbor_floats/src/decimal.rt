@@ -1,4 +1,5 @@
-//! Reads and writes floats as decimal texts.
+//! Reads floats from decimal texts and from `NaN`, `Infinity` and `-Infinity`, and writes them as
+//! such texts. `NumberError` says why a text is not a float.
 ghost use Rattle.std.specs.Prelude.{◌≡◌, ◌↔◌, ◌++◌, List, ℕ, string_bytes, IsTrue, IsFalse, OnOk};
 ghost use Rattle.std.specs.Prelude.{MatchOption, MatchResult};
 ghost use Rattle.std.specs.Float.{float_is_finite};

@@ -1,4 +1,6 @@
-//! A float as CBOR encodes it: its width, its number, and the shortest encoding of a number.
+//! `EncodedFloat`: a float as CBOR encodes it, by its bits in 16, 32 or 64 bits. It converts the
+//! bits to a number, and a number to bits of a given width or of the shortest width. It also tests
+//! whether its width is the shortest. `Width`: one of the three widths.
 ghost use Rattle.std.specs.Prelude.{◌≡◌, ◌↔◌, IsTrue, MatchOption};
 ghost use Rattle.cbor_floats.specs.Value.{value_of, width_of, IsEncodingOf, IsShortest};
 

@@ -1,5 +1,5 @@
-//! Converts floats of 16 bits (IEEE 754 binary16) to numbers. They have a sign, five bits of
-//! exponent and ten of fraction.
+//! Converts the bits of a float of 16 bits (IEEE 754 binary16) to a number. The bits are a sign,
+//! five bits of exponent and ten of fraction. `nearest.rt` converts numbers to such floats.
 ghost use Rattle.std.specs.Prelude.{◌≡◌, ◌+◌, ◌*◌, ◌^◌, ◌<◌, false};
 ghost use Rattle.std.specs.Float.Ieee.{round, binary64};
 ghost use Rattle.cbor_floats.specs.Value.{half_value as half_value_of, half_units as units_of};

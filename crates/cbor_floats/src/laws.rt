@@ -1,5 +1,5 @@
-//! Laws of floats as numbers: a number has one encoding in each width, one shortest and one
-//! preferred encoding; a decimal text stands for one number; and the text of a float reads back as
+//! States laws of floats as numbers. A number has one encoding in each width, one shortest and one
+//! preferred encoding. A decimal text stands for one number, and the text of a float reads back as
 //! that float. No code calls these functions.
 ghost use Rattle.std.specs.Prelude.{◌≡◌, ℕ, List};
 ghost use Rattle.std.specs.Float.Ieee.{Float};

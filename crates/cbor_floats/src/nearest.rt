@@ -1,4 +1,5 @@
-//! Rounds numbers to floats of 16 bits, and finds the one that equals a number.
+//! Converts numbers to floats of 16 bits: `nearest_half` rounds, and `half_of` takes only numbers
+//! that a float of 16 bits equals.
 ghost use Rattle.std.specs.Prelude.{◌≡◌, ◌+◌, ◌*◌, ◌^◌, ◌<◌, ◌≤◌, ℕ, MatchOption};
 ghost use Rattle.std.specs.Float.{is_sign_negative, NotNan};
 ghost use Rattle.std.specs.Float.Ieee.Nearest.{closest};

@@ -1,4 +1,6 @@
-//! Finds the width that RFC 8949 prefers for a float (sections 4.1 and 4.2.2).
+//! Converts a float to the shortest width that keeps its number, or the sign and the payload of a
+//! NaN. RFC 8949 prefers this width (sections 4.1 and 4.2.2). `widened` converts a float to 64
+//! bits.
 ghost use Rattle.std.specs.Prelude.{◌≡◌, ◌<◌, ◌^◌, MatchOption};
 ghost use Rattle.cbor_floats.specs.Preferred.{widened, shorter, double_of, double_nan, half_nan};
 ghost use Rattle.cbor_floats.specs.Preferred.{single_nan};

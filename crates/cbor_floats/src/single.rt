@@ -1,4 +1,5 @@
-//! Converts floats of 32 bits (IEEE 754 binary32) to and from numbers.
+//! Converts floats of 32 bits (IEEE 754 binary32) to and from numbers. `same_number` tests whether
+//! two numbers are equal and have the same sign, or are both NaN.
 ghost use Rattle.std.specs.Prelude.{◌≡◌, ◌↔◌, ℕ, IsTrue, MatchOption, from_bits};
 ghost use Rattle.std.specs.Float.Ieee.{binary32};
 ghost use Rattle.cbor_floats.specs.Value.{IsEncodingOf};

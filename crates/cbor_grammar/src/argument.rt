@@ -1,4 +1,5 @@
-//! `Argument`: the number of a head, or its indefinite length (RFC 8949 section 3).
+//! `Argument`: the number in a head and its width, or an indefinite length (RFC 8949 section 3).
+//! `after_break` skips a break.
 ghost use Rattle.std.specs.Prelude.{◌≡◌, ℕ, option_map};
 ghost use Rattle.cbor_grammar.specs.Reading.{after_break, after_members, count_width};
 ghost use Rattle.cbor_grammar.specs.mirror.Lengths.{argument_count, left_of};

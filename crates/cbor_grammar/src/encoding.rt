@@ -1,4 +1,5 @@
-//! `Encoding`: the base in which notation writes the bytes of a byte string, 16 or 64.
+//! `Encoding`: the base in which notation writes a byte string: 16, 64, or 64 in the URL-safe
+//! alphabet.
 
 /// How bytes are written between quotes (RFC 4648).
 #[derive(Clone, Copy)]

@@ -1,4 +1,5 @@
-//! `Error`: why bytes, hex or notation do not encode an item.
+//! `Error`: why a call failed: bytes, hex or notation do not encode an item, or an allocation
+//! failed. Each error has a text and a number.
 ghost use Rattle.std.specs.Prelude.{◌≡◌, Some};
 ghost use Rattle.cbor_grammar.specs.Refusals.{text_of, number_of};
 ghost use Rattle.cbor_grammar.specs.declared.error.Error.TheVariants.{Memory};

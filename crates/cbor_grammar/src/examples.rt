@@ -1,6 +1,6 @@
-//! Checks the definitions of bytes, notation and normal forms on a few inputs. The checker computes
-//! each example or shows it by a witness, so a wrong definition does not pass. No code calls these
-//! functions.
+//! Checks the definitions on a few inputs: items as bytes, truncated and malformed bytes, hex with
+//! comments, embedded items, normal forms, pretty text and turns. The checker computes each example
+//! or shows it by a witness, so a wrong definition does not pass. No code calls these functions.
 ghost use Rattle.std.specs.Prelude.{◌≡◌, [], ◌∷◌, ◌++◌, codes, Some, None};
 ghost use Rattle.cbor_grammar.specs.declared.error.Error.TheVariants.{Head, Utf8, TooDeep};
 ghost use Rattle.cbor_grammar.specs.declared.width.IntegerWidth.TheVariants.{Unknown, Zero, Eight};

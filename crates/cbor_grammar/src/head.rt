@@ -1,4 +1,5 @@
-//! `ItemHead`: what the head of an item opens (RFC 7049 section 2.1).
+//! `ItemHead`: what the head of an item says (RFC 7049 section 2.1). It is an integer, a float or a
+//! simple value, or it opens a string, an array, a map or a tag.
 use crate::argument::Argument;
 use crate::strings::StringKind;
 use crate::width::{FloatWidth, IntegerWidth};

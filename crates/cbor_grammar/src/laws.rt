@@ -1,6 +1,7 @@
-//! Laws of the definitions in `specs/`: any bytes encode an item, are truncated or are malformed,
-//! and only one of these; which items a byte string embeds; and how many turns reading takes. No
-//! code calls these functions.
+//! States laws of the definitions in `specs/`, each as the contract of a function that no code
+//! calls. Any bytes encode an item, are truncated or are malformed, and only one of these. Other
+//! laws say which items a byte string embeds, why it embeds none, and that the complete part of
+//! truncated or malformed bytes takes one number of turns (steps of a reader).
 ghost use Rattle.std.specs.Prelude.{◌≡◌, ℕ, ◌+◌, ◌<◌, ◌≤◌, List, slice_index};
 ghost use Rattle.cbor_grammar.specs.WellFormed.{deepest};
 ghost use Rattle.cbor_grammar.specs.Embedded.{EmbedsExactly, RejectsExactly};

@@ -1,4 +1,6 @@
-//! How diagnostic notation lays out items, and what it shows byte strings as.
+//! Types for writing diagnostic notation. `Layout` and `ContainerStyle` say whether members are on
+//! one line or each on its own. `Content` says whether a byte string is shown as bytes, as the item
+//! that it encodes, or as a sequence of items.
 ghost use Rattle.std.specs.Prelude.{◌≡◌, ◌<◌, ◌^◌};
 ghost use Rattle.cbor_grammar.specs.NotationText.{members_layout, style_indent};
 

@@ -1,4 +1,6 @@
-//! The types that byte strings and text strings share: the kind of a string, and its content.
+//! `ByteString` and `TextString`: strings of definite length, with the width of the length. The
+//! trait `DefiniteString` is for code that reads or writes either. `StringKind` says which of the
+//! two a string is, and tests that a text is UTF-8; `StringContent` borrows the content of one.
 ghost use Rattle.std.proofs.Common.{rules};
 ghost use Rattle.std.specs.Prelude.{◌≡◌, ◌↔◌, length, IsTrue, IfErr, IfOk, IsUtf8};
 ghost use Rattle.cbor_grammar.specs.declared.width.IntegerWidth.{IntegerWidth};

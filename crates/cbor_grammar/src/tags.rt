@@ -1,5 +1,5 @@
-//! The types of tags and simple values, with constants for known tags. They are those of RFC 7049,
-//! RFC 8742, RFC 8746, RFC 8943 and RFC 9164, and some others of the IANA registry.
+//! `Tag` and `Simple`: the number of a tag and a simple value, with constants for the known ones.
+//! The tags are from RFC 7049, RFC 8742, RFC 8746, RFC 8943, RFC 9164 and the IANA registry.
 
 /// The number of a tag, which gives a meaning to the item below it (RFC 7049 section 2.4).
 ///

@@ -1,4 +1,5 @@
-//! The widths of the numbers in heads and of floats: what fits in them, and which is the shortest.
+//! `IntegerWidth` and `FloatWidth`: the widths of the number in a head and of a float. They say
+//! which numbers fit in a width; `IntegerWidth` also finds the shortest width of a number.
 ghost use Rattle.std.specs.Prelude.{◌≡◌, ◌↔◌, IsTrue};
 ghost use Rattle.cbor_grammar.specs.Head.{FitsWidth, FitsStated, shortest, stated};
 ghost use Rattle.cbor_grammar.specs.WellFormed.{FitsFloat, FitsCount};

@@ -1,5 +1,5 @@
-//! Reads what is between quotes in notation from a `Cursor`: text with escapes, and digits with
-//! blanks.
+//! Reads strings of notation from a `Cursor`, after their opening: quoted text with escapes, and
+//! the digits of `h'..'`, `h32'..'`, `b32'..'` and `b64'..'`, which it decodes to bytes.
 ghost use Rattle.std.specs.Prelude.{◌≡◌, ◌⊎◌, ◌<◌, length, true, false, option_map, IfOk, IfErr};
 ghost use Rattle.std.specs.Prelude.{IfSome, Some, None, Err, position};
 ghost use Rattle.cbor_grammar.specs.Reading.{Gives};

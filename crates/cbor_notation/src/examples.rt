@@ -1,5 +1,6 @@
-//! Checks the definitions of reading notation on a few inputs. The checker computes each example or
-//! shows it by a witness, so a wrong definition does not pass. No code calls these functions.
+//! Checks the definition of notation on a few texts, some that encode an item and some that encode
+//! none. The checker computes each example or shows it by a witness, so a wrong definition does not
+//! pass. No code calls these functions.
 ghost use Rattle.std.specs.Prelude.{[], ◌∷◌, codes, Some};
 ghost use Rattle.std.specs.List.{AllByRecursion};
 ghost use Rattle.cbor_grammar.specs.declared.width.IntegerWidth.TheVariants.{Unknown, Zero, Eight};

@@ -1,4 +1,6 @@
-//! Reads numbers of notation from a `Cursor`, and the widths that they state.
+//! Reads a number of notation from a `Cursor`: its value and its encoding indicator, or the number
+//! of an unsigned or negative integer and its width. Returns an error if the number does not fit
+//! its width.
 ghost use Rattle.std.specs.Prelude.{◌≡◌, ◌≢◌, ◌<◌, ℕ, length, IfOk, Ok, Err, MatchResult};
 ghost use Rattle.cbor_tokens.specs.Token.{capped};
 ghost use Rattle.cbor_grammar.specs.Head.{FitsWidth};

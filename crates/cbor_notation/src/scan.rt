@@ -1,4 +1,5 @@
-//! Skips what separates the items of notation: blanks, commas, and the end of a list.
+//! Skips blanks, a given byte or word, and the end of a list in notation, and reads the width of a
+//! container's count. Each function takes a text and returns the text after what it skips.
 ghost use Rattle.std.specs.Prelude.{◌≡◌, ◌⊎◌, ◌<◌, ◌≤◌, length, position, not, IfOk, IfSome};
 ghost use Rattle.std.specs.Prelude.{option_map};
 ghost use Rattle.cbor_tokens.specs.Token.{is_whitespace};

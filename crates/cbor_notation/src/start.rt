@@ -1,4 +1,4 @@
-//! `Start`: what the first byte of a notation text begins.
+//! `Start`: what the first byte of a notation text begins, such as a text, a number or an array.
 ghost use Rattle.std.specs.Prelude.{◌≡◌, ◌≤◌, length};
 ghost use Rattle.cbor_notation.specs.mirror.NotationReading.{begins_piece, begins_string};
 ghost use Rattle.cbor_notation.specs.mirror.NotationReading.{first_start};

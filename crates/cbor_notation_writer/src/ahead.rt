@@ -1,5 +1,6 @@
-//! Estimates, from bytes that are not read yet, how long a container would be on one line. The file
-//! `encode/notation/estimate.rt` of `cbor_diag` makes the same estimate from items.
+//! Decides whether a container goes on one line, before its members are read. It estimates their
+//! length from the bytes that come next. The file `encode/notation/estimate.rt` of `cbor_diag`
+//! makes the same estimate from items.
 //!
 //! Each function takes a budget of characters. It returns how much of the budget its part leaves,
 //! and the bytes after that part. It returns `None` if the part takes all of the budget, or if the

@@ -1,4 +1,6 @@
-//! Estimates how many characters numbers, strings and floats take of the budget for one line.
+//! Estimates how many characters numbers, floats and strings take on one line, and how much of a
+//! budget they leave. `pretty_style` and `chunks_style` decide by that whether a container or a
+//! string in chunks goes on one line. The limit is an estimated length of 60.
 ghost use Rattle.std.specs.Prelude.{◌≡◌, ◌+◌, ◌-◌, ◌^◌, ◌≤◌, nat_lt, length, map};
 ghost use Rattle.std.specs.Prelude.{if◌then◌else◌};
 ghost use Rattle.cbor_grammar.specs.Item.{Chunk};

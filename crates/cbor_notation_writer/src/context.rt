@@ -1,5 +1,6 @@
-//! `NotationContext`: the level, the layout and, for byte strings, the base that an item is written
-//! with. Tags around an item change it.
+//! `NotationContext`: how an item is written. It has the level of the item, the layout of
+//! containers, the base of byte strings, and whether a byte string is shown as the items in it.
+//! `below` returns the context of the item below a tag.
 ghost use Rattle.std.specs.Prelude.{◌≡◌, ◌+◌, ◌≤◌};
 ghost use Rattle.cbor_grammar.specs.declared.encoding.Encoding.TheVariants.{Base16};
 ghost use Rattle.cbor_grammar.specs.WellFormed.{deepest};

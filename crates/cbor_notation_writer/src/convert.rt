@@ -1,4 +1,5 @@
-//! Converts bytes and hex to diagnostic notation, without building an item.
+//! Converts bytes, and hex with comments, to diagnostic notation, on one line or pretty. No item is
+//! built.
 
 ghost use Rattle.std.specs.Prelude.{◌≡◌, ℕ, ◌+◌, ◌<◌, ◌≤◌, ◌++◌, IfOk, IfSome, OnOk, OnErr};
 ghost use Rattle.std.specs.Prelude.{MatchResult, None, Ok};

@@ -1,4 +1,5 @@
-//! The notation that `cbor_view` writes (RFC 7049 section 6), as a dialect.
+//! `Diag`: the dialect of notation that `cbor_view` writes (RFC 7049 section 6). `push_content`
+//! writes a byte string in it: as the items in the string, or as bytes.
 #![tactic(auto, using(cbor_tokens::proofs::texts::Appending::appending_steps))]
 
 ghost use Rattle.std.specs.Prelude.{◌≡◌, ◌+◌, ◌≤◌};

@@ -1,6 +1,7 @@
-//! The trait of the dialects of notation. `from_bytes.rt` writes any dialect straight from bytes:
-//! it reads, goes from item to item, and lays out containers. A dialect writes the leaves, and the
-//! text around members.
+//! `Dialect`: the trait of a dialect of notation. A dialect writes numbers, strings and tags, and
+//! what comes before, between and after members. It also chooses the style of containers.
+//! `from_bytes.rt` writes any dialect straight from bytes: it reads them, and goes from item to
+//! item.
 
 ghost use Rattle.std.specs.Prelude.{◌≡◌, ◌+◌, ◌<◌, ◌≤◌, ◌^◌, ℕ, List, Option, Ok, IfOk, IfSome};
 ghost use Rattle.std.specs.Prelude.{is_some, unwrap_or};

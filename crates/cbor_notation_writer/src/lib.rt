@@ -1,5 +1,5 @@
 //! Writes CBOR bytes as diagnostic notation (RFC 7049 section 6), in any dialect, without building
-//! an item. Also proves that the text written for an item is a text of its normal form.
+//! an item. The proofs show that the text written for an item is a text of its normal form.
 #![tactic(auto)]
 
 pub mod ahead;

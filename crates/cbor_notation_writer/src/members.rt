@@ -1,5 +1,7 @@
-//! Writes the text around the members of containers and the chunks of strings, by their style.
-//! Short functions that are called for each member are inlined.
+//! Writes the brackets of containers, and the commas, colons, blanks and line feeds between
+//! members, by the style of the container. `push_chunks` writes an indefinite-length string, and
+//! `push_rest` the rest of a sequence that is not an item. Short functions that are called for each
+//! member are inlined.
 #![tactic(auto, using(cbor_tokens::proofs::texts::Appending::appending_steps))]
 
 ghost use Rattle.std.specs.Prelude.{◌≡◌, ◌∷◌, [], ◌++◌, ◌<◌, ◌≤◌, ◌^◌, map};

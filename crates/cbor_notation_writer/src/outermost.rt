@@ -1,5 +1,6 @@
-//! Writes an outermost item as notation straight from bytes or hex, in any layout. The public calls
-//! of `convert.rt` are these functions with their layouts.
+//! Writes an outermost item as notation, straight from bytes or hex. `push_outermost` writes it in
+//! any dialect. The other functions write the notation of `cbor_view` in any layout; the public
+//! calls of `convert.rt` call them.
 #![tactic(auto, using(cbor_tokens::proofs::texts::Appending::appending_steps))]
 
 ghost use Rattle.std.specs.Prelude.{◌≡◌, ◌≤◌, ◌++◌, IfOk, IfErr, IfSome, OnOk, OnErr};

@@ -1,4 +1,4 @@
-//! Writes network addresses as texts for comments.
+//! Writes IPv4, IPv6 and MAC addresses as texts for comments.
 
 ghost use Rattle.std.specs.Prelude.{◌≡◌, IfOk};
 ghost use Rattle.std.specs.String.{string_bytes};

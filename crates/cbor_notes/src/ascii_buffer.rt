@@ -1,4 +1,5 @@
-//! A buffer that collects ASCII characters and appends them to a comment's text at once.
+//! `AsciiBuffer`: collects up to 96 ASCII characters, so that a caller can append them to a text
+//! all at once.
 ghost use Rattle.std.specs.Prelude.{◌≡◌, ◌≤◌, ◌<◌, ◌+◌, [], ◌∷◌, ◌++◌, ℕ, List, length, take};
 ghost use Rattle.std.specs.Str.{IsAscii};
 ghost use Rattle.hex.specs.Hex.{encode_lower};

@@ -1,4 +1,5 @@
-//! Writes the lines that show, in comments, what a text in base 64 decodes to.
+//! Writes the bytes that a base 64 text encodes as lines for comments: hex digits, and the bytes
+//! between quotes (`base64_lines`).
 ghost use Rattle.std.specs.Prelude.{◌≡◌, ◌≢◌, ◌*◌, ◌≤◌, ℕ, List, length, map, option_map};
 ghost use Rattle.std.specs.Prelude.{IfSome, IfNone, IfOk, IsSomeAnd};
 ghost use Rattle.std.specs.String.{string_bytes};

@@ -1,4 +1,5 @@
-//! Writes the elements of typed arrays as texts (RFC 8746, section 2).
+//! Writes elements of typed arrays as texts (RFC 8746, section 2), such as `unsigned(1,000)`.
+//! `element_size` returns how many bytes an element has.
 
 ghost use Rattle.std.specs.Prelude.{◌≡◌, [], ◌++◌, is_some, unwrap_or, ◌-◌, ◌<◌, ◌≤◌, ◌*◌, ◌^◌};
 ghost use Rattle.std.specs.Prelude.{length, take, reverse, option_map, if◌then◌else◌, IfSome};

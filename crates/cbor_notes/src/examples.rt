@@ -1,5 +1,6 @@
-//! Examples of comments and dates, which test the definitions in `specs/`. Each is computed when
-//! the crate is checked. Nothing calls these functions.
+//! Checks the definitions in `specs/` on a few inputs: texts of comments, dates, addresses, URLs,
+//! names of tags, and lines of dumps. The checker computes each example. No code calls these
+//! functions.
 ghost use Rattle.std.specs.Prelude.{◌≡◌, [], ◌∷◌, ◌++◌, map, replicate, codes, true, false, Some};
 ghost use Rattle.std.specs.Prelude.{None, pos, negsuc, neg_ℤ};
 ghost use Rattle.cbor_notes.specs.Address.{ipv4_text, ipv6_text, mac_text};

@@ -1,4 +1,5 @@
-//! Writes the texts that describe a UUID.
+//! Writes the four lines that describe a UUID: its variant and version, and its bytes in base 16,
+//! base 58 and base 64.
 
 ghost use Rattle.std.specs.Prelude.{◌≡◌, map, IfOk};
 ghost use Rattle.std.specs.String.{string_bytes};

@@ -1,7 +1,7 @@
 //! Writes the texts of comments on CBOR data: numbers in groups, escaped bytes and texts, base 58,
-//! addresses, UUIDs, dates, URLs, the elements of typed arrays and the names of tags. It also lays
-//! out the lines of dumps in columns. It exports the calls of `cbor_tokens`, too: base 32, base 64,
-//! hex digits, and the tokens of diagnostic notation.
+//! addresses, UUIDs, dates, the elements of typed arrays and the names of tags. It tests whether a
+//! text is a URL, and lays out the lines of dumps in columns. It re-exports calls of `cbor_tokens`:
+//! base 32, base 64, hex digits, and the tokens of diagnostic notation.
 //!
 //! ```rust
 //! use cbor_notes::grouped;

@@ -1,4 +1,6 @@
 //! Lays out the lines of a dump in two columns: hex digits on the left, comments on the right.
+//! `Line`: a line and the lines below it. `merge` writes such a tree, and `put_line` writes one
+//! line.
 
 ghost use Rattle.std.specs.Prelude.{◌≡◌, ◌≤◌, ◌<◌, ◌+◌, ◌*◌, ◌++◌, [], length, replicate, IfOk};
 ghost use Rattle.std.specs.Prelude.{OnOk, OnErr, IsTrue, ◌↔◌};

@@ -1,4 +1,4 @@
-//! The names of tags that comments show.
+//! Returns the name of a tag for comments, such as `uri` for tag 32.
 
 ghost use Rattle.std.specs.Prelude.{◌≡◌, Some, None, MatchOption};
 ghost use Rattle.cbor_notes.specs.TagNames as spec;

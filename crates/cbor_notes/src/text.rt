@@ -1,4 +1,5 @@
-//! Writes bytes, texts and numbers in the form that comments use.
+//! Writes bytes between quotes, texts with escapes, hex digits, and numbers in groups of three
+//! digits, as comments show them.
 
 ghost use Rattle.std.specs.Prelude.{◌≡◌, ◌≤◌, ◌<◌, ◌+◌, ◌*◌, [], ◌∷◌, ◌++◌, length, take, IfOk};
 ghost use Rattle.std.specs.Prelude.{OnOk, OnErr, flat_map};

@@ -1,4 +1,4 @@
-//! Tells whether a text is a URL.
+//! Tests whether a text is a URL.
 
 ghost use Rattle.std.specs.Prelude.{◌≡◌, IfOk};
 ghost use Rattle.cbor_notes.specs.Url.{is_url};

@@ -1,4 +1,5 @@
-//! Decodes base 64 (RFC 4648, sections 4 and 5).
+//! Decodes base 64 (RFC 4648, sections 4 and 5): the standard alphabet with padding, the URL-safe
+//! alphabet without padding, or either of the two.
 
 ghost use Rattle.std.specs.Prelude.{◌≡◌, ◌≢◌, ◌⊎◌, ℕ, List, option_map};
 ghost use Rattle.std.specs.Prelude.{IfSome, IfNone, IfOk, IsSomeAnd};

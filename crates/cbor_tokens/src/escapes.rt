@@ -1,6 +1,7 @@
-//! Escapes quoted texts as JSON and EDN do: a quote, a backslash, and each hidden character, which
-//! no terminal and no log should get as it is. [`is_shown`] finds hidden characters in any text,
-//! and [`push_shown`] escapes them there.
+//! Escapes texts for the quotes of JSON and EDN: the quote, the backslash, and each hidden
+//! character. A hidden character is a control character, ends a line, changes the direction of a
+//! text, or is the byte order mark. [`is_shown`] tests whether a text has none, and [`push_shown`]
+//! escapes them in lines of text, except line feeds.
 //!
 //! ```rust
 //! use cbor_tokens::push_escaped;

@@ -1,5 +1,5 @@
-//! Checks the definitions of tokens and digits on a few inputs. The checker computes each example,
-//! so a wrong definition does not pass. No code calls these functions.
+//! Checks the definitions of tokens, base 32 and base 64 on a few inputs. The checker computes each
+//! example, so a wrong definition does not pass. No code calls these functions.
 ghost use Rattle.std.specs.Prelude.{◌≡◌, [], ◌∷◌, map, codes, true, false, Some};
 ghost use Rattle.std.specs.Prelude.{None, ◌+◌, ◌^◌, List, ℕ};
 ghost use Rattle.cbor_tokens.specs.Base32.{base32, base32hex};

@@ -1,9 +1,9 @@
-//! Writes and reads hex digits, two for each byte (RFC 4648, section 8): it writes lower case and
+//! Writes and reads hex digits, two for each byte (RFC 4648, section 8). It writes lower case and
 //! reads either case.
 //!
-//! The digits take most of the time of a long byte string. One table has both digits of each byte,
-//! and two tables have the values of the digits, so a byte takes few instructions and no branch.
-//! The definitions are those of the kit's crate `hex`.
+//! Converting digits takes most of the time that a long byte string takes. One table has both
+//! digits of each byte, and two tables have the values of the digits, so a byte takes few
+//! instructions and no branch. The definitions are those of the kit's crate `hex`.
 ghost use Rattle.std.specs.Prelude.{◌≡◌, ◌≤◌, ◌<◌, ◌+◌, ◌*◌, ◌++◌, ℕ, List, length, Ok, option_map};
 ghost use Rattle.std.specs.Prelude.{IfOk, IsTrue, OnOk, OnErr};
 ghost use Rattle.std.specs.Bool.{IsFalse};

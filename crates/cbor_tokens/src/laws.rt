@@ -1,5 +1,5 @@
-//! Laws of base 64: its alphabets are those of RFC 4648, and digits decode to bytes if and only if
-//! they encode these bytes. No code calls these functions.
+//! States laws of base 64: its alphabets are those of RFC 4648, and digits decode to bytes if and
+//! only if they encode these bytes. No code calls these functions.
 ghost use Rattle.std.specs.Prelude.{◌≡◌, ℕ, ◌++◌, Bool, true, List, Some};
 ghost use Rattle.std.specs.Prelude.{codes};
 ghost use Rattle.std.specs.List.{range_with_len};

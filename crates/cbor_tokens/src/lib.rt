@@ -1,10 +1,10 @@
 //! Reads the tokens of diagnostic notation, decodes base 32 and base 64, reads and writes hex
-//! digits, and escapes hidden characters. It knows no CBOR items. `cbor_notes` re-exports the calls
-//! of the bases.
+//! digits, and escapes quotes and hidden characters. It knows no CBOR items. `cbor_notes`
+//! re-exports all calls except those for escapes.
 //!
-//! A call that allocates takes an allocator first and returns `AllocError` if an allocation fails.
-//! Every other result depends on its arguments alone. In the examples of this crate, `rt` is the
-//! `HostRuntime` of a test, and `alloc` is `rt.alloc()`.
+//! A call that allocates takes an allocator or the text that it appends to, and returns
+//! `AllocError` if an allocation fails. Every other result depends on its arguments alone. In the
+//! examples of this crate, `rt` is the `HostRuntime` of a test, and `alloc` is `rt.alloc()`.
 #![tactic(auto)]
 
 mod base32;

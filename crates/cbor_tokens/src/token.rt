@@ -1,6 +1,6 @@
-//! Finds the tokens of diagnostic notation and the blanks between them. Each call returns the
-//! longest token at the front of a text, or the content up to its quote. A call that takes a place
-//! starts there.
+//! Finds blanks in diagnostic notation: whitespace and comments. The file `number.rt` reads
+//! numbers, and `content.rt` reads text and digits between quotes. Each call takes the longest
+//! token at the front of a text, or at a place in it.
 //!
 //! A text is given as bytes of UTF-8. The caller decides what a token means.
 

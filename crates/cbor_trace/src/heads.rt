@@ -1,5 +1,5 @@
-//! Steps over bytes from one head to the next, for messages and searches. It does not check that
-//! the bytes are an item; `extent` does.
+//! Steps over bytes from one head to the next, and finds the wrong byte in malformed bytes
+//! (`place_of_fault`). It does not check that the bytes are an item; `extent` does.
 ghost use Rattle.std.specs.Prelude.{◌≤◌};
 
 use cbor_bytes::utf8_fault;

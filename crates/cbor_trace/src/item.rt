@@ -1,4 +1,4 @@
-//! Finds the head of the item at a place, and the place after the item.
+//! Reads the head of the item at a place (`head_at`), and finds the place after an item (`end_at`).
 ghost use Rattle.std.specs.Prelude.{◌≡◌, ℕ, ◌≤◌, IfSome, Some};
 ghost use Rattle.cbor_grammar.specs.declared.head.ItemHead.{ItemHead};
 ghost use Rattle.cbor_trace.specs.Around.{EndsAt, IsHeadAt};

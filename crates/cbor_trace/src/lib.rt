@@ -1,9 +1,10 @@
 //! Finds which containers are open at a byte of an item, and where an item is truncated or
 //! malformed.
 //!
-//! [`part_at`] goes one container inwards, and [`innermost`] goes all the way. [`head_at`] finds
-//! the head of an item, and [`end_at`] finds where the item ends. [`place_of_fault`] finds the
-//! wrong byte in malformed bytes. None of them allocates memory.
+//! [`part_at`] finds the child of a container that contains the byte, and [`innermost`] finds the
+//! innermost item that contains it. [`head_at`] reads the head of an item, and [`end_at`] finds
+//! where the item ends. [`place_of_fault`] finds the wrong byte in malformed bytes. None of them
+//! allocates memory.
 //!
 //! The containers around a byte, the outermost first:
 //!

@@ -1,5 +1,5 @@
-//! `part_at` finds the child of a container that contains a byte. `Spot` is where an item begins,
-//! and `Part` such a child.
+//! Finds which child of a container a given byte is in (`part_at`). `Spot`: where an item begins,
+//! and its level. `Part`: the open container and where the child begins.
 ghost use Rattle.std.specs.Prelude.{◌≡◌, ℕ, ◌+◌, ◌<◌, ◌≤◌, List, length, IfSome, IfNone, Ok, Some};
 ghost use Rattle.cbor_grammar.specs.Item.{Item};
 ghost use Rattle.cbor_grammar.specs.Reading.{read_head, read_item};

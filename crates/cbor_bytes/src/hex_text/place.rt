@@ -1,5 +1,5 @@
-//! Finds places in hex with comments: where its digits are wrong, and where the digits of a byte
-//! are. It walks over the kept bytes in order, and stores nothing.
+//! Finds places in hex with comments: the first wrong digit (`hex_fault`), and the digits of byte
+//! `n` (`hex_place`). It allocates nothing.
 ghost use Rattle.std.specs.Prelude.{◌≡◌, ◌≢◌, ◌<◌, ◌≤◌, ◌+◌, ◌*◌, [], ◌∷◌, length, take, drop};
 ghost use Rattle.std.specs.Prelude.{slice_index};
 ghost use Rattle.std.specs.Prelude.{false, None, IfSome, ◌↔◌};

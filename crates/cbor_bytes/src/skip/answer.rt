@@ -1,4 +1,5 @@
-//! `Extent`: how bytes begin, as `extent` and a `Scanner` report it.
+//! `Extent`: the answer of `extent` and of a `Scanner`. The bytes begin with an item of some
+//! length, are truncated, or have an error.
 use cbor_grammar::Error;
 
 /// How bytes begin, as [`extent`] reports it.

@@ -1,4 +1,5 @@
-//! For `Scanner`: the containers that are open in an item whose bytes come in pieces.
+//! `Containers`, for `Scanner`: the containers that are open where the bytes so far end.
+//! `after_item` goes on through them with the next bytes, up to the end of the item.
 ghost use Rattle.std.specs.Prelude.{◌≡◌, ◌<◌, ◌+◌, ◌*◌, [], length, Some, None, IfOk, IfErr};
 ghost use Rattle.cbor_bytes.specs.mirror.Scanning.{Pauses, skip_from};
 ghost use Rattle.cbor_grammar.specs.Item.{no_items};

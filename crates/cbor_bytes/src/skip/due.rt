@@ -1,4 +1,6 @@
-//! Skips strings whose bytes come in pieces: what is due next, and where the bytes end.
+//! For `Scanner`: skips strings whose bytes arrive in pieces. `Due` says what has to come next,
+//! such as the rest of a string. `Pause` says why skipping stopped: the bytes end, or there is an
+//! error.
 //!
 //! Each function takes the remaining bytes. It returns the bytes after what it skips, or why it
 //! pauses.

@@ -1,4 +1,5 @@
-//! `Held`: the bytes that a `Scanner` keeps from one piece to the next.
+//! `Held`: the few bytes that a `Scanner` keeps from one piece to the next: the front of a head or
+//! of a character that is not complete.
 ghost use Rattle.std.specs.Prelude.{◌≡◌, ◌<◌, ◌≤◌, [], ◌∷◌, ◌++◌, length};
 
 use std::marker::Model;

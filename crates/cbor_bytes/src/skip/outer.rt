@@ -1,4 +1,5 @@
-//! For `extent`: the stack of the open containers around the innermost one. Its size is fixed.
+//! `Outer`, for `extent`: the stack of the open containers around the innermost one. Its size is
+//! fixed.
 ghost use Rattle.std.specs.Prelude.{◌≡◌, ◌<◌, ◌≤◌, [], ◌∷◌, ◌++◌, length, replicate};
 ghost use Rattle.std.specs.Prelude.{IfSome, Some, None};
 ghost use Rattle.cbor_grammar.specs.WellFormed.{deepest};

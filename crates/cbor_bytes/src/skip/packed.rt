@@ -1,5 +1,5 @@
-//! In a `Scanner`, the stack of the open containers around the innermost one. Its size is fixed. It
-//! takes a third of the memory of [`Outer`], and [`Outer`] is faster.
+//! `Packed`, for `Scanner`: the stack of the open containers around the innermost one. Its size is
+//! fixed. It takes a third of the memory of [`Outer`], but [`Outer`] is faster.
 //!
 //! [`Outer`]: super::outer::Outer
 ghost use Rattle.std.specs.Prelude.{◌≡◌, ◌<◌, ◌≤◌, [], ◌∷◌, ◌++◌, length, IfSome, Some, None};

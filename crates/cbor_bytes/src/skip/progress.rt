@@ -1,4 +1,5 @@
-//! `Progress`: how far a `Scanner` has come in an item whose bytes come in pieces.
+//! `Progress`: the state of a `Scanner` within an item: which containers are open, what has to come
+//! next, and the bytes of a head or character that is not complete.
 ghost use Rattle.std.specs.Prelude.{◌≡◌, ◌≤◌, ℕ, List, [], ◌++◌, length, IfOk, IfErr};
 
 use super::Stop;

@@ -1,4 +1,5 @@
-//! `Scanner`: reports how bytes begin that come in pieces, as from a socket.
+//! `Scanner`: takes bytes in pieces, as from a socket, and reports whether all of them so far begin
+//! with an item, are truncated or have an error.
 ghost use Rattle.std.specs.Prelude.{◌≡◌, ◌≢◌, ℕ, ◌+◌, ◌^◌, ◌<◌, List, [], ◌++◌, length};
 ghost use Rattle.std.specs.Prelude.{IfOk, IfErr};
 ghost use Rattle.cbor_grammar.specs.WellFormed.{deepest};

@@ -1,4 +1,5 @@
-//! For `extent` and `Scanner`: how many parts of an open container are still to come.
+//! `ToCome`, for `extent` and `Scanner`: how many parts of an open container are still to come.
+//! `Kind`: the same without the number.
 ghost use Rattle.std.specs.Prelude.{◌≡◌, Some, option_map};
 ghost use Rattle.cbor_grammar.specs.Item.{no_items};
 ghost use Rattle.cbor_grammar.specs.Reading.{items_in, put, after_members, after_end, one_less};

@@ -1,4 +1,5 @@
-//! The forms in which `convert` reads and writes an item.
+//! `Source` and `To`: the forms in which `convert` reads and writes an item: bytes, hex with
+//! comments, and diagnostic notation.
 
 /// The form in which an item is read.
 #[derive(Clone, Copy, PartialEq, Eq, Debug)]

@@ -1,4 +1,4 @@
-//! Writes a `DataItem` as bytes (RFC 7049 section 2), each byte once, at the end of one vector.
+//! Writes a `DataItem` as bytes (RFC 7049 section 2). Each part is appended to one vector.
 //!
 //! The functions for strings and containers are not inlined into the `match` on the kind of item:
 //! they keep values across calls, and each integer would need space for these, too.

@@ -1,5 +1,5 @@
-//! Writes a `DataItem` as diagnostic notation (RFC 7049 section 6), each part once, at the end of
-//! one text.
+//! Writes a `DataItem` as diagnostic notation (RFC 7049 section 6). Each part is appended to one
+//! text.
 //!
 //! The same functions write compact and pretty text, which differ only in their `Layout`.
 #![tactic(auto, using(cbor_tokens::proofs::texts::Appending::appending_steps))]

@@ -1,5 +1,5 @@
 //! Reads a `DataItem` from bytes (RFC 7049 section 2), by a loop with a stack of the open
-//! containers.
+//! containers. `parse_bytes_counted` also counts the turns of the loop.
 //!
 //! Each private function takes the remaining bytes and returns a value with the bytes after it, or
 //! the first error from the left, which is `CutShort` if the bytes end. Claimed lengths and counts

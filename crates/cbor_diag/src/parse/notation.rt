@@ -1,15 +1,15 @@
 //! Reads a `DataItem` from diagnostic notation (RFC 7049 section 6), by recursion over the levels
-//! of nesting.
+//! of nesting. `diag_fault`, in `fault.rt`, finds the place of an error.
 //!
 //! Each private function reads at a cursor over the text, as bytes of UTF-8. It returns a value and
-//! leaves the cursor behind it, or returns the first error from the left. After an error the cursor
-//! is where `stop` says, which is the place of the error. The first byte decides what comes next.
-//! There are two exceptions: `''_` and `""_`, and a list's last comma, after which the closing byte
-//! is looked for behind whitespace. The text is read once, except that the first piece of a string
-//! is read again if the fast path of `strings` does not apply.
+//! moves the cursor past it, or returns the first error from the left. After an error the cursor is
+//! at the place of the error, as `stop.rt` says. The first byte decides what comes next. There are
+//! two exceptions: `''_` and `""_`, and the last comma of a list, where the closing byte may follow
+//! after whitespace. The text is read once, except that the first piece of a string is read again
+//! if the fast path of `strings` does not apply.
 //!
-//! The functions between `read_core` and the list that keeps its item are inlined, and a map's loop
-//! reads key and value itself, so that no item is moved from one function to the next.
+//! The functions between `read_core` and the list that keeps its item are inlined, and the loop of
+//! a map reads keys and values itself. So no item is moved from one function to another.
 mod fault;
 mod stop;
 mod strings;

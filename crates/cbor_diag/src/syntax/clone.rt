@@ -1,5 +1,5 @@
-//! Copies items and strings. The functions are written out: a derived `clone` takes no allocator,
-//! and has no contract for a recursive type.
+//! Copies a `DataItem`. The functions are written out: a derived `clone` takes no allocator, and
+//! has no contract for a recursive type.
 ghost use Rattle.std.specs.Prelude.{◌≡◌, IfErr, IfOk, map};
 ghost use Rattle.cbor_diag.specs.View.{view, items_view, pairs_view};
 

@@ -1,5 +1,5 @@
-//! Compares items for equality. The functions are written out: a derived `==` has no contract for a
-//! recursive type.
+//! Tests whether two `DataItem`s are equal, widths included. The functions are written out: a
+//! derived `==` has no contract for a recursive type.
 ghost use Rattle.std.specs.Prelude.{◌≡◌, ◌↔◌, IsTrue, map};
 ghost use Rattle.cbor_grammar.specs.declared.strings.StringKind.TheVariants.{Bytes, Text};
 ghost use Rattle.cbor_grammar.specs.Item as spec;

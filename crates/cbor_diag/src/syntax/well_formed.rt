@@ -1,5 +1,5 @@
-//! Checks that a `DataItem` has an encoding: each number fits its width, and no item is deeper than
-//! level 128.
+//! Checks that a `DataItem` is well formed, so that it has an encoding: each number fits its width,
+//! and no item is deeper than level 128.
 ghost use Rattle.std.specs.Prelude.{◌↔◌, IsTrue, map};
 ghost use Rattle.std.specs.List.{AllByRecursion};
 ghost use Rattle.cbor_diag.specs.View.{view, items_view, pairs_view};

@@ -1,4 +1,5 @@
-//! Notes of a dump on network addresses (RFC 9164).
+//! Returns the notes of a dump on network addresses: IPv4 and IPv6 addresses, prefixes and
+//! interfaces with zones (RFC 9164), and the addresses of tag 260, among them MAC addresses.
 ghost use Rattle.std.specs.Prelude.{ℕ, ◌≡◌, ◌≢◌, ◌++◌, List, codes, decimal, length, IfOk, OnOk};
 ghost use Rattle.std.specs.Prelude.{IfSome, IfNone};
 ghost use Rattle.std.specs.String.{string_bytes};

@@ -1,5 +1,5 @@
-//! Notes of a dump on dates and times, as texts and as numbers (RFC 7049 section 2.4.1 and RFC
-//! 8943).
+//! Returns the notes of a dump on dates and times (RFC 7049 section 2.4.1 and RFC 8943). The note
+//! on a text is its number of seconds or days, and the note on a number is its date.
 ghost use Rattle.std.specs.Prelude.{◌≡◌, codes, option_map, IfOk};
 ghost use Rattle.std.specs.String.{string_bytes};
 ghost use Rattle.cbor_notes.specs.Date as dates;

@@ -1,4 +1,4 @@
-//! Notes of a dump on texts and bytes that encode something: URLs, base 64 and UUIDs.
+//! Returns the notes of a dump on URIs, on texts in base 64, and on UUIDs.
 ghost use Rattle.std.specs.Prelude.{◌≡◌, ◌++◌, IfOk};
 ghost use Rattle.std.specs.String.{string_bytes};
 ghost use Rattle.cbor_dump.specs.Notes as spec;

@@ -1,5 +1,5 @@
-//! Notes of a dump on values that are shared, and on references to them (the IANA registry of CBOR
-//! tags).
+//! Returns the notes of a dump on shared values and on references to them (tags 28 and 29 of the
+//! IANA registry).
 ghost use Rattle.std.specs.Prelude.{◌≡◌, IfOk};
 ghost use Rattle.std.specs.String.{string_bytes};
 ghost use Rattle.cbor_dump.specs.Notes as spec;

@@ -1,4 +1,5 @@
-//! Reads what notes show of the value of a tag from its bytes, without allocating.
+//! `Value`: the part of a tag's value that notes show, read from its bytes without allocating. Of
+//! an array, it reads at most three members.
 ghost use Rattle.std.specs.Prelude.{◌≡◌, ◌+◌, ℕ, List, Ok};
 ghost use Rattle.cbor_grammar.specs.declared.width.IntegerWidth.{IntegerWidth};
 ghost use Rattle.cbor_grammar.specs.Item.{Chunk, string, Item, atom, Items};

@@ -1,4 +1,5 @@
-//! Finds hidden characters in a text, such as control characters, and escapes them.
+//! Tests whether a text has no hidden characters, such as control characters (`is_shown`), and
+//! escapes those that it has (`push_shown`).
 #![tactic(auto, using(crate::proofs::texts::Appending::appending_steps))]
 
 ghost use Rattle.std.specs.Prelude.{◌≡◌, ◌↔◌, ℕ, ◌+◌, ◌<◌, ◌≤◌, true, IsTrue, slice_index, length};

@@ -1,4 +1,5 @@
-//! Reads what is between quotes in diagnostic notation: text with escapes, and digits with blanks.
+//! Reads the content between quotes in diagnostic notation: text with escapes, and digits with
+//! blanks.
 
 ghost use Rattle.std.specs.Prelude.{◌≡◌, ◌≢◌, ◌⊎◌, ◌++◌, ◌∷◌, ◌<◌, ◌≤◌, List, [], ℕ, drop, length};
 ghost use Rattle.std.specs.Prelude.{true, false, not, IfNone, IfOk, IfSome, IsSomeAnd};

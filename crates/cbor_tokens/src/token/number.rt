@@ -1,5 +1,5 @@
-//! Reads the numbers of diagnostic notation: in four bases, with or without an indicator of their
-//! width.
+//! Reads a number of diagnostic notation: its value, written in base 2, 8, 10 or 16, and its
+//! encoding indicator (`_0` to `_3`), if it has one.
 
 ghost use Rattle.std.specs.Prelude.{◌≡◌, ◌++◌, ◌<◌, ◌≤◌, List, ℕ, Option, drop, length, option_map};
 ghost use Rattle.std.specs.Prelude.{slice_range, IfNone, IfSome, None, Some};

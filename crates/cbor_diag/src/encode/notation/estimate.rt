@@ -1,8 +1,8 @@
-//! Estimates how long a container of a `DataItem` would be on one line. Pretty text gives each
-//! member of a long container its own line.
+//! Decides whether a container in a `DataItem` goes on one line, by an estimate of its length.
+//! Pretty text gives each member of a long container its own line.
 //!
 //! Each function takes a budget of characters and returns what its part leaves of it: 0 if the part
-//! takes all of it or more. Nothing after that is looked at. So the budget bounds the work, however
+//! takes all of it or more. It looks at nothing after that. So the budget bounds the work, however
 //! large the item is.
 ghost use Rattle.std.specs.Prelude.{◌≡◌, ◌+◌, ◌-◌, ◌*◌, map};
 ghost use Rattle.cbor_diag.specs.View.{view, items_view, pairs_view};

@@ -1,4 +1,5 @@
-//! The open containers while a `DataItem` is read: their parts so far, and what they still need.
+//! `Frame`: an array, a map or a tag that is open while a `DataItem` is read from bytes. It keeps
+//! the parts so far, takes further parts, and becomes an item at its end.
 ghost use Rattle.std.specs.Prelude.{◌≡◌, ◌≤◌, ℕ, Some, IsSome, IfSome, IfOk, IfErr, OnOk};
 ghost use Rattle.std.specs.Prelude.{option_map};
 ghost use Rattle.cbor_diag.specs.View.{view};

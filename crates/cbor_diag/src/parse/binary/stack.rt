@@ -1,4 +1,4 @@
-//! A stack of the containers that are open while a `DataItem` is read from bytes.
+//! `Stack`: the containers that are open while a `DataItem` is read from bytes.
 ghost use Rattle.std.specs.Prelude.{◌≡◌, [], length, Some, IsSome, IfOk, IfErr, OnOk};
 ghost use Rattle.std.specs.Prelude.{◌∷◌, ◌<◌, drop, option_map};
 ghost use Rattle.cbor_diag.specs.View.{view};

@@ -1,4 +1,4 @@
-//! Finds the first error in diagnostic notation, and its place.
+//! Finds the first error in diagnostic notation, and its place (`diag_fault`).
 ghost use Rattle.std.specs.Prelude.{◌≡◌, ◌≤◌, length, None, IfOk, IfErr, IfSome, IfNone};
 ghost use Rattle.cbor_grammar.specs.Item.{Item};
 ghost use Rattle.cbor_grammar.specs.Notation.{IsNotation};

@@ -1,9 +1,9 @@
-//! Reads strings of notation into a `DataItem`: strings in pieces, and the chunks of indefinite
-//! strings.
+//! Reads strings of notation into a `DataItem`: quoted text, notations of bytes such as `h'..'`,
+//! items in `<<..>>`, strings of several such pieces, and the chunks of indefinite-length strings.
 //!
-//! Most strings are one piece, a text without escapes or hex digits without blanks, and a list goes
-//! on or closes right after it. A fast path reads these straight into the item. All others are read
-//! piece by piece.
+//! Most strings are one piece: a text without escapes, or hex digits without blanks. If a comma, a
+//! colon or a closing bracket follows at once, a fast path reads the string straight into the item.
+//! All other strings are read piece by piece.
 ghost use Rattle.std.specs.Prelude.{◌≡◌, ◌-◌, ◌++◌, ◌<◌, ◌≤◌, ℕ, List, [], Some, suc, length};
 ghost use Rattle.std.specs.Prelude.{IfOk, IfSome, Ok, OnOk, true, false};
 ghost use Rattle.std.specs.List.{AllByRecursion};
