@@ -1,5 +1,5 @@
-//! Reads the items of an EDN text straight to bytes, by recursion over the levels of nesting:
-//! `edn_to_bytes` any number of items, `edn_item_to_bytes` exactly one.
+//! Reads the items of an EDN text straight to bytes, by recursion over the levels of nesting.
+//! `edn_to_bytes` reads any number of items, and `edn_item_to_bytes` exactly one.
 //!
 //! Each private function reads at a cursor. It appends the encoding of what it reads, and moves the
 //! cursor past that. After an error, the cursor is at the place where the text cannot go on, and

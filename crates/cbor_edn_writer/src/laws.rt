@@ -1,6 +1,6 @@
 //! States a law: if items are written as EDN with a line feed after each, they are read back as the
-//! same bytes. Items with a simple value from 24 to 31 are excepted. The law is the contract of a
-//! function that no code calls.
+//! same bytes. The law does not cover items with a simple value from 24 to 31. It is the contract
+//! of a function that no code calls.
 ghost use Rattle.std.specs.Prelude.{◌≡◌, ℕ, List, Some};
 ghost use Rattle.std.specs.List.{AllByRecursion};
 ghost use Rattle.cbor_grammar.specs.Item.{Item, items_of};

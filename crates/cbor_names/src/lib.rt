@@ -1,6 +1,6 @@
-//! Finds names for what is in CBOR data, in tables: names of members, keys, tags and values.
-//! [`known_names`] has the tables of COSE, CWT and similar standards, and [`with_file`] adds those
-//! of a file. docs/NAMES.md has the rules.
+//! Finds the names of members, keys, tags and values of CBOR data in tables. [`known_names`] has
+//! the tables of COSE, CWT and similar standards, and [`with_file`] adds those of a file.
+//! docs/NAMES.md has the rules.
 //!
 //! [`notes`] gives the names and meanings of the items in an item, each with its place:
 //!
