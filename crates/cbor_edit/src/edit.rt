@@ -1,5 +1,5 @@
-//! Edits an item: sets, drops or adds what a path leads to. The places are changed from the last to
-//! the first.
+//! `edited`: replaces or drops the parts of an item that a path leads to, or adds a part. It
+//! changes the places from the last to the first. `EditError`: why an item is not edited.
 ghost use Rattle.std.specs.Prelude.{ℕ, IfOk};
 ghost use Rattle.cbor_grammar.specs.Item.{Item};
 ghost use Rattle.cbor_grammar.specs.Facts.{IsItem};

@@ -1,9 +1,9 @@
-//! Edits of items: other parts in place of some, members that are dropped, and members that are
-//! added.
+//! Edits items: replaces, drops and adds parts.
 //!
-//! [`edited`] changes what the steps of a path lead to. All other bytes stay. A count, or the length
-//! of a byte string around a change, keeps its width if it fits, and takes the shortest that it fits
-//! if not; what is of indefinite length stays so.
+//! [`edited`] changes what the steps of a path lead to. All other bytes stay. A count, or the
+//! length of a byte string around a change, keeps its width if the new number fits, and otherwise
+//! takes the shortest width. Indefinite lengths stay. [`replaced`], [`with_more`] and [`without`]
+//! make one change at a known place.
 //!
 //! ```rust
 //! use cbor_edit::{Edit, edited};

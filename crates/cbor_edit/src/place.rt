@@ -1,5 +1,5 @@
-//! `Place`: bytes of an item, and the byte strings that they are in. `Change`: a place, and the
-//! bytes that are put there.
+//! `Place`: where bytes of an item are, and the byte strings that they are in. `Change`: a place,
+//! and the new bytes for it. `push_changed`: copies bytes, with some places changed.
 ghost use Rattle.std.specs.Prelude.{◌≡◌, ℕ, ◌≤◌, ◌++◌, List, length, IfOk, IfSome};
 ghost use Rattle.cbor_edit.specs.Edited.{changed};
 

@@ -1,5 +1,5 @@
-//! Puts other bytes in place of a part, and the new lengths into the heads of the byte strings
-//! around it.
+//! Replaces a part of an item by other bytes, and writes the new lengths into the heads of the byte
+//! strings around it.
 ghost use Rattle.std.specs.Prelude.{◌≡◌, ℕ, ◌≤◌, List, IfOk, IfSome};
 ghost use Rattle.cbor_grammar.specs.declared.argument.Argument.{Argument};
 ghost use Rattle.cbor_edit.specs.Edited.{Edited, bytes_of};

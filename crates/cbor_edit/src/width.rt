@@ -1,5 +1,5 @@
-//! The widths of counts and lengths that change: a width stays if the new number fits, and is else
-//! the shortest.
+//! Chooses the width of a count or a length that changes: the same width if the new number fits, or
+//! else the shortest. Also writes its head.
 ghost use Rattle.std.specs.Prelude.{◌≡◌, IfOk};
 ghost use Rattle.cbor_grammar.specs.Head.{FitsStated, head};
 ghost use Rattle.cbor_grammar.specs.mirror.MajorNumber.{major_number};

@@ -1,5 +1,5 @@
-//! Reads the content of `dt'..'` and `DT'..'`: a date with a time of day and an offset becomes the
-//! seconds since 1970-01-01T00:00:00Z; after `DT'`, below tag 1.
+//! Reads the content of `dt'..'` and `DT'..'` as a `DataItem`. A date with a time of day and an
+//! offset becomes the number of seconds since 1970-01-01T00:00:00Z. `DT'` puts tag 1 around it.
 ghost use Rattle.std.specs.Prelude.{◌≡◌, ◌+◌, ◌-◌, ◌<◌, ◌≤◌, ℕ, length, IfOk, IfErr};
 ghost use Rattle.cbor_diag.specs.View.{view};
 ghost use Rattle.cbor_grammar.specs.WellFormed.{deepest, levels_left, WellFormed};

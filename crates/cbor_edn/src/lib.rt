@@ -1,6 +1,6 @@
 //! Reads EDN, the extended diagnostic notation of CBOR that people write (RFC 8949 section 8, RFC
-//! 8610 appendix G), as a `DataItem`. Re-exports what reads it straight to bytes, and what writes
-//! it. docs/EDN.md has the rules.
+//! 8610 appendix G), as a `DataItem`. Re-exports the calls that read EDN straight to bytes, and
+//! those that write it. docs/EDN.md has the rules.
 //!
 //! Both readers keep each width that a text states.
 #![tactic(auto)]

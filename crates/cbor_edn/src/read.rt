@@ -1,4 +1,5 @@
-//! Reads items of EDN as `DataItem`s, by recursion over the levels of nesting.
+//! Reads the one item of an EDN text as a `DataItem` (`parse_edn`), by recursion over the levels of
+//! nesting.
 //!
 //! Each private function reads at a cursor. It returns a value and moves the cursor past it. After
 //! an error, the cursor is at the place where the text cannot go on.

@@ -1,5 +1,5 @@
-//! Reads numbers and simple values of EDN, and what follows the prefixes `float'`, `dt'`, `DT'`,
-//! `ip'` and `IP'`, as `DataItem`s.
+//! Reads numbers and simple values of EDN, and words with a prefix (`float'`, `dt'`, `DT'`, `ip'`,
+//! `IP'`), as `DataItem`s. `date.rt` and `network.rt` read what follows `dt'` and `ip'`.
 ghost use Rattle.std.specs.Prelude.{◌≡◌, ◌-◌, ◌<◌, ◌≤◌, ℕ, length, option_map, IfOk, IfSome};
 ghost use Rattle.cbor_diag.specs.View.{view};
 ghost use Rattle.cbor_grammar.specs.WellFormed.{deepest, levels_left, WellFormed};

@@ -1,5 +1,5 @@
-//! Reads strings of EDN: the `+` between their pieces, the width after the last piece, and the item
-//! that the pieces make.
+//! Builds the `DataItem` of an EDN string from bytes: a definite-length string, or one of
+//! indefinite length without chunks. `Chunks`: collects the chunks of an indefinite-length string.
 ghost use Rattle.std.specs.Prelude.{◌≡◌, ℕ, ◌≤◌, length, map, [], IfOk};
 ghost use Rattle.std.specs.List.{AllByRecursion};
 ghost use Rattle.cbor_grammar.specs.Item.{atom, chunked_string};

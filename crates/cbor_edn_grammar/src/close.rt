@@ -1,4 +1,5 @@
-//! `Close`: what closes a list of EDN, such as `]`, and the messages that name it.
+//! `Close`: what closes a list of EDN: `]`, `}`, `)`, `>>` or the end of the text. `missing`
+//! returns the error message if it is not there.
 ghost use Rattle.std.specs.Prelude.{◌≡◌};
 ghost use Rattle.cbor_edn_grammar.specs.Expectations.{missing};
 

@@ -1,4 +1,5 @@
-//! Errors: why a text is not EDN, and where.
+//! `EdnError`: why reading EDN failed, and at which byte. `Expected`: what EDN requires there, with
+//! the message in words. `Stop`: why a function that reads at a cursor stops.
 ghost use Rattle.std.specs.Prelude.{◌≡◌};
 ghost use Rattle.cbor_edn_grammar.specs.Expectations.{text_of, words_of};
 ghost use Rattle.cbor_edn_grammar.specs.declared.error.Stop.TheVariants.{Memory};

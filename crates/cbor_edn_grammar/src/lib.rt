@@ -1,6 +1,6 @@
-//! What EDN is: the extended diagnostic notation of CBOR that people write (RFC 8949 section 8, RFC
-//! 8610 appendix G). `specs` defines which texts are EDN, and which items and bytes they denote.
-//! The crate also has the lemmas that the reader and the writer of EDN share, and the errors of
+//! Defines EDN, the extended diagnostic notation of CBOR that people write (RFC 8949 section 8, RFC
+//! 8610 appendix G). `specs` says which texts are EDN, and which items and bytes they denote. The
+//! crate also has lemmas and types that the readers and the writer of EDN share, and the errors of
 //! reading.
 #![tactic(auto)]
 

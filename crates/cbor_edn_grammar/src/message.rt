@@ -1,4 +1,5 @@
-//! Error messages that repeat the word of the text at the place of the error.
+//! `Message`: the message of an error in an EDN text. It repeats the word at the place of the
+//! error, or the content of the quotes after it, if that is short and printable ASCII.
 ghost use Rattle.std.specs.Prelude.{IfSome, ◌≡◌, true};
 ghost use Rattle.std.specs.List.{list_all};
 ghost use Rattle.cbor_edn_grammar.specs.Expectations.{is_printing};

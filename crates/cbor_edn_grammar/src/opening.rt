@@ -1,4 +1,5 @@
-//! `Opening`: what a piece of an EDN string begins with, such as a quote or `h'`.
+//! `Opening`: what a piece of an EDN string begins with: `"`, `'`, `<<` or a prefix such as `h'`.
+//! `Base`: the base of digits, which the prefix states.
 ghost use Rattle.std.specs.Prelude.{◌≡◌};
 ghost use Rattle.cbor_edn_grammar.specs.Strings.{kind_of};
 ghost use Rattle.cbor_edn_grammar.specs.Digits.{slashes_in};

@@ -1,4 +1,5 @@
-//! Explains why no item begins at a place, from the text before and after it.
+//! Makes the error `Expected::Item` more precise: finds why no item begins at a place, from the
+//! text before and after it.
 
 use crate::error::Expected;
 use crate::literal::Literal;

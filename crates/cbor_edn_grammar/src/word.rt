@@ -1,4 +1,5 @@
-//! Recognizes the words of EDN, and the widths that they state.
+//! Finds the word at the front of an EDN text, recognizes digits and the beginnings of numbers, and
+//! reads width indicators such as `_1`.
 ghost use Rattle.std.specs.Prelude.{◌≡◌, ◌≤◌, length, true, option_map};
 ghost use Rattle.std.specs.List.{list_all};
 ghost use Rattle.std.specs.Str.Parse.{IsNumeral};

@@ -1,5 +1,5 @@
-//! Appends the bytes of what stands between quotes: text with JSON's escapes, or digits such as
-//! those of `h'`.
+//! Reads what is between the quotes of an EDN string, and appends its bytes. It decodes the escapes
+//! of a text, and the digits after a prefix such as `h'`.
 ghost use Rattle.std.specs.Prelude.{◌≡◌, ◌<◌, ◌≤◌, length, Some, IfSome};
 ghost use Rattle.cbor_tokens.specs.Token.{is_special};
 ghost use Rattle.cbor_edn_grammar.specs.Quoted.{plain_len, quoted};

@@ -1,5 +1,5 @@
-//! Reads the content of `dt'..'` and `DT'..'`: a date with a time of day and an offset becomes the
-//! seconds since 1970-01-01T00:00:00Z; after `DT'`, below tag 1.
+//! Reads the content of `dt'..'` and `DT'..'`, and appends its bytes. A date with a time of day and
+//! an offset becomes the number of seconds since 1970-01-01T00:00:00Z. `DT'` puts tag 1 around it.
 ghost use Rattle.std.specs.Prelude.{◌≡◌, ◌==◌, ◌≤◌, length, option_map, slice_index};
 ghost use Rattle.std.specs.List.{list_any};
 ghost use Rattle.cbor_grammar.specs.WellFormed.{levels_left};

@@ -1,5 +1,5 @@
-//! Puts the head of a container or of an indefinite string before what it holds, once the count is
-//! known: in place of a byte that was left for it.
+//! Writes the head of a container or of an indefinite-length string before its content, once the
+//! count is known. The head replaces one byte that was left free for it.
 ghost use Rattle.std.specs.Prelude.{◌≡◌, ◌+◌, ◌<◌, ◌++◌, ◌∷◌, length, take, drop, OnOk};
 ghost use Rattle.cbor_grammar.specs.mirror.MajorNumber.{major_number};
 ghost use Rattle.cbor_grammar.specs.WellFormed.{FitsCount};

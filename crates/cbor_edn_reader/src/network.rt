@@ -1,5 +1,6 @@
-//! Reads the content of `ip'..'` and `IP'..'`: an IPv4 or IPv6 address becomes a byte string, and
-//! an address prefix an array of its length and bytes; after `IP'`, below tag 52 or 54.
+//! Reads the content of `ip'..'` and `IP'..'`, and appends its bytes. An IPv4 or IPv6 address
+//! becomes a byte string, and an address prefix an array of its length and bytes. `IP'` puts tag 52
+//! or 54 around the item.
 ghost use Rattle.std.specs.Prelude.{◌≡◌, ◌==◌, ◌<◌, ◌≤◌, length, position, IfSome};
 ghost use Rattle.cbor_grammar.specs.WellFormed.{levels_left};
 ghost use Rattle.cbor_edn_grammar.specs.Address.{bytes_item, address_item, prefix_array};

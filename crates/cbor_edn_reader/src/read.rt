@@ -1,4 +1,5 @@
-//! Reads items of EDN straight to bytes, by recursion over the levels of nesting.
+//! Reads the items of an EDN text straight to bytes, by recursion over the levels of nesting.
+//! `edn_to_bytes` reads any number of items, and `edn_item_to_bytes` exactly one.
 //!
 //! Each private function reads at a cursor. It appends the encoding of what it reads, and moves the
 //! cursor past that. After an error, the cursor is at the place where the text cannot go on, and

@@ -1,5 +1,6 @@
-//! Reads numbers and simple values of EDN, and what follows the prefixes `float'`, `dt'`, `DT'`,
-//! `ip'` and `IP'`, and appends the bytes of each item.
+//! Reads numbers and simple values of EDN, and words with a prefix (`float'`, `dt'`, `DT'`, `ip'`,
+//! `IP'`), and appends the bytes of each item. `date.rt` and `network.rt` read what follows `dt'`
+//! and `ip'`.
 ghost use Rattle.std.specs.Prelude.{◌≡◌, ◌<◌, ◌≤◌, length, option_map, IfOk, IfSome};
 ghost use Rattle.cbor_grammar.specs.WellFormed.{levels_left};
 ghost use Rattle.std.specs.Prelude.{Some};

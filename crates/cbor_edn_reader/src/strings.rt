@@ -1,5 +1,6 @@
-//! Reads strings of EDN: the `+` between their pieces, the width after the last piece, and the item
-//! that the pieces make.
+//! Takes the `+` between the pieces of an EDN string, and the width after the last piece. Then
+//! writes the head before the bytes of the pieces, which makes them a string, a chunk, or an
+//! indefinite-length string without chunks.
 ghost use Rattle.std.specs.Prelude.{◌≡◌, ◌+◌, ◌<◌, ◌≤◌, length, take, drop, IfOk};
 ghost use Rattle.cbor_grammar.specs.Head.{FitsWidth};
 ghost use Rattle.cbor_edn_grammar.specs.Reading.{Gives};

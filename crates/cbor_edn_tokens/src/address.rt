@@ -1,4 +1,5 @@
-//! Reads network addresses of EDN, and checks the bits of address prefixes.
+//! Reads the texts of IPv4 and IPv6 addresses to bytes, and the length of an address prefix. Checks
+//! that no bit is set after the prefix, and counts the bytes without the zeros at the end.
 ghost use Rattle.std.specs.Prelude.{◌≡◌, ◌==◌, ◌-◌, ◌%◌, ◌^◌, ◌≤◌, length};
 ghost use Rattle.cbor_edn_grammar.specs.Reading.{Gives};
 ghost use Rattle.cbor_edn_grammar.specs.Address.{is_ipv6, ipv4_bytes, ipv6_bytes, address_bytes};

@@ -1,4 +1,4 @@
-//! Reads blanks of EDN: spaces, tabs, line ends and comments.
+//! Skips blanks of EDN: spaces, tabs, line ends and comments.
 ghost use Rattle.std.specs.Prelude.{◌≡◌, ◌<◌, ◌≤◌, length, false, option_map, IfSome};
 ghost use Rattle.cbor_tokens.specs.Token.{is_whitespace};
 ghost use Rattle.cbor_edn_grammar.specs.Blank.{after_line, after_slash, after_star, after_comment};

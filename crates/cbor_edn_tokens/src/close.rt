@@ -1,4 +1,5 @@
-//! Reads what opens, separates and closes lists of EDN.
+//! Reads the width indicator after the opening of an EDN list, and what separates its members or
+//! closes it.
 ghost use Rattle.std.specs.Prelude.{◌≡◌, ◌≤◌, length, option_map, IfSome};
 ghost use Rattle.cbor_notation.specs.mirror.Cursor.{Takes};
 ghost use Rattle.cbor_edn_grammar.specs.Reading.{Gives};

@@ -1,5 +1,5 @@
-//! `Cursor`: the part of an EDN text that is still to be read. Functions take tokens from its front
-//! and return them.
+//! `Cursor`: the part of an EDN text that is still to be read. Its functions skip blanks, and take
+//! bytes and words from the front.
 //!
 //! A function that reads at a cursor moves it past what it read. After an error, the cursor is at
 //! the place of the error.

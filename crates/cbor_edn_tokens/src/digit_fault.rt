@@ -1,4 +1,5 @@
-//! Finds where digits between apostrophes in EDN do not encode bytes.
+//! Finds the first wrong or missing digit between apostrophes in EDN, as in `h'0'`, and returns
+//! what is expected there.
 ghost use Rattle.std.specs.Prelude.{◌≤◌, length};
 
 use crate::blank::after_blank;

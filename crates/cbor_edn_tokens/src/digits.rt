@@ -1,4 +1,5 @@
-//! Reads the digits between apostrophes in EDN, in base 16, 32 and 64, with blanks between them.
+//! Reads the digits between apostrophes in EDN, as in `h'..'` and `b64'..'`, and decodes them to
+//! bytes. The digits are in base 16, 32 or 64, and may have blanks and comments between them.
 ghost use Rattle.std.specs.Prelude.{◌≡◌, ◌<◌, ◌≤◌, ◌==◌, drop, true, length, option_map};
 ghost use Rattle.std.specs.Prelude.{position, IfOk, IfErr, IfSome};
 ghost use Rattle.cbor_tokens.specs.Base32.{standard, extended_hex};

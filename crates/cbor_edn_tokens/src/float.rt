@@ -1,4 +1,6 @@
-//! Reads floats of EDN: recognizes which words are floats, and returns their bits.
+//! Recognizes which words of EDN are floats (decimal, hexadecimal, NaN and infinities), and reads
+//! them: returns the bits and the width. Also reads a float from its bytes, as `float'..'` has
+//! them.
 ghost use Rattle.std.specs.Prelude.{◌≡◌, ◌<◌, ◌≤◌, ◌==◌, ◌||◌, true, false, length, position};
 ghost use Rattle.std.specs.Prelude.{option_map, IfOk, IfSome};
 ghost use Rattle.cbor_grammar.specs.Item.{float};

@@ -1,4 +1,5 @@
-//! Reads hexadecimal floats of EDN: numbers in base 16 times a power of 2, as in C: `0x1.8p3`.
+//! Reads hexadecimal numbers of EDN, such as `0x1.8p3` (1.5 times 2^3), and rounds them to the
+//! nearest 64-bit or 32-bit float.
 mod nearest;
 
 ghost use Rattle.std.specs.Prelude.{◌≡◌, ◌==◌, ◌||◌, ℕ, ◌+◌, ◌^◌, ◌<◌, ◌≤◌, length, position};

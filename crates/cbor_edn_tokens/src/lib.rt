@@ -1,5 +1,6 @@
 //! Reads the tokens of EDN: blanks, words, numbers, floats, quoted text, digits, network addresses,
-//! and what opens, separates and closes lists. The crate builds no items.
+//! the openings of strings, and the widths, separators and ends of lists. The crate builds no
+//! items.
 #![tactic(auto)]
 
 pub mod address;

@@ -1,4 +1,4 @@
-//! Reads integers of EDN, and the widths that they state.
+//! Reads integers and tag numbers of EDN, with the widths that they state, as in `10_1`.
 ghost use Rattle.std.specs.Prelude.{◌≡◌, ◌==◌, ◌<◌, ◌≤◌, ℕ, length, position, IfSome, IfNone, IfOk};
 ghost use Rattle.std.specs.Prelude.{Some, None};
 ghost use Rattle.cbor_tokens.specs.Token.{capped};

@@ -1,4 +1,5 @@
-//! Reads what a piece of an EDN string begins with.
+//! Reads the opening of a piece of an EDN string: `"`, `'`, `<<` or a prefix such as `h'`. Also
+//! tests whether a string begins at the front of a text.
 ghost use Rattle.std.specs.Prelude.{◌≡◌, ◌<◌, length, option_map, IfSome};
 ghost use Rattle.cbor_edn_grammar.specs.Strings.{may_open, opening_of, begins_string};
 

@@ -1,5 +1,5 @@
-//! Reads text of EDN between quotes, with the escapes of JSON, as the characters that it stands
-//! for.
+//! Reads the content of a quoted string of EDN up to the closing quote, and decodes escapes such as
+//! `\n` and `\u00e9`.
 ghost use Rattle.std.specs.Prelude.{◌≡◌, ◌<◌, ◌≤◌, ◌^◌, ◌++◌, true, length, take, drop, IfOk};
 ghost use Rattle.std.specs.Prelude.{IfSome};
 ghost use Rattle.std.specs.Prelude.{option_map};

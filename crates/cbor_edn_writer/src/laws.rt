@@ -1,5 +1,6 @@
-//! The law that EDN, written with one item on each line, is read back as the same bytes. No code
-//! calls this function.
+//! States a law: if items are written as EDN with a line feed after each, they are read back as the
+//! same bytes. The law does not cover items with a simple value from 24 to 31. It is the contract
+//! of a function that no code calls.
 ghost use Rattle.std.specs.Prelude.{◌≡◌, ℕ, List, Some};
 ghost use Rattle.std.specs.List.{AllByRecursion};
 ghost use Rattle.cbor_grammar.specs.Item.{Item, items_of};

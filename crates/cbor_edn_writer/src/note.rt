@@ -1,4 +1,5 @@
-//! The notes of a caller on items of written EDN. Each note has the place of its item.
+//! `Note`: what a caller wants to write before and after an item in EDN, with the place of the
+//! item, and whether to show a byte string as the item in it.
 
 /// The texts that a caller wants before and after an item.
 ///

@@ -1,5 +1,5 @@
-//! Writes an item in EDN as one part of a container whose brackets and commas the caller writes, as
-//! `--partial` does for a truncated item.
+//! Writes one part of a container in EDN. The caller writes the brackets and commas, as `--partial`
+//! of `cborcat` does for a truncated item. Also writes the caller's note before an item.
 
 ghost use Rattle.std.specs.Prelude.{◌≤◌, ◌*◌};
 ghost use Rattle.cbor_grammar.specs.NotationText.{indent_of};

@@ -1,4 +1,5 @@
-//! EDN as a dialect of notation: how each part of it is written straight from bytes.
+//! `Edn`: the dialect of notation that writes EDN without notes of a caller. Each function writes
+//! one kind of part, or decides how an item is laid out.
 #![tactic(auto, using(cbor_tokens::proofs::texts::Appending::appending_steps))]
 
 mod columns;

@@ -1,4 +1,5 @@
-//! The styles of written EDN.
+//! `EdnStyle`: how EDN is laid out (lines and columns), and whether it shows notes, widths, and
+//! byte strings as the items in them. `NotedStyle`: a style with the notes of a caller.
 
 use crate::note::Note;
 

@@ -1,4 +1,6 @@
-//! Writes EDN straight from bytes, without building items.
+//! Writes items as EDN straight from bytes, without building a `DataItem`: the one item that all of
+//! the bytes encode, or the item at their front. The styles and the notes of a caller are
+//! arguments.
 
 ghost use Rattle.std.specs.Prelude.{◌≡◌, IfOk, IfErr, IfSome, OnOk, OnErr, MatchResult};
 ghost use Rattle.std.specs.Prelude.{None, Some, Ok};

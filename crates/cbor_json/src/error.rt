@@ -1,5 +1,5 @@
-//! `JsonError`: why bytes are not written as JSON: they are no item, two keys become the same, or
-//! JSON does not keep something.
+//! `JsonError`: why bytes are not written as JSON. They encode no item, two keys of a map become
+//! the same (`Clash`), JSON does not keep something (`Loss`), or memory ran out.
 
 use cbor_grammar::Error;
 use std::alloc::AllocError;

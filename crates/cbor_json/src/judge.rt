@@ -1,5 +1,5 @@
-//! Writes an item as JSON, and finds out whether two keys of a map became the same or, in a strict
-//! style, whether something is not kept.
+//! Writes an item as JSON, or finds out why it is not written: two keys of a map become the same,
+//! or, in a strict style, JSON does not keep something.
 #![tactic(auto, using(cbor_tokens::proofs::texts::Appending::appending_steps))]
 
 ghost use Rattle.std.specs.Prelude.{◌≡◌, ◌↔◌, ℕ, List, [], IfOk, IfErr, IfSome, IfNone};

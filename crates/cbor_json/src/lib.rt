@@ -1,5 +1,6 @@
-//! Writes CBOR as JSON (RFC 8949 section 6.1), straight from bytes: no item is built. docs/JSON.md
-//! has the rules.
+//! Writes CBOR as JSON (RFC 8949 section 6.1), straight from bytes, with names as keys if the
+//! caller has names. Also converts the bytes of big numbers to decimal digits ([`decimal`]).
+//! docs/JSON.md has the rules.
 #![tactic(auto)]
 
 mod digits;

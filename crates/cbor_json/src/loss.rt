@@ -1,4 +1,5 @@
-//! Finds the first value from the left that JSON does not keep, such as a NaN.
+//! Finds the first thing from the left that JSON does not keep of an item: a tag, a byte string, a
+//! NaN, an infinity, a simple value other than false, true and null, or a key that is not a text.
 #![tactic(auto)]
 
 ghost use Rattle.std.specs.Prelude.{◌≡◌, ◌+◌, ◌≤◌, ℕ, List, IfOk, IfErr, IfSome, IfNone, Ok};

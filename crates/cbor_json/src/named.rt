@@ -1,5 +1,5 @@
-//! JSON with names as keys: the name takes the place of each integer key that has one, and the
-//! bytes that this gives are written.
+//! Writes JSON with names as keys. It replaces each integer key that has a name by a text with this
+//! name, and writes the resulting bytes as JSON. The places in errors are those in the input.
 
 ghost use Rattle.std.specs.Prelude.{◌≡◌, ◌+◌, ◌≤◌, IfOk};
 ghost use Rattle.std.specs.String.{string_bytes};

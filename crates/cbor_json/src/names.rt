@@ -1,5 +1,5 @@
-//! The names of the members of an open JSON object, by their places in its text, and which two of
-//! them are equal.
+//! `Name`: where the name of a member is in the text of an open JSON object. Finds two equal names
+//! of an object (`SameNames`), and where their keys are in the input.
 #![tactic(auto)]
 
 ghost use Rattle.std.specs.Prelude.{◌≡◌, ◌≢◌, ℕ, ◌<◌, List, length, map, IsTrue, IsSorted};

@@ -1,4 +1,5 @@
-//! JSON as a dialect of notation, which is written straight from bytes.
+//! `Json`: the dialect of notation that writes JSON. Each function writes one kind of part, or
+//! decides how an item is laid out.
 #![tactic(auto, using(cbor_tokens::proofs::texts::Appending::appending_steps))]
 
 mod leaf;

@@ -1,5 +1,5 @@
-//! `JsonStyle`: whether byte strings are shown as the item in them, and whether what JSON does not
-//! keep is an error.
+//! `JsonStyle`: whether byte strings are written as the item in them, and whether it is an error if
+//! JSON does not keep something.
 
 /// How JSON is written.
 #[derive(Clone, Copy, PartialEq, Eq, Debug)]

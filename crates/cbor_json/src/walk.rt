@@ -1,5 +1,5 @@
-//! Writes JSON straight from bytes, and keeps the names of the open objects by where they stand in
-//! the text. So it knows whether an object has two equal names, and where their keys are.
+//! Writes JSON straight from bytes. For each open object it remembers where its names are in the
+//! output, so it finds two equal names and where their keys are in the input.
 #![tactic(auto, using(cbor_tokens::proofs::texts::Appending::appending_steps))]
 
 ghost use Rattle.std.specs.Prelude.{◌≡◌, ◌+◌, ◌≤◌, ◌∷◌, [], ◌++◌, ℕ, List, length, true, IfOk, IfSome, IfNone, OnOk};

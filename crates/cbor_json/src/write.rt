@@ -1,5 +1,5 @@
-//! The calls that write bytes as JSON: one item that the bytes encode, or the item at their front.
-//! No `DataItem` is built.
+//! Writes bytes as JSON: the one item that all of the bytes encode, or the item at their front. No
+//! `DataItem` is built.
 
 ghost use Rattle.std.specs.Prelude.{◌≡◌, IfOk, IfErr, IfSome, OnOk, OnErr, MatchResult};
 ghost use Rattle.std.specs.Prelude.{None, Ok};

@@ -1,5 +1,6 @@
-//! Describes WebAuthn's authenticator data (Web Authentication, level 3, section 6.1): the text of
-//! its flags and counter, and where its items are.
+//! Describes WebAuthn's authenticator data (Web Authentication, level 3, section 6.1) in words: its
+//! flags, its counter and its credential. Also finds the items in it: the credential's key and the
+//! extensions.
 
 use cbor_bytes::skip::after_front;
 use std::alloc::{AllocError, Global};

@@ -1,4 +1,5 @@
-//! Tables of names from a file: TOML, as docs/NAMES.md describes it, beside other tables.
+//! Adds the types of a file of names to other tables (`with_file`), and finds the line of an error.
+//! The file is TOML, as docs/NAMES.md describes it.
 //!
 //! ```rust
 //! use cbor_names::{Names, notes, with_file};

@@ -1,4 +1,5 @@
-//! Steps over heads and small items fast, by tables. It does not follow how items are nested.
+//! Skips heads, strings and small items fast, with a table of first bytes. It does not check how
+//! deep items are nested. Also tests whether a tag is next.
 
 ghost use Rattle.std.specs.Prelude.{◌<◌, length, IfSome};
 

@@ -1,6 +1,6 @@
-//! The names of COSE (RFC 9052 to 9054, 9360, 9596 and 9597), CWT and EAT (RFC 8392, 8747, 9200 and
-//! 9711), SenML (RFC 8428) and CTAP 2.1. A name is one line; each file has the tables of a
-//! standard.
+//! `known_names`: makes the tables of names of COSE (RFC 9052 to 9054, 9360, 9596 and 9597), CWT
+//! and EAT (RFC 8392, 8747, 9200 and 9711), SenML (RFC 8428) and CTAP 2.1. The files in `known`
+//! have them, one name in a line.
 //!
 //! ```rust
 //! use cbor_names::{known_names, notes};

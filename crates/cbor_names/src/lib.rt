@@ -1,5 +1,5 @@
-//! Names for what is in CBOR data: of members, keys, tags and values, by tables.
-//! [`known_names`] are those of COSE, CWT and their like, and [`with_file`] adds those of a file.
+//! Finds the names of members, keys, tags and values of CBOR data in tables. [`known_names`] has
+//! the tables of COSE, CWT and similar standards, and [`with_file`] adds those of a file.
 //! docs/NAMES.md has the rules.
 //!
 //! [`notes`] gives the names and meanings of the items in an item, each with its place:

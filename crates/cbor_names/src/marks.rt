@@ -1,4 +1,4 @@
-//! Finds quickly whether bytes may have a tag or a value that gets a note, before the slower pass
+//! Looks quickly for the first tag in items that gives a note (`FirstMark`), before the slower pass
 //! for names.
 
 use crate::heads::{after_head, begins_tag};

@@ -1,4 +1,4 @@
-//! Converts a float of seconds, as in tag 1, to a date with a fraction of a second.
+//! Converts a float of seconds since 1970, as in tag 1, to a date with a fraction of a second.
 
 use cbor_floats::EncodedFloat;
 use cbor_notes::datetime_of_epoch;

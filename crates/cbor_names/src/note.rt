@@ -1,4 +1,6 @@
-//! `Notes`: the names before items and the meanings after them, in the order of their places.
+//! `Note`: the name before an item and the meaning after it, with the place of the item. `Notes`:
+//! the notes of an item, in order. Finds the name of an item, and the names of all that a byte
+//! belongs to.
 
 ghost use Rattle.std.specs.Prelude.{◌≡◌, ℕ, IfOk};
 ghost use Rattle.cbor_names.specs.Falling.{AreInOrder, FallsTo, len_of};

@@ -1,5 +1,6 @@
-//! Looks ahead at the pairs of a map: finds the value of a key, and whether the map has the keys
-//! that mark a type.
+//! Looks ahead at the pairs of a map: finds the value of a key, and whether the map has the signs
+//! of a type, which are keys whose values have a given kind. `knows`: whether an item is an
+//! attestation of WebAuthn, which is recognized without a tag.
 
 ghost use Rattle.std.specs.Prelude.{◌<◌, length, IfSome};
 

@@ -1,5 +1,6 @@
-//! `Definition`, `Part` and their like: how the author of a table of names writes a type and its
-//! parts.
+//! `Definition`: a type as the author of a table of names writes it: its name, its tag and its
+//! `Shape`. `Part`: a member, a key or a value of a type. `Key`, `What` and `Kind` are the types of
+//! its fields.
 
 /// A type of items. Its parts follow, as [`Names::push`](crate::Names::push) takes them.
 #[derive(Clone, Copy)]

@@ -1,4 +1,6 @@
-//! `Place`: what the tables say of an item before it is read: its name, its type and its meaning.
+//! `Place`: what is known of an item before it is read: its name, its type, the tag around it and
+//! the levels left. `Keys`: what is known of the keys of a map. Makes the `Place` of a member or of
+//! the value of a key, and finds the type of the item in a byte string.
 
 ghost use Rattle.std.specs.Prelude.{◌≡◌, ◌+◌, ◌<◌};
 

@@ -1,5 +1,5 @@
-//! Reads an integer, a text or a float from bytes, and compares it with a key or a value of the
-//! tables.
+//! Reads an integer, a text or a float at the front of bytes, and finds the row of the tables for
+//! an integer or a text. Also finds the kind of the item there.
 
 use crate::part::Kind;
 use crate::table::{KeyRow, Names, PartRow};

@@ -1,4 +1,5 @@
-//! Checks whether an item has the shape that its type requires. An item that has not gets no names.
+//! Finds how far an item has the shape of a type (`Fit`): not at all, as an array of another length
+//! (its members still get names), or wholly. `says`: whether the tag at the front gives notes.
 
 use crate::decimal::Scaled;
 use crate::heads::after_small;

@@ -1,5 +1,6 @@
-//! `Names`: tables of names, which are rows of numbers beside one text, and how a type is found in
-//! them.
+//! `Names`: the tables of names, which are types with the names of their parts and values. Finds a
+//! type by its name or its tag. All texts are in one string; the rows of the tables have ranges of
+//! it.
 
 ghost use Rattle.std.specs.Prelude.{◌≡◌, IfSome, Some};
 ghost use Rattle.cbor_names.specs.Texts.{text_of};

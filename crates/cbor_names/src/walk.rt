@@ -1,5 +1,6 @@
-//! Walks over an item and collects the notes: names and meanings. It goes from head to head; a
-//! container, a tag and a byte string that holds an item are a call each, at most 128 deep.
+//! `notes`: walks over an item and collects its notes, which are names and meanings. It reads head
+//! after head. Each container, each tag and each byte string that holds an item is a call, at most
+//! 128 deep.
 
 ghost use Rattle.std.specs.Prelude.{◌≡◌, ◌+◌, ◌^◌, ◌<◌, ◌≤◌, length, IfOk};
 ghost use Rattle.cbor_names.specs.Falling.{len_of};

@@ -1,4 +1,5 @@
-//! `End`: why reading a sequence of items stopped: at its end, or at a truncated or malformed item.
+//! `End`: why reading a sequence of items stopped, such as at the end or at a truncated or
+//! malformed item. `Shown`: how many bytes were passed, and the `End`.
 
 use cbor_grammar::Error;
 

@@ -1,5 +1,5 @@
-//! Follows the steps of a path from an item: `follow` returns the span of the part that they lead
-//! to, and `lost_at` the first step that leads nowhere.
+//! Follows the steps of a path from an item. `follow` returns the parts that they lead to.
+//! `lost_at` returns how many steps lead somewhere, and to which item, if the path leads nowhere.
 ghost use Rattle.std.specs.Prelude.{IfOk, IfSome};
 ghost use Rattle.std.specs.List.{AllByRecursion};
 ghost use Rattle.cbor_paths.specs.Followed.{IsItemSpan, IsPart};

@@ -1,8 +1,8 @@
-//! Items one after the other, as far as they are passed, and parts of an item by a path.
+//! Skips items one after the other, and finds parts of an item by a path.
 //!
-//! [`skip_items`] goes past items, and its [`End`] says what follows them. The steps of a path lead
-//! to parts of an item: [`follow`] returns where they are in its bytes, and [`lost_at`] where a path
-//! ends that leads nowhere.
+//! [`skip_items`] skips items, and its [`End`] says why it stopped. [`follow`] finds the parts of
+//! an item that the steps of a path lead to, and [`lost_at`] finds where a path leads nowhere.
+//! [`Members`] goes over the members of an array or a map, and [`is_key`] compares keys.
 //!
 //! ```rust
 //! use cbor_paths::{End, skip_items};

@@ -1,5 +1,5 @@
-//! `Members`: goes over the members of an array or a map in the bytes. `Below`: an item without the
-//! tags around it.
+//! `Members`: goes over the members of an array, or the values of a map, in the bytes. `At`: where
+//! an item begins, and its key. `Below`: an item without the tags around it.
 
 use crate::skip::bytes_from;
 use cbor_bytes::skip::after_front;

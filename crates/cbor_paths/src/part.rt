@@ -1,5 +1,5 @@
-//! Follows one step of a path: to a member of an array, the value of a key, or the item in a byte
-//! string.
+//! Follows one step of a path from an item: to a member of an array, the value of a key, each
+//! member, a part by the name that is shown, or the item in a byte string.
 
 use crate::key::{index_of, is_key, text_of};
 use crate::members::{At, Below, Members};

@@ -1,4 +1,5 @@
-//! Skips the items of a sequence, and reports where and why that ends.
+//! Skips the items of a sequence, and reports where and why it stopped. `bytes_from`: the bytes
+//! from a place on.
 ghost use Rattle.std.specs.Prelude.{◌≡◌, ◌↔◌, ℕ, ◌≤◌, List, length, drop, IsTrue, false};
 ghost use Rattle.cbor_grammar.specs.Item.{Item};
 ghost use Rattle.cbor_paths.specs.Sequence.{IsSequence, ItemsThen, OneAtMost};

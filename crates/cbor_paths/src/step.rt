@@ -1,4 +1,5 @@
-//! `Step`: one step of a path, such as a key of a map.
+//! `Step`: one step of a path: to an index or a key, to each member (`*`), or into a byte string
+//! (`@`).
 
 /// A step of a path. Tags need no step.
 #[derive(Drop)]

@@ -1,5 +1,6 @@
-//! Chooses the widths of heads, the widths of floats and the kinds of length for re-encoding, as
-//! the rules say.
+//! `Encoder`: the rules for re-encoding, and the length of the input. Chooses by the rules the
+//! widths of heads and floats, and whether a length is definite. Also returns the place at which
+//! bytes begin.
 ghost use Rattle.std.specs.Prelude.{◌≡◌};
 ghost use Rattle.cbor_grammar.specs.Head.{FitsStated};
 ghost use Rattle.cbor_grammar.specs.WellFormed.{FitsCount};

@@ -1,4 +1,5 @@
-//! Finds violations of rules and re-encodes, with map keys compared by value.
+//! Finds the first violation of rules (`violation_of`), and re-encodes items by rules
+//! (`reencoded`). Both compare the keys of a map by value: 1 and 1_0 are equal.
 ghost use Rattle.std.specs.Prelude.{◌≡◌, ◌⊎◌, ◌↔◌, true, false, IfOk, IfErr, IfSome, MatchResult};
 ghost use Rattle.std.specs.Prelude.{Some, None};
 ghost use Rattle.cbor_rules.specs.declared.kind.Violation.{Violation};

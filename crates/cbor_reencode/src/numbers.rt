@@ -1,5 +1,6 @@
-//! Re-encodes numbers to the one form that rules leave them: floats with an integer value, and big
-//! numbers.
+//! Re-encodes floats and big numbers to the one form that rules leave them: a float with an integer
+//! value to that integer, a NaN to `f97e00`, and a big number to an integer if it fits, or else
+//! without leading zeros.
 ghost use Rattle.std.specs.Prelude.{◌≡◌, ◌≤◌, ◌^◌, ◌++◌, IfOk, MatchOption, option_map};
 ghost use Rattle.cbor_grammar.specs.Head.{FitsStated, shortest};
 ghost use Rattle.cbor_grammar.specs.Written.{encoded_head};

@@ -1,4 +1,5 @@
-//! Sorts, checks and writes the re-encoded pairs of a map.
+//! Sorts the re-encoded pairs of a map by their keys, checks that no key stands twice, and writes
+//! the pairs.
 ghost use Rattle.std.specs.Prelude.{◌≡◌, ◌++◌, IfOk};
 ghost use Rattle.std.specs.List.Sorted.{IsPermutation};
 ghost use Rattle.cbor_reencode.specs.mirror.Rewritten.{pair_bytes};

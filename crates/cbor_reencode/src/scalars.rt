@@ -1,4 +1,5 @@
-//! Re-encodes items that hold no other item: numbers, strings and simple values.
+//! Re-encodes items that hold no other item: integers, floats, strings and simple values. Also
+//! writes the heads of tags.
 ghost use Rattle.std.specs.Prelude.{◌≡◌, ◌⊎◌, ◌<◌, ◌≤◌, ◌++◌, ◌∷◌, length, Ok, None, true};
 ghost use Rattle.std.specs.Prelude.{IfOk, MatchOption};
 ghost use Rattle.cbor_grammar.specs.Head.{FitsStated, break_byte};

@@ -1,10 +1,10 @@
-//! Finds the first violation, going from head to head. An item without parts is read in the loop of
-//! the container that it is in. An array, a map and a tag are a call each, at most 128 deep. That
-//! of a map keeps where its last key is and, where no key may stand twice, where each key is.
+//! Finds the first violation of `Rules`. Each array, map and tag is a call, at most 128 deep; other
+//! items are read in the loop of their container. The call for a map keeps the place of its last
+//! key and, if no key may stand twice, of each key.
 //!
-//! Each function takes the remaining bytes and returns those after what it reads. Where reading
-//! stops, it returns `None` and writes into `stop` why. So a violation, which takes many bytes, is
-//! not copied at each level, and the calls on the way to it return no more than a slice.
+//! Each function takes the remaining bytes and returns those after what it read. To stop, it
+//! returns `None` and writes why into `stop`, so that a violation, which is large, is not copied
+//! through each call.
 mod strings;
 
 ghost use Rattle.std.specs.Prelude.{◌≡◌, ◌≢◌, ℕ, suc, ◌<◌, ◌≤◌, length, Some, None, Ok, Err};

@@ -1,4 +1,5 @@
-//! For `check.rt`: counts how many members of an open container are still to come.
+//! `Parts`: the members of an array or a tag, or the pairs of a map, with their count. Counts for
+//! `check.rt` how many are still to come.
 ghost use Rattle.std.specs.Prelude.{◌≡◌, ◌≤◌, length, IfSome, option_map};
 ghost use Rattle.cbor_grammar.specs.Reading.{after_members, one_less};
 ghost use Rattle.cbor_rules.specs.FirstViolation.{opened};

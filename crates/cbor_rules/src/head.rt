@@ -1,5 +1,6 @@
-//! Finds the rule that a single head breaks, if any: by its argument, its bits or the bytes after
-//! it.
+//! Finds what is wrong with one head by the rules: its width, its float, its simple value, its
+//! indefinite length, its level, its tag, or the big number below the tag. `float_of`: the float
+//! with given bits.
 ghost use Rattle.std.specs.Prelude.{◌≡◌, ℕ, List, None, true};
 ghost use Rattle.cbor_floats.specs.Preferred.{FitsWidth};
 ghost use Rattle.cbor_grammar.specs.Reading.{read_head};

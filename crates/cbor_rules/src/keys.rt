@@ -1,4 +1,5 @@
-//! For `check.rt`: the keys of a map that were read, to find two that are equal.
+//! `Keys`: the keys of a map that `check.rt` has read, each with its place. Finds a key that was
+//! read before.
 ghost use Rattle.std.specs.Prelude.{◌≡◌, true, is_some, if◌then◌else◌, IfOk, IsErr, OnOk};
 ghost use Rattle.cbor_rules.specs.FirstViolation.{no_places, placed};
 ghost use Rattle.cbor_rules.specs.mirror.Opened.{key_of, places_of, is_on};

@@ -1,4 +1,4 @@
-//! `Violation`: the place where an encoding breaks a rule, and which rule it breaks there.
+//! `Violation`: the place where an encoding breaks a rule. `ViolationKind`: what is wrong there.
 use cbor_floats::EncodedFloat;
 use cbor_grammar::{Error, IntegerWidth};
 

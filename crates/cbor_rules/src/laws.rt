@@ -1,5 +1,6 @@
-//! Laws of rules: under deterministic rules, items have one encoding; and each set with a name has
-//! the rules that its definition says. No code calls these functions.
+//! States laws of rules: under deterministic rules, the same items have one encoding; and each
+//! named set has the rules that its definition says. Each law is the contract of a function that no
+//! code calls.
 ghost use Rattle.std.specs.Prelude.{◌≡◌, ℕ, List};
 ghost use Rattle.cbor_grammar.specs.Item.{Items};
 ghost use Rattle.cbor_rules.specs.declared.rules.Rules.{Rules};

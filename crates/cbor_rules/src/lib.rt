@@ -1,8 +1,9 @@
-//! Rules that an encoding keeps beyond the grammar of CBOR, such as those of deterministic encoding
-//! (RFC 8949 section 4.2).
+//! Checks whether an encoding keeps rules beyond the grammar of CBOR, such as those of
+//! deterministic encoding (RFC 8949 section 4.2).
 //!
-//! [`violation`] finds the first place at which bytes break one of the rules of a [`Rules`]. It takes
-//! no memory; [`violation_in`] looks at the rules that take some, too.
+//! [`violation`] finds the first place at which bytes break one of the rules of a [`Rules`]. It
+//! takes no memory; [`violation_in`] also checks the rules that take memory. [`RuleSet`] finds
+//! rules by the name of their set.
 //!
 //! ```rust
 //! use cbor_rules::{Violation, ViolationKind, Rules, violation};

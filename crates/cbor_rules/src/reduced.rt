@@ -1,4 +1,5 @@
-//! Finds floats that dCBOR writes as integers, and NaNs that it writes otherwise.
+//! Finds floats that dCBOR does not allow: floats with an integer value from -2^63 to 2^64 - 1, and
+//! NaNs other than `f97e00`.
 ghost use Rattle.std.specs.Prelude.{◌≡◌, ◌<◌, ◌^◌, from_bits};
 ghost use Rattle.std.specs.Float.Ieee.{binary64};
 ghost use Rattle.cbor_rules.specs.Reduced.{in_range, integer_of, reduced};

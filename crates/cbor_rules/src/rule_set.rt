@@ -1,4 +1,5 @@
-//! The sets of rules that have a name, such as `dcbor`.
+//! `RuleSet`: a set of rules with a name, such as `dcbor`, and the first words of its error
+//! messages. Finds a set by its name. `RULES` and `ENCODINGS` list the names.
 
 use crate::rules::Rules;
 

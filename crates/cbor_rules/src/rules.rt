@@ -1,4 +1,6 @@
-//! The rules that an encoding may keep, as switches, and the order of keys.
+//! `Rules`: the rules that an encoding may keep (switches, an order of keys, a deepest level), with
+//! constants such as `Rules::DCBOR`. `KeyOrder`: an order of the keys of a map; it compares two
+//! keys.
 ghost use Rattle.std.specs.Prelude.{◌≡◌};
 ghost use Rattle.cbor_rules.specs.KeyOrder.{key_cmp, major_type};
 ghost use Rattle.cbor_rules.specs.Keeps.{without_memory};

@@ -1,4 +1,5 @@
-//! Reads the pieces of a string of EDN, and the items between `<<` and `>>`.
+//! Reads strings of EDN to bytes. A string is one piece or several, joined by `+`. A piece is
+//! quoted text, digits, or items between `<<` and `>>`.
 ghost use Rattle.std.specs.Prelude.{◌≡◌, ◌<◌, ◌≤◌, ◌++◌, length, IfOk, OnOk};
 ghost use Rattle.cbor_grammar.specs.WellFormed.{levels_left};
 ghost use Rattle.cbor_edn_grammar.specs.Reading.{TurnGives, repeated};

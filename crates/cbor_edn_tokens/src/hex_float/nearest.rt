@@ -1,4 +1,5 @@
-//! Rounds a hexadecimal number to the nearest float, by the digits at its front.
+//! Rounds a hexadecimal number to the nearest 32-bit or 64-bit float. `Front`: a number by its
+//! leading digits, how many digits follow, and whether any of these is not zero.
 ghost use Rattle.std.specs.Prelude.{◌≡◌, ◌⊎◌, ℕ, ◌+◌, ◌*◌, ◌/◌, ◌^◌, ◌<◌, ◌≤◌, ◌||◌, nat_lt, false};
 ghost use Rattle.std.specs.Prelude.{from_bits};
 ghost use Rattle.std.specs.Float.Ieee.{round, units, prec, low, hid, ones};

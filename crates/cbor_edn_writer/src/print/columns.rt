@@ -1,4 +1,5 @@
-//! How many columns leaves and notes take in EDN, counted as characters, without writing them.
+//! Computes how many columns numbers, strings, simple values, width indicators and notes take in
+//! EDN. Some notes are written to a scratch text and counted.
 
 use crate::note::Note;
 use crate::print::notes::{are_characters, is_note, push_bytes_note, push_text_note, push_time};

@@ -1,4 +1,4 @@
-//! The elements of typed arrays (RFC 8746, section 2), as a note shows them.
+//! Writes the first eight elements of a typed array (RFC 8746, section 2) as the text of a note.
 
 use cbor_floats::{EncodedFloat, push_number};
 use std::alloc::{AllocError, Global};

@@ -1,4 +1,5 @@
-//! Writes items of EDN that hold no other item, with notes.
+//! Writes integers, floats, simple values and definite-length strings in EDN, with the notes on
+//! them.
 #![tactic(auto, using(cbor_tokens::proofs::texts::Appending::appending_steps))]
 
 ghost use Rattle.std.specs.Prelude.{◌+◌, ◌++◌, codes};

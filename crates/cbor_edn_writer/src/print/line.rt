@@ -1,5 +1,6 @@
-//! Decides which containers of EDN are written on one line: those that fit into the columns
-//! together with what stands before and after them on the line. `measure.rt` counts the columns.
+//! `Line`: whether a container of EDN takes a line for each member, and how many columns follow its
+//! parts on their line. A container is written on one line if it fits there with what is before and
+//! after it. `measure.rt` counts its columns.
 
 use crate::print::columns::length_columns;
 use crate::print::measure::fits_in;

@@ -1,4 +1,5 @@
-//! Writes what is around the members of a list in EDN.
+//! Writes what opens and closes a container or embedded items in EDN, and what opens a tag:
+//! brackets and width indicators.
 #![tactic(auto, using(cbor_tokens::proofs::texts::Appending::appending_steps))]
 
 ghost use Rattle.std.specs.Prelude.{◌≡◌, ◌∷◌, [], ◌++◌, ◌<◌, codes};

@@ -1,5 +1,5 @@
-//! Measures how many columns the text of items takes on one line in EDN, before it is written and
-//! only as far as it may fit.
+//! Tests whether an item fits into a number of columns on one line of EDN. It adds up the columns
+//! of the parts before they are written, and stops when there are too many.
 
 use crate::note::Note;
 use crate::print::columns::{

@@ -1,4 +1,5 @@
-//! Writes EDN with the notes of a caller.
+//! `NotedEdn`: the dialect of notation that writes EDN with the notes of a caller. `Edn` in
+//! `print.rt` writes it without them.
 #![tactic(auto, using(cbor_tokens::proofs::texts::Appending::appending_steps))]
 
 ghost use Rattle.std.specs.Prelude.{◌<◌, ◌^◌};

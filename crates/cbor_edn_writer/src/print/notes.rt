@@ -1,5 +1,5 @@
-//! Writes notes in EDN: comments that say what date, address or number an item is, and the comments
-//! of a caller before and after an item.
+//! Writes the notes of EDN, which are comments: what date, address, UUID, number or typed array an
+//! item is, which characters bytes are, and the notes of a caller before and after an item.
 #![tactic(auto, using(cbor_tokens::proofs::texts::Appending::appending_steps))]
 
 ghost use Rattle.std.specs.Prelude.{◌≡◌};

@@ -1,4 +1,5 @@
-//! Writes floats of EDN, and the width indicators beside numbers.
+//! Writes floats in EDN, and the width indicators after numbers and strings. Decides which widths
+//! are shown.
 #![tactic(auto, using(cbor_tokens::proofs::texts::Appending::appending_steps))]
 
 ghost use Rattle.std.specs.Prelude.{◌≡◌};

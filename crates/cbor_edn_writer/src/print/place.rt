@@ -1,4 +1,6 @@
-//! Where an item is in a text of EDN. Its place decides how it is written, beside the item itself.
+//! `EdnPlace`: where an item is in an EDN text (its level, the tag around it, its line), with the
+//! style and the note on the item. The place and the item decide what is written. Also finds the
+//! note of an item.
 ghost use Rattle.std.specs.Prelude.{◌≡◌, ◌≤◌, ◌||◌, IfOk, unwrap_or};
 ghost use Rattle.cbor_grammar.specs.WellFormed.{deepest};
 ghost use Rattle.cbor_grammar.specs.NotationText.{indent_of, style_indent};

@@ -1,5 +1,5 @@
-//! Decides which byte strings EDN shows as the items in them: only those where the same bytes are
-//! read back.
+//! Decides whether EDN shows a byte string as the items in it. It does so only if the text is read
+//! back as the same bytes. `is_noted`: whether bytes below a tag get a note, such as an address.
 ghost use Rattle.std.specs.Prelude.{◌≡◌, ◌<◌, ◌≤◌, length, Option, IfSome, MatchOption, None, Some};
 ghost use Rattle.cbor_edn_writer.specs.EdnLeaves.{content_under as content_there};
 ghost use Rattle.cbor_edn_writer.specs.EdnLeaves.{content_below as content_right_below};

@@ -1,4 +1,5 @@
-//! Writes strings of EDN between quotes.
+//! Writes a string of EDN between quotes: a text with escapes, or bytes in hex, with the width of
+//! the length if that is not the shortest. Also writes an indefinite-length string without chunks.
 #![tactic(auto, using(cbor_tokens::proofs::texts::Appending::appending_steps))]
 
 ghost use Rattle.std.specs.Prelude.{◌≡◌, ◌++◌, codes};

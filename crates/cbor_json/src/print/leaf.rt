@@ -1,4 +1,4 @@
-//! Writes integers, floats and simple values in JSON: as a value, as a key, or in the EDN of a key.
+//! Writes integers, floats and simple values in JSON: as a value, as a key, or as EDN inside a key.
 #![tactic(auto, using(cbor_tokens::proofs::texts::Appending::appending_steps))]
 
 ghost use Rattle.cbor_tokens.specs.Appends.{AppendsText};

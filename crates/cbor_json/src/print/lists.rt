@@ -1,5 +1,5 @@
-//! Writes what stands around members in JSON: brackets, commas and quotes; and tags, which only
-//! keys have.
+//! Writes the brackets, commas and quotes of containers and of strings in chunks in JSON. Also
+//! writes tags in keys; tags of values are left out.
 #![tactic(auto, using(cbor_tokens::proofs::texts::Appending::appending_steps))]
 
 ghost use Rattle.cbor_tokens.specs.Appends.{AppendsText};

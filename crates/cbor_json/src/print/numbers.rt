@@ -1,4 +1,4 @@
-//! Writes floats in JSON: as a value, which is a number or `null`, or in the EDN of a key.
+//! Writes floats in JSON: as a value, which is a number or `null`, or as EDN inside a key.
 #![tactic(auto, using(cbor_tokens::proofs::texts::Appending::appending_steps))]
 
 ghost use Rattle.std.specs.Prelude.{◌≡◌};

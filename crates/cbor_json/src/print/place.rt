@@ -1,5 +1,5 @@
-//! `JsonPlace`: where an item stands in JSON (a value, a key, inside a key; below which tag), and
-//! the style. It decides, beside the item, what is written.
+//! `JsonPlace`: where an item is in JSON (a value, a key or inside a key; its level; the tag around
+//! it), and the style. The place and the item decide what is written.
 ghost use Rattle.std.specs.Prelude.{◌≡◌, ◌+◌, ◌≤◌};
 ghost use Rattle.cbor_grammar.specs.NotationText.{indent_of, encoding_below as encoding_under};
 ghost use Rattle.cbor_grammar.specs.WellFormed.{deepest};

@@ -1,5 +1,5 @@
-//! Writes strings in JSON: texts; and byte strings as digits, as the item in them, or as a big
-//! number.
+//! Writes strings in JSON, as values and in keys: texts with escapes, and byte strings as digits or
+//! as a big number. Also decides whether a byte string is written as the item in it.
 #![tactic(auto, using(cbor_tokens::proofs::texts::Appending::appending_steps))]
 
 ghost use Rattle.std.specs.Prelude.{◌≡◌, ◌+◌, ◌≤◌, false, None};

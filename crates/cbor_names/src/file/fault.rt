@@ -1,4 +1,5 @@
-//! `FileError`: what is wrong with a file of names, and where.
+//! `FileError`: what is wrong with a file of names (`Fault`), and in which line, with the message
+//! in words.
 
 use std::alloc::AllocError;
 use std::fmt;

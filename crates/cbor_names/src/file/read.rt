@@ -1,4 +1,5 @@
-//! Reads single values of a file of names: words, names, keys, tags and parts.
+//! Reads single TOML values of a file of names: texts, names, keys and tags, and the parts of a
+//! type, which are members of an array or keys of a map.
 
 use crate::file::fault::Fault;
 use crate::{Key, Kind, Part, What};

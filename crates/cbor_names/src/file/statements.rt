@@ -1,5 +1,5 @@
-//! Splits a text in TOML into its statements, so that an error has a place. A statement may take
-//! several lines.
+//! Finds the line ends at which the statements of a TOML text end, so that an error gets its line.
+//! A statement may take several lines.
 
 use std::alloc::{AllocError, Global};
 

@@ -1,4 +1,5 @@
-//! Adds the types of a file of names to `Names`.
+//! Adds the types of a file of names, which is read as TOML, to `Names`: their tags, members, keys
+//! and values.
 
 use crate::file::fault::Fault;
 use crate::file::read::{by, key, member, name, part, tag, text};

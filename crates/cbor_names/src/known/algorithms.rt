@@ -1,5 +1,5 @@
-//! The names of COSE's algorithms (RFC 9053, RFC 9054 and later ones). A note cannot have a `/`, so
-//! a `-` stands for it, as in `HMAC 256-64`.
+//! Adds the names of COSE's algorithms (RFC 9053, RFC 9054 and later ones) to the tables. A note
+//! cannot have a `/`, so the names have `-` instead, as in `HMAC 256-64`.
 
 use crate::known::rows::value;
 use crate::{Definition, Key, Names, Part, Shape, What};

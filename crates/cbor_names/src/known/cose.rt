@@ -1,4 +1,5 @@
-//! The names of COSE (RFC 9052): its messages, their headers, and keys.
+//! Adds the names of COSE (RFC 9052) to the tables: messages and their headers, and keys with their
+//! types, operations and curves.
 
 use crate::known::rows::{entry, member, value};
 use crate::{Definition, Key, Names, Part, Shape, What};

@@ -1,4 +1,5 @@
-//! The names of CTAP 2.1, for what authenticators answer, and of WebAuthn, for attestations.
+//! Adds the names of the answers of authenticators (CTAP 2.1), and of attestations (WebAuthn), to
+//! the tables.
 
 use crate::known::rows::{entry, said};
 use crate::{Definition, Key, Kind, Names, Part, Shape, What};

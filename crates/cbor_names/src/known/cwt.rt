@@ -1,4 +1,5 @@
-//! The names of claims in CWT (RFC 8392), of confirmations (RFC 8747) and of EAT (RFC 9711).
+//! Adds the names of the claims of CWT (RFC 8392) and EAT (RFC 9711), and of confirmations (RFC
+//! 8747), to the tables.
 
 use crate::known::rows::entry;
 use crate::{Definition, Key, Kind, Names, Part, Shape, What};

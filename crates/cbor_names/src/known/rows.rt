@@ -1,5 +1,5 @@
-//! Macros for the tables of names in the files beside this one: each line of a table is a member, a
-//! key or a value with its name.
+//! Defines the macros for the tables of names in the files beside this one. Each line of a table is
+//! a member, a key or a value with its name.
 
 /// A member of an array; one that may be missing at its end is `optional`.
 macro_rules! member {

@@ -1,4 +1,4 @@
-//! The names of SenML's records (RFC 8428 section 6).
+//! Adds the names of the fields of SenML records (RFC 8428 section 6) to the tables.
 
 use crate::known::rows::entry;
 use crate::{Definition, Key, Names, Part, Shape, What};

@@ -1,5 +1,6 @@
-//! Finds a violation of rules in strings, whose content may have to be in NFC, and in other items
-//! without parts.
+//! Finds the first violation of rules in an item that holds no other item. Checks whether the
+//! content of a string, or of each chunk, is there, is UTF-8 and, if the rules ask for it, is in
+//! NFC.
 ghost use Rattle.std.specs.Prelude.{◌≡◌, ◌≢◌, ℕ, suc, ◌<◌, ◌≤◌, List, length, take, None, IfOk};
 ghost use Rattle.std.specs.Prelude.{IfErr};
 ghost use Rattle.std.specs.Prelude.{IsErr, IfSome, IfNone, option_map};
