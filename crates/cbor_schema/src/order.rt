@@ -95,18 +95,17 @@ impl Items<'_> {
             };
             if one.is_key_of(*next) && next.pair < least {
                 least = next.pair;
-                found = self.parts.get(first.saturating_add(least.saturating_mul(2))).copied();
+                found = self
+                    .parts
+                    .get(first.saturating_add(least.saturating_mul(2)))
+                    .copied();
             }
         }
         found
     }
 
     /// The keys and values of a map, whose parts begin at `first`, in the order of the keys.
-    fn sorted_parts(
-        &self,
-        first: usize,
-        count: usize,
-    ) -> Result<SortedParts, AllocError> {
+    fn sorted_parts(&self, first: usize, count: usize) -> Result<SortedParts, AllocError> {
         let alloc = *self.parts.allocator();
         let mut keys = Vec::new(alloc);
         for pair in 0..count / 2 {
