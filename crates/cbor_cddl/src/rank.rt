@@ -1,5 +1,6 @@
-//! Ranks the rules, or finds one that leads back to itself at the same item or at the same place of
-//! a group.
+//! Gives each rule a rank above those of the rules that it tries at the same item, or at the same
+//! place of a group. If a rule leads back to itself in this way, there is no rank, and this is a
+//! fault.
 
 use crate::fault::{Fault, FaultKind};
 use crate::load::Loader;
