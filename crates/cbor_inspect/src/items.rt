@@ -1,5 +1,5 @@
-//! Writes the whole items at the front of bytes, one after the other, in the form that a viewer asks
-//! for ([`Show`]), and says why it stops.
+//! `show_items` writes the whole items at the front of bytes, one after the other, and returns why
+//! it stopped. [`Show`] says in which form, with which names and which part of each item.
 ghost use Rattle.std.specs.Prelude.{◌≡◌, ℕ, ◌≤◌, ◌++◌, ◌∷◌, [], List, length, drop};
 ghost use Rattle.std.specs.Prelude.{IfOk, IfErr, IfSome, OnOk, OnErr, IsTrue, true, false, Ok};
 ghost use Rattle.std.specs.Prelude.{None, Some};
