@@ -1,4 +1,5 @@
-//! The forms of inputs and outputs, by their numbers in C.
+//! `Form`: the form of an input or an output, by its number in C. Also returns how `cbor_diag`
+//! reads a form, and the styles of EDN and JSON.
 ghost use Rattle.std.specs.Prelude.{◌≡◌, None, IfSome};
 ghost use Rattle.cbor_diag_c.specs.Forms.{form_number, read_as, edn_style, json_style, IsNoForm};
 
