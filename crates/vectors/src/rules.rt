@@ -1,4 +1,4 @@
-//! Answers the rows of the vectors on rules of an encoding.
+//! Runs the test rows about rules of an encoding, and returns each result as text. The calls:
 //!
 //! - `violation RULES`, `violation_in RULES` and `violation_of RULES` give the first violation.
 //! - `violations` gives a line for each set that is violated.
