@@ -1,6 +1,5 @@
-//! Gives each rule a rank above those of the rules that it tries at the same item, or at the same
-//! place of a group. If a rule leads back to itself in this way, there is no rank, and this is a
-//! fault.
+//! Ranks the rules: a rule ranks higher than each rule that it tries at the same item, or at the
+//! same place of a group. If a rule leads back to itself in this way, that is a fault.
 
 use crate::fault::{Fault, FaultKind};
 use crate::load::Loader;

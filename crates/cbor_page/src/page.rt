@@ -1,6 +1,5 @@
-//! `push_page` writes a whole page with given lines: the heading, the style and the script.
-//! `weight` estimates how long a page is, and `MOST` is how many bytes of data it may show by
-//! default.
+//! `push_page` writes a whole page: a heading, the given lines, the style and the script. `weight`
+//! estimates how long a page is, and `MOST` is how many bytes of data it may show by default.
 
 use crate::escape::push_escaped;
 use crate::script::{SCRIPT, SCRIPT_HASH};

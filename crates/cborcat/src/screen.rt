@@ -1,6 +1,6 @@
 //! `Screen`: writes the output as the arguments ask, with colours, without widths, or with long
-//! strings cut. `say_excerpt` shows the part of an input that a message is about, with its mark in
-//! colour.
+//! strings cut. It escapes hidden characters in dumps. `say_excerpt` shows the part of an input
+//! that a message is about, with its mark in colour.
 
 use crate::output::{Target, Written, write};
 use cbor_inspect::Form;

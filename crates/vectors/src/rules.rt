@@ -4,7 +4,8 @@
 //! - `violations` gives a line for each set that is violated.
 //!
 //! RULES is the name of a set, such as `core`, or names of single rules, such as `shortest_heads`.
-//! Single rules are added to the set before them, or to the grammar of RFC 8949.
+//! Single rules are added to the set before them, or to the grammar of RFC 8949. `rules_of` reads
+//! RULES, also for `reencode.rt`.
 
 use crate::lines::{lines_or, push_line};
 use crate::row::Row;
