@@ -1,5 +1,4 @@
-//! `SCRIPT`: the script of the page, a copy of `page/script.js` that `checks/page_files --write`
-//! makes. `SCRIPT_HASH`: its SHA-256 in base 64.
+//! Has the script of the page: `page/script.js`, as `checks/page_files --write` writes it.
 
 /// Its SHA-256 in base 64: the page allows no other.
 pub(crate) const SCRIPT_HASH: &str = "F4vYjmJJkb4SCaee45VWT8veruNRUuhESL/YyJ+MGYw=";

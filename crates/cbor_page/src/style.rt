@@ -1,5 +1,4 @@
-//! `STYLE`: the style of the page, a copy of `page/style.css` that `checks/page_files --write`
-//! makes. `STYLE_HASH`: its SHA-256 in base 64.
+//! Has the style of the page: `page/style.css`, as `checks/page_files --write` writes it.
 
 /// Its SHA-256 in base 64: the page allows no other.
 pub(crate) const STYLE_HASH: &str = "1o3Eia9nU/m1fL4ZWXcUFl4g4zlmVWp+GB1Fex8Aq1o=";
