@@ -1,4 +1,5 @@
-//! A CDDL text as it is written: types, groups and rules with their names, in vectors.
+//! `Ast`: a parsed CDDL text. It has the types, groups and rules in vectors, where parts refer to
+//! each other by index. Names are not resolved yet.
 
 use crate::fault::Fault;
 use crate::lexer::TokenKind;

@@ -1,4 +1,5 @@
-//! Computes what depends on values: ranges, `.plus`, `.cat`, `.det`, comparisons and patterns.
+//! Computes the nodes that depend on the values of other nodes: ranges, `.plus`, `.cat`, `.det`,
+//! comparisons and patterns. Also has `float_of`, which returns the float nearest to an integer.
 
 use crate::fault::{Fault, FaultKind};
 use crate::load::Loader;

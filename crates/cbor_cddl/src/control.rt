@@ -1,4 +1,5 @@
-//! The controls, such as `.size` (RFC 8610, section 3.8, and RFC 9165).
+//! Turns a control of CDDL, such as `.size`, into a node of the `Schema` (RFC 8610, section 3.8,
+//! and RFC 9165). Returns a fault for a control that is unknown or not supported.
 
 use crate::fault::{Fault, FaultKind};
 use crate::load::Loader;

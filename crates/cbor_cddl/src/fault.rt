@@ -1,4 +1,5 @@
-//! `Fault`: what is wrong with a CDDL text, and where.
+//! `Fault`: what is wrong with a CDDL text, and where. `SaidFault` writes it in words, and
+//! `position_of` finds the line and the column of a byte.
 
 use crate::schema::Span;
 use std::alloc::{AllocError, AllocFailed};

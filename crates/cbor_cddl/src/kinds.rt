@@ -1,5 +1,4 @@
-//! Checks that types and groups of CDDL stand where the grammar allows them: no group where a type
-//! is needed.
+//! Checks that a CDDL text has no group where a type is needed, also as the root.
 
 use crate::fault::{Fault, FaultKind};
 use crate::load::Loader;

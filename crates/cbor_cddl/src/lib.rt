@@ -1,5 +1,6 @@
-//! Reads CDDL (RFC 8610, with the changes of RFC 9682), the language that says which CBOR items a
-//! protocol has, and loads it: the result, [`Schema`], has no names and no parameters left.
+//! Parses and loads CDDL (RFC 8610, with the changes of RFC 9682), the language that describes the
+//! CBOR items of a protocol. The result is a [`Schema`], in which all names and parameters are
+//! resolved.
 //!
 //! ```rust
 //! use cbor_cddl::Schema;

@@ -1,4 +1,5 @@
-//! The values of literals: numbers, texts and byte strings.
+//! Reads the literals of CDDL: the values of numbers, and the bytes of strings, whose escapes, hex
+//! or base 64 it decodes.
 
 use crate::fault::FaultKind;
 use crate::lexer::{byte_at, digit_of};

@@ -1,4 +1,5 @@
-//! Loads a text: each rule in use becomes nodes of a `Schema`, with its names resolved.
+//! `Loader`: turns the rules of a parsed text into nodes of a `Schema`, a generic rule once for
+//! each list of arguments. It resolves names and arguments, and what `~` and `&` take of a rule.
 
 use crate::ast::{Ast, Expr};
 use crate::fault::{Fault, FaultKind};

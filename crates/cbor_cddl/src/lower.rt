@@ -1,4 +1,4 @@
-//! Turns types and groups as they are written into nodes of a `Schema`.
+//! Turns each type and group of a parsed text into nodes of a `Schema`.
 
 use crate::ast::{Expr, Number};
 use crate::fault::{Fault, FaultKind};

@@ -1,4 +1,6 @@
-//! `Names`: the rules of a text by their names.
+//! `Names`: finds the rules of a CDDL text by their name, and the name most like a misspelled one.
+//! A rule of the text replaces the prelude's rule of the same name. Two different rules of the text
+//! with one name are a fault, unless one extends the other (`/=`, `//=`).
 
 use crate::ast::{Ast, Expr, RuleText};
 use crate::fault::{Fault, FaultKind};

@@ -1,5 +1,5 @@
-//! `Parser`: the place of the reader in a CDDL text, and what it has parsed so far. The grammar is
-//! in `grammar.rt`.
+//! `Parser`: the tokens of a CDDL text, the place of the next one, and the `Ast` built so far.
+//! `grammar.rt` parses with it.
 
 use crate::ast::{Ast, Expr};
 use crate::fault::{Fault, FaultKind};

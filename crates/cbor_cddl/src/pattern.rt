@@ -1,5 +1,6 @@
-//! Finds what XSD allows in a pattern of `.regexp` and the kit's library for regular expressions
-//! does not.
+//! Finds the first part of a `.regexp` pattern that XSD allows, but the library for regular
+//! expressions does not support: a class without another one, as in `[a-z-[aeiou]]`, or `\i`, `\I`,
+//! `\c`, `\C`.
 
 /// A class of characters of XSD with this letter.
 fn class_of(letter: u8) -> Option<&'static str> {

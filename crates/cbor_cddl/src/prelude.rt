@@ -1,4 +1,5 @@
-//! The text of CDDL's prelude, whose rules each CDDL text can use (RFC 8610, appendix D).
+//! `PRELUDE`: CDDL's rules for names such as `uint` and `tdate` (RFC 8610, appendix D). `text.rt`
+//! appends them to each CDDL text.
 
 /// The rules that are always there.
 pub(crate) const PRELUDE: &str = "

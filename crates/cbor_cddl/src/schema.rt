@@ -1,5 +1,5 @@
-//! `Schema`: a CDDL text as it is matched. Names, sockets, parameters of generics, `~`, `&` and
-//! constants are resolved. All parts are in vectors, and refer to each other by index.
+//! `Schema`: a loaded CDDL text, ready to be matched. Its nodes are in vectors and refer to each
+//! other by index. Names, sockets, parameters of generics, `~`, `&` and constants are resolved.
 
 use cbor_floats::Width;
 

@@ -1,4 +1,5 @@
-//! `Schema::load`: parses a CDDL text, resolves its names and checks it.
+//! `Schema::load` parses a CDDL text, resolves its names and checks it. `source_of` appends the
+//! prelude to a text; the places in a `Fault` are places in this source.
 
 use crate::fault::Fault;
 use crate::grammar::parse;

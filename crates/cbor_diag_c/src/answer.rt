@@ -1,5 +1,5 @@
-//! How each call returns to C: the length of its text, as much of that as fits, or minus the number
-//! of an error.
+//! Copies as much of a text as fits the output of a C call, and returns the length of the whole
+//! text (`write`). For an error, returns minus its number (`refused`).
 ghost use Rattle.std.specs.Prelude.{◌≡◌, pos, length};
 ghost use Rattle.cbor_grammar.specs.Refusals.{number_of};
 ghost use Rattle.cbor_diag_c.specs.Answers.{IsMinus, written};

@@ -1,5 +1,5 @@
-//! For C, `cbor_diag_convert`, which converts an input from one form to another, and
-//! `cbor_diag_output_fault`, which says why it has no output.
+//! The C calls `cbor_diag_convert`, which converts an input from one form to another, and
+//! `cbor_diag_output_fault`, which says why an input cannot be converted.
 ghost use Rattle.std.specs.Prelude.{◌≡◌, ◌≢◌, ◌⊎◌, ◌<◌, negsuc, IfOk};
 ghost use Rattle.cbor_diag_c.specs.declared.form.Text.{Text as Texts};
 ghost use Rattle.cbor_diag_c.specs.Forms.{IsNoForm, IsOutputIn};

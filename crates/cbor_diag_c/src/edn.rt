@@ -1,4 +1,5 @@
-//! Reads and writes EDN for the calls from C, with the errors that they return.
+//! Reads one item from EDN, and writes one in EDN, for the C calls. Also returns why a text is not
+//! EDN.
 ghost use Rattle.std.specs.Prelude.{◌≡◌, IfOk, IfErr, MatchResult};
 ghost use Rattle.cbor_diag.specs.View.{view};
 ghost use Rattle.cbor_grammar.specs.Answer.{RefusedSo};

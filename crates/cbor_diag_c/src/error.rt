@@ -1,4 +1,4 @@
-//! For C, `cbor_diag_error_text`: the text of an error, by its number.
+//! The C call `cbor_diag_error_text`: writes the text of an error, by the number of the error.
 ghost use Rattle.std.specs.Prelude.{◌≡◌, ◌⊎◌, ◌<◌, ℕ, List, length, None, IfSome};
 ghost use Rattle.cbor_grammar.specs.Refusals.{number_of};
 ghost use Rattle.cbor_diag_c.specs.Answers.{IfLength, IfError, no_form, no_rules, IsTextOf};

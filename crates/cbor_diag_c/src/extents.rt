@@ -1,4 +1,5 @@
-//! For C, `cbor_diag_extent`: whether bytes begin with an item, are truncated, or malformed.
+//! The C call `cbor_diag_extent`: returns whether bytes begin with an item, are truncated, or are
+//! malformed, and how many bytes decide this.
 ghost use Rattle.std.specs.Prelude.{◌≡◌, ◌<◌, ◌^◌, ℕ, List, length};
 ghost use Rattle.cbor_bytes.specs.Extent.{IfItem, IsExtent};
 ghost use Rattle.cbor_bytes.specs.declared.skip.answer.Extent.{Extent as Beginning};

@@ -1,4 +1,5 @@
-//! For C, `cbor_diag_fault`: the error of an input that is no item, and its place, in any form.
+//! The C call `cbor_diag_fault`: returns the error of an input that is not an item, in any form,
+//! and its place.
 ghost use Rattle.std.specs.Prelude.{◌≡◌, ◌≢◌, negsuc, None, IfSome, IfOk, IfErr};
 ghost use Rattle.cbor_grammar.specs.Item.{Item};
 ghost use Rattle.cbor_grammar.specs.Facts.{IsItem, IsNoItem};

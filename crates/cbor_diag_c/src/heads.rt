@@ -1,4 +1,5 @@
-//! For C, `cbor_diag_head`: the kind, the argument and the length of the head at the front.
+//! The C call `cbor_diag_head`: reads the head at the front of bytes, and returns its kind, its
+//! argument and its length (`Head`).
 ghost use Rattle.std.specs.Prelude.{◌≡◌, IfOk, IfErr};
 ghost use Rattle.cbor_grammar.specs.Refusals.{number_of};
 ghost use Rattle.cbor_diag_c.specs.Answers.{IfLength, IfError};

@@ -1,11 +1,11 @@
-//! The calls for C programs. `bindings/c/cbor_diag.h` declares them, and says what a caller has to
-//! keep to.
+//! The library for C programs. Each file has one or two calls, or what several calls use.
+//! `bindings/c/cbor_diag.h` declares the calls, and says what a caller has to keep to.
 //!
-//! Each returns a length, or minus the number of an error: 1 to 10 as `Error::number` has them, or
-//! 11 for an unknown form, 12 for an unknown set of rules, 13 for items that have no encoding by
-//! the rules, 14 for two keys of a map that become the same in JSON, 15 for what JSON does not
-//! keep, 16 for a path that leads to no part of an item, 17 for an unknown type, 18 for an input
-//! that has none of the forms, and 19 for a file of names with an error. In C, with the header:
+//! A call that fails returns minus the number of the error: 1 to 10 as `Error::number` has them, 11
+//! for an unknown form, 12 for an unknown set of rules, 13 for items that have no encoding by the
+//! rules, 14 for two keys of a map that become the same in JSON, 15 for what JSON does not keep, 16
+//! for a path that leads to no part of an item, 17 for an unknown type, 18 for an input that has
+//! none of the forms, and 19 for a file of names with an error. In C, with the header:
 //!
 //! ```c
 //! char text[256];

@@ -1,5 +1,6 @@
-//! For C, `cbor_diag_fault_path` and `cbor_diag_fault_message`: in which item the error of an input
-//! is, and what is wrong, in words.
+//! The C calls `cbor_diag_fault_path`, which writes the path to the item in which an input is
+//! truncated or malformed, and `cbor_diag_fault_message`, which writes what is wrong there, as
+//! `cborcat` does.
 ghost use Rattle.std.specs.Prelude.{◌≡◌, ℕ, List, negsuc, length, IfOk, IfErr, IfSome};
 ghost use Rattle.cbor_diag_c.specs.Forms.{IsNoForm, IsRefusedIn};
 ghost use Rattle.cbor_diag_c.specs.Answers.{IfLength, IfError, written};

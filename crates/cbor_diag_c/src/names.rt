@@ -1,4 +1,4 @@
-//! For C, `cbor_diag_name_at`: the name of the part that a path leads to.
+//! The C call `cbor_diag_name_at`: writes the name of the part that a path leads to.
 ghost use Rattle.std.specs.Prelude.{◌≡◌, ℕ, List, length, IfOk, IfErr};
 ghost use Rattle.cbor_diag_c.specs.Answers.{IfLength, IfError, written};
 ghost use Rattle.cbor_diag_c.specs.Names.{IsOneItem, IsNoName, IsNoNamed};

@@ -1,6 +1,6 @@
-//! For C, `cbor_diag_page` and `cbor_diag_names_fault`: the lines of a page that shows items beside
-//! their bytes, and what is wrong with tables of names. Also the lines of one item, for
-//! `cbor_diag_convert`.
+//! The C calls `cbor_diag_page`, which writes the lines of an HTML page that shows items beside
+//! their bytes, and `cbor_diag_names_fault`, which writes what is wrong with a file of names.
+//! `html_lines` makes the lines of one item for `cbor_diag_convert`.
 ghost use Rattle.std.specs.Prelude.{◌≡◌, ◌≢◌, ℕ, List, [], length, IfOk, IfErr, MatchResult};
 ghost use Rattle.cbor_grammar.specs.Answer.{RefusedSo};
 ghost use Rattle.cbor_grammar.specs.Facts.{IsItem, IsNoItem};

@@ -1,5 +1,5 @@
-//! For C, `cbor_diag_part` and `cbor_diag_parts`: where the parts of an item are that a path leads
-//! to.
+//! The C calls `cbor_diag_part` and `cbor_diag_parts`: find the first part of an item that a path
+//! leads to, or all of them, and return where they are (`Part`).
 ghost use Rattle.std.specs.Prelude.{◌≡◌, ◌<◌, ◌^◌, length, IfOk, IfErr};
 ghost use Rattle.std.specs.List.{AllByRecursion};
 ghost use Rattle.cbor_paths.specs.Followed.{IsPart};

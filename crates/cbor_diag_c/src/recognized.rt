@@ -1,4 +1,5 @@
-//! For C, `cbor_diag_recognize`: which form an input has, and the bytes that it stands for.
+//! The C call `cbor_diag_recognize`: finds which form an input has, and writes the bytes that it
+//! stands for.
 ghost use Rattle.std.specs.Prelude.{◌≡◌};
 ghost use Rattle.cbor_diag_c.specs.Answers.{IfLength, IfError, IsMinus};
 ghost use Rattle.cbor_diag_c.specs.Recognized.{input_number, refusal_number};

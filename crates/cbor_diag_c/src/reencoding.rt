@@ -1,5 +1,5 @@
-//! For C, `cbor_diag_reencode`, which re-encodes items by rules, and `cbor_diag_reencode_fault`,
-//! which says why they have no such encoding.
+//! The C calls `cbor_diag_reencode`, which re-encodes items by rules, and
+//! `cbor_diag_reencode_fault`, which says why items have no such encoding.
 ghost use Rattle.std.specs.Prelude.{◌≡◌, ◌≢◌, ◌⊎◌, negsuc, None};
 ghost use Rattle.cbor_rules.specs.Keeps.{KeepsRules};
 ghost use Rattle.cbor_reencode.specs.Reencoded.{FixesKeys, KeysOnce};

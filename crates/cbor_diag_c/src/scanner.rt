@@ -1,8 +1,8 @@
-//! For C, `cbor_diag_scanner_init` and `cbor_diag_scanner_feed`: how bytes begin that come in
-//! pieces.
+//! The C calls `cbor_diag_scanner_init` and `cbor_diag_scanner_feed`: take bytes in pieces, and
+//! return whether these begin with an item, are truncated, or are malformed.
 //!
-//! C has the memory for the scanner, as a [`ScannerRoom`]. Each call casts its pointer, so these
-//! two are proved by hand; the rest is in [`CountedScanner`].
+//! C provides the memory for the scanner, a [`ScannerRoom`]. Both calls cast a pointer to it, so
+//! they are proved by hand. [`CountedScanner`] does all other work.
 ghost use Rattle.std.specs.Prelude.{◌≡◌, ◌≢◌, ◌<◌, ◌^◌, List, ℕ, [], length};
 ghost use Rattle.std.specs.Borrow.{full_share, sem};
 ghost use Rattle.std.specs.Ptr.{lies_at, room_at};

@@ -1,5 +1,5 @@
-//! For C, `cbor_diag_named` and `cbor_diag_paths`: an item in EDN with names and notes, and as a
-//! list of paths.
+//! The C calls `cbor_diag_named`, which writes an item in EDN with names and notes, and
+//! `cbor_diag_paths`, which writes a line with path and EDN for each item that holds no other.
 ghost use Rattle.std.specs.Prelude.{◌≡◌, ℕ, List, [], length, IfOk, IfErr};
 ghost use Rattle.cbor_diag_c.specs.Answers.{IfLength, IfError, written};
 ghost use Rattle.cbor_diag_c.specs.Names.{IsOneItem, IsNoItemOrMemory, IsNotShown};

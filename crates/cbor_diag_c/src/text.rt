@@ -1,4 +1,4 @@
-//! Writes items as lines of EDN or JSON, or of a page, for the calls from C.
+//! Writes an item for the C calls as EDN or JSON with a line feed, or as the lines of an HTML page.
 ghost use Rattle.std.specs.Prelude.{◌≡◌, ◌∷◌, ◌++◌, [], IfOk, IfErr, MatchResult};
 ghost use Rattle.std.specs.String.{string_bytes};
 ghost use Rattle.cbor_diag.specs.View.{view};

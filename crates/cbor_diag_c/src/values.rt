@@ -1,5 +1,5 @@
-//! For C, `cbor_diag_value`: the kind and the value of the part that a path leads to, below its
-//! tags.
+//! The C call `cbor_diag_value`: finds the part that a path leads to, and returns its kind, its
+//! value and its innermost tag, and where its content is (`Value`).
 ghost use Rattle.std.specs.Prelude.{◌≡◌, ◌≤◌, length, IfSome};
 ghost use Rattle.cbor_diag_c.specs.Answers.{IfLength, IfError};
 ghost use Rattle.cbor_diag_c.specs.Names.{IsOneItem};

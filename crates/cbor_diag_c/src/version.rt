@@ -1,4 +1,4 @@
-//! For C, `cbor_diag_version`: the version of the library.
+//! The C call `cbor_diag_version`: returns the version of the library.
 ghost use Rattle.std.specs.Prelude.{◌≡◌, ◌+◌, ◌*◌};
 
 /// Returns the version 0.1.0, as 10000 * major + 100 * minor + patch.

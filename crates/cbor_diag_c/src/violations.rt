@@ -1,5 +1,5 @@
-//! For C, `cbor_diag_violation`, the first violation of a set of rules, and
-//! `cbor_diag_violation_text`, the text of its kind.
+//! The C calls `cbor_diag_violation`, which finds the first violation of a set of rules, and
+//! `cbor_diag_violation_text`, which writes the text of a kind of violation.
 ghost use Rattle.std.specs.Prelude.{◌≡◌, ◌⊎◌, ◌↔◌, ◌<◌, negsuc, None, length, IfOk, IsErr};
 ghost use Rattle.cbor_messages.specs.Kinds.{kind_text};
 ghost use Rattle.cbor_reencode.specs.OneKey.{IsViolation, KeepsWithKeys};

@@ -1,4 +1,4 @@
-//! For C, `cbor_diag_fault_text`: in words, why an input is no item.
+//! The C call `cbor_diag_fault_text`: writes in words why an input is not an item.
 ghost use Rattle.std.specs.Prelude.{◌≡◌, ℕ, List, length};
 ghost use Rattle.cbor_diag_c.specs.Answers.{IfLength, IfError, written};
 ghost use Rattle.cbor_diag_c.specs.Words.{IsEdnWords, IsOrMemory, IsWordsIn, IsWords};

@@ -1,4 +1,4 @@
-//! Matches the members of two maps by their keys.
+//! Matches the pairs of two maps by their keys, in whatever order the keys are.
 
 use crate::level::{Next, key_of};
 use cbor_bytes::head::read_head;

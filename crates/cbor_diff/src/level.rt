@@ -1,5 +1,5 @@
-//! A pair of containers that are compared, and which of their members are compared next: members of
-//! arrays by their index, values of maps by their key.
+//! `Level`: two containers that are compared with each other. It returns which of their members to
+//! compare next: members of arrays by index, values of maps by key.
 
 use cbor_bytes::{Extent, extent};
 use cbor_paths::{At, Members};

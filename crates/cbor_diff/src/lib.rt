@@ -1,5 +1,5 @@
-//! What differs between two sequences of items: by members of arrays, by keys of maps in any order,
-//! and by the number of the item.
+//! Compares two sequences of items and lists what differs. Items are compared by their number,
+//! members of arrays by index, and values of maps by key, in any order.
 //!
 //! ```rust
 //! use cbor_diff::{Change, Comparison, differences};

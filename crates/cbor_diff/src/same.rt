@@ -1,4 +1,5 @@
-//! Compares items: byte for byte, or by their core deterministic encodings.
+//! Tells whether two sequences of items are the same: byte for byte, or by their core deterministic
+//! encodings.
 ghost use Rattle.std.specs.Prelude.{◌≡◌, ◌↔◌, ℕ, true, false, List, None, IfOk, IfSome};
 ghost use Rattle.cbor_rules.specs.declared.rules.TheConstants.Rules.{CORE};
 ghost use Rattle.cbor_reencode.specs.Reencoded.{IsReencoded};

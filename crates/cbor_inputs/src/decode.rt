@@ -1,5 +1,6 @@
 //! Finds which form an input has (bytes, hex, EDN or base 64), and decodes it to the bytes that it
-//! stands for.
+//! stands for. If no form fits, returns the error of the form that reads furthest. `also` finds
+//! another form that reads the input, too.
 
 ghost use Rattle.std.specs.Prelude.{◌≡◌, ◌≢◌, ◌↔◌, ◌⊎◌, ℕ, List, [], IfOk, IfErr, IfSome, None};
 ghost use Rattle.std.specs.Prelude.{IsTrue};

@@ -1,9 +1,9 @@
-//! Which form an input has, and which bytes it stands for: bytes, hex as people paste it, EDN or
-//! base 64.
+//! Finds which form an input has (bytes, hex as people paste it, EDN or base 64), and which bytes
+//! it stands for.
 //!
 //! [`recognize`] finds the form of an input, and [`Input::decode`] the bytes of one whose form is
 //! known. [`is_text`] and [`text_fault`] tell text from bytes, [`place_of_digit`] finds a digit of
-//! hex, and [`looks_like`] says what a text may be that no form reads.
+//! hex, and [`looks_like`] guesses what an input is if no form reads it.
 //!
 //! ```rust
 //! use cbor_inputs::{Input, recognize};

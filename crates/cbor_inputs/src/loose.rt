@@ -1,5 +1,6 @@
 //! Decodes hex as people paste it: pairs of digits, also with blanks, commas, `0x`, `\x`, and `:`
-//! between pairs, and comments from `#` to the end of a line.
+//! between pairs, and comments from `#` to the end of a line. `place_of_digit` finds a digit in
+//! such a text.
 ghost use Rattle.std.specs.Prelude.{◌≡◌, ◌≤◌, length, IfOk, IfErr, Ok, ◌≢◌, ℕ, List};
 ghost use Rattle.hex.specs.Hex.{decode_of};
 ghost use Rattle.cbor_inputs.specs.Loose.{turn_of, loose, is_gap};

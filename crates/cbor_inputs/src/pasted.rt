@@ -1,5 +1,5 @@
-//! Guesses what an input is that no form reads, by how it begins: a data URL, PEM, UTF-16, hex with
-//! dashes, an array or a string of a program, or a hex dump of another tool. Only messages use it.
+//! Guesses what an input is if no form reads it: a data URL, PEM, UTF-16, hex with dashes, an array
+//! or a string of a program, or a hex dump of another tool. Only messages use the guess.
 
 use crate::text::unmarked;
 

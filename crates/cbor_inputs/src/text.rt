@@ -1,5 +1,5 @@
 //! Tells texts from bytes: a text is UTF-8 without control characters, except tabs and line ends.
-//! Also passes a byte order mark.
+//! `text_fault` finds the first byte that no text has. Also skips a byte order mark.
 ghost use Rattle.std.specs.Prelude.{◌≡◌, ◌↔◌, ◌+◌, ◌<◌, ◌≤◌, ℕ, IsTrue, IfSome, length};
 ghost use Rattle.std.specs.Prelude.{slice_index};
 ghost use Rattle.cbor_inputs.specs.Texts.{Controls, IsPlainAt, IsText, mark_len, unmarked};

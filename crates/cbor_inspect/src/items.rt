@@ -1,5 +1,6 @@
-//! Writes the whole items at the front of bytes, one after the other, in the form that a viewer asks
-//! for ([`Show`]), and says why it stops.
+//! `show_items` writes the whole items at the front of bytes, one after the other, and returns why
+//! it stopped. [`Show`]: how items are written, that is, the style, the names and the path to a
+//! part.
 ghost use Rattle.std.specs.Prelude.{◌≡◌, ℕ, ◌≤◌, ◌++◌, ◌∷◌, [], List, length, drop};
 ghost use Rattle.std.specs.Prelude.{IfOk, IfErr, IfSome, OnOk, OnErr, IsTrue, true, false, Ok};
 ghost use Rattle.std.specs.Prelude.{None, Some};

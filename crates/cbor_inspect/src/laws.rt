@@ -1,5 +1,5 @@
-//! The law that items shown as EDN, one after the other, are read back as the same items. No code
-//! calls this function.
+//! Law: items written as EDN, one after the other, are read back as the same items. It is the
+//! contract of a function that no code calls.
 ghost use Rattle.std.specs.Prelude.{◌≡◌, ◌++◌, ℕ, ◌<◌, List, [], Some};
 ghost use Rattle.std.specs.List.{AllByRecursion};
 ghost use Rattle.cbor_grammar.specs.Item.{Item, items_of};

@@ -1,6 +1,7 @@
-//! What a viewer of CBOR data needs beside the conversions of `cbor_diag`: items one after the
-//! other as they arrive, parts of items by a path, and EDN with notes and names, in which no
-//! control character is.
+//! For viewers of CBOR: writes items as they arrive, or the parts that a path leads to, as EDN,
+//! dump, hex or bytes. The EDN can have notes and names, and has no hidden characters, such as
+//! control characters. Also finds the name of a part, the content of a string, and two-byte simple
+//! values.
 //!
 //! ```rust
 //! use cbor_inspect::{End, Form, Show, show_items};

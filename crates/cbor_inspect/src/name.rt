@@ -1,5 +1,5 @@
-//! `name_at` returns the name of the part that a path leads to: that of its key, its member, its
-//! tag or its type.
+//! `name_at` returns the name of the part that a path leads to: the name of its key, of its place
+//! in an array, of its tag or of its type.
 ghost use Rattle.std.specs.Prelude.{IfOk, IfErr};
 ghost use Rattle.cbor_grammar.specs.Item.{Item};
 ghost use Rattle.cbor_grammar.specs.Facts.{IsItem};

@@ -1,5 +1,6 @@
 //! `Naming`: the tables that give items their names in a viewer, and the type of the outermost
-//! item. Also a quick look for items that cannot have names.
+//! item. It returns the names of an item as notes, and finds quickly whether items can have names
+//! at all.
 
 use cbor_edn_writer::Note;
 use cbor_names::{Names, Notes, Type, notes};

@@ -1,4 +1,5 @@
-//! Writes a truncated or malformed item as EDN with its names, as far as it is there.
+//! `Show::partial` writes a truncated or malformed item as EDN: its whole parts with their names,
+//! then what is wrong and some of the bytes that remain.
 
 use crate::items::Show;
 use crate::naming::edn_notes;

@@ -1,5 +1,6 @@
-//! Finds the parts that a path leads to in an item as it is shown: also by its names, and inside
-//! byte strings that are shown as items.
+//! `parts_of` finds the parts of an item that a path leads to, also by names that are shown, and
+//! inside byte strings that are shown as items. `marks_of` turns the notes of an item into the
+//! marks that paths use.
 
 use crate::items::Show;
 use cbor_names::Notes;

@@ -1,4 +1,5 @@
-//! Returns the content of a byte or text string, with chunks joined and tags left out (`-t raw`).
+//! `raw_content` returns the content of a byte or text string, with chunks joined and tags left out
+//! (`cborcat -t raw`).
 ghost use Rattle.std.specs.Prelude.{◌≡◌, IfOk, IfErr, option_map, map, Some};
 ghost use Rattle.std.specs.List.{flat_map};
 ghost use Rattle.cbor_grammar.specs.Item.{Chunk, Item};

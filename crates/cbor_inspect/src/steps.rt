@@ -1,4 +1,4 @@
-//! Reads the text of a path as its steps: indices and keys, `@` and `*`.
+//! `steps_of` reads the text of a path as its steps: indices, keys, `@` and `*`.
 ghost use Rattle.std.specs.Prelude.{◌≡◌, IfErr};
 
 use cbor_bytes::write::push_head;

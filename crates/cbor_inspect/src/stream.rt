@@ -1,5 +1,5 @@
 //! `Stream` takes the bytes of a sequence in pieces, as from a pipe. It writes, skips or checks
-//! each item once that is whole.
+//! each item once the item is whole.
 ghost use Rattle.std.specs.Prelude.{◌≡◌, ◌↔◌, ℕ, ◌<◌, ◌≤◌, ◌++◌, List, length, take, drop};
 ghost use Rattle.std.specs.Prelude.{false, IfErr, IfSome, IfNone, OnOk, OnErr, IsTrue};
 ghost use Rattle.cbor_grammar.specs.Facts.{BeginsWithItem};

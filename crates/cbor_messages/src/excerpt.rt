@@ -1,5 +1,6 @@
-//! Writes the part of an input that a message shows, with a mark below what is wrong. It takes no
-//! memory.
+//! `Excerpt`: the part of an input that a message shows, bytes in hex or a line of text, with a
+//! mark below what is wrong. It takes no memory. `position_of` finds the line and the column of a
+//! byte.
 
 use arrayvec::ArrayString;
 use std::fmt;

@@ -1,5 +1,5 @@
-//! Writes the message for items that cannot be written as JSON: which keys become the same, or what
-//! JSON does not keep.
+//! Writes the message for items that cannot be written as JSON: which two keys become the same, or
+//! what JSON does not keep.
 
 use crate::words::{Message, Words};
 use cbor_grammar::Error;

@@ -1,4 +1,5 @@
-//! The number of each kind of violation, and its text in a few words.
+//! Returns the number of a kind of violation (`kind_number`) and, for such a number, a short text
+//! (`kind_text`).
 ghost use Rattle.std.specs.Prelude.{◌≡◌};
 ghost use Rattle.cbor_messages.specs.Kinds.{kind_number, kind_text};
 

@@ -1,5 +1,5 @@
-//! What is said of what is wrong, as `cborcat` says it: of a rule that is broken, of what JSON does
-//! not keep, of a path that leads nowhere; and the lines that a message shows.
+//! Writes messages as `cborcat` shows them: for a violation of rules, for what JSON does not keep,
+//! and for a path that leads nowhere. Also writes the part of an input that a message shows.
 //!
 //! ```rust
 //! use cbor_messages::first_violation;

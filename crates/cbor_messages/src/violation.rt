@@ -1,5 +1,5 @@
-//! Writes the message for the first violation of a set of rules, and for items that cannot be
-//! re-encoded by it.
+//! Writes the message for the first violation of a set of rules, and the message for items that
+//! cannot be re-encoded in a way that keeps the set.
 
 use crate::kind::{kind_number, kind_text};
 use crate::widths::{major_of, push_integer_float, push_long_float, push_long_head};

@@ -1,5 +1,5 @@
-//! Finds the path to an item as it is read without names, with `@` for the item in a byte string.
-//! `lost.rt` uses it.
+//! `way_to`: the path to the item that begins at a byte, as `cborcat -p` takes it without names.
+//! `@` goes into a byte string.
 
 use cbor_bytes::{Extent, extent};
 use cbor_edn_writer::{EdnStyle, push_bytes_to_edn};

@@ -1,5 +1,6 @@
-//! `Message`, a text and its place in the items; and `Words`, which writes such a text with items,
-//! keys and byte numbers.
+//! `Message`: a text, and the place in the items that it is about. `Words`: writes such a text,
+//! with items, keys and byte numbers in it. `TWO_BYTES`: the message for a simple value below 32 in
+//! two bytes.
 
 use cbor_bytes::{Extent, extent};
 use cbor_edn_writer::bytes_to_edn;

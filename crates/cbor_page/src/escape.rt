@@ -1,4 +1,5 @@
-//! Writes data as it stands in a page: text with its marks escaped, and bytes in hex.
+//! Writes data into the HTML of a page: text with `&`, `<`, `>` and `"` escaped, and bytes in hex
+//! with blanks between them.
 ghost use Rattle.std.specs.Prelude.{◌≡◌, ◌++◌, OnOk};
 ghost use Rattle.cbor_page.specs.Markup.{escaped, escaped_byte, next_digits, spaced};
 ghost use Rattle.hex.specs.Hex.{encode_lower};

@@ -1,9 +1,9 @@
-//! Writes the page that shows CBOR data: each line of EDN, with names and notes, stands beside its
-//! own bytes. One page is one file, which asks for nothing from elsewhere.
+//! Writes an HTML page that shows CBOR data: each line of EDN, with names and notes, stands beside
+//! its own bytes. The page is one file that loads nothing else.
 //!
-//! [`push_data`] writes the lines of data, [`push_items`] those of items, and [`push_partial`] those
-//! of the part of an item that is there. [`push_page`] writes a page round them, with the style and
-//! the script of the folder `page`.
+//! [`push_items`] writes the lines of whole items, [`push_partial`] the lines of a truncated or
+//! malformed item, and [`push_data`] both. [`push_page`] writes a page with such lines, and with
+//! the style and the script of the folder `page`. [`weight`] estimates how long a page will be.
 //!
 //! ```rust
 //! use cbor_page::{Heading, push_page};

@@ -1,4 +1,5 @@
-//! Writes the lines of items.
+//! `push_lines` writes the lines of a page for items: `walk.rt` finds the pieces of each line, and
+//! `source.rt` writes them.
 ghost use Rattle.std.specs.Prelude.{◌≡◌, ◌++◌, ℕ, List, IfOk};
 ghost use Rattle.cbor_page.specs.Markup.{IsMarkup};
 ghost use Rattle.cbor_page.specs.Written.{IsWithin, Writes};

@@ -1,4 +1,5 @@
-//! `Mark`: the constant pieces of HTML that the lines of a page are made of.
+//! `Mark`: a constant piece of HTML in the lines of a page, such as the one that opens a line or
+//! the one that says of what kind an item is.
 ghost use Rattle.std.specs.Prelude.{◌≡◌};
 ghost use Rattle.cbor_page.specs.Markup.{mark_text};
 

@@ -1,4 +1,5 @@
-//! `Open`: an item that is open while a page is written. Finds the steps of paths to its parts.
+//! `Open`: an item that is open while its parts are written to a page. Its call `step` returns the
+//! step of a path that leads to the next part.
 
 use crate::mark::Mark;
 use crate::token::Closer;

@@ -1,4 +1,5 @@
-//! Writes the page round the lines: self-contained, with its style and its script.
+//! `push_page` writes a whole page: a heading, the given lines, the style and the script. `weight`
+//! estimates how long a page is, and `MOST` is how many bytes of data it may show by default.
 
 use crate::escape::push_escaped;
 use crate::script::{SCRIPT, SCRIPT_HASH};

@@ -1,4 +1,5 @@
-//! `Plan`: the pieces of a line of the page in the order in which they are written, and their data.
+//! `Plan`: the pieces of a line of a page in the order in which they are written, and the data that
+//! they need, such as numbers and words.
 
 use crate::mark::Mark;
 use crate::source::Event;

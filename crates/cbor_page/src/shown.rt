@@ -1,4 +1,5 @@
-//! Writes the lines of items, and of the part of an item that is there.
+//! Writes the lines of a page for data: `push_items` for whole items, `push_partial` for a
+//! truncated or malformed item, and `push_data` for all of them.
 ghost use Rattle.std.specs.Prelude.{◌≡◌, ◌≤◌, ◌++◌, ℕ, List, [], length, take, drop, IfOk, OnOk};
 ghost use Rattle.cbor_inspect.specs.Shows.{Shows};
 ghost use Rattle.cbor_paths.specs.Sequence.{IsShownOfFirst};

@@ -1,8 +1,8 @@
-//! Writes the HTML of a line of the page piece by piece: constants, parts of the text in EDN, and
-//! parts of the bytes.
+//! `Source`: the EDN and the bytes of items. It writes the HTML of lines piece by piece: constants,
+//! parts of the EDN and parts of the bytes.
 //!
-//! Whatever pieces the caller asks for, the whole text and all bytes are written, once and in
-//! order: each piece begins where the last one ended, and ends within the text or the bytes.
+//! Whatever pieces the caller asks for, all of the EDN and all bytes are written, once and in
+//! order: each piece begins where the last one ended, and ends within the EDN or the bytes.
 ghost use Rattle.std.specs.Prelude.{◌≡◌, ◌≤◌, length, IfOk, OnOk};
 ghost use Rattle.cbor_page.specs.Written.{Writes, IsWithin, IsAll};
 

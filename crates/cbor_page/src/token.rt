@@ -1,4 +1,5 @@
-//! Finds the tokens of a line of EDN, as `cbor_inspect` writes it.
+//! Splits a line of EDN, as `cbor_inspect` writes it, into tokens: `first_token` returns the next
+//! one and its length.
 
 /// What a token is.
 #[derive(Clone, Copy, PartialEq, Eq, Debug)]

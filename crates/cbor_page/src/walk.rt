@@ -1,8 +1,9 @@
-//! Walks over the EDN of items and over their bytes, side by side: each token that is no note and
-//! nothing between items is the next head.
+//! `Walk`: goes over the EDN of items and over their bytes, side by side, and finds the pieces of
+//! each line of a page. Each token is matched with the next head, unless it is a note or stands
+//! between items.
 //!
-//! The walk only says which pieces a line has. What is written of them shows the whole text and all
-//! bytes, whatever it says: see `source.rt`.
+//! A wrong walk cannot hide data: `source.rt` writes all of the EDN and all bytes, whatever pieces
+//! the walk finds.
 
 use crate::mark::Mark;
 use crate::open::{Next, Open, Step};

@@ -1,5 +1,6 @@
-//! What is around a byte of the data, or around the end of a truncated item: the path, the open
-//! containers and the innermost item; and these in words, for messages.
+//! `Around`: the path, the open containers and the innermost item at a byte of the data, or at the
+//! end of a truncated item. It writes these in words, for messages. `item_with` finds which of
+//! several items contains a byte.
 
 use crate::entered::{ByteString, Entered, content_at};
 use crate::nouns::{count_of, noun_of_open, push_there};

@@ -1,4 +1,5 @@
-//! What `--at` writes: the path, the head and the place of the item that a byte belongs to.
+//! `lines_at` writes what `cborcat --at` says of the item that contains a byte: its path, its head,
+//! and its first and last byte, each on a line.
 ghost use Rattle.std.specs.Prelude.{◌≡◌, ◌∷◌, ◌++◌, [], ℕ, List, OnOk};
 ghost use Rattle.std.specs.String.{string_bytes};
 ghost use Rattle.cbor_places.specs.Heads.{counted, head_digits, kind_word, IsHeadWords, head_line};

@@ -1,5 +1,5 @@
-//! Writes what a message says of a truncated item: what its head states, and how much of that is
-//! there, such as "the array at a (byte 3) has 4 items, 2 are there".
+//! Writes the message for a truncated item: what its head states and how much is there, such as
+//! "the array at a (byte 3) has 4 items, 2 are there".
 
 use crate::around::{Around, Inside, Named};
 use crate::nouns::{

@@ -1,6 +1,6 @@
-//! Decides which byte strings paths enter because they hold items: those below the tags 24 and 63,
-//! those with a name that says so and, if it is asked for, those that hold an array, a map or a
-//! tagged item.
+//! `Entered`: decides which byte strings paths enter because they hold items. These are the byte
+//! strings below the tags 24 and 63, those whose name says so and, on request, those that hold an
+//! array, a map or a tagged item.
 
 use cbor_bytes::strict::is_strict;
 use cbor_grammar::argument::Argument;

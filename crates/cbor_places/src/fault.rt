@@ -1,4 +1,4 @@
-//! `fault_of` returns why bytes are no item: the error, the byte that shows it, the path to the
+//! `fault_of` returns why bytes are not an item: the error, the byte that shows it, the path to the
 //! truncated or malformed item, and a message.
 ghost use Rattle.std.specs.Prelude.{◌≡◌, IfOk, IfErr, IfSome, None};
 ghost use Rattle.cbor_grammar.specs.Item.{Item};

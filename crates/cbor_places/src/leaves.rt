@@ -1,5 +1,5 @@
-//! `Leaves` goes from one item that holds no other to the next, with the path to each. It also
-//! writes them as lines: the path, and the item in EDN.
+//! `Leaves` goes through the items that hold no other item, with the path to each. It also writes a
+//! line for each: the path, and the item in EDN.
 
 use crate::entered::{ByteString, Entered, content_behind};
 use crate::path::{Path, push_number};

@@ -1,11 +1,10 @@
-//! Where something is in CBOR data, in words: paths, open containers, and the part of a truncated
-//! or malformed item that is there.
+//! Finds where something is in CBOR data and says it in words: the path, the open containers, and
+//! how much of a truncated or malformed item is there.
 //!
-//! [`Around`] has what is around a byte, and says it: the path that `cborcat -p` reads, the
-//! container, and what an item that is cut lacks. [`lines_at`] says which item has a byte,
-//! [`Leaves`] goes from one item that holds no other to the next, also in byte strings that are
-//! [`Entered`], and [`partial_edn`] shows an item
-//! that is not whole.
+//! [`Around`] has the path to a byte and its containers, and says what a truncated item lacks.
+//! [`lines_at`] describes the item that contains a byte, and [`Leaves`] goes through the items that
+//! hold no other, also in byte strings that are [`Entered`]. [`fault_of`] says why bytes are not an
+//! item, and [`partial_edn`] shows a truncated or malformed item.
 //!
 //! ```rust
 //! use cbor_places::{Around, ByteNumbers, Piece};

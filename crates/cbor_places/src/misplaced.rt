@@ -1,5 +1,5 @@
-//! Writes why bytes are malformed: the text of the error or, for `Error::Head`, why the head at
-//! their end cannot be there.
+//! Writes why bytes are malformed: the text of the error or, for `Error::Head`, why the last head
+//! is not allowed at its place.
 
 use crate::around::{Around, LONGEST};
 use crate::nouns::noun_of_open;

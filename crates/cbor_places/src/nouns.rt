@@ -1,5 +1,5 @@
-//! The nouns of messages: what containers, strings and their parts are called, and how many parts
-//! of a container are there.
+//! Returns the nouns of messages: what containers, strings and their parts are called. Also writes
+//! how many parts of a container are there, such as "2 are there".
 
 use cbor_grammar::argument::Argument;
 use cbor_grammar::strings::StringKind;

@@ -1,4 +1,5 @@
-//! What `--partial` shows of a truncated or malformed item in EDN.
+//! `partial_edn` writes what `cborcat --partial` shows of a truncated or malformed item in EDN: its
+//! whole parts with notes, then the error and the first 64 of the bytes that remain.
 
 mod edn;
 

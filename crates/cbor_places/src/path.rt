@@ -1,4 +1,5 @@
-//! A path to an item, built step by step as a text that `-p` reads: indices, keys, `@` and `*`.
+//! `Path`: a path to an item, built step by step as a text that `cborcat -p` reads: indices, keys,
+//! `@` and `*`.
 
 use cbor_edn_grammar::error::EdnError;
 use cbor_edn_reader::edn_item_to_bytes;

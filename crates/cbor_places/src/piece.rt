@@ -1,5 +1,5 @@
-//! `Piece`: bytes of the data, with the number of bytes before them. `Places`: how a message names
-//! a byte of the data.
+//! `Piece`: some bytes of the data, with how many bytes come before them. `Places`: the trait that
+//! writes how a message names a byte of the data. `ByteNumbers` implements it as "byte 3".
 
 use std::alloc::AllocError;
 use std::fmt::Write;

@@ -1,4 +1,5 @@
-//! Finds which members of an array a group takes: ordered choice, greedy occurrences.
+//! Matches the members of an array against a group of CDDL. A choice takes the first alternative
+//! that fits, and an occurrence takes as many members as it can.
 
 use crate::blame::{Found, Want};
 use crate::run::Run;

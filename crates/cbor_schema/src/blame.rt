@@ -1,4 +1,6 @@
-//! `Blame`: which misfit is reported: the one that came furthest, and of those the last in the data.
+//! `Blame`: collects the places where an item does not fit, and keeps the one to report. That is
+//! the one after the most bytes that fit, and of several the last in the data. Also counts the
+//! alternatives that came less far (`Tried`).
 
 use cbor_cddl::Span;
 use std::alloc::{AllocError, Global};

@@ -1,4 +1,5 @@
-//! `Checker`: matches items against a schema.
+//! `Checker`: a schema with its patterns compiled. Its call `misfit` matches an item against the
+//! schema and returns why it does not fit.
 
 use crate::message::Misfit;
 use crate::pattern::pattern_of;

@@ -1,4 +1,5 @@
-//! `Items`: an item with all its parts, read from bytes into vectors, for the matcher.
+//! `Items`: reads items from bytes, also those in byte strings, into vectors for the matcher. It
+//! joins the chunks of strings, and sorts the pairs of maps by their keys.
 
 use crate::stop::Stop;
 use cbor_bytes::head::read_head;

@@ -1,4 +1,5 @@
-//! Finds which pairs of a map a group takes: ordered choice, greedy occurrences, and cuts.
+//! Matches the pairs of a map against a group of CDDL: ordered choices, greedy occurrences and
+//! cuts. If a key is missing, it also finds a key of the map that is spelled almost like it.
 
 use crate::blame::{Found, Want};
 use crate::items::{Item, Kind};

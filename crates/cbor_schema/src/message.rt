@@ -1,4 +1,5 @@
-//! `Misfit`: where an item does not fit and why, and the message that says it.
+//! `Misfit`: where and why an item does not fit a schema, with its message. `Others`: how many
+//! other alternatives came less far, with the message for these.
 
 use std::alloc::AllocError;
 use std::fmt::Write;

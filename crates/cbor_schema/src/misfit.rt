@@ -1,4 +1,5 @@
-//! Writes why an item does not fit, in words: the parts of a [`Misfit`].
+//! Makes the [`Misfit`] of an item: writes in words what the schema wants and what is there. For a
+//! misspelled key it also names the key that was probably meant.
 
 use crate::blame::{Best, Found, Miss, Want};
 use crate::items::Kind;

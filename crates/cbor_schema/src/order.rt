@@ -1,5 +1,6 @@
-//! The order of the keys of a map: that of their core encodings (RFC 8949, section 4.2.1), however
-//! they are encoded. Keys that are arrays, maps or tags are in the order of their bytes.
+//! Sorts the pairs of a map by the core encodings of their keys (RFC 8949, section 4.2.1), however
+//! these are encoded. Keys that are arrays or maps are in the order of their bytes, and tags in the
+//! order of their numbers, then of their bytes.
 
 use crate::items::{Items, Kind};
 use cbor_floats::EncodedFloat;

@@ -1,5 +1,4 @@
-//! Writes the path to a misfit: through arrays and maps, and on inside the byte strings that hold
-//! items.
+//! Writes the path to the item that does not fit, also if it is in a byte string that holds items.
 
 use crate::run::Run;
 use cbor_bytes::{Extent, extent};

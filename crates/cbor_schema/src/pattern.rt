@@ -1,4 +1,5 @@
-//! Compiles the patterns of `.regexp`, as XSD has regular expressions, and of `.pcre`.
+//! Compiles the patterns of a schema. A `.regexp` pattern (XSD syntax) has to match a whole text,
+//! and a `.pcre` pattern may match any part.
 
 use cbor_cddl::{Fault, FaultKind, Node, Schema, Span};
 use regex::{Error, Regex};

@@ -1,5 +1,6 @@
-//! `Run`: the state while one item is matched: what it was compared with, and the misfit to report.
-//! Types are in `types.rt`, controls in `controls.rt`, groups in `arrays.rt` and `maps.rt`.
+//! `Run`: the state while one item is matched: the number of steps, the results kept, the pairs of
+//! maps taken, and the misfit to report. `types.rt`, `controls.rt`, `arrays.rt` and `maps.rt` match
+//! with it.
 
 use crate::blame::{Blame, Found, Miss, Want};
 use crate::items::{Item, Items};

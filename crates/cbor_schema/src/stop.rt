@@ -1,4 +1,5 @@
-//! `Stop`: why an item cannot be matched.
+//! `Stop`: why matching ended without a result: no memory, bytes that are no item, too many steps,
+//! or schema and item nested too deeply.
 
 use std::alloc::{AllocError, AllocFailed};
 use std::fmt;

@@ -1,4 +1,5 @@
-//! Checks whether an item fits a type.
+//! Checks whether an item fits a type: a literal, a range, a choice, a rule, a tag, an array. For
+//! controls and maps it calls `controls.rt` and `maps.rt`.
 
 use crate::blame::{Found, LessFar, Tried, Want};
 use crate::items::{Item, Kind};

@@ -1,5 +1,5 @@
-//! Writes texts of EDN and dumps with colours: each token between two escape sequences of
-//! terminals.
+//! Colours texts of EDN and dumps for a terminal: writes an escape sequence before and after each
+//! token.
 ghost use Rattle.std.specs.Prelude.{◌≡◌, ℕ, ◌≤◌, ◌<◌, ◌++◌, List, length, take, slice_range};
 ghost use Rattle.std.specs.Prelude.{OnOk, IfOk};
 ghost use Rattle.cbor_screen.specs.Colored.{IsColored, Lacks, in_color};

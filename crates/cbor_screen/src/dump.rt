@@ -1,9 +1,9 @@
-//! Dumps for people: with names in their comments, the items in byte strings, and long strings cut.
-//! Each byte is shown as it is, also that of a simple value which takes one byte more than it has
-//! to.
+//! Writes dumps for people: with names in their comments, with the items in byte strings, and with
+//! long strings cut. Each byte is shown as it is, also the second byte of a simple value in a
+//! non-minimal encoding (`f8 00`).
 //!
-//! Lines, comments and notes are those of `cbor_dump`. One walk over the bytes finds the column of
-//! the digits, and a second one writes each line.
+//! Lines, comments and notes are those of `cbor_dump`. A first walk over the bytes finds how wide
+//! the column of digits is, and a second one writes the lines.
 
 mod beside;
 mod cut;

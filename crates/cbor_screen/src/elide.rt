@@ -1,5 +1,5 @@
-//! Cuts long strings in EDN: the first characters stay, followed by `...` and a note of how many
-//! bytes the string has.
+//! Cuts long strings in EDN. The first characters stay; `...` and a note with the length of the
+//! whole string follow.
 ghost use Rattle.std.specs.Prelude.{◌≡◌, ℕ, ◌+◌, ◌≤◌, ◌<◌, ◌++◌, List, length, take, drop, codes};
 ghost use Rattle.std.specs.Fmt.{decimal};
 ghost use Rattle.std.specs.Prelude.{OnOk, IfOk, IfSome};

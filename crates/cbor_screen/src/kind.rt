@@ -1,5 +1,5 @@
-//! `Kind`: what a token of a shown text is, such as a key or a comment, and the escape sequences of
-//! its colour.
+//! `Kind`: what a token of a coloured text is, such as a key or a comment, and the escape sequences
+//! that begin and end its colour.
 ghost use Rattle.std.specs.Prelude.{◌≡◌};
 ghost use Rattle.cbor_screen.specs.Colored.{start_of, end_of};
 

@@ -1,5 +1,5 @@
-//! What a screen is shown: colours round the tokens of EDN and of dumps, long strings that are cut,
-//! EDN without widths, and dumps with names and with the items that are in byte strings.
+//! Changes how texts look on a screen: colours the tokens of EDN and dumps, cuts long strings, and
+//! leaves out widths. Also writes dumps with names and with the items in byte strings.
 //!
 //! ```rust
 //! use cbor_screen::{Language, push_colored};

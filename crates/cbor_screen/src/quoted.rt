@@ -1,5 +1,5 @@
-//! Finds where a string between quotes, or a comment, ends in a line. `token.rt` and `elide.rt` use
-//! it.
+//! Finds where a string in quotes, or a comment between slashes, ends in a line. `token.rt` and
+//! `elide.rt` use it.
 ghost use Rattle.std.specs.Prelude.{◌≡◌, ◌+◌, ◌≤◌, length};
 
 /// The byte at a place, or 0 past the end.

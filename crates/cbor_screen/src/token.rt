@@ -1,5 +1,5 @@
-//! Splits a line of EDN, of a dump, or of paths with EDN into tokens, each with its kind. The files
-//! that colour texts, cut strings and drop widths use it.
+//! `Language`: EDN, a dump, or paths with EDN. Splits a line of it into tokens, each with its kind.
+//! The files that colour texts, cut strings and leave out widths use it.
 ghost use Rattle.std.specs.Prelude.{◌≡◌, ◌+◌, ◌<◌, ◌≤◌, length};
 
 use crate::kind::Kind;

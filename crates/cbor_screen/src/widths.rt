@@ -1,5 +1,5 @@
 //! Writes EDN without the indicators that state widths, such as `_1`. The marks of indefinite
-//! lengths stay.
+//! lengths (`_`) stay.
 ghost use Rattle.std.specs.Prelude.{◌≡◌, ◌⊎◌, ℕ, ◌+◌, ◌≤◌, ◌<◌, ◌++◌, List, length, take, drop, codes};
 ghost use Rattle.std.specs.Prelude.{OnOk, IfOk, IsTrue};
 ghost use Rattle.cbor_screen.specs.Widthless.{IsIndicator, IsWidthless, IsWidthlessToken};

@@ -1,5 +1,5 @@
-//! `Entry`: what is counted of the values at one path: how many there are, their bytes and kinds,
-//! and the least and greatest number and length.
+//! `Entry`: counts the values at one path: how many there are, their bytes and kinds, and the least
+//! and greatest number and length. Also writes the kinds with these bounds.
 
 use cbor_floats::{EncodedFloat, push_number};
 use cbor_grammar::argument::Argument;

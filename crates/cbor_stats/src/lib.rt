@@ -1,5 +1,5 @@
-//! Which paths take the bytes of items: how often each leads to a value, how many bytes the values
-//! take, their kinds, and the bounds of their numbers and lengths.
+//! Counts which paths take the bytes of items. For each path it finds how many values there are,
+//! their bytes and kinds, and the least and greatest number and length.
 //!
 //! ```rust
 //! use cbor_places::{Entered, Piece};

@@ -1,5 +1,5 @@
-//! Counts the values of items by their paths, and writes a line for each path, the one that takes
-//! most bytes first.
+//! `Stats`: counts the values of items by their paths, and writes a line for each path, the one
+//! that takes the most bytes first. If there are more than 10,000 paths, the others share one line.
 
 use crate::entry::Entry;
 use cbor_edn_writer::EdnStyle;

@@ -1,4 +1,5 @@
-//! The examples of the doc comments of `cbor_diag`, line for line: `checks/examples` compares.
+//! Tests that are the examples of `cbor_diag`'s doc comments about conversions. `checks/examples`
+//! checks that the lines are the same.
 
 use cbor_diag::{Source, To, convert, push_front};
 use std::test::Fail;

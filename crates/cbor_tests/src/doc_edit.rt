@@ -1,5 +1,5 @@
-//! The examples of the doc comments of `cbor_edit`, line for line, which `checks/examples` compares,
-//! and its calls at places that no path leads to.
+//! Tests that are the examples of `cbor_edit`'s doc comments; `checks/examples` checks that the
+//! lines are the same. Also tests its calls at places that no path leads to.
 
 use cbor_edit::{Edit, EditError, Place, edited, replaced, with_more, without};
 use cbor_paths::{Picture, Step};

@@ -1,4 +1,5 @@
-//! The examples of the doc comments of `cbor_tokens`, line for line: `checks/examples` compares.
+//! Tests that are the examples of `cbor_tokens`' doc comments about escapes and hidden characters.
+//! `checks/examples` checks that the lines are the same.
 
 use cbor_tokens::{is_shown, push_escaped, push_shown};
 use std::alloc::AllocError;

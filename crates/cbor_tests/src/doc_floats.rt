@@ -1,4 +1,5 @@
-//! The examples of the doc comments of `cbor_floats`, line for line: `checks/examples` compares.
+//! Tests that are the examples of `cbor_floats`' doc comments. `checks/examples` checks that the
+//! lines are the same.
 
 use cbor_floats::{EncodedFloat, Width, parse_in_width, parse_number, push_number};
 use std::alloc::AllocError;

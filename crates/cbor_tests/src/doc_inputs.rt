@@ -1,4 +1,5 @@
-//! The examples of the doc comments of `cbor_inputs`, line for line: `checks/examples` compares.
+//! Tests that are the examples of `cbor_inputs`' doc comments. `checks/examples` checks that the
+//! lines are the same.
 
 use cbor_inputs::{Input, Pasted, is_text, looks_like, place_of_digit, recognize};
 use std::test::Fail;

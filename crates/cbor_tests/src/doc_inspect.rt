@@ -1,4 +1,5 @@
-//! The examples of the doc comments of `cbor_inspect`, line for line: `checks/examples` compares.
+//! Tests that are the examples of `cbor_inspect`'s doc comments. `checks/examples` checks that the
+//! lines are the same.
 
 use cbor_inspect::{
     End, Form, Naming, Show, Stream, name_at, raw_content, show_items, steps_of, two_byte_simple,

@@ -1,4 +1,5 @@
-//! The examples of the doc comments of `cbor_messages`, line for line: `checks/examples` compares.
+//! Tests that are the examples of `cbor_messages`' doc comments. `checks/examples` checks that the
+//! lines are the same.
 
 use cbor_messages::first_violation;
 use cbor_places::Piece;

@@ -1,4 +1,5 @@
-//! The examples of doc comments of `cbor_names`.
+//! Tests that are the examples of `cbor_names`' doc comments. `checks/examples` checks that the
+//! lines are the same.
 
 use cbor_names::{Definition, Key, Names, Part, Shape, known_names, notes, with_file};
 use std::alloc::AllocError;

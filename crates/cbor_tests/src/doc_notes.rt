@@ -1,5 +1,6 @@
-//! The examples of the doc comments of `cbor_notes` and `cbor_tokens`, line for line:
-//! `checks/examples` compares. Their expected values are those of the documents that they name.
+//! Tests that are the examples of the doc comments of `cbor_notes` and `cbor_tokens`.
+//! `checks/examples` checks that the lines are the same. The expected values come from the
+//! standards that the comments name.
 
 use cbor_notes::{
     Line, base32_decode, base32hex_decode, base58, base64_any_decode, base64_lines, blank_end,

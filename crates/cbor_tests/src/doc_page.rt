@@ -1,4 +1,5 @@
-//! The examples of the doc comments of `cbor_page`, line for line: `checks/examples` compares.
+//! Tests that are the examples of `cbor_page`'s doc comments. `checks/examples` checks that the
+//! lines are the same.
 
 use cbor_inspect::{Form, Show};
 use cbor_page::{Heading, push_data, push_page};

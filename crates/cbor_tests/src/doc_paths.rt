@@ -1,4 +1,5 @@
-//! The examples of the doc comments of `cbor_paths`, line for line: `checks/examples` compares.
+//! Tests that are the examples of `cbor_paths`' doc comments. `checks/examples` checks that the
+//! lines are the same.
 
 use cbor_paths::{End, Picture, Step, follow, skip_items};
 use std::process::Abort;

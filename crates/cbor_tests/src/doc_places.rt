@@ -1,4 +1,5 @@
-//! The examples of the doc comments of `cbor_places`, line for line: `checks/examples` compares.
+//! Tests that are the examples of `cbor_places`' doc comments. `checks/examples` checks that the
+//! lines are the same.
 
 use cbor_places::{Around, ByteNumbers, Piece, fault_of};
 use std::test::Fail;

@@ -1,4 +1,5 @@
-//! The examples of doc comments of `cbor_reencode`.
+//! Tests that are the examples of `cbor_reencode`'s doc comments. `checks/examples` checks that the
+//! lines are the same.
 
 use cbor_reencode::{ReencodeError, reencoded};
 use cbor_rules::Rules;

@@ -1,4 +1,5 @@
-//! The examples of doc comments of `cbor_rules`.
+//! Tests that are the examples of `cbor_rules`' doc comments. `checks/examples` checks that the
+//! lines are the same.
 
 use cbor_rules::{Rules, Violation, ViolationKind, violation};
 

@@ -1,4 +1,5 @@
-//! The examples of the doc comments of `cbor_screen`, line for line: `checks/examples` compares.
+//! Tests that are the examples of `cbor_screen`'s doc comments. `checks/examples` checks that the
+//! lines are the same.
 
 use cbor_screen::{
     DumpStyle, Kind, Language, push_colored, push_dump, push_elided, push_in_color,

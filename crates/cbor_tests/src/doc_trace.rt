@@ -1,4 +1,5 @@
-//! The examples of doc comments of `cbor_trace`.
+//! Tests that are the examples of `cbor_trace`'s doc comments. `checks/examples` checks that the
+//! lines are the same.
 
 use cbor_grammar::Error;
 use cbor_trace::{Open, Spot, part_at, place_of_fault};

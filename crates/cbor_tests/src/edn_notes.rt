@@ -1,5 +1,5 @@
-//! EDN is written without a note whose text no comment can have, such as one with a slash or a line
-//! feed. The rows of the vectors cannot state such texts.
+//! Tests that EDN is written without notes that cannot stand in a comment, such as a text with a
+//! slash or a line feed. The rows of the vectors cannot state such texts.
 
 use cbor_edn::{EdnStyle, Note, NotedStyle, push_bytes_to_edn_noted};
 

@@ -1,4 +1,4 @@
-//! All floats of 16 bits, as numbers and back.
+//! Tests that each float of 16 bits stays the same when it is turned into a number and back.
 
 use cbor_floats::{half_of, half_value, nearest_half, single_of};
 

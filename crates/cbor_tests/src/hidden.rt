@@ -1,4 +1,5 @@
-//! Characters that are not shown as they are, in texts and in messages on EDN.
+//! Tests that hidden characters, such as control characters, are escaped in texts and do not appear
+//! in messages about EDN.
 
 use cbor_edn::{EdnError, edn_to_bytes};
 use cbor_tokens::{is_shown, push_shown};

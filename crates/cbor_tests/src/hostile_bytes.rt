@@ -1,4 +1,4 @@
-//! Hostile inputs: lengths that are claimed but not there, hundreds of thousands of opening
+//! Tests hostile inputs: lengths that are claimed but not there, hundreds of thousands of opening
 //! brackets, and nested arrays that are each too long for a line.
 
 use cbor_diag::{

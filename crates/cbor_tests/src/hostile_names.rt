@@ -1,4 +1,4 @@
-//! Tests of the size limit on files of names: a file of that size is read, and a longer one is an
+//! Tests the size limit of files of names: a file of that size is read, and a longer one is an
 //! error.
 
 use cbor_names::{Names, with_file};

@@ -1,4 +1,5 @@
-//! Tokens of notation of a million bytes. Each is read at once if the work is linear in the text.
+//! Reads tokens of notation of about a million bytes, and checks where they end. If the work were
+//! not linear in the length, this test would be very slow.
 
 use cbor_tokens::{blank_end, digits_at, number_at, quoted_at};
 use std::alloc::{AllocError, Global};

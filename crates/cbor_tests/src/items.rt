@@ -1,5 +1,5 @@
-//! Items made by hand, such as no input gives: which of them are well formed, and how widths that
-//! are left open are written.
+//! Tests items built in memory that no input gives: which of them are well-formed, and how they are
+//! written if their widths are left open.
 
 use cbor_diag::{ByteString, DataItem, FloatWidth, IntegerWidth, Result, Tag, TextString};
 use std::alloc::Global;

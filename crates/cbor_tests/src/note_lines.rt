@@ -1,4 +1,5 @@
-//! Lines of a dump, which are made by hand, and laid out by the rules of docs/NOTES.md.
+//! Makes trees of dump lines by hand, and tests which of them `cbor_notes` lays out and which do
+//! not fit (docs/NOTES.md). `refused_notes.rt` uses the trees, too.
 
 use cbor_notes::{Line, merge};
 use std::alloc::{AllocError, Global};

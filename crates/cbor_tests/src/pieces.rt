@@ -1,5 +1,5 @@
-//! `Scanner` on bytes in two pieces. Pieces of one and of three bytes are rows of the vectors
-//! (`bytes_pieces.txt`).
+//! Tests `Scanner` on bytes in two pieces, and that it takes less than 2 KB. Pieces of one and of
+//! three bytes are rows of the vectors (`bytes_pieces.txt`).
 
 use cbor_diag::{Extent, Scanner, extent};
 use std::mem::size_of;

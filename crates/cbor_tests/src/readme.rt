@@ -1,4 +1,5 @@
-//! The examples of docs/LIBRARY.md and docs/BYTES.md, line for line: `checks/examples` compares.
+//! Tests that are the examples of docs/LIBRARY.md and docs/BYTES.md. `checks/examples` checks that
+//! the lines are the same.
 
 use cbor_diag::{DataItem, Error, Extent, extent, parse_bytes_partial};
 use std::alloc::Global;

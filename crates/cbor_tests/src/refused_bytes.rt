@@ -1,6 +1,6 @@
-//! Calls of `cbor_diag` on samples. One test asks that each call gives the right result.
-//! `checks/allocations/failing_calls` runs the other with failing allocations, and reads the lines
-//! that it prints.
+//! Makes all calls of `cbor_diag` on samples. One test checks the results.
+//! `checks/allocations/failing_calls` runs the other test with failing allocations, and reads the
+//! lines that it prints.
 
 use crate::samples::{SAMPLES, Sample, deepest, expected};
 use cbor_diag::{

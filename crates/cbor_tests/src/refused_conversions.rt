@@ -1,5 +1,5 @@
-//! Calls of `cbor_diag`, in which `checks/allocations/failing_calls` makes allocations fail, one
-//! after the other.
+//! Makes conversions of `cbor_diag`, and checks that each gives the right output, or the error for
+//! no memory. `checks/allocations/failing_calls` runs it with failing allocations.
 
 use cbor_diag::{Error, Source, To, convert, push_front};
 use std::alloc::Global;

@@ -1,5 +1,6 @@
-//! Calls of `cbor_notes` and `cbor_tokens`, in which `checks/allocations/failing_calls` makes
-//! allocations fail, one after the other. What they return is also in rows of the vectors.
+//! Makes the calls of `cbor_notes` and `cbor_tokens` that allocate, and checks that each gives the
+//! right result, or the error for no memory. `checks/allocations/failing_calls` runs it with
+//! failing allocations.
 
 use crate::note_lines::{merged, with_note};
 use cbor_notes::{

@@ -1,5 +1,6 @@
-//! Calls of `cbor_inputs`, `cbor_inspect` and `cbor_places`, in which
-//! `checks/allocations/failing_calls` makes allocations fail, one after the other.
+//! Makes calls of `cbor_inputs`, `cbor_inspect` and `cbor_places`, and checks that each gives the
+//! right result, or the error for no memory. `checks/allocations/failing_calls` runs it with
+//! failing allocations.
 
 use crate::refused_conversions::answer;
 use cbor_diag::Error;

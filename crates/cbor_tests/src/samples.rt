@@ -1,5 +1,6 @@
-//! Items with their bytes, dumps and texts, for tests that make every call of each. The dumps and
-//! texts were made by hand from the rules of docs/, and agree with the reading of checks/compare/.
+//! `SAMPLES`: items with their bytes, dumps and texts, for the tests that make all calls on each.
+//! They were made by hand from the rules of docs/, and `checks/compare` agrees with them.
+//! `expected` returns what a call has to give.
 
 use cbor_diag::Result;
 use std::alloc::Global;

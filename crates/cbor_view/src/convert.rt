@@ -1,4 +1,4 @@
-//! Converts the input of a run of the filter to its output.
+//! `convert` returns the output of `cbor_view FROM TO` for a whole input, in memory.
 ghost use Rattle.std.specs.Prelude.{Ok, Err, IfOk};
 ghost use Rattle.cbor_diag.specs.Answer.{RefusedSo};
 ghost use Rattle.cbor_diag.specs.Output.{IsOutput};

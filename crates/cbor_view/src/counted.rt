@@ -1,4 +1,4 @@
-//! Wraps a reader or a writer, and counts its failed calls.
+//! `Counted`: wraps a reader or a writer, and counts its failed calls.
 ghost use Rattle.std.specs.Prelude.{◌≡◌, false, length};
 ghost use Rattle.std.specs.Io.{ReadsAtMost, WritesAtMost};
 ghost use Rattle.std.specs.Io.KnownBytes.{Keeps, ReadConsumes, WriteAppends};

@@ -1,4 +1,4 @@
-//! Why a run of the filter ends without its output.
+//! `ViewError`: why a run of the filter `cbor_view` ends without its output.
 ghost use Rattle.std.specs.Prelude.{◌≡◌};
 ghost use Rattle.cbor_grammar.specs.declared.error.Error.TheVariants.{Memory};
 ghost use Rattle.cbor_view.specs.Errors.{text_of};

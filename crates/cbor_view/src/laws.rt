@@ -1,5 +1,5 @@
-//! The law that the filter has one output for given bytes, and that the output of the first items
-//! is the beginning of it. No code calls this function.
+//! Law: for given bytes the filter has only one output, and the output of the first items is the
+//! beginning of it. It is the contract of a function that no code calls.
 ghost use Rattle.std.specs.Prelude.{◌≡◌, ℕ, List, ◌++◌};
 ghost use Rattle.cbor_grammar.specs.declared.error.Error.{Error};
 ghost use Rattle.cbor_diag.specs.declared.conversion.form.To.{To};

@@ -1,5 +1,5 @@
-//! Runs `cbor_view FROM TO`: reads all input, converts the one item, writes the output, and returns
-//! why that failed. It takes any reader and writer.
+//! `run` runs `cbor_view FROM TO`: reads all input, converts the one item, and writes the output,
+//! or returns why it cannot. It takes any reader and writer.
 ghost use Rattle.std.specs.Prelude.{◌≡◌, ℕ, ◌+◌, ◌<◌, ◌≤◌, List, length, take, drop, vec_len};
 ghost use Rattle.std.specs.Prelude.{Ok, Err, IfOk, IfErr, OnOk, OnErr, ◌⊎◌};
 ghost use Rattle.std.specs.Io.KnownBytes.{Consumes};

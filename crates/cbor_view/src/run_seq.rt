@@ -1,4 +1,5 @@
-//! Runs the filter for a sequence of items (RFC 8742), over any reader and writer.
+//! `run_seq` runs the filter `cbor_view` for a sequence of items (RFC 8742): reads all input,
+//! converts each item, and writes the outputs in blocks. It takes any reader and writer.
 ghost use Rattle.std.specs.Prelude.{◌≡◌, ℕ, ◌<◌, ◌≤◌, List, ◌++◌, length, drop, IfOk, OnOk, OnErr};
 ghost use Rattle.cbor_diag.specs.Answer.{RefusedSo};
 ghost use Rattle.cbor_view.specs.Running.{HadAll, NoFailure, OneFailure, ReadsAll};

@@ -1,5 +1,5 @@
-//! `--cddl`: reads the files with rules, checks each item, and writes the message for one that does
-//! not fit.
+//! `--cddl`: loads the CDDL files, checks whether each item fits them, and writes the message for
+//! the first item that does not.
 
 use crate::messages::{label, say};
 use crate::status::Status;

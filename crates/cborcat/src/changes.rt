@@ -1,5 +1,5 @@
-//! Makes the changes of `--set` and `--delete` in the items of an input as they arrive, before
-//! anything else reads them.
+//! `Changes`: makes the changes of `--set` and `--delete` in the items of an input as they arrive,
+//! before the items are shown or checked. Says why an item cannot be changed.
 
 use crate::messages::{Place, label};
 use crate::naming::Tables;

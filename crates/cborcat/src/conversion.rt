@@ -1,5 +1,5 @@
-//! The conversion of one input as its bytes come: which items are shown, checked or skipped, and
-//! what is said when it ends.
+//! `Conversion`: converts one input as its bytes arrive. It shows, checks or skips the items, as
+//! the arguments ask, and says why it stops.
 mod checks;
 mod fronts;
 mod index;

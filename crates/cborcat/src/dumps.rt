@@ -1,5 +1,6 @@
-//! Writes dumps of items, or of their parts, as the arguments of `cborcat` ask: with names, long
-//! strings cut, items in byte strings.
+//! `Dumps`: writes dumps of items, or of the parts that a path leads to, as the arguments ask: with
+//! names, with long strings cut, with the items in byte strings. Also dumps a truncated or
+//! malformed item.
 
 use crate::each::ShowsItem;
 use crate::messages::{Place, report_lost};

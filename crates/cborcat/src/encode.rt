@@ -1,4 +1,5 @@
-//! `--encode`: re-encodes each item by rules before it is shown, or reports why that is impossible.
+//! `--encode`: re-encodes each item by rules before it is shown, or says why the item has no such
+//! encoding.
 
 use crate::dumps::Dumps;
 use crate::each::ShowsItem;

@@ -1,5 +1,5 @@
-//! Reads inputs, which are files or standard input: block by block, or until they are known to be
-//! text or bytes.
+//! Reads files and standard input: block by block, to the end, or until it is known whether the
+//! input is text or bytes.
 
 use cbor_inputs::{Input, text_fault};
 use std::io::{ErrorKind, Read};

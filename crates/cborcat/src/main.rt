@@ -1,8 +1,8 @@
 //! Shows CBOR data (RFC 8949) as text, or converts it: `cborcat FILE`.
 //!
-//! Its arguments are in `cborcat_arguments`. The forms and what is written of an item are in
-//! `cbor_inspect`, where something is in `cbor_places`, and what is wrong there in `cbor_messages`;
-//! here are files, standard output and standard error.
+//! This crate reads and writes files, standard output and standard error. `cborcat_arguments` reads
+//! the arguments, `cbor_inspect` writes items in each form, `cbor_places` finds where something is
+//! in an item, and `cbor_messages` says what is wrong there.
 #![tactic(auto)]
 
 mod cddl;

@@ -1,4 +1,5 @@
-//! Writes the messages on standard error: what is wrong with an input, where, and what to do.
+//! Writes messages on standard error: what is wrong with an input, where, and what to do. `Place`:
+//! the name, form and text of an input, by which messages name its bytes.
 
 use crate::naming::Tables;
 use crate::screen::say_excerpt;

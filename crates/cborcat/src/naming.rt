@@ -1,5 +1,5 @@
-//! The tables of names that the program uses: those of `cbor_names`, and those of the file of
-//! `--names`. Also which byte strings hold an item by their names, and the names of keys for JSON.
+//! `Tables`: the names that the program uses, from `cbor_names` and from the file of `--names`. It
+//! finds the byte strings that hold an item by their names, and the names of keys for JSON.
 
 use crate::messages::{label, say};
 use crate::status::Status;

@@ -1,4 +1,5 @@
-//! Writes items, or their parts, as JSON (`-t json`), or as the content of a string (`-t raw`).
+//! `Plain`: writes items, or the parts that a path leads to, as JSON (`-t json`) or as the content
+//! of a string (`-t raw`). Says why an item cannot be written so.
 
 use crate::each::ShowsItem;
 use crate::messages::{Place, label, report_byte, report_lost};

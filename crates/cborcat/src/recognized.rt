@@ -1,5 +1,5 @@
-//! Finds the form of an input, by the arguments, the name of the file, or the text itself, and
-//! reads the text in it.
+//! Finds the form of an input from the arguments, the file name or the text, and the bytes that the
+//! text stands for. Says so if another form reads the text, too, or if no form does.
 
 use crate::messages::{label, report_refusal, say_out_of_memory, word_of};
 use crate::status::Status;

@@ -1,4 +1,5 @@
-//! A run of the program: reads each input, one after the other, and converts it; or compares two.
+//! `run` runs the program: it reads each input in turn and converts it, or compares two inputs
+//! (`--diff`). It returns the exit status.
 
 use crate::cddl::{Cddl, cddl_of};
 use crate::conversion::Conversion;

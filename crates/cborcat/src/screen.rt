@@ -1,5 +1,6 @@
-//! What the program shows of a text on the screen: colours, EDN without widths, and long strings
-//! that are cut; and the colour of the marks in messages.
+//! `Screen`: writes the output as the arguments ask, with colours, without widths, or with long
+//! strings cut. It escapes hidden characters in dumps. `say_excerpt` shows the part of an input
+//! that a message is about, with its mark in colour.
 
 use crate::output::{Target, Written, write};
 use cbor_inspect::Form;

@@ -1,5 +1,5 @@
-//! Guesses the type of an item that has no tag, for a message in a terminal: a COSE message, a key,
-//! or the claims of a token.
+//! `shape_of` guesses the type of an item that has no tag, for a hint in a terminal: a COSE
+//! message, a key, or the claims of a token.
 
 use cbor_bytes::{Extent, extent};
 use cbor_grammar::argument::Argument;

@@ -1,5 +1,5 @@
-//! Turns the arguments into what `cbor_inspect` is asked to show: the style, the names, the path,
-//! and whether one item alone.
+//! `show_of` turns the arguments into a `Show`, which tells `cbor_inspect` what to write: the
+//! style, the names, the path, and whether only one item.
 
 use crate::naming::Tables;
 use cbor_grammar::Error;

@@ -1,5 +1,5 @@
-//! `Status`, how a run or a part of it ended, which gives the exit status; and `Next`, what comes
-//! after a part.
+//! `Status`: how a run or a part of it ended; it gives the exit status. `Next`: what to do after a
+//! part: go on, take the next input, or stop.
 
 /// How a run ended, or a part of it; each is worse than those before it.
 #[derive(Clone, Copy, PartialEq, Eq)]

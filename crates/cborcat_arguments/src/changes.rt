@@ -1,4 +1,5 @@
-//! Reads the values of `--set` and `--delete` as changes of items, or says what is wrong with one.
+//! Reads the values of `--set` and `--delete` as changes of items (`Change`), or says what is wrong
+//! with a value.
 
 use crate::words::item_of;
 use cbor_inputs::{Input, Refusal};

@@ -1,5 +1,5 @@
-//! The options that `cborcat` takes, in tables, and `clap`'s command of them. What each does is
-//! said in `help.rt`.
+//! Builds the `clap` command of `cborcat` from tables: the options, what each takes, and which
+//! cannot stand together. `help.rt` says what each option does.
 
 use crate::help::HELP;
 use crate::job::COLORS;

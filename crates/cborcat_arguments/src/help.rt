@@ -1,4 +1,4 @@
-//! The text of `cborcat --help`.
+//! `HELP`: the text that `cborcat --help` prints.
 
 /// What `--help` prints, and the manual page says in more words.
 pub const HELP: &str = "Usage: cborcat [OPTION]... [FILE]...

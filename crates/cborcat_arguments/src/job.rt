@@ -1,4 +1,5 @@
-//! `Job`: what the arguments of `cborcat` ask for, once they are read.
+//! `Job`: what the arguments of `cborcat` ask for, a field for each part: `View` says what to look
+//! for, `Wanted` what to write of each item, `Color` when to use colours.
 
 use crate::changes::Change;
 use cbor_inputs::Input;

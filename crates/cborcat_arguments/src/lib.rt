@@ -1,7 +1,8 @@
-//! The arguments of `cborcat`, and the job that they ask for. What each means is in
-//! `cborcat --help`.
+//! Reads the arguments of `cborcat` as the job that they ask for. `cborcat --help` says what each
+//! argument means.
 //!
-//! Nothing here opens a file; help, the version and what is wrong with the arguments are printed.
+//! Nothing here opens a file. If the arguments are wrong, or ask for help or the version, the
+//! message is printed here.
 #![tactic(auto)]
 
 mod changes;

@@ -1,5 +1,5 @@
-//! Reads the arguments of `cborcat`: returns the job that they ask for, or says what is wrong with
-//! them.
+//! `read_words` reads the arguments of `cborcat`. It returns the job that they ask for, or prints
+//! the help, the version or what is wrong with them.
 
 use crate::changes::{Wrong, changes_of};
 use crate::command::{TO, command};

@@ -1,11 +1,12 @@
-//! Answers the rows of the vectors on bytes.
+//! Runs the test rows about bytes, and returns each result as text. Other modules use its functions
+//! for the text of an item, of bytes and of errors. The calls:
 //!
 //! - `parse_bytes` gives the fields of an item, or the name of the error. `parse_bytes_partial`
 //!   first gives how many bytes the item takes, or `truncated`.
 //! - `parse_bytes_counted` gives the turns and the number of bytes, without the fields.
 //! - `bytes_to_bytes` gives the encoding.
-//! - `extent` says how bytes begin. `feed N` gives what a `Scanner` reports after the last of the
-//!   pieces of N bytes.
+//! - `extent` says whether bytes begin with an item, are truncated, or have an error. `feed N`
+//!   gives what a `Scanner` reports after the last of the pieces of N bytes.
 //! - `error_text` gives the name and the text of the error of a number.
 
 use crate::row::Row;

@@ -1,4 +1,4 @@
-//! Answers the rows of the vectors on CDDL.
+//! Runs the test rows about CDDL, and returns each result as text. The calls:
 //!
 //! - `cddl_fits` says whether items fit a CDDL text.
 //! - `cddl_message` gives the message for an item that does not fit.

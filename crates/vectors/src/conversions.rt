@@ -1,4 +1,4 @@
-//! Answers the rows of the vectors on conversions of one form to another.
+//! Runs the test rows about conversions from one form to another, and returns each result as text.
 //!
 //! `convert FROM TO` converts an item. FROM is `bytes`, `hex` or `diag`, and TO is `bytes`, `hex`,
 //! `diag` or `pretty`. An output in bytes is shown in hex digits.

@@ -1,4 +1,4 @@
-//! Answers the rows of the vectors on dumps.
+//! Runs the test rows about dumps, and returns each result as text. The calls:
 //!
 //! - `bytes_to_hex`, `hex_to_hex` and `diag_to_hex` give the dump of an item, or the name of the
 //!   error. A word behind the name gives a part of the dump: `first`, its first line; `end`, as

@@ -1,15 +1,15 @@
-//! Answers the rows of the vectors on EDN.
+//! Runs the test rows about EDN, and returns each result as text. The calls:
 //!
 //! - `edn_to_bytes` gives the bytes of the items of a text, or the place of its error and what is
-//!   wrong there; `parse_edn` gives those of one item.
+//!   wrong there. `parse_edn` gives the bytes of one item.
 //! - `bytes_to_edn STYLE` and `bytes_to_edn_pretty` give the text of an item, or what is wrong.
 //!   STYLE is none or more of `pretty`, `lines`, `notes`, `embedded`, `widths` and `width=COLUMNS`.
 //! - `push_bytes_to_edn_partial STYLE` gives how many bytes the item at the front takes, and its
 //!   text, or `truncated`.
 //! - `push_bytes_to_edn_noted NOTES` and `push_bytes_to_edn_noted_partial NOTES` write notes of the
-//!   caller, in the pretty style. NOTES are apart by `; `, each `PLACE=BEFORE=AFTER`, with `<<`
-//!   before the place of a byte string that is shown as the item in it. One that is `line` is the
-//!   style.
+//!   caller, in the pretty style. Each note is `PLACE=BEFORE=AFTER`, with `<<` before the place of
+//!   a byte string that is shown as the item in it, and `; ` between two notes. The word `line` in
+//!   place of a note asks for one line.
 
 use crate::row::Row;
 use crate::texts::hex_text;

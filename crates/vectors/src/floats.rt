@@ -1,4 +1,5 @@
-//! Answers the rows of the vectors on floats.
+//! Runs the test rows about floats, and returns each result as text. In input and result, a float
+//! is its CBOR encoding in hex, or a decimal text. The calls:
 //!
 //! - `parse_number` gives the number of a decimal text in its shortest width, `parse_in_width
 //!   WIDTH` in 16, 32 or 64 bits, and `nearest_half` the half that is nearest to it; or each an

@@ -1,4 +1,4 @@
-//! Answers the rows of the vectors on hex with comments.
+//! Runs the test rows about hex with comments, and returns each result as text. The calls:
 //!
 //! - `parse_hex` gives the fields of an item, `hex_to_bytes` its encoding, and `hex_bytes` the
 //!   bytes that the digits stand for, or the name of the error.

@@ -1,4 +1,4 @@
-//! Answers the rows of the vectors on forms of inputs.
+//! Runs the test rows about the forms of inputs, and returns each result as text. The calls:
 //!
 //! - `recognize` gives the form of an input and the bytes that it stands for; or, after `no`, the
 //!   form that reads it furthest, and the place and the words of its error. `also` gives a later

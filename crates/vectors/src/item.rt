@@ -1,8 +1,8 @@
-//! Answers the rows of the vectors on an item in each form.
+//! Runs the test rows that show one item in several forms, and returns each result as text.
 //!
 //! `item` gives a line `edn` with its EDN, a line `json` with its JSON, a line `core` with its core
-//! deterministic encoding in hex, and then its dump. In place of a text that the item does not have
-//! stands `none`.
+//! deterministic encoding in hex, and then its dump. If the item has no such text, the line says
+//! `none`.
 
 use crate::row::Row;
 use crate::texts::hex_text;

@@ -1,4 +1,4 @@
-//! Answers the rows of the vectors on JSON.
+//! Runs the test rows about JSON, and returns each result as text. The calls:
 //!
 //! - `bytes_to_json STYLE` gives the JSON of an item. STYLE is none, `embedded` or `strict`. If
 //!   there is no JSON, it gives what is wrong and its place, or the places of two keys that become

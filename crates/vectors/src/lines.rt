@@ -1,4 +1,5 @@
-//! Results of several lines: appends a line, and puts a word where there is none.
+//! Appends a line to a result of several lines (`push_line`), and puts a word in place of a result
+//! without lines (`lines_or`).
 
 use std::alloc::AllocError;
 

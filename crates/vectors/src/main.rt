@@ -1,9 +1,9 @@
-//! Runs the vectors: `vectors FILE..` makes the call of each row of these files, and prints each
-//! row whose result differs, and how many rows each file has.
+//! Runs tests that are rows of text files: `vectors FILE..` makes the call of each row of these
+//! files, prints each row whose result differs, and says how many rows each file has.
 //!
-//! The form of the files is in docs/VECTORS.md, and [`row`] reads it. What a call gives is made
-//! into a text by the subject that knows the call, one module each; the crates that they call are
-//! proved, so a row shows that a definition says what a standard says.
+//! docs/VECTORS.md explains the form of the files, and [`row`] reads it. Each of the other modules
+//! makes the calls of one subject, and writes the result as text. The crates are proved, so a row
+//! tests whether a definition says what a standard says.
 //!
 //! The exit status is 0 if each row gives what it has to, and 1 if not, or if a file cannot be
 //! read.

@@ -1,4 +1,4 @@
-//! Answers the rows of the vectors on messages.
+//! Runs the test rows about messages, and returns each result as text. The calls:
 //!
 //! - `first_violation SET`, `not_encoded SET`, `not_json`, `not_json strict` and `lost_words PATH`
 //!   give the message on items that begin at byte 10 of an input.

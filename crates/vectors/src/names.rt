@@ -1,12 +1,14 @@
-//! Answers the rows of the vectors on names.
+//! Runs the test rows about names, and returns each result as text. The calls:
 //!
-//! - `names TYPE`: a line for each name in an item, with the place of what has it, by the tables of
-//!   `known_names`. The type of the item is left out if its tag says it.
-//! - `meanings TYPE`: the same of meanings. `encoded TYPE`: the places of encoded items.
-//! - `name_before PLACE`, `names_at PLACE`.
-//! - `with_file`: `read`, or what is wrong in a file of names, which is the input.
-//! - `names_by ITEM`, `meanings_by ITEM`: as `names` and `meanings` of the item in hex, by the
-//!   tables of `known_names` with those of a file, which is the input.
+//! - `names TYPE` gives a line for each name in an item, with its place, by the tables of
+//!   `known_names`. TYPE is the type of the item; it is left out if the item's tag says it.
+//! - `meanings TYPE` gives the same for meanings, and `encoded TYPE` the places of the byte strings
+//!   that hold items.
+//! - `name_before PLACE` gives the name of the item at a place, and `names_at PLACE` the names of
+//!   all items that contain the byte there.
+//! - `with_file` reads the input as a file of names. It gives `read`, or what is wrong.
+//! - `names_by ITEM` and `meanings_by ITEM` give names and meanings of an item in hex, also by the
+//!   file of names that is the input.
 
 use crate::lines::{lines_or, push_line};
 use crate::row::Row;

@@ -1,4 +1,4 @@
-//! Answers the rows of the vectors on diagnostic notation.
+//! Runs the test rows about diagnostic notation, and returns each result as text. The calls:
 //!
 //! - `bytes_to_diag`, `hex_to_diag`, `diag_to_diag` and their like for pretty text give the text of
 //!   an item, or the name of the error.

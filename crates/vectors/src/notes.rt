@@ -1,6 +1,7 @@
-//! Answers the rows of the vectors on texts of comments.
+//! Runs the test rows about texts of comments, such as dates and addresses, and returns each result
+//! as text.
 //!
-//! They are the calls of `cbor_notes`, by their names. Numbers are decimal, and bytes are in hex.
+//! A row calls a function of `cbor_notes` by its name. Numbers are decimal, and bytes are in hex.
 //! `none` says that a call found nothing. A word may follow a name: `grouped negative`,
 //! `element_text TAG`, `base64_lines url`, and `uuid_lines first`, which gives the first of the
 //! lines.

@@ -1,4 +1,4 @@
-//! Answers the rows of the vectors on paths.
+//! Runs the test rows about paths, and returns each result as text.
 //!
 //! `show_items PATH` gives the parts that a path leads to, in EDN, a line each. If it leads to
 //! none, the result is `lost` and the number of bytes of the item.

@@ -1,4 +1,5 @@
-//! Answers the rows of the vectors on places in an item that begins at byte 10 of an input.
+//! Runs the test rows about places in an item that begins at byte 10 of an input, and returns each
+//! result as text. The calls:
 //!
 //! - `words` and `cut_words` describe the end of the bytes, `fault_words` an error, and `words
 //!   PLACE` a place in a whole item.

@@ -1,4 +1,4 @@
-//! Answers the rows of the vectors on re-encoding.
+//! Runs the test rows about re-encoding, and returns each result as text.
 //!
 //! `reencode RULES` re-encodes items, with RULES as in `rules`. The result is bytes in hex, or why
 //! there are none, with places: of the input, or after `Written` of the output.

@@ -1,5 +1,5 @@
-//! Prints each row of a file of vectors whose result differs from the expected one, and counts the
-//! rows of the file.
+//! `Report`: prints each row of a file whose result differs from the expected one, and counts the
+//! rows. `Tally`: how many rows there are, and how many are wrong.
 
 use crate::row::Row;
 use std::io;

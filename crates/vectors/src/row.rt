@@ -1,4 +1,5 @@
-//! Reads a file of vectors as its rows, and compares a result with that of its row.
+//! `Row`: one test row, with its call, argument, input and expected result. `rows_of` reads the
+//! rows of a file, and `is_met` compares a result with the expected one.
 
 use std::alloc::{AllocError, Global};
 

@@ -1,10 +1,11 @@
-//! Answers the rows of the vectors on rules of an encoding.
+//! Runs the test rows about rules of an encoding, and returns each result as text. The calls:
 //!
 //! - `violation RULES`, `violation_in RULES` and `violation_of RULES` give the first violation.
 //! - `violations` gives a line for each set that is violated.
 //!
 //! RULES is the name of a set, such as `core`, or names of single rules, such as `shortest_heads`.
-//! Single rules are added to the set before them, or to the grammar of RFC 8949.
+//! Single rules are added to the set before them, or to the grammar of RFC 8949. `rules_of` reads
+//! RULES, also for `reencode.rt`.
 
 use crate::lines::{lines_or, push_line};
 use crate::row::Row;

@@ -1,4 +1,4 @@
-//! Answers the rows of the vectors on what a screen shows.
+//! Runs the test rows about what a screen shows, and returns each result as text. The calls:
 //!
 //! - `push_colored edn` and `push_colored dump` colour a text. An escape character is `\e` in the
 //!   result.

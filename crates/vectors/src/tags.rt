@@ -1,4 +1,4 @@
-//! Answers the rows of the vectors on tags.
+//! Runs the test rows about tags, and returns each result as text.
 //!
 //! `tag_name` gives the name of a tag by its number, or `none`. `tags` gives the numbers of the
 //! constants of `Tag`, and a line with those of `Simple`.

@@ -1,5 +1,5 @@
-//! Turns what a call returns into the text that a row of the vectors compares: bytes into hex, and
-//! errors into `refused:` and what is wrong. Also reads the numbers in rows.
+//! Turns what a call returns into the text that a test row compares: bytes into hex, and errors
+//! into `refused:` and what is wrong. Also reads the texts and numbers in rows.
 
 use cbor_diag::Error;
 use std::alloc::{AllocError, Global};

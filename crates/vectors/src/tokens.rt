@@ -1,11 +1,11 @@
-//! Answers the rows of the vectors on tokens and digits.
+//! Runs the test rows about tokens and digits, and returns each result as text.
 //!
-//! The calls of `cbor_tokens`, by their names: decoders of digits, whose results are in hex, and
-//! the tokens of notation.
+//! A row calls a function of `cbor_tokens` by its name: a decoder of digits, whose result is in
+//! hex, `push_hex`, or a reader of one token of notation.
 //!
-//! Words behind a name: the place from which a token is read, as in `number_at 1`; the quote that
-//! ends it, as in `quoted_at 0 '`; `comments`, if `digits_at 0 comments` allows them. What is found
-//! is given with the place after it, and a number with its encoding indicator.
+//! Words may follow a name: the place from which a token is read, as in `number_at 1`; the quote
+//! that ends it, as in `quoted_at 0 '`; and `comments`, if `digits_at 0 comments` allows them. The
+//! result is what was found and the place after it, for a number also its encoding indicator.
 
 use crate::row::Row;
 use crate::texts::hex_text;

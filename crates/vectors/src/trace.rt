@@ -1,14 +1,17 @@
-//! Answers the rows that call `cbor_trace`: which containers are open at a byte. Places are counted
-//! in bytes; LEVEL is 1 for the outermost.
+//! Runs the test rows about the containers that are open at a byte, and returns each result as
+//! text. Places are counted in bytes; LEVEL is 1 for the outermost item. The calls of `cbor_trace`:
 //!
-//! - `part_at START LEVEL AT`: the step from the item at START to its part at AT, and where that
-//!   begins. `[1/2]` is the member at index 1 of 2, `{0/2}` the key of the pair at index 0,
+//! - `part_at START LEVEL AT` gives the step from the item at START to its part at AT, and where
+//!   that begins. `[1/2]` is the member at index 1 of 2, `{0/2}` the key of the pair at index 0,
 //!   `{0/2=3}` the value of it, whose key begins at 3, and `(1)` the item of tag 1.
-//! - `innermost AT`, `end_at START LEVEL`, `head_at START`.
-//! - `place_of_fault ERROR END`, with ERROR `Utf8`, `Head` or `CutShort`.
-//! - `paths`: for each byte, and behind the last, where the innermost item begins, and all steps to
-//!   it; a line for each byte at which that changes. `cuts`: the same of the bytes that are cut
-//!   before it.
+//! - `innermost AT` gives where the innermost item begins, and its level. `end_at START LEVEL`
+//!   gives where an item ends. `head_at START` gives the place after a head, for a string also its
+//!   kind and its length.
+//! - `place_of_fault ERROR END` gives the byte that is wrong, with ERROR `Utf8`, `Head` or
+//!   `CutShort`.
+//! - `paths` gives, for each byte and for the end, where the innermost item begins, and all steps
+//!   to it; a line for each byte at which that changes. `cuts` gives the same for the bytes that
+//!   are cut before each byte.
 
 use crate::lines::push_line;
 use crate::row::Row;

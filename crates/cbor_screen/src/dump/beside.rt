@@ -1,5 +1,5 @@
-//! Finds the name and the meaning that a dump shows in the comment of the next head, and writes
-//! them there.
+//! `Beside`: finds the name and the meaning that a dump shows in the comment of the next head.
+//! `push_word` appends one of these to the comment.
 
 use cbor_names::Note;
 use std::alloc::AllocError;

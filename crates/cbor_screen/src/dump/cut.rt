@@ -1,4 +1,4 @@
-//! The lines of a long string in a dump that shows only its first bytes.
+//! Makes the lines of a long string in a dump that shows only the first bytes of long strings.
 
 use crate::dump::lines::{Lines, Piece};
 use cbor_dump::comment::Comment;

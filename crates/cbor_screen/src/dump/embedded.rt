@@ -1,7 +1,8 @@
-//! The items that notes of a dump show: those in byte strings below the tags of encoded CBOR.
+//! Writes a dump, with the items in byte strings below the tags of encoded CBOR (24 and 63) as
+//! notes.
 //!
-//! Each is a dump of its own, with the bytes that are there. It needs no call inside a call: the
-//! walk that comes to such a string waits while another goes over the items in it.
+//! Each of these items has a dump of its own, with its own bytes. There is no recursion: the walk
+//! that comes to such a string waits while another walk goes over the items in it.
 
 use crate::dump::measure::Measure;
 use crate::dump::walk::Walk;

@@ -1,4 +1,4 @@
-//! The trait `Lines`, which receives the lines of a dump from the walk over the bytes. `measure.rt`
+//! `Lines`: the trait that receives the lines of a dump from the walk over the bytes. `measure.rt`
 //! and `write.rt` implement it.
 ghost use Rattle.std.specs.Prelude.{◌≤◌};
 

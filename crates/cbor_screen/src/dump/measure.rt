@@ -1,5 +1,5 @@
-//! Finds how wide the column of the digits of a dump has to be. It receives the lines and writes
-//! none.
+//! `Measure`: finds how wide the column of hex digits of a dump has to be. It implements `Lines`,
+//! but writes nothing.
 
 use crate::dump::lines::{Lines, MOST_DEPTH, Piece, at_most};
 use cbor_dump::context::DumpContext;

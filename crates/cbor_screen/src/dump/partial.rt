@@ -1,5 +1,5 @@
-//! Writes the dump of bytes in which an item is truncated or malformed: the lines before it, what
-//! is wrong, and the first 64 bytes that remain.
+//! `push_partial_dump` writes the dump of a truncated or malformed item: its lines up to the part
+//! that is not whole, what is wrong, and the first 64 of the bytes that remain.
 
 use crate::dump::measure::Measure;
 use crate::dump::walk::Walk;

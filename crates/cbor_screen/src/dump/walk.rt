@@ -1,5 +1,5 @@
-//! The walk over the bytes of an item: its heads, the content of its strings, the ends of its
-//! containers, and the values of its tags, in the order of the lines of a dump.
+//! `Walk`: goes over the bytes of an item and hands the lines of its dump, in order, to a `Lines`:
+//! heads, the content of strings, breaks, and notes on the values of tags.
 ghost use Rattle.std.specs.Prelude.{◌≤◌, ◌+◌, IsTrue};
 ghost use Rattle.cbor_dump.specs.mirror.Dumped.{IsContext};
 ghost use Rattle.cbor_grammar.specs.WellFormed.{deepest};

@@ -1,5 +1,5 @@
-//! Receives the lines of a dump and writes them: hex digits in a column, comments with names, and
-//! notes.
+//! `Writing`: implements `Lines` by writing the lines of a dump: hex digits in a column, comments
+//! with names, and notes.
 ghost use Rattle.std.specs.Prelude.{◌≤◌, length};
 
 use crate::dump::beside::{Beside, push_word};

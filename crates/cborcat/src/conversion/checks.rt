@@ -1,5 +1,6 @@
-//! The checks that go with every conversion: of simple values in a non-minimal encoding (`f8 00`),
-//! and of rules.
+//! Checks the items just passed: for simple values in a non-minimal encoding (`f8 00`) and, if
+//! asked for, by rules and by CDDL. Writes a message for the first such value, and one for the
+//! first item that breaks a rule or does not fit.
 
 use super::Conversion;
 use crate::messages::{label, report_byte, say_byte};

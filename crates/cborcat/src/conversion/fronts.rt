@@ -1,5 +1,5 @@
-//! The front of a buffer: drops or copies its first bytes, and finds the items at the front that
-//! `--limit` allows.
+//! Finds how many items at the front of bytes are no longer than `--limit`. Also drops or copies
+//! the first bytes of a buffer.
 
 use cbor_bytes::{Extent, extent};
 use std::alloc::{AllocError, Global};

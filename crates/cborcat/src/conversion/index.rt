@@ -1,5 +1,6 @@
-//! `-t index=SIZE`: gathers whole items to pieces of at least this size, and writes where each
-//! piece begins, its length, and how many items it has.
+//! `-t index=SIZE`: divides the input into pieces of whole items, each of at least SIZE bytes but
+//! for the last. Writes a line for each piece: where it begins, its length, and how many items it
+//! has.
 
 use super::Conversion;
 use crate::output::{Written, write};

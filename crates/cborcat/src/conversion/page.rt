@@ -1,4 +1,5 @@
-//! Makes the page that shows the items of an input, for `-t html`.
+//! `-t html`: makes the page that shows the items of an input, or the parts that a path leads to,
+//! and writes it. Says so if a page would show too many bytes.
 
 use super::Conversion;
 use crate::messages::{label, report_lost, say_out_of_memory};

@@ -1,5 +1,6 @@
-//! What a conversion writes: items, paths, statistics, the item at a byte (`--at`), and the part of
-//! a truncated item (`--partial`).
+//! Writes what the arguments ask for of the items just passed: the items, their paths, statistics,
+//! or the item at a byte (`--at`). Also writes the part of a truncated or malformed item that is
+//! there (`--partial`).
 
 use super::Conversion;
 use crate::dumps::Dumps;
