@@ -1,5 +1,5 @@
 //! Writes messages on standard error: what is wrong with an input, where, and what to do. `Place`:
-//! the name, form and text of an input, by which messages name its bytes.
+//! the name, form and text of an input. Messages use them to name its bytes.
 
 use crate::naming::Tables;
 use crate::screen::say_excerpt;
