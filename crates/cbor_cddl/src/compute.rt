@@ -288,6 +288,7 @@ impl Loader<'_> {
                 target,
                 pattern: self.pattern(pattern, anchored, depth)?,
                 anchored,
+                operand: pattern,
             }),
         }
     }

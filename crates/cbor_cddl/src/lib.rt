@@ -34,5 +34,7 @@ mod text;
 pub use compute::float_of;
 pub use fault::{Fault, FaultKind, Position, SaidFault, position_of};
 pub use near::likeness;
-pub use schema::{Comparison, Floats, List, Node, Occurrence, Pending, Rule, Schema, Span, Value};
+pub use schema::{
+    Comparison, Floats, Label, List, Node, Occurrence, Pending, Rule, Schema, Span, Value,
+};
 pub use text::source_of;

@@ -4,7 +4,7 @@
 use crate::ast::{Ast, Expr};
 use crate::fault::{Fault, FaultKind};
 use crate::names::{NONE, Names, bytes_of};
-use crate::schema::{List, Node, Rule, Span};
+use crate::schema::{Label, List, Node, Rule, Span};
 use std::alloc::Global;
 use std::collections::BTreeMap;
 
@@ -51,6 +51,7 @@ pub(crate) struct Loader<'a> {
     pub(crate) spans: Vec<Span>,
     pub(crate) lists: Vec<usize>,
     pub(crate) rules: Vec<Rule>,
+    pub(crate) labels: Vec<Label>,
 }
 
 /// No members.
@@ -77,6 +78,7 @@ impl<'a> Loader<'a> {
             spans: Vec::new(alloc),
             lists: Vec::new(alloc),
             rules: Vec::new(alloc),
+            labels: Vec::new(alloc),
         })
     }
 

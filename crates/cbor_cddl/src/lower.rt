@@ -4,7 +4,7 @@ use crate::ast::{Expr, Number};
 use crate::fault::{Fault, FaultKind};
 use crate::load::{EMPTY, Loader, Mode, only_of};
 use crate::names::bytes_of;
-use crate::schema::{Floats, List, Node, Pending, Span, Value};
+use crate::schema::{Floats, Label, List, Node, Pending, Span, Value};
 use cbor_floats::Width;
 
 impl Loader<'_> {
@@ -123,7 +123,11 @@ impl Loader<'_> {
                 let list = self.add_list(&nodes)?;
                 self.add(Node::Choice(list), span)
             }
-            Expr::Entry { value, .. } => self.lower(value, env, inner),
+            Expr::Entry { key, value, .. } => {
+                let node = self.lower(value, env, inner)?;
+                self.label(node, key)?;
+                Ok(node)
+            }
             Expr::Repeated { item, .. } => self.enumerate(item, env, inner),
             Expr::Name { name, arguments } => {
                 let mode = if self.names.is_group(&self.ast, self.source, name) {
@@ -135,6 +139,14 @@ impl Loader<'_> {
             }
             _ => self.lower(of, env, inner),
         }
+    }
+
+    /// Keeps the name of a value in an enumeration: its key, if that is a text.
+    fn label(&mut self, node: usize, key: usize) -> Result<(), Fault> {
+        if let Expr::Literal(Value::Text(name)) = self.ast.expr(key) {
+            self.labels.push(Label { node, name })?;
+        }
+        Ok(())
     }
 
     /// The node of a group in brackets or parentheses.

@@ -155,6 +155,8 @@ pub enum Node {
         target: usize,
         pattern: Span,
         anchored: bool,
+        /// The node of the pattern itself, which has its place.
+        operand: usize,
     },
     /// `.lt`, `.le`, `.gt`, `.ge`
     Compared {
@@ -234,6 +236,15 @@ pub struct Rule {
     pub rank: usize,
 }
 
+/// The name of a value in an enumeration, as `open` in `&(open: 1)`.
+#[derive(Clone, Copy, Debug)]
+pub struct Label {
+    /// The node of the value.
+    pub node: usize,
+    /// The name, in [`Schema::pool`].
+    pub name: Span,
+}
+
 /// A CDDL text that is loaded.
 #[derive(Drop)]
 pub struct Schema {
@@ -249,6 +260,8 @@ pub struct Schema {
     pub lists: Vec<usize>,
     /// The rules in use.
     pub rules: Vec<Rule>,
+    /// The names of values in enumerations.
+    pub labels: Vec<Label>,
     /// The contents of literal strings.
     pub pool: Vec<u8>,
     /// The node that an item has to fit.

@@ -5,7 +5,7 @@ use crate::fault::Fault;
 use crate::grammar::parse;
 use crate::load::Loader;
 use crate::prelude::PRELUDE;
-use crate::schema::{Node, Rule, Schema, Span};
+use crate::schema::{Label, Node, Rule, Schema, Span};
 use std::alloc::{AllocError, Global};
 
 /// A text with the prelude behind it. The spans of a [`Fault`] are in this source.
@@ -22,6 +22,7 @@ struct Parts {
     spans: Vec<Span>,
     lists: Vec<usize>,
     rules: Vec<Rule>,
+    labels: Vec<Label>,
     pool: Vec<u8>,
     root: usize,
 }
@@ -41,6 +42,7 @@ fn parts_of(
         spans: loader.spans,
         lists: loader.lists,
         rules: loader.rules,
+        labels: loader.labels,
         pool: loader.ast.pool,
         root,
     })
@@ -59,6 +61,7 @@ impl Schema {
             spans: parts.spans,
             lists: parts.lists,
             rules: parts.rules,
+            labels: parts.labels,
             pool: parts.pool,
             root: parts.root,
         })

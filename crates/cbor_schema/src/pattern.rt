@@ -29,12 +29,13 @@ pub(crate) fn pattern_of(
     let Node::Pattern {
         pattern,
         anchored,
+        operand,
         ..
     } = schema.node(node)
     else {
         return Ok(None);
     };
-    let span = schema.span(node);
+    let span = schema.span(operand);
     match str::from_utf8(schema.literal(pattern)) {
         Ok(text) => Ok(Some(compiled(alloc, text, anchored, span)?)),
         Err(_) => Err(Fault::new(span, FaultKind::Pattern)),
