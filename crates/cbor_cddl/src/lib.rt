@@ -15,6 +15,7 @@ mod ast;
 mod compute;
 mod control;
 mod fault;
+mod flat;
 mod grammar;
 mod kinds;
 mod lexer;
@@ -32,6 +33,7 @@ mod text;
 
 pub use compute::float_of;
 pub use fault::{Fault, FaultKind, Position, SaidFault, position_of};
+pub use flat::Unread;
 pub use near::likeness;
 pub use schema::{Comparison, Floats, List, Node, Occurrence, Pending, Rule, Schema, Span, Value};
 pub use text::source_of;
