@@ -16,6 +16,7 @@ mod ast;
 mod compute;
 mod control;
 mod fault;
+mod flat;
 mod grammar;
 mod kinds;
 mod lexer;
@@ -33,6 +34,7 @@ mod text;
 
 pub use compute::float_of;
 pub use fault::{Fault, FaultKind, Position, SaidFault, position_of};
+pub use flat::Unread;
 pub use near::likeness;
 pub use schema::{
     Comparison, Floats, Label, List, Node, Occurrence, Pending, Rule, Schema, Span, Value,

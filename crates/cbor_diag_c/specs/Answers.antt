@@ -58,9 +58,21 @@ not_recognized = 18
 abbrev pub wrong_names : ℕ
 wrong_names = 19
 
+-- what is returned for a text of CDDL that has an error
+abbrev pub wrong_cddl : ℕ
+wrong_cddl = 20
+
+-- what is returned for bytes that are no schema
+abbrev pub wrong_schema : ℕ
+wrong_schema = 21
+
+-- what is returned for an item that takes too many steps to match
+abbrev pub too_much_work : ℕ
+too_much_work = 22
+
 -- no error has this number
 abbrev pub IsNoError : ℕ → Type 0
-IsNoError n = (n ≡ 0) ⊎ (wrong_names < n)
+IsNoError n = (n ≡ 0) ⊎ (too_much_work < n)
 
 -- what the error of this number says
 abbrev pub IsTextOf : ℕ → List ℕ → Type 0
@@ -75,6 +87,9 @@ IsTextOf n text =
     ⊎ ((n ≡ no_type) × (text ≡ codes "no such type"))
     ⊎ ((n ≡ not_recognized) × (text ≡ codes "neither hex, EDN, base 64 nor bytes of items"))
     ⊎ ((n ≡ wrong_names) × (text ≡ codes "the file of names has an error"))
+    ⊎ ((n ≡ wrong_cddl) × (text ≡ codes "the CDDL has an error"))
+    ⊎ ((n ≡ wrong_schema) × (text ≡ codes "the bytes are no schema"))
+    ⊎ ((n ≡ too_much_work) × (text ≡ codes "matching takes too many steps, or is nested too deeply"))
     ⊎ (IsNoError n × (text ≡ codes "no such error"))
 
 -- this number was returned

@@ -14,3 +14,4 @@ pub mod Reencodings
 pub mod Heads
 pub mod Parts
 pub mod Recognized
+pub mod Schemas

@@ -42,6 +42,9 @@ fn text(number: u32) -> &'static str
         None if number == 17 => "no such type",
         None if number == 18 => "neither hex, EDN, base 64 nor bytes of items",
         None if number == 19 => "the file of names has an error",
+        None if number == 20 => "the CDDL has an error",
+        None if number == 21 => "the bytes are no schema",
+        None if number == 22 => "matching takes too many steps, or is nested too deeply",
         None => "no such error",
     }
 }

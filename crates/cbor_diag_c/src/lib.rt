@@ -5,7 +5,9 @@
 //! for an unknown form, 12 for an unknown set of rules, 13 for items that have no encoding by the
 //! rules, 14 for two keys of a map that become the same in JSON, 15 for what JSON does not keep, 16
 //! for a path that leads to no part of an item, 17 for an unknown type, 18 for an input that has
-//! none of the forms, and 19 for a file of names with an error. In C, with the header:
+//! none of the forms, 19 for a file of names with an error, 20 for a text of CDDL with an error, 21
+//! for bytes that are no schema, and 22 for an item that takes too many steps to match. In C, with
+//! the header:
 //!
 //! ```c
 //! char text[256];
@@ -23,12 +25,14 @@ mod faults;
 mod form;
 mod heads;
 mod messages;
+mod misfits;
 mod names;
 mod page;
 mod parts;
 mod recognized;
 mod reencoding;
 mod scanner;
+mod schemas;
 mod shown;
 mod text;
 mod values;

@@ -38,5 +38,5 @@ mod stop;
 mod types;
 
 pub use checker::Checker;
-pub use message::{Misfit, Others};
+pub use message::{MessageParts, Misfit, Others};
 pub use stop::Stop;

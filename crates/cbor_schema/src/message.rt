@@ -1,6 +1,7 @@
 //! `Misfit`: where and why an item does not fit a schema, with its message. `Others`: how many
 //! other alternatives came less far, with the message for these.
 
+use cbor_cddl::Span;
 use std::alloc::AllocError;
 use std::fmt::Write;
 
@@ -36,15 +37,46 @@ pub struct Others {
     pub name_place: usize,
 }
 
+/// Where the parts of a message are in it.
+#[derive(Clone, Copy)]
+pub struct MessageParts {
+    /// What the schema wants.
+    pub expected: Span,
+    /// The rule or entry that wants it; empty for none.
+    pub name: Span,
+    /// What is there.
+    pub found: Span,
+}
+
+/// Appends a part of a message, and returns where it is.
+fn push_part(out: &mut String, part: &str) -> Result<Span, AllocError> {
+    let start = out.len();
+    out.push_str(part)?;
+    Ok(Span {
+        start,
+        end: out.len(),
+    })
+}
+
 impl Misfit {
     /// Appends the message: `expected int for a (x.cddl:1), found "x"`. The line is that of the
     /// name.
-    pub fn push_message(&self, out: &mut String, line: &str) -> Result<(), AllocError> {
-        write!(out, "expected {}", self.expected)?;
+    pub fn push_message(&self, out: &mut String, line: &str) -> Result<MessageParts, AllocError> {
+        out.push_str("expected ")?;
+        let expected = push_part(out, &self.expected)?;
+        let mut name = Span { start: 0, end: 0 };
         if !self.name.is_empty() {
-            write!(out, " for {} ({line})", self.name)?;
+            out.push_str(" for ")?;
+            name = push_part(out, &self.name)?;
+            write!(out, " ({line})")?;
         }
-        write!(out, ", found {}", self.found)
+        out.push_str(", found ")?;
+        let found = push_part(out, &self.found)?;
+        Ok(MessageParts {
+            expected,
+            name,
+            found,
+        })
     }
 }
 
