@@ -1,6 +1,6 @@
 //! Tests that are the examples of the doc comments of `cbor_diag` and the crates below it.
-//! `checks/examples` checks that the lines are the same. Items and notation are from RFC 7049,
-//! appendix A; the dump was written by hand from docs/DUMP.md.
+//! `checks/examples` checks that the lines are the same. Most items and notation are from RFC
+//! 7049, appendix A; the dump was written by hand from docs/DUMP.md.
 
 use cbor_diag::{
     Error, Extent, Scanner, bytes_to_bytes, bytes_to_diag, bytes_to_diag_pretty, bytes_to_hex,
