@@ -116,7 +116,7 @@ impl<'a> Reader<'a> {
         Ok(f64_from_bits_with_nan(self.number()?))
     }
 
-    /// An index of a part, of which there are so many.
+    /// An index below a length.
     fn index(&mut self, len: usize) -> Result<usize, Unread> {
         let index = self.size()?;
         if index < len {
@@ -131,7 +131,7 @@ impl<'a> Reader<'a> {
         self.index(self.sizes.nodes)
     }
 
-    /// A range of so many bytes or indices.
+    /// A range that ends at a length or before it.
     fn range(&mut self, len: usize) -> Result<Span, Unread> {
         let (start, end) = (self.size()?, self.size()?);
         if start <= end && end <= len {
