@@ -20,6 +20,8 @@
 
 #include <stddef.h>
 #include <stdint.h>
+#include <stdlib.h>
+#include <string.h>
 
 #ifdef __cplusplus
 extern "C" {
@@ -87,7 +89,10 @@ enum cbor_diag_error {
     CBOR_DIAG_ERROR_NO_PART = 16,    /* the path leads to no part of the item */
     CBOR_DIAG_ERROR_NO_TYPE = 17,    /* no type of the tables of names has this name */
     CBOR_DIAG_ERROR_NOT_RECOGNIZED = 18, /* neither hex, EDN, base 64 nor bytes of items */
-    CBOR_DIAG_ERROR_WRONG_NAMES = 19 /* the file of names has an error: cbor_diag_names_fault says which */
+    CBOR_DIAG_ERROR_WRONG_NAMES = 19, /* the file of names has an error: cbor_diag_names_fault says which */
+    CBOR_DIAG_ERROR_WRONG_CDDL = 20, /* the CDDL has an error: cbor_diag_schema_fault says which */
+    CBOR_DIAG_ERROR_WRONG_SCHEMA = 21, /* the bytes are no schema that cbor_diag_schema_load wrote */
+    CBOR_DIAG_ERROR_TOO_MUCH_WORK = 22 /* matching an item takes more than 10 million steps, or nests too deeply */
 };
 
 /* What a head is: its major type, or a float, or a break. */
@@ -129,6 +134,21 @@ struct cbor_diag_value {
     double number;      /* the number of a float, and 0 for other kinds */
     size_t start;       /* where the content of a string of definite length begins; of any other part where it begins */
     size_t end;         /* where that ends */
+};
+
+/* Why an item does not fit CDDL, as cbor_diag_schema_check finds it. Four parts are spans of the message. */
+struct cbor_diag_misfit {
+    size_t place;        /* how many bytes of the input come before what does not fit */
+    size_t item;         /* how many come before the outermost item that it is in */
+    size_t line;         /* the line of that rule or entry of the CDDL, from 1 on; 0 if `rule` is empty */
+    size_t expected;     /* where in the message it says what is expected there, */
+    size_t expected_end; /* and where that ends */
+    size_t rule;         /* the same for the innermost rule or entry that has a name; empty if there is none */
+    size_t rule_end;
+    size_t found;        /* the same for what is found there */
+    size_t found_end;
+    size_t path;         /* the same for the path in the outermost item; empty for that item itself */
+    size_t path_end;
 };
 
 /* The form that cbor_diag_recognize finds. */
@@ -244,6 +264,12 @@ int64_t cbor_diag_recognize(const uint8_t *input, size_t input_len, uint32_t *fo
 int64_t cbor_diag_page(const uint8_t *input, size_t input_len, const uint8_t *type, size_t type_len,
                        const uint8_t *names, size_t names_len, uint32_t flags, uint8_t *output, size_t output_len);
 int64_t cbor_diag_names_fault(const uint8_t *names, size_t names_len, uint8_t *message, size_t message_len);
+int64_t cbor_diag_schema_load(const uint8_t *cddl, size_t cddl_len, const uint8_t *rule, size_t rule_len,
+                              uint8_t *schema, size_t schema_len);
+int64_t cbor_diag_schema_fault(const uint8_t *cddl, size_t cddl_len, const uint8_t *rule, size_t rule_len,
+                               size_t *line, size_t *column, uint8_t *message, size_t message_len);
+int64_t cbor_diag_schema_misfit(const uint8_t *schema, size_t schema_len, const uint8_t *input, size_t input_len,
+                                struct cbor_diag_misfit *misfit, uint8_t *message, size_t message_len);
 int64_t cbor_diag_error_text(uint32_t error, uint8_t *output, size_t output_len);
 uint32_t cbor_diag_version(void);
 
@@ -920,6 +946,177 @@ static inline const char *cbor_diag_strerror(int64_t answer, char *text, size_t 
     int64_t length = cbor_diag_error_text(number, (uint8_t *)text, room);
     text[length < (int64_t)room ? (size_t)length : room] = '\0';
     return text;
+}
+
+/*
+ * Loads a text of CDDL (RFC 8610) as a schema: bytes that hold no pointers. They can be kept, copied and shared by
+ * threads, and cbor_diag_schema_misfit checks items by them. docs/CDDL.md says what is read. `rule` is the name of the
+ * rule that an item has to fit; if it is empty, that is the first rule. cbor_diag_schema_new, below, does the same and
+ * allocates the memory.
+ *
+ * Returns the length of the schema, and writes as much of it as fits `schema`, as cbor_diag_convert does. On an error,
+ * returns minus a number of enum cbor_diag_error, and `schema` is unchanged: CBOR_DIAG_ERROR_WRONG_CDDL, or
+ * CBOR_DIAG_ERROR_MEMORY.
+ *
+ *     static unsigned char schema[4096];
+ *     int64_t length = cbor_diag_schema_load("a = { b: uint }", 15, NULL, 0, schema, sizeof schema);
+ *
+ * A schema is for the version of the library that wrote it. A pointer may be null if its length is 0. The output must
+ * not overlap the others.
+ */
+static inline int64_t cbor_diag_schema_load_checked(const void *cddl, size_t cddl_len, const void *rule,
+                                                    size_t rule_len, void *schema, size_t schema_len)
+{
+    const uint8_t *text = cddl ? (const uint8_t *)cddl : cbor_diag_no_bytes();
+    const uint8_t *name = rule ? (const uint8_t *)rule : cbor_diag_no_bytes();
+    uint8_t *out = schema ? (uint8_t *)schema : cbor_diag_no_bytes();
+    if (cddl_len > (size_t)PTRDIFF_MAX || rule_len > (size_t)PTRDIFF_MAX) {
+        return -CBOR_DIAG_ERROR_MEMORY; /* no object is that large */
+    }
+    if (schema_len > (size_t)PTRDIFF_MAX) {
+        schema_len = (size_t)PTRDIFF_MAX;
+    }
+    return cbor_diag_schema_load(text, cddl_len, name, rule_len, out, schema_len);
+}
+#define cbor_diag_schema_load cbor_diag_schema_load_checked
+
+/*
+ * Says what is wrong with a text of CDDL, as cborcat does: the line, the column and why, in UTF-8. Call it after
+ * cbor_diag_schema_load has returned minus CBOR_DIAG_ERROR_WRONG_CDDL.
+ *
+ * Returns the length of the whole message, and writes as much of it as fits `message`. Returns 0 if nothing is wrong.
+ * Sets `*line` and `*column`, which count from 1. Both are 0 if nothing is wrong, and for an error that has no place:
+ * no rule is there, or the text is not UTF-8. Out of memory, returns minus CBOR_DIAG_ERROR_MEMORY, both are 0, and
+ * `message` is unchanged.
+ *
+ *     char message[256];
+ *     cbor_diag_schema_fault("a = [ uit ]", 11, NULL, 0, NULL, NULL, message, sizeof message);
+ *     // 38, "1:7: no rule uit is there; uint is one"
+ *
+ * No zero byte is added. A pointer may be null if its length is 0, and `line` and `column` may be null.
+ */
+static inline int64_t cbor_diag_schema_fault_checked(const void *cddl, size_t cddl_len, const void *rule,
+                                                     size_t rule_len, size_t *line, size_t *column, char *message,
+                                                     size_t message_len)
+{
+    const uint8_t *text = cddl ? (const uint8_t *)cddl : cbor_diag_no_bytes();
+    const uint8_t *name = rule ? (const uint8_t *)rule : cbor_diag_no_bytes();
+    uint8_t *out = message ? (uint8_t *)message : cbor_diag_no_bytes();
+    size_t unused_line, unused_column;
+    size_t *row = line ? line : &unused_line;
+    size_t *place = column ? column : &unused_column;
+    if (cddl_len > (size_t)PTRDIFF_MAX || rule_len > (size_t)PTRDIFF_MAX) {
+        *row = 0;
+        *place = 0;
+        return -CBOR_DIAG_ERROR_MEMORY; /* no object is that large */
+    }
+    if (message_len > (size_t)PTRDIFF_MAX) {
+        message_len = (size_t)PTRDIFF_MAX;
+    }
+    return cbor_diag_schema_fault(text, cddl_len, name, rule_len, row, place, out, message_len);
+}
+#define cbor_diag_schema_fault cbor_diag_schema_fault_checked
+
+/*
+ * Checks a sequence of items by a schema that cbor_diag_schema_load wrote, and finds the first item that does not fit.
+ * cbor_diag_schema_check, below, does the same for a schema of cbor_diag_schema_new.
+ *
+ * Returns 0 if the input is a sequence of zero or more items that all fit. If an item does not fit, returns the length
+ * of the message, which says in one line of UTF-8 what is expected and what is found; writes as much of it as fits
+ * `message`; and sets `*misfit`, whose spans are in the whole message. On an error, returns minus a number of enum
+ * cbor_diag_error, and `message` and `*misfit` are unchanged:
+ *
+ * - the error for which the bytes after the items that fit are no item;
+ * - CBOR_DIAG_ERROR_WRONG_SCHEMA, CBOR_DIAG_ERROR_TOO_MUCH_WORK and CBOR_DIAG_ERROR_MEMORY.
+ *
+ * The bytes of a schema need not be trusted: wrong ones are an error, or another schema. A pointer may be null if its
+ * length is 0, and `misfit` may be null. The outputs must not overlap the others.
+ */
+static inline int64_t cbor_diag_schema_misfit_checked(const void *schema, size_t schema_len, const void *input,
+                                                      size_t input_len, struct cbor_diag_misfit *misfit, char *message,
+                                                      size_t message_len)
+{
+    const uint8_t *rules = schema ? (const uint8_t *)schema : cbor_diag_no_bytes();
+    const uint8_t *in = input ? (const uint8_t *)input : cbor_diag_no_bytes();
+    uint8_t *out = message ? (uint8_t *)message : cbor_diag_no_bytes();
+    struct cbor_diag_misfit unused;
+    if (!misfit) {
+        memset(&unused, 0, sizeof unused);
+    }
+    if (schema_len > (size_t)PTRDIFF_MAX || input_len > (size_t)PTRDIFF_MAX) {
+        return -CBOR_DIAG_ERROR_MEMORY; /* no object is that large */
+    }
+    if (message_len > (size_t)PTRDIFF_MAX) {
+        message_len = (size_t)PTRDIFF_MAX;
+    }
+    return cbor_diag_schema_misfit(rules, schema_len, in, input_len, misfit ? misfit : &unused, out, message_len);
+}
+#define cbor_diag_schema_misfit cbor_diag_schema_misfit_checked
+
+/* A schema that cbor_diag_schema_new allocated: its length, and then its bytes. */
+struct cbor_diag_schema {
+    size_t length;
+};
+
+/* Ends an allocated schema. It may be null. */
+static inline void cbor_diag_schema_free(struct cbor_diag_schema *schema)
+{
+    free(schema);
+}
+
+/*
+ * Loads a text of CDDL, to check many items by it. `rule` is the name of the rule that an item has to fit, with a zero
+ * byte at its end; if it is null, that is the first rule.
+ *
+ * Returns the schema, for cbor_diag_schema_check and then cbor_diag_schema_free. On an error, returns null, and writes
+ * to `message` what is wrong, with a zero byte at its end: the text of cbor_diag_schema_fault, or "out of memory". A
+ * text that does not fit into `size` bytes is truncated. `message` may be null if `size` is 0.
+ *
+ *     char message[256];
+ *     struct cbor_diag_schema *schema = cbor_diag_schema_new(text, strlen(text), NULL, message, sizeof message);
+ */
+static inline struct cbor_diag_schema *cbor_diag_schema_new(const char *cddl, size_t cddl_len, const char *rule,
+                                                            char *message, size_t size)
+{
+    size_t rule_len = rule ? strlen(rule) : 0;
+    struct cbor_diag_schema *schema = NULL;
+    int64_t length = cbor_diag_schema_load(cddl, cddl_len, rule, rule_len, NULL, 0);
+    if (length > 0) {
+        schema = (struct cbor_diag_schema *)malloc(sizeof *schema + (size_t)length);
+        if (schema) {
+            schema->length = (size_t)length;
+            length = cbor_diag_schema_load(cddl, cddl_len, rule, rule_len, schema + 1, (size_t)length);
+            if (length > 0) {
+                return schema;
+            }
+            free(schema);
+        }
+    }
+    if (size > 0) {
+        int64_t wanted = length != -CBOR_DIAG_ERROR_WRONG_CDDL ? 0
+                         : cbor_diag_schema_fault(cddl, cddl_len, rule, rule_len, NULL, NULL, message, size - 1);
+        if (wanted > 0) {
+            message[(size_t)wanted < size ? (size_t)wanted : size - 1] = '\0';
+        } else {
+            cbor_diag_strerror(-CBOR_DIAG_ERROR_MEMORY, message, size);
+        }
+    }
+    return NULL;
+}
+
+/*
+ * Checks a sequence of items by a schema of cbor_diag_schema_new, and finds the first item that does not fit.
+ *
+ * Returns what cbor_diag_schema_misfit does: 0 if all items fit, the length of the message if one does not, or minus a
+ * number of enum cbor_diag_error. Any number of threads may check by one schema at once.
+ *
+ *     struct cbor_diag_misfit misfit;
+ *     int64_t length = cbor_diag_schema_check(schema, item, item_len, &misfit, message, sizeof message);
+ */
+static inline int64_t cbor_diag_schema_check(const struct cbor_diag_schema *schema, const void *input, size_t input_len,
+                                             struct cbor_diag_misfit *misfit, char *message, size_t message_len)
+{
+    return cbor_diag_schema_misfit(schema + 1, schema->length, input, input_len, misfit, message, message_len);
 }
 
 /* Enough for each text of cbor_diag_strviolation, and the zero byte that ends it. */

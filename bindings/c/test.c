@@ -411,12 +411,15 @@ static const char *const error_texts[] = {
     "no such type",
     "neither hex, EDN, base 64 nor bytes of items",
     "the file of names has an error",
+    "the CDDL has an error",
+    "the bytes are no schema",
+    "matching takes too many steps, or is nested too deeply",
     "no such error",
 };
 
 static void test_error_texts(void)
 {
-    for (int64_t number = 0; number <= 20; number++) {
+    for (int64_t number = 0; number <= 23; number++) {
         const char *expected = error_texts[number];
         char text[CBOR_DIAG_ERROR_TEXT_SIZE];
         check(strcmp(expected, cbor_diag_strerror(-number, text, sizeof text)) == 0,
@@ -1540,9 +1543,195 @@ static void test_names_faults(void)
     check_answer("names of 2^64 - 1 bytes", -CBOR_DIAG_ERROR_MEMORY, cbor_diag_names_fault("", SIZE_MAX, message, 4));
 }
 
+/* ---- CDDL */
+
+static const char log_cddl[] = "record = {\n"
+                               "  at: time,\n"
+                               "  event: \"open\" / \"close\",\n"
+                               "  ? id: bytes .size (3..8),\n"
+                               "}\n"
+                               "name = tstr .regexp \"[a-z]+\"\n";
+
+/* The bytes of a schema, which `length` is set to the length of. */
+static unsigned char *loaded(const char *cddl, const char *rule, size_t *length)
+{
+    int64_t wanted = cbor_diag_schema_load(cddl, strlen(cddl), rule, strlen(rule), NULL, 0);
+    check(wanted > 0, "%s: no schema is loaded, came %lld", cddl, (long long)wanted);
+    unsigned char *schema = malloc(wanted > 0 ? (size_t)wanted : 1);
+    check_answer(cddl, wanted,
+                 cbor_diag_schema_load(cddl, strlen(cddl), rule, strlen(rule), schema, (size_t)wanted));
+    *length = (size_t)wanted;
+    return schema;
+}
+
+static int64_t schema_of(const struct text *input, void *output, size_t room)
+{
+    return cbor_diag_schema_load(input[0].bytes, input[0].length, input[1].bytes, input[1].length, output, room);
+}
+
+static int64_t schema_fault_of(const struct text *input, void *output, size_t room)
+{
+    return cbor_diag_schema_fault(input[0].bytes, input[0].length, input[1].bytes, input[1].length, NULL, NULL, output,
+                                  room);
+}
+
+static int64_t misfit_of(const struct text *input, void *output, size_t room)
+{
+    return cbor_diag_schema_misfit(input[0].bytes, input[0].length, input[1].bytes, input[1].length, NULL, output,
+                                   room);
+}
+
+static void check_part(const char *name, const char *message, size_t begin, size_t end, const char *wanted)
+{
+    check(end - begin == strlen(wanted) && memcmp(message + begin, wanted, end - begin) == 0,
+          "%s: expected %s, came %.*s", name, wanted, (int)(end - begin), message + begin);
+}
+
+static void test_schemas(void)
+{
+    char message[256];
+    struct cbor_diag_misfit misfit;
+    struct cbor_diag_schema *schema =
+        cbor_diag_schema_new(log_cddl, strlen(log_cddl), NULL, message, sizeof message);
+    check(schema != NULL, "no schema: %.*s", (int)sizeof message, message);
+    /* {"at": 1(0), "event": "open"} */
+    const struct text fits = TEXT("\xa2\x62" "at\xc1\x00\x65" "event\x64open");
+    /* the same, and {"at": 1(0), "event": "opened"} */
+    const struct text second = TEXT("\xa2\x62" "at\xc1\x00\x65" "event\x64open"
+                                    "\xa2\x62" "at\xc1\x00\x65" "event\x66opened");
+    check_answer("an item that fits", 0, cbor_diag_schema_check(schema, fits.bytes, fits.length, NULL, NULL, 0));
+    check_answer("no item", 0, cbor_diag_schema_check(schema, NULL, 0, &misfit, message, sizeof message));
+    int64_t length = cbor_diag_schema_check(schema, second.bytes, second.length, &misfit, message, sizeof message);
+    const char *wanted = "expected \"open\" / \"close\" for event (line 3), found \"opened\"; at event";
+    check_answer("an item that does not fit", (int64_t)strlen(wanted), length);
+    check_bytes("an item that does not fit", wanted, message, strlen(wanted));
+    check(misfit.item == 17 && misfit.place == 29 && misfit.line == 3, "came item %zu, place %zu, line %zu",
+          misfit.item, misfit.place, misfit.line);
+    check_part("expected", message, misfit.expected, misfit.expected_end, "\"open\" / \"close\"");
+    check_part("rule", message, misfit.rule, misfit.rule_end, "event");
+    check_part("found", message, misfit.found, misfit.found_end, "\"opened\"");
+    check_part("path", message, misfit.path, misfit.path_end, "event");
+    length = cbor_diag_schema_check(schema, "\x01", 1, &misfit, message, sizeof message);
+    wanted = "expected a map for record (line 1), found 1";
+    check_answer("an integer", (int64_t)strlen(wanted), length);
+    check_bytes("an integer", wanted, message, strlen(wanted));
+    check(misfit.item == 0 && misfit.place == 0 && misfit.line == 1 && misfit.path == misfit.path_end,
+          "an integer: came item %zu, place %zu, line %zu", misfit.item, misfit.place, misfit.line);
+    cbor_diag_schema_free(schema);
+    cbor_diag_schema_free(NULL);
+    schema = cbor_diag_schema_new(log_cddl, strlen(log_cddl), "name", message, sizeof message);
+    check_answer("a pattern that fits", 0, cbor_diag_schema_check(schema, "\x62hi", 3, NULL, NULL, 0));
+    check(cbor_diag_schema_check(schema, "\x62Hi", 3, NULL, NULL, 0) > 0, "a pattern that does not fit");
+    cbor_diag_schema_free(schema);
+    check(!cbor_diag_schema_new("a = [ uit ]", 11, NULL, message, sizeof message), "a name without a rule");
+    check(strcmp(message, "1:7: no rule uit is there; uint is one") == 0, "a name without a rule: came %s", message);
+    check(!cbor_diag_schema_new("a = uint", 8, "b", message, 8), "a rule that is not there");
+    check(strcmp(message, "no rule") == 0, "a rule that is not there: came %s", message);
+    check(!cbor_diag_schema_new("a = uint", SIZE_MAX, NULL, NULL, 0), "a text of 2^64 - 1 bytes");
+}
+
+static void test_schema_rooms(void)
+{
+    const struct {
+        const char *name;
+        struct text cddl[2], message;
+        size_t line, column;
+    } rows[] = {
+        {"no fault", {TEXT("a = uint"), TEXT("")}, TEXT(""), 0, 0},
+        {"a name without a rule", {TEXT("a = {\n  b: uit\n}"), TEXT("")},
+         TEXT("2:6: no rule uit is there; uint is one"), 2, 6},
+        {"no rule", {TEXT("; nothing"), TEXT("")}, TEXT("no rule is there"), 0, 0},
+        {"no such rule", {TEXT("a = uint"), TEXT("b")}, TEXT("no rule b is there"), 0, 0},
+        {"a text that is not UTF-8", {TEXT("a = \"\xff\""), TEXT("")}, TEXT("not UTF-8"), 0, 0},
+        {"a rule that is not UTF-8", {TEXT("a = uint"), TEXT("\xff")}, TEXT("not UTF-8"), 0, 0},
+    };
+    for (size_t i = 0; i < sizeof rows / sizeof *rows; i++) {
+        const struct text *cddl = rows[i].cddl;
+        size_t line = 9, column = 9;
+        test_each_room(rows[i].name, schema_fault_of, cddl, rows[i].message);
+        cbor_diag_schema_fault(cddl[0].bytes, cddl[0].length, cddl[1].bytes, cddl[1].length, &line, &column, NULL, 0);
+        check(line == rows[i].line && column == rows[i].column, "%s: came %zu:%zu", rows[i].name, line, column);
+        if (rows[i].message.length > 0) {
+            check_answer(rows[i].name, -CBOR_DIAG_ERROR_WRONG_CDDL, schema_of(cddl, NULL, 0));
+        }
+    }
+    struct text loaded_text, given[2];
+    size_t length;
+    unsigned char *schema = loaded("a = uint", "", &length);
+    loaded_text = (struct text){schema, length};
+    static const struct text plain[] = {TEXT("a = uint"), TEXT("")}, named[] = {TEXT("b = 1 a = uint"), TEXT("a")};
+    test_each_room("a schema", schema_of, plain, loaded_text);
+    check(schema_of(named, NULL, 0) > 0, "a rule that is named");
+    given[0] = loaded_text;
+    given[1] = (struct text)TEXT("\x20");
+    test_each_room("a misfit", misfit_of, given, (struct text)TEXT("expected uint for a (line 1), found -1"));
+    free(schema);
+}
+
+/* Schemas with each byte changed and of each length: an answer or an error, and no access past the bytes. */
+static void test_wrong_schemas(void)
+{
+    static const char cddl[] = "a = { ? \"k\" => 1..5, * tstr => b } b = [* bstr .size 2 / #6.1(b) / b] / -1.5";
+    static const struct text item = TEXT("\xa2\x61k\x06\x61x\x82\x42hi\xc1\x80");
+    size_t length;
+    unsigned char *schema = loaded(cddl, "", &length), *changed = malloc(length);
+    check(cbor_diag_schema_misfit(schema, length, item.bytes, item.length, NULL, NULL, 0) > 0, "the item fits");
+    for (size_t at = 0; at < length; at++) {
+        unsigned char *part = malloc(at);
+        memcpy(part, schema, at);
+        check_answer("a truncated schema", -CBOR_DIAG_ERROR_WRONG_SCHEMA,
+                     cbor_diag_schema_misfit(part, at, item.bytes, item.length, NULL, NULL, 0));
+        free(part);
+        for (int bit = 0; bit < 8; bit++) {
+            struct cbor_diag_misfit misfit;
+            char message[64];
+            memcpy(changed, schema, length);
+            changed[at] ^= (unsigned char)(1 << bit);
+            int64_t said = cbor_diag_schema_misfit(changed, length, item.bytes, item.length, &misfit, message,
+                                                   sizeof message);
+            check(said >= -CBOR_DIAG_ERROR_TOO_MUCH_WORK, "byte %zu, bit %d: came %lld", at, bit, (long long)said);
+            check(said <= 0 || (misfit.expected <= misfit.expected_end && misfit.expected_end <= (size_t)said &&
+                                misfit.rule <= misfit.rule_end && misfit.rule_end <= (size_t)said &&
+                                misfit.found <= misfit.found_end && misfit.found_end <= (size_t)said &&
+                                misfit.path <= misfit.path_end && misfit.path_end <= (size_t)said),
+                  "byte %zu, bit %d: a part is past the message", at, bit);
+        }
+    }
+    free(changed);
+    free(schema);
+}
+
+static void test_schema_errors(void)
+{
+    char buffer[4] = "xxx";
+    struct cbor_diag_misfit misfit;
+    memset(&misfit, 7, sizeof misfit);
+    size_t length;
+    unsigned char *schema = loaded("a = uint", "", &length);
+    check_answer("a truncated item", -CBOR_DIAG_ERROR_CUT_SHORT,
+                 cbor_diag_schema_misfit(schema, length, "\x01\x19", 2, &misfit, buffer, 4));
+    check_answer("no head", -CBOR_DIAG_ERROR_HEAD,
+                 cbor_diag_schema_misfit(schema, length, "\xff", 1, &misfit, buffer, 4));
+    check_answer("no schema", -CBOR_DIAG_ERROR_WRONG_SCHEMA,
+                 cbor_diag_schema_misfit(NULL, 0, "\x01", 1, &misfit, buffer, 4));
+    check_answer("a schema of 2^64 - 1 bytes", -CBOR_DIAG_ERROR_MEMORY,
+                 cbor_diag_schema_misfit(schema, SIZE_MAX, "\x01", 1, &misfit, buffer, 4));
+    check_answer("an input of 2^64 - 1 bytes", -CBOR_DIAG_ERROR_MEMORY,
+                 cbor_diag_schema_misfit(schema, length, "\x01", SIZE_MAX, &misfit, buffer, 4));
+    check_answer("wrong CDDL", -CBOR_DIAG_ERROR_WRONG_CDDL, cbor_diag_schema_load("a =", 3, NULL, 0, buffer, 4));
+    check_answer("CDDL of 2^64 - 1 bytes", -CBOR_DIAG_ERROR_MEMORY,
+                 cbor_diag_schema_load("a", SIZE_MAX, NULL, 0, buffer, 4));
+    check_answer("a fault of 2^64 - 1 bytes", -CBOR_DIAG_ERROR_MEMORY,
+                 cbor_diag_schema_fault("a", SIZE_MAX, NULL, 0, NULL, NULL, buffer, 4));
+    check(strcmp(buffer, "xxx") == 0, "an error wrote to the buffer: %s", buffer);
+    check(misfit.place == misfit.path_end && misfit.place == (size_t)0x0707070707070707, "an error set the misfit");
+    free(schema);
+}
+
 /* Each allocation fails in turn in each of the calls that take memory. */
 static int64_t part_call(int call, unsigned char *buffer)
 {
+    static unsigned char schema[4096];
     size_t start, end;
     struct cbor_diag_part parts[4];
     struct cbor_diag_value value;
@@ -1563,14 +1752,23 @@ static int64_t part_call(int call, unsigned char *buffer)
         return cbor_diag_page("\xa1\x01\x04\x81", 4, "COSE_Key", 8, things, strlen(things), 0, buffer, 8);
     case 7:
         return cbor_diag_convert(BYTES, HTML, "\xa1\x01\x04", 3, buffer, 8);
-    default:
+    case 8:
         return cbor_diag_names_fault("[Thing]\ntag = -1", 16, (char *)buffer, 8);
+    case 9:
+        return cbor_diag_schema_load(log_cddl, strlen(log_cddl), "name", 4, buffer, 8);
+    case 10:
+        return cbor_diag_schema_fault("a = [ uit ]", 11, NULL, 0, NULL, NULL, (char *)buffer, 8);
+    default:
+        counting = 0;
+        start = (size_t)cbor_diag_schema_load(log_cddl, strlen(log_cddl), "name", 4, schema, sizeof schema);
+        counting = 1;
+        return cbor_diag_schema_misfit(schema, start, "\x62Hi", 3, NULL, (char *)buffer, 8);
     }
 }
 
 static void test_parts_without_memory(void)
 {
-    for (int call = 0; call < 9; call++) {
+    for (int call = 0; call < 12; call++) {
         int64_t came = -CBOR_DIAG_ERROR_MEMORY;
         for (failing = 0; came == -CBOR_DIAG_ERROR_MEMORY && failing < 20000; failing++) {
             unsigned char buffer[8] = {0};
@@ -1810,6 +2008,30 @@ static void test_large(size_t count)
 
 static long rounds_of_threads;
 
+/* Rules and items that are nested as deeply as they may be, and more deeply. */
+static void check_schemas_in_a_thread(const char *arrays, size_t length)
+{
+    static const char nested[] = "a = [a] / uint", chain[] = "a = [b] b = c c = d d = [a] / e e = uint / [a] / tstr";
+    char cddl[1200];
+    unsigned char schema[16384];
+    int64_t size = cbor_diag_schema_load(nested, strlen(nested), NULL, 0, schema, sizeof schema);
+    check_answer("arrays in a thread", 0, cbor_diag_schema_misfit(schema, (size_t)size, arrays, length, NULL, NULL, 0));
+    size = cbor_diag_schema_load(chain, strlen(chain), NULL, 0, schema, sizeof schema);
+    check(cbor_diag_schema_misfit(schema, (size_t)size, arrays, length, NULL, NULL, 0) != -CBOR_DIAG_ERROR_MEMORY,
+          "rules in a thread: came an error");
+    for (size_t depth = 50; depth < 550; depth += 50) {
+        size_t at = (size_t)sprintf(cddl, "a = ");
+        memset(cddl + at, '[', depth);
+        memcpy(cddl + at + depth, "uint", 4);
+        memset(cddl + at + depth + 4, ']', depth);
+        size = cbor_diag_schema_load(cddl, at + 2 * depth + 4, NULL, 0, schema, sizeof schema);
+        check(size > 0 || size == -CBOR_DIAG_ERROR_WRONG_CDDL, "%zu brackets in a thread: came %lld", depth,
+              (long long)size);
+        check(size < 0 || cbor_diag_schema_misfit(schema, (size_t)size, arrays, length, NULL, NULL, 0) > 0,
+              "%zu brackets in a thread: the item fits", depth);
+    }
+}
+
 /* All pairs of forms over and over, and items at the deepest level, which take the most stack. */
 static void *converting(void *unused)
 {
@@ -1845,6 +2067,7 @@ static void *converting(void *unused)
                   "a page in a thread: came an error");
             check(cbor_diag_convert(BYTES, HTML, arrays, sizeof arrays, NULL, 0) > 0,
                   "lines of a page in a thread: came an error");
+            check_schemas_in_a_thread(arrays, sizeof arrays);
         }
     }
     return NULL;
@@ -1898,6 +2121,10 @@ int main(int argc, char **argv)
     test_pages();
     test_page_errors();
     test_names_faults();
+    test_schemas();
+    test_schema_rooms();
+    test_wrong_schemas();
+    test_schema_errors();
     test_hostile_parts();
     test_limits();
     test_memory();

@@ -159,10 +159,114 @@ static void violation(uint32_t rules, const uint8_t *bytes, size_t length)
         append(&found, rest, strlen(rest));
 }
 
+/* Appends a part of a message: `(line 4)` is `(:4)` in the rows. */
+static void append_message(const char *part, size_t length)
+{
+    static const char line[] = "(line ";
+    size_t at = 0, begin = 0;
+    for (; at < length; at++) {
+        if (length - at >= sizeof line - 1 && !memcmp(part + at, line, sizeof line - 1)) {
+            append(&found, part + begin, at - begin);
+            append(&found, "(:", 2);
+            begin = at + sizeof line - 1;
+        }
+    }
+    append(&found, part + begin, length - begin);
+}
+
+/* What is wrong with a text of CDDL: the line, the column and the message. */
+static void schema_fault(const char *cddl, size_t length, const char *rule)
+{
+    char message[1024], text[64];
+    size_t line, column;
+    int64_t said = cbor_diag_schema_fault(cddl, length, rule, strlen(rule), &line, &column, message, sizeof message);
+    const char *words = line ? strstr(message, ": ") + 2 : message;
+    if (said == 0) {
+        append_line(&found, "none");
+        return;
+    }
+    snprintf(text, sizeof text, "%zu:%zu ", line ? line : 1, column ? column : 1);
+    append_line(&found, text);
+    append(&found, words, (size_t)(message + said - words));
+}
+
+/* The bytes of an item: EDN, or `hex` and digits. */
+static size_t item_bytes(const char *line, size_t length, uint8_t *bytes)
+{
+    uint32_t from = length > 4 && !memcmp(line, "hex ", 4) ? CBOR_DIAG_FORM_HEX : CBOR_DIAG_FORM_EDN;
+    size_t before = from == CBOR_DIAG_FORM_HEX ? 4 : 0;
+    int64_t answer = cbor_diag_convert(from, CBOR_DIAG_FORM_BYTES, line + before, length - before, bytes, ROOM);
+    return answer > 0 ? (size_t)answer : 0;
+}
+
+/* What is said of an item by a schema: where it does not fit, and with `words` the message. */
+static void check_item(const struct cbor_diag_schema *schema, const char *line, size_t length, int words)
+{
+    static uint8_t bytes[ROOM];
+    char message[1024], text[64];
+    struct cbor_diag_misfit misfit;
+    size_t item = item_bytes(line, length, bytes);
+    int64_t said = cbor_diag_schema_check(schema, bytes, item, &misfit, message, sizeof message);
+    if (said == 0) {
+        append_line(&found, "fits");
+        return;
+    }
+    if (said < 0 || said > (int64_t)sizeof message) {
+        append_line(&found, said < 0 ? error_name(said) : "too long");
+        return;
+    }
+    snprintf(text, sizeof text, words ? "%zu " : "misfit %zu", misfit.place);
+    append_line(&found, text);
+    if (words) {
+        append_message(message, misfit.found_end);
+        if (misfit.found_end + 2 < (size_t)said) {
+            append(&found, "\n", 1);
+            append_message(message + misfit.found_end + 2, (size_t)said - misfit.found_end - 2);
+        }
+    }
+}
+
+/* The row of a text of CDDL, an empty line, and items, a line each. */
+static void check_items(const char *rule, int words)
+{
+    char message[1024];
+    const char *line = input.bytes;
+    for (const char *empty = line; (empty = strstr(empty, "\n\n")); empty++)
+        line = empty;
+    struct cbor_diag_schema *schema =
+        cbor_diag_schema_new(input.bytes, (size_t)(line - input.bytes), *rule ? rule : NULL, message, sizeof message);
+    if (!schema) {
+        schema_fault(input.bytes, (size_t)(line - input.bytes), rule);
+        return;
+    }
+    for (line += 2; *line;) {
+        size_t length = strcspn(line, "\n");
+        check_item(schema, line, length, words);
+        line += length + (line[length] == '\n');
+    }
+    cbor_diag_schema_free(schema);
+}
+
+/* Makes the call of a row of CDDL; returns whether it is one. */
+static int called_cddl(const char *call, const char *rule)
+{
+    if (!strcmp(call, "cddl_fault"))
+        schema_fault(input.bytes, input.length, rule);
+    else if (!strcmp(call, "cddl_fits"))
+        check_items(rule, 0);
+    else if (!strcmp(call, "cddl_message"))
+        check_items(rule, 1);
+    else
+        return 0;
+    return 1;
+}
+
 /* Makes the call of the row; returns whether it is one of the library's. */
 static int called(const char *call, const char *argument)
 {
     static struct text bytes;
+    if (called_cddl(call, argument))
+        return 1;
     clear(&bytes);
     int takes_bytes = !strncmp(call, "bytes_", 6) || !strcmp(call, "extent") || !strcmp(call, "violation_of") ||
                       !strcmp(call, "reencode");

@@ -75,6 +75,9 @@ TEXTS = {
     Error.NO_TYPE: "no such type",
     Error.NOT_RECOGNIZED: "neither hex, EDN, base 64 nor bytes of items",
     Error.WRONG_NAMES: "the file of names has an error",
+    Error.WRONG_CDDL: "the CDDL has an error",
+    Error.WRONG_SCHEMA: "the bytes are no schema",
+    Error.TOO_MUCH_WORK: "matching takes too many steps, or is nested too deeply",
 }
 
 
@@ -959,6 +962,58 @@ class Library(unittest.TestCase):
         self.assertEqual(run.returncode, 1)
         self.assertRegex(run.stderr, r"\nImportError: cannot load the library .*/nowhere/libcbor_diag.so.*"
                                      r"CBOR_DIAG_LIBRARY")
+
+
+class Schemas(unittest.TestCase):
+    CDDL = 'record = {\n  at: time,\n  event: "open" / "close",\n}\nname = tstr .regexp "[a-z]+"\n'
+    FITS = b"\xa2\x62at\xc1\x00\x65event\x64open"
+    MISFIT = b"\xa2\x62at\xc1\x00\x65event\x66opened"
+
+    def test_misfits(self):
+        schema = cbor_diag.Schema(self.CDDL)
+        self.assertIsNone(schema.check(self.FITS))
+        self.assertIsNone(schema.check(b""))
+        self.assertIsNone(schema.check(self.FITS * 100))
+        message = 'expected "open" / "close" for event (line 3), found "opened"; at event'
+        for kind in (bytes, bytearray, memoryview):
+            found = schema.check(kind(self.FITS + self.MISFIT))
+            self.assertEqual(found, (29, "event", '"open" / "close"', '"opened"', "event", 3, 17, message))
+            self.assertEqual(str(found), "byte 29: " + message)
+        found = schema.check(b"\x01")
+        self.assertEqual((found.place, found.path, found.expected, found.found, found.rule, found.line),
+                         (0, "", "a map", "1", "record", 1))
+
+    def test_rules(self):
+        schema = cbor_diag.Schema(self.CDDL, "name")
+        self.assertIsNone(schema.check(b"\x62hi"))
+        self.assertEqual(schema.check(b"\x62Hi").found, '"Hi"')
+        self.assertIsNone(pickle.loads(pickle.dumps(schema)).check(b"\x62hi"))
+        self.assertEqual(schema.check(cbor_diag.edn_to_bytes('"\u00fc"')).found, '"\u00fc"')
+
+    def test_errors_of_cddl(self):
+        for arguments, text, line, column in [
+            (("a = {\n  b: uit\n}",), "2:6: no rule uit is there; uint is one", 2, 6),
+            (("a = uint", "b"), "no rule b is there", None, None),
+            (("",), "no rule is there", None, None),
+            (("a = \ud800",), "not UTF-8", None, None),
+        ]:
+            with self.assertRaises(CborDiagError) as raised:
+                cbor_diag.Schema(*arguments)
+            for came in (raised.exception, pickle.loads(pickle.dumps(raised.exception))):
+                self.assertIs(came.error, Error.WRONG_CDDL)
+                self.assertEqual((str(came), came.line, came.column), (text, line, column))
+
+    def test_errors_of_items(self):
+        schema = cbor_diag.Schema("a = any")
+        for data, error, offset in [(b"\x01\x82\x01", Error.CUT_SHORT, 3), (b"\x01\x82\x01\x1f", Error.HEAD, 3),
+                                    (b"\x01\x01\x61\xff", Error.UTF8, 3), (b"\x1f", Error.HEAD, 0)]:
+            for kind in (bytes, bytearray):
+                with self.assertRaises(CborDiagError) as raised:
+                    schema.check(kind(data))
+                self.assertEqual((raised.exception.error, raised.exception.offset), (error, offset))
+        for data in ("01", 1, None):
+            with self.assertRaises(TypeError):
+                schema.check(data)
 
 
 if __name__ == "__main__":

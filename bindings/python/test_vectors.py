@@ -75,6 +75,33 @@ def encoded(row):
         return "none" if error.violation is None else f"{error.violation.place}"
 
 
+def item_of(line):
+    """The bytes of an item: EDN, or `hex` and digits."""
+    return bytes.fromhex(line[4:]) if line.startswith("hex ") else cbor_diag.edn_to_bytes(line)
+
+
+def said(call, misfit):
+    """What a row says of an item."""
+    if misfit is None or call == "cddl_fits":
+        return "fits" if misfit is None else f"misfit {misfit.place}"
+    message = re.sub(r"\(line (\d+)\)", r"(:\1)", misfit.message)
+    head, found, rest = message.partition(f"found {misfit.found}")
+    return f"{misfit.place} {head}{found}{rest.replace('; ', chr(10), 1)}"
+
+
+def checked(row):
+    """What is said of each item of a row of CDDL, or of the text."""
+    cddl, _, items = (row.input, "", "") if row.call == "cddl_fault" else row.input.rpartition("\n\n")
+    try:
+        schema = cbor_diag.Schema(cddl, row.argument or None)
+    except CborDiagError as error:
+        place = f"{error.line}:{error.column}"
+        return f"{place} {str(error).removeprefix(f'{place}: ')}" if error.line else f"1:1 {error}"
+    if row.call == "cddl_fault":
+        return "none"
+    return "\n".join(said(row.call, schema.check(item_of(line))) for line in items.split("\n"))
+
+
 class Vectors(unittest.TestCase):
     def rows(self, call):
         """The rows of a call, of which there is one at least."""
@@ -134,6 +161,10 @@ class Vectors(unittest.TestCase):
         for call in ("violation", "violation_of"):
             self.check(call, broken, lambda row: " ".join(row.output().split()[:2]),
                        lambda row: row.argument in SETS and (call == "violation_of" or row.argument not in ("valid", "dcbor")))
+
+    def test_cddl(self):
+        for call in ("cddl_fits", "cddl_message", "cddl_fault"):
+            self.check(call, checked, taken=lambda row: True)
 
     def test_reencoding(self):
         def wanted(row):

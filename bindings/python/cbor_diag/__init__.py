@@ -33,8 +33,10 @@ __all__ = [
     "Input",
     "Loss",
     "LossKind",
+    "Misfit",
     "Rules",
     "Scanner",
+    "Schema",
     "violation",
     "bytes_to_diag",
     "bytes_to_diag_pretty",
@@ -143,6 +145,12 @@ class Error(enum.IntEnum):
     """Neither hex, EDN, base 64 nor bytes of items."""
     WRONG_NAMES = 19
     """The file of names has an error."""
+    WRONG_CDDL = 20
+    """The CDDL has an error."""
+    WRONG_SCHEMA = 21
+    """The bytes are no schema. No call of this module raises it."""
+    TOO_MUCH_WORK = 22
+    """Matching an item takes more than 10 million steps, or nests too deeply."""
 
 
 class Input(enum.IntEnum):
@@ -257,6 +265,31 @@ class Violation(_Violation):
         return self._words or _violation_words(self)
 
 
+class Misfit(NamedTuple):
+    """Why an item does not fit a schema. Its `str` is the message with the place: `byte 5: expected uint for b (line 1),
+    found -1; at b`."""
+
+    place: int
+    """How many bytes of the data come before what does not fit."""
+    path: str
+    """The path to that in its item, as `part` takes it; empty for the item itself."""
+    expected: str
+    """What the schema expects there."""
+    found: str
+    """What is there."""
+    rule: Optional[str]
+    """The innermost rule or entry that has a name."""
+    line: Optional[int]
+    """The line of that in the CDDL, which counts from 1."""
+    item: int
+    """How many bytes of the data come before the outermost item."""
+    message: str
+    """What is expected and what is found, the path, and how many other alternatives came less far, in one line."""
+
+    def __str__(self) -> str:
+        return f"byte {self.place}: {self.message}"
+
+
 class CborDiagError(ValueError):
     """The input is not an item, or memory ran out. The text says what is wrong. For bytes and hex it also says where in
     the item, and for EDN what has to be there.
@@ -283,6 +316,9 @@ class CborDiagError(ValueError):
 
     If `reencode` raised `NOT_ENCODABLE`, `violation` is the violation. For `KEY_TWICE`, its `place` is that of the
     second key, and its `other` that of the first. It is `None` if only the re-encoded items have a violation.
+
+    If `Schema` raised `WRONG_CDDL`, `line` and `column` say where in the CDDL. They count from 1, and are `None` for an
+    error that has no place.
     """
 
     def __init__(
@@ -295,6 +331,8 @@ class CborDiagError(ValueError):
         keys: Optional[Tuple[int, int]] = None,
         loss: Optional[Loss] = None,
         violation: Optional[Violation] = None,
+        line: Optional[int] = None,
+        column: Optional[int] = None,
     ) -> None:
         super().__init__(_error_text(error) if text is None else text)
         self.error = error
@@ -304,9 +342,12 @@ class CborDiagError(ValueError):
         self.keys = keys
         self.loss = loss
         self.violation = violation
+        self.line = line
+        self.column = column
 
     def __reduce__(self) -> tuple[type[CborDiagError], tuple[Any, ...]]:
-        told = self.end, self.offset, str(self), self.path, self.keys, self.loss, self.violation
+        told = (self.end, self.offset, str(self), self.path, self.keys, self.loss, self.violation, self.line,
+                self.column)
         return type(self), (self.error, *told)
 
 
@@ -352,6 +393,18 @@ class _Value(ctypes.Structure):
         ("number", ctypes.c_double),
         ("start", ctypes.c_size_t),
         ("end", ctypes.c_size_t),
+    ]
+
+
+class _Misfit(ctypes.Structure):
+    """Where an item does not fit, and parts of the message: `struct cbor_diag_misfit`."""
+
+    _fields_ = [
+        (name, ctypes.c_size_t)
+        for name in (
+            "place", "item", "line", "expected", "expected_end", "rule", "rule_end", "found", "found_end", "path",
+            "path_end"
+        )
     ]
 
 
@@ -439,6 +492,17 @@ class _Library:
         self.names_fault = library.cbor_diag_names_fault
         self.names_fault.restype = ctypes.c_int64
         self.names_fault.argtypes = [text, size, pointer, size]
+        self.schema_load = library.cbor_diag_schema_load
+        self.schema_load.restype = ctypes.c_int64
+        self.schema_load.argtypes = [text, size, text, size, pointer, size]
+        self.schema_fault = library.cbor_diag_schema_fault
+        self.schema_fault.restype = ctypes.c_int64
+        self.schema_fault.argtypes = [
+            text, size, text, size, ctypes.POINTER(size), ctypes.POINTER(size), pointer, size
+        ]
+        self.schema_misfit = library.cbor_diag_schema_misfit
+        self.schema_misfit.restype = ctypes.c_int64
+        self.schema_misfit.argtypes = [text, size, pointer, size, ctypes.POINTER(_Misfit), pointer, size]
         self.error_text = library.cbor_diag_error_text
         self.error_text.restype = ctypes.c_int64
         self.error_text.argtypes = [ctypes.c_uint32, ctypes.c_char_p, size]
@@ -1080,6 +1144,102 @@ def recognize(data: Data) -> Tuple[Input, bytes]:
     Raises `CborDiagError` with `NOT_RECOGNIZED` if it has none of the forms, and if memory runs out.
     """
     return _on_bytes(_path(data) if isinstance(data, str) else data, _recognized)
+
+
+def _wrong_cddl(cddl: bytes, rule: bytes) -> CborDiagError:
+    """The error of a text of CDDL."""
+    line, column = ctypes.c_size_t(), ctypes.c_size_t()
+    wanted = 256
+    while True:
+        output = ctypes.create_string_buffer(wanted)
+        room, wanted = wanted, _releasing.schema_fault(
+            cddl, len(cddl), rule, len(rule), ctypes.byref(line), ctypes.byref(column), output, wanted
+        )
+        if wanted < 0:
+            return CborDiagError(Error(-wanted))
+        if wanted <= room:
+            text = output.raw[:wanted].decode("utf-8")
+            place = {"line": line.value or None, "column": column.value or None}
+            return CborDiagError(Error.WRONG_CDDL, text=text, **place)
+
+
+def _first_no_item(data: bytes) -> CborDiagError:
+    """The error of the first bytes of a sequence that are no item."""
+    start = ctypes.cast(data, ctypes.c_void_p).value
+    end = ctypes.c_size_t()
+    at, found = 0, 0
+    while found >= 0 and at < len(data):
+        at += found
+        found = _releasing.extent(start + at, len(data) - at, ctypes.byref(end))
+    return _no_item(found, data[at:], end.value, at)
+
+
+_NO_ITEM = (Error.CUT_SHORT, Error.HEAD, Error.UTF8, Error.TOO_DEEP)
+
+
+def _misfit(library: _Library, given: Any, length: int, schema: bytes) -> Optional[Misfit]:
+    told = _Misfit()
+    sized = schema, len(schema), given, length, ctypes.byref(told)
+    wanted = library.schema_misfit(*sized, b"", 0)
+    if wanted == 0:
+        return None
+    if wanted > 0:
+        output = ctypes.create_string_buffer(wanted)
+        wanted = library.schema_misfit(*sized, output, wanted)
+    if -wanted in _NO_ITEM:
+        raise _first_no_item(_slice(given, 0, length))
+    if wanted < 0:
+        raise CborDiagError(Error(-wanted))
+    message = output.raw
+    expected, found, rule, path = (
+        message[getattr(told, part) : getattr(told, part + "_end")].decode("utf-8")
+        for part in ("expected", "found", "rule", "path")
+    )
+    return Misfit(
+        told.place, path, expected, found, rule or None, told.line or None, told.item, message.decode("utf-8")
+    )
+
+
+class Schema:
+    """Rules in CDDL (RFC 8610; docs/CDDL.md says what is read), to check any number of items.
+
+    >>> schema = Schema("reading = { at: uint, ? c: float }")
+    >>> schema.check(edn_to_bytes('{"at": 1, "c": 21.5}'))
+    >>> misfit = schema.check(edn_to_bytes('{"at": 1, "c": "hot"}'))
+    >>> print(misfit)
+    byte 7: expected float for c (line 1), found "hot"; at c
+    >>> misfit.path, misfit.expected, misfit.found
+    ('c', 'float', '"hot"')
+
+    An item has to fit the rule `rule`, or the first one. Any number of threads may check by one schema. It can be
+    pickled, for processes with the same version of the library.
+
+    Raises `CborDiagError` with `WRONG_CDDL` if the text has an error, and if memory runs out.
+    """
+
+    __slots__ = ("_bytes",)
+
+    def __init__(self, text: str, rule: Optional[str] = None) -> None:
+        cddl, name = _path(text), _path(rule or "")
+        wanted = 0
+        output: Any = b""
+        while True:
+            room, wanted = wanted, _releasing.schema_load(cddl, len(cddl), name, len(name), output, wanted)
+            if wanted < 0:
+                raise _wrong_cddl(cddl, name) if wanted == -Error.WRONG_CDDL else CborDiagError(Error(-wanted))
+            if wanted <= room:
+                self._bytes: bytes = output.raw
+                return
+            output = ctypes.create_string_buffer(wanted)
+
+    def check(self, data: Bytes) -> Optional[Misfit]:
+        """Returns why the first of the items in `data` that does not fit does not; `None` if all fit. The data is a
+        sequence of items, none or more.
+
+        Raises `CborDiagError` if the bytes after the items that fit are no item, with `TOO_MUCH_WORK`, and if memory
+        runs out.
+        """
+        return _on_bytes(data, _misfit, self._bytes)
 
 
 class Scanner:

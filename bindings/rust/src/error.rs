@@ -41,6 +41,8 @@ pub enum Error {
     NotRecognized,
     /// The file of names has an error.
     WrongNames,
+    /// Matching an item takes more than 10 million steps, or nests too deeply.
+    TooMuchWork,
 }
 
 /// The result of a conversion.
@@ -80,6 +82,9 @@ const NOT_RECOGNIZED: i64 = 18;
 /// The number of `WrongNames`.
 const WRONG_NAMES: i64 = 19;
 
+/// The number of `TooMuchWork`. Those before it are errors of CDDL, which [`CddlError`](crate::CddlError) has.
+const TOO_MUCH_WORK: i64 = 22;
+
 impl Error {
     /// The error for a negative result of the library.
     pub(crate) fn of(answer: i64) -> Error {
@@ -91,6 +96,7 @@ impl Error {
             NO_TYPE => Error::NoType,
             NOT_RECOGNIZED => Error::NotRecognized,
             WRONG_NAMES => Error::WrongNames,
+            TOO_MUCH_WORK => Error::TooMuchWork,
             number => usize::try_from(number - 1)
                 .ok()
                 .and_then(|index| ERRORS.get(index).copied())
@@ -185,7 +191,7 @@ impl Error {
     }
 
     /// Returns the number of the error: from 1 for `Memory` to 10 for `PastWidth`, in the order of the variants, and
-    /// from 13 for `NotEncodable` to 19 for `WrongNames`.
+    /// from 13 for `NotEncodable` to 19 for `WrongNames`; 22 for `TooMuchWork`.
     pub fn number(self) -> u32 {
         match self {
             Error::NotEncodable => NOT_ENCODABLE as u32,
@@ -195,6 +201,7 @@ impl Error {
             Error::NoType => NO_TYPE as u32,
             Error::NotRecognized => NOT_RECOGNIZED as u32,
             Error::WrongNames => WRONG_NAMES as u32,
+            Error::TooMuchWork => TOO_MUCH_WORK as u32,
             other => other as u32 + 1,
         }
     }
@@ -231,6 +238,7 @@ mod tests {
             (17, Error::NoType),
             (18, Error::NotRecognized),
             (19, Error::WrongNames),
+            (22, Error::TooMuchWork),
         ] {
             assert_eq!(error.number(), number);
             assert_eq!(Error::of(-i64::from(number)), error);

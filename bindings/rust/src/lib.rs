@@ -9,6 +9,7 @@ mod parts;
 mod recognized;
 mod rules;
 mod scanner;
+mod schema;
 
 pub use error::{Error, Result};
 pub use json::{bytes_to_json, bytes_to_json_strict, hex_to_json, hex_to_json_strict, json_fault};
@@ -19,6 +20,7 @@ pub use parts::{head, part, parts, paths, value, Head, HeadKind, Part, Value};
 pub use recognized::{recognize, Input};
 pub use rules::{violation, reencode, reencode_fault, Violation, ViolationKind, ReencodeFault, Rules};
 pub use scanner::Scanner;
+pub use schema::{CddlError, Misfit, Schema};
 
 /// The form of an input or of an output.
 #[derive(Clone, Copy, PartialEq, Eq, Hash, Debug)]
@@ -96,6 +98,23 @@ mod library {
         pub number: f64,
         pub start: usize,
         pub end: usize,
+    }
+
+    /// Where an item does not fit a schema, and parts of the message.
+    #[repr(C)]
+    #[derive(Default)]
+    pub struct Misfit {
+        pub place: usize,
+        pub item: usize,
+        pub line: usize,
+        pub expected: usize,
+        pub expected_end: usize,
+        pub rule: usize,
+        pub rule_end: usize,
+        pub found: usize,
+        pub found_end: usize,
+        pub path: usize,
+        pub path_end: usize,
     }
 
     extern "C" {
@@ -264,6 +283,37 @@ mod library {
         pub fn cbor_diag_names_fault(
             names: *const u8,
             names_len: usize,
+            message: *mut u8,
+            message_len: usize,
+        ) -> i64;
+        /// The same of a text of CDDL as a schema in bytes.
+        pub fn cbor_diag_schema_load(
+            cddl: *const u8,
+            cddl_len: usize,
+            rule: *const u8,
+            rule_len: usize,
+            schema: *mut u8,
+            schema_len: usize,
+        ) -> i64;
+        /// The same of what is wrong with such a text, and writes to `line` and `column` where that is, or 0.
+        pub fn cbor_diag_schema_fault(
+            cddl: *const u8,
+            cddl_len: usize,
+            rule: *const u8,
+            rule_len: usize,
+            line: *mut usize,
+            column: *mut usize,
+            message: *mut u8,
+            message_len: usize,
+        ) -> i64;
+        /// Returns 0 if all items fit a schema; or the length of what is said of the first that does not, writes as
+        /// much of it as fits, and sets `misfit`; or returns minus the number of an error.
+        pub fn cbor_diag_schema_misfit(
+            schema: *const u8,
+            schema_len: usize,
+            input: *const u8,
+            input_len: usize,
+            misfit: *mut Misfit,
             message: *mut u8,
             message_len: usize,
         ) -> i64;

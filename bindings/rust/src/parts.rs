@@ -257,10 +257,17 @@ fn text(content: Cow<'_, [u8]>) -> Cow<'_, str> {
 
 /// Returns what a call writes, for room of its own.
 pub(crate) fn written(call: impl Fn(*mut u8, usize) -> i64) -> Result<Vec<u8>> {
+    written_or(call).map_err(Error::of)
+}
+
+/// Returns what a call writes, for room of its own, or the negative result of the call.
+pub(crate) fn written_or(
+    call: impl Fn(*mut u8, usize) -> i64,
+) -> std::result::Result<Vec<u8>, i64> {
     let mut output = vec![0; 1024];
     loop {
         let answer = call(output.as_mut_ptr(), output.len());
-        let length = usize::try_from(answer).map_err(|_| Error::of(answer))?;
+        let length = usize::try_from(answer).map_err(|_| answer)?;
         let fits = length <= output.len();
         output.resize(length, 0);
         if fits {

@@ -1,7 +1,7 @@
 //! The rows of the vectors whose call is one of the crate's: `crates/vectors/data`, as `docs/VECTORS.md` has their
 //! form.
 
-use semphluk::{violation, convert, extent, reencode, Error, Extent, Form, Rules};
+use semphluk::{convert, edn_to_bytes, extent, reencode, violation, Error, Extent, Form, Misfit, Rules, Schema};
 use std::fs;
 use std::path::PathBuf;
 
@@ -189,5 +189,57 @@ fn encoded_again() {
                 assert!(!is_encoding, "{}", row.place);
             }
         }
+    }
+}
+
+/// The bytes of an item: EDN, or `hex` and digits.
+fn item_of(line: &str) -> Vec<u8> {
+    match line.strip_prefix("hex ") {
+        Some(digits) => bytes_of(digits),
+        None => edn_to_bytes(line).unwrap(),
+    }
+}
+
+/// What a row says of an item.
+fn said(call: &str, misfit: Option<Misfit>) -> String {
+    let Some(misfit) = misfit else {
+        return "fits".to_string();
+    };
+    if call == "cddl_fits" {
+        return format!("misfit {}", misfit.place);
+    }
+    let found = format!("found {}", misfit.found);
+    let (head, rest) = misfit.message.split_once(&found).unwrap();
+    let rest = rest.replacen("; ", "\n", 1);
+    format!("{} {head}{found}{rest}", misfit.place).replace("(line ", "(:")
+}
+
+/// What is said of each item of a row of CDDL, or of the text.
+fn checked(row: &Row) -> String {
+    let input = std::str::from_utf8(&row.input).unwrap();
+    let (cddl, items) = match row.call.as_str() {
+        "cddl_fault" => (input, None),
+        _ => input.rsplit_once("\n\n").map(|(cddl, items)| (cddl, Some(items))).unwrap(),
+    };
+    let rule = Some(row.argument.as_str()).filter(|rule| !rule.is_empty());
+    let schema = match Schema::new(cddl, rule) {
+        Ok(schema) => schema,
+        Err(error) => {
+            let place = format!("{}:{}", error.line.unwrap_or(1), error.column.unwrap_or(1));
+            let text = error.to_string();
+            return format!("{place} {}", text.strip_prefix(&format!("{place}: ")).unwrap_or(&text));
+        }
+    };
+    let Some(items) = items else {
+        return "none".to_string();
+    };
+    let lines = items.lines().map(|line| said(&row.call, schema.check(&item_of(line)).unwrap()));
+    lines.collect::<Vec<_>>().join("\n")
+}
+
+#[test]
+fn cddl() {
+    for row in rows(&["cddl_fits", "cddl_message", "cddl_fault"]) {
+        assert_eq!(checked(&row), row.wanted(), "{}", row.place);
     }
 }

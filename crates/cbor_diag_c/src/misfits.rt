@@ -38,7 +38,8 @@ pub struct MisfitParts {
 /// A message that is put together, and the parts of it.
 #[derive(Drop)]
 struct Said {
-    message: String,
+    /// In UTF-8.
+    message: Vec<u8>,
     told: MisfitParts,
 }
 
@@ -149,12 +150,8 @@ fn line_of(checker: &Checker, name: &str, place: usize) -> usize {
 
 /// Appends the path to what does not fit, and the alternatives that came less far. Returns where
 /// the path is.
-fn push_rest(
-    alloc: Global,
-    checker: &Checker,
-    misfit: &Misfit,
-    message: &mut String,
-) -> Result<Span, AllocError> {
+fn push_rest(checker: &Checker, misfit: &Misfit, message: &mut String) -> Result<Span, AllocError> {
+    let alloc = *message.allocator();
     let mut path = Span { start: 0, end: 0 };
     if !misfit.path.is_empty() {
         message.push_str("; at ")?;
@@ -184,12 +181,13 @@ fn said_of(
     let line = line_of(checker, &misfit.name, misfit.name_place);
     let words = format!(in alloc; "line {line}")?;
     let parts = misfit.push_message(&mut message, &words)?;
-    let path = push_rest(alloc, checker, misfit, &mut message)?;
+    let path = push_rest(checker, misfit, &mut message)?;
     let places = Places {
         place: item.saturating_add(misfit.place),
         item,
         line,
     };
+    let message = message.into_bytes();
     let told = told_of(places, parts, path, message.len());
     Ok(Said { message, told })
 }
@@ -249,10 +247,10 @@ pub extern "C" fn cbor_diag_schema_misfit(
         Err(error) => return number_of(error),
     };
     match first_misfit(alloc, &checker, input) {
-        Ok(None) => 0,
+        Ok(None) => write(b"", output),
         Ok(Some(said)) => {
             *misfit = said.told;
-            write(said.message.as_bytes(), output)
+            write(&said.message, output)
         }
         Err(error) => number_of(error),
     }

@@ -51,6 +51,8 @@ mod hostile_tokens;
 #[cfg(test)]
 mod items;
 #[cfg(test)]
+mod kept_schemas;
+#[cfg(test)]
 mod note_lines;
 #[cfg(test)]
 mod pieces;
