@@ -146,7 +146,8 @@ impl Schema {
         }
     }
 
-    /// The schema as bytes. A schema with 2^32 parts or bytes of text counts as out of memory.
+    /// The schema as bytes, without its labels, which matching does not need. A schema with 2^32
+    /// parts or bytes of text counts as out of memory.
     pub fn to_flat(&self, alloc: Global) -> Result<Vec<u8>, AllocError> {
         let sizes = self.sizes();
         let mut writer = Writer {
@@ -169,7 +170,8 @@ impl Schema {
         Ok(writer.out)
     }
 
-    /// The schema that the bytes are. They are checked: each index is that of a part that is there.
+    /// The schema that the bytes encode; it has no labels. The bytes are checked: each index is that
+    /// of a part that is there.
     pub fn from_flat(alloc: Global, bytes: &[u8]) -> Result<Schema, Unread> {
         let mut reader = Reader::new(bytes)?;
         let sizes = reader.sizes;
@@ -180,6 +182,7 @@ impl Schema {
             spans: Vec::new(alloc),
             lists: Vec::new(alloc),
             rules: Vec::new(alloc),
+            labels: Vec::new(alloc),
             pool: Vec::new(alloc),
             root: sizes.root,
         };

@@ -262,6 +262,7 @@ impl<'a> Reader<'a> {
                 target,
                 pattern: self.literal()?,
                 anchored: self.flag()?,
+                operand: self.node_index()?,
             },
             kind::COMPARED => Node::Compared {
                 target,

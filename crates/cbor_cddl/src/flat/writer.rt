@@ -170,10 +170,12 @@ impl Writer {
                 target,
                 pattern,
                 anchored,
+                operand,
             } => {
                 self.one(kind::PATTERN, target)?;
                 self.span(pattern)?;
-                self.byte(u8::from(anchored))
+                self.byte(u8::from(anchored))?;
+                self.size(operand)
             }
             Node::Compared {
                 target,
