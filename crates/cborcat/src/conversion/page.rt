@@ -104,7 +104,7 @@ impl Conversion<'_> {
             Ok(true) => {}
             Ok(false) => {
                 let asked = (self.job, self.tables);
-                let status = report_lost(self.rt, asked, self.place, item.bytes);
+                let status = report_lost(self.rt, asked, self.origin, item.bytes);
                 self.ended(status);
             }
             Err(_) => return End::Memory,
@@ -117,7 +117,7 @@ impl Conversion<'_> {
 
     /// Says that a page would show too many bytes.
     fn say_over(&mut self, most: usize) {
-        let name = label(self.place.name);
+        let name = label(self.origin.name);
         let megabytes = weight(most) / 1_000_000;
         let _ = eprintln!(self.rt;
             "cborcat: {name}: more than {most} bytes: the page would have more than {megabytes} MB\n  \
@@ -157,7 +157,7 @@ impl Conversion<'_> {
             return;
         }
         let heading = Heading {
-            name: short_name(label(self.place.name)),
+            name: short_name(label(self.origin.name)),
             bytes: self.page.bytes,
             items: self.page.items,
         };
@@ -167,7 +167,7 @@ impl Conversion<'_> {
                 Written::Failed => Status::Trouble,
                 Written::Whole | Written::Closed => Status::Fine,
             },
-            Err(_) => say_out_of_memory(self.rt, self.place.name),
+            Err(_) => say_out_of_memory(self.rt, self.origin.name),
         };
         self.ended(status);
     }
