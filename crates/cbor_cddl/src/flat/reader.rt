@@ -40,7 +40,8 @@ impl<'a> Reader<'a> {
             pool: reader.size()?,
             root: reader.size()?,
         };
-        if reader.sizes.root >= reader.sizes.nodes {
+        let sizes = reader.sizes;
+        if sizes.root >= sizes.nodes || sizes.least_len() > reader.rest.len() {
             return Err(Unread::Wrong);
         }
         Ok(reader)
