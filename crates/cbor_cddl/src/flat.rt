@@ -97,18 +97,6 @@ impl Sizes {
         pool: 0,
         root: 0,
     };
-
-    /// How many bytes all parts take at least.
-    fn least_len(self) -> usize {
-        let rules = self.rules.saturating_mul(16);
-        let lists = self.lists.saturating_mul(4);
-        let nodes = self.nodes.saturating_mul(9);
-        let strings = self.pool.saturating_add(self.source);
-        rules
-            .saturating_add(lists)
-            .saturating_add(nodes)
-            .saturating_add(strings)
-    }
 }
 
 /// Why bytes give no schema.

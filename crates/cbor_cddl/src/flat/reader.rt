@@ -40,8 +40,7 @@ impl<'a> Reader<'a> {
             pool: reader.size()?,
             root: reader.size()?,
         };
-        let sizes = reader.sizes;
-        if sizes.root >= sizes.nodes || sizes.least_len() > reader.rest.len() {
+        if reader.sizes.root >= reader.sizes.nodes {
             return Err(Unread::Wrong);
         }
         Ok(reader)
