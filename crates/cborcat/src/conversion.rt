@@ -253,9 +253,9 @@ impl<'a> Conversion<'a> {
         if one && self.any && before > 0 {
             return End::Remaining;
         }
-        let end = match self.job.item {
-            Some(item) if item != self.index => self.skip_to(item),
-            _ => self.show_next(one),
+        let (end, is_shown) = match self.job.item {
+            Some(item) if item != self.index => (self.skip_to(item), false),
+            _ => (self.show_next(one), true),
         };
         let passed = before - self.stream.rest().len().min(before);
         self.passed = passed;
@@ -264,7 +264,7 @@ impl<'a> Conversion<'a> {
         }
         self.any |= passed > 0;
         self.note_simple(passed);
-        if self.note_misfit(passed).is_err() {
+        if is_shown && self.note_misfit(passed).is_err() {
             return End::Memory;
         }
         match self.note_violation(passed) {
@@ -293,7 +293,7 @@ impl<'a> Conversion<'a> {
     fn show_next(&mut self, one: bool) -> End {
         let before = self.stream.rest().len();
         let end = match self.job.view {
-            View::Items if self.job.check => self.stream.check(one),
+            View::Items if self.job.check => self.stream.check(one || self.has_numbered_check()),
             View::Items if self.job.encode.is_some() => self.show_encoded(),
             View::Items if self.job.show.style.form == Form::Hex => self.show_dumps(),
             View::Items => self.show_some(),
@@ -306,6 +306,11 @@ impl<'a> Conversion<'a> {
             self.index = self.index.saturating_add(1);
         }
         end
+    }
+
+    /// Whether the item of one number alone has to fit the CDDL.
+    fn has_numbered_check(&self) -> bool {
+        self.cddl.is_some() && self.job.item.is_some()
     }
 
     /// Shows some items, and tells what follows them.
