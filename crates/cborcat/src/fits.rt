@@ -2,7 +2,7 @@
 //! first that does not fit.
 
 use crate::cddl::Cddl;
-use crate::messages::{Place, label, report_lost, say_byte};
+use crate::messages::{Origin, label, report_lost, say_byte};
 use crate::naming::Tables;
 use crate::shown::show_of;
 use crate::status::Status;
@@ -24,7 +24,7 @@ use std::fmt::Write;
 pub struct Fits<'a> {
     pub rt: &'a HostRuntime,
     pub job: &'a Job<'a>,
-    pub place: &'a Place<'a>,
+    pub origin: &'a Origin<'a>,
     /// The names that the path may have.
     pub tables: Option<Tables<'a>>,
     /// What the items have to fit.
@@ -109,7 +109,7 @@ impl Fits<'_> {
             Ok(Answer::Fits) => Ok((Status::Fine, false)),
             Ok(Answer::Lost) => {
                 let asked = (self.job, self.tables);
-                let status = report_lost(self.rt, asked, self.place, nth.item.bytes);
+                let status = report_lost(self.rt, asked, self.origin, nth.item.bytes);
                 Ok((status, false))
             }
             Ok(Answer::Misfit(part)) => {
@@ -118,7 +118,7 @@ impl Fits<'_> {
             }
             Err(Stop::Memory) => Err(Error::Memory),
             Err(stop) => {
-                let name = label(self.place.name);
+                let name = label(self.origin.name);
                 let _ = eprintln!(self.rt; "cborcat: {name}: --cddl: {stop}");
                 Ok((Status::Trouble, true))
             }
@@ -176,7 +176,7 @@ impl Fits<'_> {
         }
         let begins = nth.item.number(part.start).saturating_add(misfit.place);
         let at = begins.saturating_sub(nth.items.begins);
-        say_byte(self.rt, self.place, nth.items, at, (&text, &in_item));
+        say_byte(self.rt, self.origin, nth.items, at, (&text, &in_item));
         Ok(())
     }
 

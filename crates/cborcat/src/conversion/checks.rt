@@ -24,7 +24,7 @@ impl<'a> Conversion<'a> {
                 .saturating_sub(passed)
                 .saturating_add(at)
                 .saturating_add(1);
-            self.place.say_at_byte(self.rt, byte, TWO_BYTES);
+            self.origin.say_at_byte(self.rt, byte, TWO_BYTES);
             self.noted = true;
         }
     }
@@ -42,7 +42,7 @@ impl<'a> Conversion<'a> {
         let bytes = self.stream.passed(passed);
         let items = Piece { begins, bytes };
         if let Some(message) = first_violation(self.rt.alloc(), set, items)? {
-            report_byte(self.rt, self.place, items, (message.place, &message.text))?;
+            report_byte(self.rt, self.origin, items, (message.place, &message.text))?;
             self.broken = true;
             self.ended(Status::Bad);
         }
@@ -61,7 +61,7 @@ impl<'a> Conversion<'a> {
         let fits = Fits {
             rt: self.rt,
             job: self.job,
-            place: self.place,
+            origin: self.origin,
             tables: self.tables,
             cddl,
         };
