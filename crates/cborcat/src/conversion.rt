@@ -292,8 +292,9 @@ impl<'a> Conversion<'a> {
     /// Converts the items that have arrived, or only the next one.
     fn show_next(&mut self, one: bool) -> End {
         let before = self.stream.rest().len();
+        let checks_one = one || self.has_numbered_check();
         let end = match self.job.view {
-            View::Items if self.job.check => self.stream.check(one || self.has_numbered_check()),
+            View::Items if self.job.check => self.stream.check(checks_one),
             View::Items if self.job.encode.is_some() => self.show_encoded(),
             View::Items if self.job.show.style.form == Form::Hex => self.show_dumps(),
             View::Items => self.show_some(),
