@@ -1,0 +1,195 @@
+//! What a group takes (RFC 8610, sections 2.1 and 3.2): ordered choice, greedy occurrences, cuts.
+
+use crate::budget::Budget;
+use crate::rest::{Outcome, Rest};
+use crate::split::{Entry, Split};
+use crate::stop::Stop;
+use crate::tables::Tables;
+use crate::value::Datum;
+use cbor_cddl::{List, Node, Occurrence};
+
+impl Tables<'_> {
+    /// What the group at an index does with what is left.
+    #[cycle(fits)]
+    pub(crate) fn takes<'r>(
+        &self,
+        budget: &mut Budget,
+        index: usize,
+        rest: &Rest<'r>,
+        depth: u32,
+    ) -> Result<Outcome<'r>, Stop> {
+        if depth == 0 {
+            return Err(Stop::Deep);
+        }
+        budget.step()?;
+        let node = self.node(index);
+        match node {
+            Node::Sequence(list) => self.take_in_turn(budget, list, rest, depth - 1),
+            Node::GroupChoice(list) => self.take_first_of(budget, list, rest, depth - 1),
+            Node::Repeated { item, occurrence } => {
+                self.take_repeated(budget, item, occurrence, rest, depth - 1)
+            }
+            Node::Entry {
+                key,
+                cut,
+                value,
+                occurrence,
+            } => {
+                let entry = Entry {
+                    key,
+                    cut,
+                    value,
+                    occurrence,
+                };
+                self.take_entry(budget, entry, rest, depth - 1)
+            }
+            Node::Rule(rule) => {
+                if self.is_group(node) {
+                    self.takes(budget, self.body(rule), rest, depth - 1)
+                } else {
+                    self.take_member(budget, index, rest, depth - 1)
+                }
+            }
+            _ => self.take_member(budget, index, rest, depth - 1),
+        }
+    }
+
+    /// Takes the next member if it fits a type.
+    #[cycle(fits)]
+    fn take_member<'r>(
+        &self,
+        budget: &mut Budget,
+        index: usize,
+        rest: &Rest<'r>,
+        inner: u32,
+    ) -> Result<Outcome<'r>, Stop> {
+        let Rest::Members(members) = rest else {
+            return Ok(Outcome::Refuses);
+        };
+        let [first, rest @ ..] = members else {
+            return Ok(Outcome::Refuses);
+        };
+        if self.fits(budget, index, first, inner)? {
+            Ok(Outcome::Takes(Rest::Members(rest)))
+        } else {
+            Ok(Outcome::Refuses)
+        }
+    }
+
+    /// What the parts of a group do, one after the other.
+    #[cycle(fits)]
+    fn take_in_turn<'r>(
+        &self,
+        budget: &mut Budget,
+        list: List,
+        rest: &Rest<'r>,
+        inner: u32,
+    ) -> Result<Outcome<'r>, Stop> {
+        let mut left = rest.copy(self.alloc)?;
+        'parts: for index in self.list(list) {
+            match self.takes(budget, *index, &left, inner)? {
+                Outcome::Takes(next) => left = next,
+                Outcome::Refuses => return Ok(Outcome::Refuses),
+                Outcome::Cuts => return Ok(Outcome::Cuts),
+            }
+        }
+        Ok(Outcome::Takes(left))
+    }
+
+    /// What the first alternative does that takes. A cut ends its alternative.
+    #[cycle(fits)]
+    fn take_first_of<'r>(
+        &self,
+        budget: &mut Budget,
+        list: List,
+        rest: &Rest<'r>,
+        inner: u32,
+    ) -> Result<Outcome<'r>, Stop> {
+        let mut cuts = false;
+        'groups: for index in self.list(list) {
+            match self.takes(budget, *index, rest, inner)? {
+                Outcome::Takes(next) => return Ok(Outcome::Takes(next)),
+                Outcome::Refuses => {}
+                Outcome::Cuts => cuts = true,
+            }
+        }
+        if cuts {
+            Ok(Outcome::Cuts)
+        } else {
+            Ok(Outcome::Refuses)
+        }
+    }
+
+    /// What a group does, as often as it takes something, within an occurrence.
+    #[cycle(fits)]
+    fn take_repeated<'r>(
+        &self,
+        budget: &mut Budget,
+        index: usize,
+        occurrence: Occurrence,
+        rest: &Rest<'r>,
+        inner: u32,
+    ) -> Result<Outcome<'r>, Stop> {
+        let mut left = rest.copy(self.alloc)?;
+        let mut least = occurrence.least;
+        let mut most = occurrence.most;
+        'turns: for _turn in 0..rest.len() + 1 {
+            if most == 0 {
+                return Ok(Outcome::Takes(left));
+            }
+            match self.takes(budget, index, &left, inner)? {
+                Outcome::Takes(next) => {
+                    if next.len() == left.len() {
+                        return Ok(Outcome::Takes(left));
+                    }
+                    left = next;
+                }
+                Outcome::Refuses => {
+                    if least == 0 {
+                        return Ok(Outcome::Takes(left));
+                    }
+                    return Ok(Outcome::Refuses);
+                }
+                Outcome::Cuts => return Ok(Outcome::Cuts),
+            }
+            least = least.saturating_sub(1);
+            most -= 1;
+        }
+        Err(Stop::Work)
+    }
+
+    /// What an entry does. In an array its key is a name.
+    #[cycle(fits)]
+    fn take_entry<'r>(
+        &self,
+        budget: &mut Budget,
+        entry: Entry,
+        rest: &Rest<'r>,
+        inner: u32,
+    ) -> Result<Outcome<'r>, Stop> {
+        match rest {
+            Rest::Members(_) => {
+                self.take_repeated(budget, entry.value, entry.occurrence, rest, inner)
+            }
+            Rest::Pairs(pairs) => self.take_pairs(budget, entry, pairs, inner),
+        }
+    }
+
+    /// What an entry does with pairs: it takes those whose key and value fit.
+    #[cycle(fits)]
+    fn take_pairs<'r>(
+        &self,
+        budget: &mut Budget,
+        entry: Entry,
+        pairs: &[&'r (Datum, Datum)],
+        inner: u32,
+    ) -> Result<Outcome<'r>, Stop> {
+        let mut split = Split::new(self.alloc, entry.occurrence);
+        'pairs: for pair in pairs {
+            let fits_key = self.fits(budget, entry.key, &pair.0, inner)?;
+            let fits_value = fits_key && self.fits(budget, entry.value, &pair.1, inner)?;
+            split.add(*pair, fits_key, fits_value)?;
+        }
+        Ok(split.outcome(entry.cut))
+    }
+}
