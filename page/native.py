@@ -16,8 +16,10 @@ from rows import DATA, listed, rows_of
 BYTES, HEX, DIAG, EDN = 0, 1, 2, 4
 FORMS, RULES = range(9), range(7)
 ROOM, WORD, HEAD, VALUE, PART = {"room": 1 << 16}, {"cell": 8}, {"cell": 24}, {"cell": 56}, {"room": 240}
+MISFIT = {"cell": 88}
 TYPES = ["", "COSE_Key", "CWT", "cose_sign1", "no such type"]
 PATHS = ["", "0", "1", "a", "*", "0/@", "1/*/0"]
+SCHEMA_ITEMS = list(map(bytes.fromhex, ["", "01", "82016161", "a16161f93e00", "c11a6553f100", "43820102"]))
 NAMES = '[Thing]\ntag = 1000\nmap = { 1 = "one" }\n'
 
 
@@ -52,6 +54,28 @@ def calls_on_bytes(data, has_page):
         yield ["cbor_diag_named", [whole, kind, ROOM]]
         if has_page:
             yield ["cbor_diag_page", [whole, kind, given(NAMES), 0, ROOM]]
+
+
+def native_schema(library, cddl, rule):
+    """A schema that the native library loads, which is empty for a text that is wrong."""
+    output = ctypes.create_string_buffer(1 << 16)
+    size = ctypes.c_size_t
+    library.cbor_diag_schema_load.restype = ctypes.c_int64
+    length = library.cbor_diag_schema_load(cddl, size(len(cddl)), rule, size(len(rule)), output, size(len(output)))
+    return output.raw[:max(0, length)]
+
+
+def calls_on_schemas(library, rows):
+    """The calls on texts of CDDL, and on items by them."""
+    for row in rows:
+        if row.call.startswith("cddl_"):
+            text, rule = row.input, row.argument.encode()
+            cddl = text if row.call == "cddl_fault" else text.rpartition(b"\n\n")[0]
+            yield ["cbor_diag_schema_load", [given(cddl), given(rule), ROOM]]
+            yield ["cbor_diag_schema_fault", [given(cddl), given(rule), WORD, WORD, ROOM]]
+            schema = native_schema(library, cddl, rule)
+            for item in SCHEMA_ITEMS:
+                yield ["cbor_diag_schema_misfit", [given(schema), given(item), MISFIT, ROOM]]
 
 
 def calls(has_page):
@@ -117,6 +141,8 @@ def compare(module, shared):
     """How many calls were compared, and those that differ: the call, the module's answer and the native one's."""
     library = ctypes.CDLL(str(shared))
     made = list(calls(hasattr(library, "cbor_diag_page")))
+    if hasattr(library, "cbor_diag_schema_load"):
+        made += calls_on_schemas(library, [row for name in listed() for row in rows_of(DATA / name)])
     lines = "".join(json.dumps(call) + "\n" for call in made)
     ran = subprocess.run(["node", HERE / "calls.mjs", module], input=lines, capture_output=True, text=True, check=True)
     answers = ran.stdout.splitlines()

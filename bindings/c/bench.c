@@ -3,8 +3,8 @@
  *
  * FILE has items of SIZE bytes each, one after the other. Each round converts all of them to diagnostic notation, once
  * into a buffer and once with no room, which does all but copy the output. It prints the least nanoseconds of a
- * conversion of both kinds. With CDDL, a file of rules, and RULE, which all items fit, each round checks all of them, and
- * it prints the least nanoseconds of a check.
+ * conversion of both kinds. With CDDL, a file of rules, and RULE, which all items fit, each round checks all of them
+ * instead, and it prints the least nanoseconds of a check.
  */
 #include <stdio.h>
 #include <stdlib.h>

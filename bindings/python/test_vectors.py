@@ -91,7 +91,7 @@ def said(call, misfit):
 
 def checked(row):
     """What is said of each item of a row of CDDL, or of the text."""
-    cddl, _, items = (row.input, "", "") if row.call == "cddl_fault" else row.input.rpartition("\n\n")
+    cddl, _, items = (row.text(), "", "") if row.call == "cddl_fault" else row.text().rpartition("\n\n")
     try:
         schema = cbor_diag.Schema(cddl, row.argument or None)
     except CborDiagError as error:

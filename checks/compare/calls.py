@@ -17,8 +17,8 @@ CALLS = {name: call for subject in SUBJECTS for name, call in subject.CALLS.item
 # The calls that it does not have, so that a call that nobody knows is found: tables of names, what a screen shows, and
 # messages, whose words are the library's own.
 WITHOUT = {
-    "encoded", "excerpt_of_bytes", "excerpt_of_text", "first_violation", "looks_like", "lost_words", "meanings",
-    "meanings_by", "name_before", "names", "names_at", "names_by", "not_encoded", "not_json", "partial_edn",
-    "position_of", "push_colored", "push_dump", "push_elided", "push_partial_dump", "push_without_widths",
-    "with_file",
+    "encoded", "encoded_by_cddl", "excerpt_of_bytes", "excerpt_of_text", "first_violation", "looks_like", "lost_words",
+    "meanings", "meanings_by", "meanings_by_cddl", "name_before", "names", "names_at", "names_by", "names_by_cddl",
+    "not_encoded", "not_json", "partial_edn", "position_of", "push_colored", "push_dump", "push_elided",
+    "push_partial_dump", "push_without_widths", "with_file",
 }

@@ -88,7 +88,37 @@ FAULTS = [
     ("a = {\n  b: }", "a.cddl:2:6: expected a type, found }"),
     ("a = tstr .abnf 'x'", "a.cddl:1:10: the control .abnf is not supported"),
     ('a = tstr .regexp "[a-z-[aeiou]]"', "a.cddl:1:18: .regexp does not support -["),
+    ('a = tstr .regexp "(a"', "a.cddl:1:18: the pattern is no regular expression"),
     ("", "a.cddl: no rule is there"),
+]
+
+
+# A CDDL, options, items in EDN, and what is said: the byte, the message and the line below it; or another text.
+PARTS = [
+    ("a = int", ["-p", "x"], '{"x": 1, "y": "a"}', None),
+    ("a = int", ["-p", "y"], '{"x": 1, "y": "a"}', (6, 'expected int for a (a.cddl:1), found "a"', "at y")),
+    ("a = { b: int }", ["-p", "*"], '[{"b": 1}, {"b": "c"}]',
+     (8, 'expected int for b (a.cddl:1), found "c"', "at 1/b")),
+    ("a = { b: int }", ["-p", "0/@/*"], "[<<[{\"b\": 1}, {}]>>]",
+     (7, 'expected the key "b" for a (a.cddl:1), found a map of 0 without it', "at 0/@/1")),
+    ("a = [b: int]", ["-p", "*/@/0"], "[<<[[1]]>>, <<[[1.5]]>>]",
+     (8, "expected int for b (a.cddl:1), found 1.5", "at 1/@/0/0")),
+    # By a name that is shown: 18([<<{1: -7}>>, {}, h'', h'']).
+    ("a = tstr", ["-p", "protected/alg"], "18([h'a10126', {}, h'', h''])",
+     (5, "expected tstr for a (a.cddl:1), found -7", "at protected/alg")),
+    # Later items, with their numbers.
+    ("a = { b: int }", [], '{"b": 1} {"b": 2} {"b": "c"}',
+     (11, 'expected int for b (a.cddl:1), found "c"', "at 2:b")),
+    ("a = int", [], '1 "a"', (1, 'expected int for a (a.cddl:1), found "a"', "at 1:/")),
+    ("a = int", ["-p", "*"], '[1] [2, "a"]', (4, 'expected int for a (a.cddl:1), found "a"', "at 1:1")),
+    ("a = int", ["-p", "1:"], '"a" 2 "b"', None),
+    ("a = int", ["-p", "1:x"], '"a" {"x": "b"} "c"', (5, 'expected int for a (a.cddl:1), found "b"', "at 1:x")),
+]
+
+# The same of a path that leads nowhere.
+LOST = [
+    (["-p", "y"], '{"x": 1}', 'cborcat: -x: y: no such key; the map has "x"\n'),
+    (["-p", "1:"], "1", "cborcat: -x: 1: no such item; 1 item came, from 0 on\n"),
 ]
 
 
@@ -105,6 +135,18 @@ def without_excerpt(said):
     """A message without the lines of bytes and of the mark below them."""
     lines = said.splitlines(True)
     return "".join(lines[:-2]) if lines and lines[-1].strip() == "^^" else said
+
+
+def check_parts(run, same, folder, written):
+    """Parts that a path leads to, and later items."""
+    for cddl, options, items, said in PARTS:
+        written("a.cddl", cddl.encode())
+        _, err, status = run("--cddl=a.cddl", *options, "-x", items, cwd=folder)
+        wanted = message_of(said).replace("a.cbor:", "-x:").replace("): expected", ") of the bytes of the notation: expected")
+        same(f"--cddl {options} on {items}", (without_excerpt(err), status), (wanted, 1 if said else 0))
+    written("a.cddl", b"a = int")
+    for options, items, said in LOST:
+        same(f"--cddl {options} on {items}", run("--cddl=a.cddl", *options, "-x", items, cwd=folder), (b"", said, 1))
 
 
 def check(run, same, folder, examples):
@@ -129,6 +171,7 @@ def check(run, same, folder, examples):
     written("b.cddl", b"c = b\nd = uit")
     same("two files", run("--cddl=a.cddl", "--cddl=b.cddl", "-x", "1", cwd=folder),
          (b"", "cborcat: b.cddl:2:5: no rule uit is there; uint is one\n", 2))
+    check_parts(run, same, folder, written)
     written("cose.cddl", COSE.encode())
     for name in ("cose-sign1.hex", "cwt-signed.hex"):
         same(f"COSE on {name}", run(f"--cddl={folder}/cose.cddl", f"{examples}/{name}"), (b"", "", 0))

@@ -227,9 +227,56 @@ def files(run, same, folder):
     same("no file", run("--names=/nowhere/names.toml", "-x", "1")[::2], (b"", 2))
 
 
+# A file of CDDL, by docs/NAMES.md.
+CDDL = """\
+frame = #6.1000([version: uint, kind: &( open: 1, close: 2 ), ? held: bstr .cbor claims])
+claims = { ? iss => tstr, ? exp => ~time }
+iss = 1
+exp = 4
+"""
+
+# Words, and what is written with the names of that file.
+BY_RULES = [
+    (["-x", "1000([7, 2])"], "/frame/ 1000([/version/ 7, /kind/ 2 /close/])\n"),
+    (["-x", "1000([7, 1, h'a1016161'])"], "/frame/ 1000([/version/ 7, /kind/ 1 /open/, /held/ <<{/iss/ 1: \"a\"}>>])\n"),
+    (["-p", "held/exp", "-x", "1000([7, 1, h'a10400'])"], "0 /1970-01-01T00:00:00Z/\n"),
+    (["--as=claims", "-x", "{1: \"a\", 4: 0}"], "/claims/ {/iss/ 1: \"a\", /exp/ 4: 0 /1970-01-01T00:00:00Z/}\n"),
+    (["-t", "json", "--names-as-keys", "--as=claims", "-x", "{1: \"a\", 8: 2}"], '{"iss": "a", "8": 2}\n'),
+    (["-x", "16([h'', {}, h''])"], "/COSE_Encrypt0/ 16([/protected/ h'', /unprotected/ {}, /ciphertext/ h''])\n"),
+]
+
+# Files of CDDL, and what standard error has of them; nothing if they have no error.
+RULES = [
+    ("a = [tme]", "1:6: no rule tme is there; time is one"),
+    ("a = {\n  b: }", "2:6: expected a type, found }"),
+    ("a = b\nb = a", "1:1: the rule a is defined by itself: a -> b -> a"),
+    ('a = tstr .regexp "(a"', "1:18: the pattern is no regular expression"),
+    ("g = (a: int)", None),
+    ("", None),
+]
+
+
+def by_rules(run, same, folder):
+    """Files of CDDL."""
+    path = os.path.join(folder, "names.cddl")
+
+    def written(text):
+        with open(path, "w", encoding="utf-8") as file:
+            file.write(text)
+
+    written(CDDL)
+    for given, wanted in BY_RULES:
+        same(f"names of CDDL {given}", run(f"--names={path}", *given), (wanted.encode(), "", 0))
+    for text, fault in RULES:
+        written(text)
+        wanted = (b"", f"cborcat: {path}:{fault}\n", 2) if fault else (b"1\n", "", 0)
+        same(f"names of the CDDL {text!r}", run(f"--names={path}", "-x", "1"), wanted)
+
+
 def check(run, same, folder, scratch):
     """All of these; `scratch` is a folder to write in."""
     examples(run, same, folder)
     words(run, same)
     dumps(run, same, folder)
     files(run, same, scratch)
+    by_rules(run, same, scratch)

@@ -266,7 +266,7 @@ class Violation(_Violation):
 
 
 class Misfit(NamedTuple):
-    """Why an item does not fit a schema. Its `str` is the message with the place: `byte 5: expected uint for b (line 1),
+    """Why an item does not fit a schema. Its `str` is the message with the place: `byte 3: expected uint for b (line 1),
     found -1; at b`."""
 
     place: int

@@ -18,7 +18,7 @@ use crate::names::{NO_TYPE, type_of};
 use cbor_grammar::Error;
 use cbor_inspect::{Form, Naming, Show};
 use cbor_names::{Fault, FileError, Names, known_names, with_file};
-use cbor_page::{Place, push_data, push_items};
+use cbor_page::{PathStart, push_data, push_items};
 use cbor_places::Piece;
 use std::alloc::Global;
 
@@ -33,7 +33,7 @@ fn item_lines(alloc: Global, bytes: &[u8]) -> Result<Vec<u8>, Error>
     }
     let show = Show::new(alloc, Form::Pretty);
     let item = Piece { begins: 0, bytes };
-    let outermost = Place {
+    let outermost = PathStart {
         number: 0,
         path: "",
     };

@@ -33,4 +33,4 @@ mod token;
 mod walk;
 
 pub use page::{Heading, MOST, push_page, weight};
-pub use shown::{Place, push_data, push_items, push_partial};
+pub use shown::{PathStart, push_data, push_items, push_partial};

@@ -17,9 +17,9 @@ use cbor_places::{Around, ByteNumbers, Piece};
 use cbor_trace::place_of_fault;
 use std::alloc::{AllocError, Global};
 
-/// Where items stand.
+/// What the paths of items begin with.
 #[derive(Clone, Copy)]
-pub struct Place<'a> {
+pub struct PathStart<'a> {
     /// How many items of the data come before them.
     pub number: usize,
     /// The path to them, if they are parts of an item; it is empty otherwise.
@@ -36,7 +36,7 @@ pub fn push_items(
     out: &mut Vec<u8>,
     show: &Show<'_>,
     piece: Piece<'_>,
-    place: Place<'_>,
+    paths: PathStart<'_>,
 ) -> Result<(Shown, usize), AllocError>
     ensures used { IfOk result (λ r. r.0.used ≤ length piece.entry.bytes.now) }
 
@@ -55,7 +55,7 @@ pub fn push_items(
         text: &text,
         bytes,
         begins: piece.begins,
-        place,
+        paths,
         fault: None,
     };
     let after = push_lines(out, &items)?;
@@ -106,7 +106,7 @@ pub fn push_partial(
     out: &mut Vec<u8>,
     show: &Show<'_>,
     piece: Piece<'_>,
-    place: Place<'_>,
+    paths: PathStart<'_>,
 ) -> Result<(), AllocError>
     // The lines are constants and escaped data. Their bytes joined are those of the data.
     ensures { OnOk result ((text added : List ℕ) × (out.new.items ≡ out.old.items ++ added)
@@ -121,11 +121,11 @@ pub fn push_partial(
         text: text.as_bytes(),
         bytes: piece.bytes,
         begins: piece.begins,
-        place,
+        paths,
         fault: Some(wrong.place),
     };
     push_lines(out, &items)?;
-    push_wrong(out, &wrong, (piece.number(wrong.place), place.number))?;
+    push_wrong(out, &wrong, (piece.number(wrong.place), paths.number))?;
     Ok(())
 }
 
@@ -187,11 +187,11 @@ fn push_next(
         begins: piece.number(front.used),
         bytes,
     };
-    let place = Place {
+    let paths = PathStart {
         number: front.number,
         path: "",
     };
-    let (shown, number) = push_items(out, show, rest, place)?;
+    let (shown, number) = push_items(out, show, rest, paths)?;
     if shown.end == End::Memory {
         return Err(AllocError);
     }
@@ -252,10 +252,10 @@ pub fn push_data(out: &mut Vec<u8>, show: &Show<'_>, piece: Piece<'_>) -> Result
         begins: piece.number(front.used),
         bytes,
     };
-    let place = Place {
+    let paths = PathStart {
         number: front.number,
         path: "",
     };
-    push_partial(out, show, rest, place)?;
+    push_partial(out, show, rest, paths)?;
     Ok(())
 }

@@ -8,7 +8,7 @@
 use crate::mark::Mark;
 use crate::open::{Next, Open, Step};
 use crate::plan::Plan;
-use crate::shown::Place;
+use crate::shown::PathStart;
 use crate::source::Event;
 use crate::token::{Closer, Token, first_token};
 use cbor_bytes::{Extent, extent};
@@ -31,7 +31,7 @@ pub(crate) struct Items<'a> {
     /// Where these begin in the data.
     pub(crate) begins: usize,
     /// Where they stand.
-    pub(crate) place: Place<'a>,
+    pub(crate) paths: PathStart<'a>,
     /// Where in the bytes the fault is, if the last item is not whole: at their end if they are
     /// truncated.
     pub(crate) fault: Option<usize>,
@@ -83,7 +83,7 @@ impl<'a> Walk<'a> {
             open: Vec::new(alloc),
             folds: Vec::new(alloc),
             low: 0,
-            number: items.place.number,
+            number: items.paths.number,
             at_fault: false,
             runs: Plan::new(alloc),
             texts: Plan::new(alloc),
@@ -189,7 +189,7 @@ impl<'a> Walk<'a> {
         }
         let number = self.number;
         self.number = number.saturating_add(1);
-        if !self.items.place.path.is_empty() {
+        if !self.items.paths.path.is_empty() {
             Step::Given
         } else if number > 0 {
             Step::Number(number)
@@ -202,7 +202,7 @@ impl<'a> Walk<'a> {
     fn push_step(&mut self, step: Step) -> Result<(), AllocError> {
         let alloc = *self.open.allocator();
         let words = match step {
-            Step::Given => String::from_str(alloc, self.items.place.path)?,
+            Step::Given => String::from_str(alloc, self.items.paths.path)?,
             Step::Number(number) => format!(in alloc; "{number}:")?,
             Step::Index(index) => format!(in alloc; "{index}")?,
             Step::Key { from, to } => {

@@ -1,12 +1,12 @@
-//! `--cddl`: loads the CDDL files, checks whether each item fits them, and writes the message for
-//! the first item that does not.
+//! Reads the files of CDDL: those of `--cddl`, which are read as one text, and that of `--names`.
+//! Writes the message for a text that is wrong.
 
 use crate::messages::{label, say};
 use crate::status::Status;
-use cbor_bytes::{Extent, extent};
 use cbor_cddl::{Fault, FaultKind, Position, Schema, position_of, source_of};
-use cbor_places::Piece;
-use cbor_schema::{Checker, Misfit, Stop};
+use cbor_cddl_names::with_schema;
+use cbor_names::Names;
+use cbor_schema::Checker;
 use cborcat_arguments::Job;
 use std::alloc::{AllocError, Global};
 use std::fs;
@@ -30,18 +30,15 @@ struct Files<'a> {
 #[derive(Drop)]
 pub struct Cddl<'a> {
     files: Files<'a>,
-    checker: Checker,
+    /// The rules, which are ready to be matched.
+    pub checker: Checker,
 }
 
-/// What is said of an item that does not fit.
-#[derive(Drop)]
-pub struct Said {
-    /// The byte where it does not fit, counted from the first of the items.
-    pub place: usize,
-    /// What was wanted, and what is there.
-    pub text: String,
-    /// The path to that in the item, and what other alternatives there are; empty for nothing.
-    pub in_item: String,
+impl Cddl<'_> {
+    /// The name of the file that has a byte of the text, and the line.
+    pub fn line(&self, alloc: Global, place: usize) -> Result<String, AllocError> {
+        self.files.line(alloc, place)
+    }
 }
 
 /// Says that memory ran out.
@@ -51,6 +48,14 @@ fn no_memory(rt: &HostRuntime) -> Status {
 }
 
 impl<'a> Files<'a> {
+    /// No files.
+    fn new(alloc: Global) -> Files<'a> {
+        Files {
+            list: Vec::new(alloc),
+            text: String::new(alloc),
+        }
+    }
+
     /// Adds a file, and a line feed behind it.
     fn add(&mut self, name: &'a str, text: &str) -> Result<(), AllocError> {
         let begins = self.text.len();
@@ -119,10 +124,7 @@ impl<'a> Files<'a> {
 /// Reads the files of `--cddl`.
 fn files_of<'a>(rt: &HostRuntime, job: &'a Job<'_>) -> Result<Files<'a>, Status> {
     let alloc = rt.alloc();
-    let mut files = Files {
-        list: Vec::new(alloc),
-        text: String::new(alloc),
-    };
+    let mut files = Files::new(alloc);
     for name in &job.schemas {
         let text = match fs::read_to_string(rt, name) {
             Ok(text) => text,
@@ -156,47 +158,22 @@ fn checker_of(alloc: Global, text: &str, rule: Option<&str>) -> Result<Checker, 
     Checker::new(alloc, schema)
 }
 
-impl Cddl<'_> {
-    /// What is said of the first of some whole items that does not fit; `None` if all fit.
-    pub fn first_misfit(&self, alloc: Global, items: Piece) -> Result<Option<Said>, Stop> {
-        let mut at = 0usize;
-        for _ in 0..items.bytes.len() {
-            let rest = items.bytes.get(at..).unwrap_or(b"");
-            let Extent::Item(len) = extent(rest) else {
-                break;
-            };
-            let item = Piece {
-                begins: items.number(at),
-                bytes: rest.get(..len).unwrap_or(b""),
-            };
-            if let Some(misfit) = self.checker.misfit(alloc, item)? {
-                return Ok(Some(self.said(alloc, misfit, at)?));
-            }
-            at = at.saturating_add(len);
-        }
-        Ok(None)
-    }
+/// A rule of the prelude, so that a text needs no rule that is a type.
+const ANY: Option<&str> = Some("any");
 
-    /// What is said of an item that begins at a byte.
-    fn said(&self, alloc: Global, misfit: Misfit, at: usize) -> Result<Said, AllocError> {
-        let mut text = String::new(alloc);
-        let line = self.files.line(alloc, misfit.name_place)?;
-        misfit.push_message(&mut text, &line)?;
-        let mut in_item = String::new(alloc);
-        if !misfit.path.is_empty() {
-            write!(in_item, "at {}", misfit.path)?;
-        }
-        if let Some(others) = &misfit.others {
-            if !in_item.is_empty() {
-                in_item.push_str("; ")?;
-            }
-            let line = self.files.line(alloc, others.name_place)?;
-            others.push_message(&mut in_item, &line)?;
-        }
-        Ok(Said {
-            place: at.saturating_add(misfit.place),
-            text,
-            in_item,
-        })
+/// The tables with the types of a file of CDDL. Says what is wrong with its text.
+pub fn with_cddl(rt: &HostRuntime, names: Names, file: &str, text: &str) -> Result<Names, Status> {
+    let alloc = rt.alloc();
+    let mut files = Files::new(alloc);
+    if files.add(file, text).is_err() {
+        return Err(no_memory(rt));
+    }
+    let checker = match checker_of(alloc, &files.text, ANY) {
+        Ok(checker) => checker,
+        Err(fault) => return Err(files.say_fault(rt, fault, None)),
+    };
+    match with_schema(alloc, names, checker.schema()) {
+        Ok(names) => Ok(names),
+        Err(_) => Err(no_memory(rt)),
     }
 }

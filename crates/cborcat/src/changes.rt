@@ -1,7 +1,7 @@
 //! `Changes`: makes the changes of `--set` and `--delete` in the items of an input as they arrive,
 //! before the items are shown or checked. Says why an item cannot be changed.
 
-use crate::messages::{Place, label};
+use crate::messages::{Origin, label};
 use crate::naming::Tables;
 use crate::status::Status;
 use cbor_edit::{Edit, EditError, edited};
@@ -16,7 +16,7 @@ use std::alloc::AllocError;
 pub struct Changes<'a> {
     rt: &'a HostRuntime,
     job: &'a Job<'a>,
-    place: &'a Place<'a>,
+    origin: &'a Origin<'a>,
     /// The names that the paths may have.
     tables: Option<Tables<'a>>,
     /// The bytes that came, but for those of the items that were changed.
@@ -34,13 +34,13 @@ impl<'a> Changes<'a> {
     pub fn new(
         rt: &'a HostRuntime,
         job: &'a Job<'a>,
-        place: &'a Place<'a>,
+        origin: &'a Origin<'a>,
         tables: Option<Tables<'a>>,
     ) -> Changes<'a> {
         Changes {
             rt,
             job,
-            place,
+            origin,
             tables,
             stream: Stream::new(Vec::new(rt.alloc())),
             count: 0,
@@ -140,7 +140,7 @@ impl<'a> Changes<'a> {
 
     /// Says why an item has no such change.
     fn refuse(&self, change: &Change, item: &[u8], error: EditError) -> Status {
-        let name = label(self.place.name);
+        let name = label(self.origin.name);
         let said = match error {
             EditError::Lost => self.lost_words(change, item),
             _ => Err(Error::TooDeep),

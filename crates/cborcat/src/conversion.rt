@@ -16,7 +16,7 @@ use crate::each::show_each;
 use crate::encode::Encoding;
 use crate::input::{MORE, block_len, read_into};
 use crate::messages::{
-    Place, label, report_end, report_few, report_long, report_lost, report_none_left, say,
+    Origin, label, report_end, report_few, report_long, report_lost, report_none_left, say,
 };
 use crate::naming::Tables;
 use crate::output::{Target, Written};
@@ -40,7 +40,7 @@ pub struct Conversion<'a> {
     rt: &'a HostRuntime,
     job: &'a Job<'a>,
     target: &'a mut Target,
-    place: &'a Place<'a>,
+    origin: &'a Origin<'a>,
     /// The names that are shown.
     tables: Option<Tables<'a>>,
     /// The CDDL that items have to fit.
@@ -87,7 +87,7 @@ pub struct Conversion<'a> {
 
 impl<'a> Conversion<'a> {
     /// A conversion of an input that begins with these bytes.
-    pub fn new(run: &'a mut Runner<'_>, place: &'a Place<'a>, first: Vec<u8>) -> Conversion<'a> {
+    pub fn new(run: &'a mut Runner<'_>, origin: &'a Origin<'a>, first: Vec<u8>) -> Conversion<'a> {
         let (rt, job, tables, cddl) = (run.rt, run.job, run.tables, run.cddl);
         let came = first.len();
         let mut first = first;
@@ -100,12 +100,12 @@ impl<'a> Conversion<'a> {
             stats: Stats::new(rt.alloc()),
             piece: Indexed::from(job.offset),
             page: Page::new(rt.alloc()),
-            place,
+            origin,
             tables,
             cddl,
             status: Status::Fine,
             stream: Stream::new(first),
-            changes: Changes::new(rt, job, place, tables),
+            changes: Changes::new(rt, job, origin, tables),
             came,
             skip: job.offset - skipped,
             within: 0,
@@ -141,7 +141,7 @@ impl<'a> Conversion<'a> {
             next = match self.take_block(input, &mut block) {
                 Ok(count) => self.items(count == 0),
                 Err(error) => {
-                    say(self.rt, self.place.name, &error);
+                    say(self.rt, self.origin.name, &error);
                     self.ended(Status::Trouble);
                     Next::NextInput
                 }
@@ -158,7 +158,7 @@ impl<'a> Conversion<'a> {
     /// Takes what the input has, up to a block; returns how many bytes came, 0 at the end.
     fn take_block<R: Read>(&mut self, input: &mut R, block: &mut Vec<u8>) -> io::Result<usize> {
         if block.is_empty() {
-            block.resize(block_len(self.rt, self.place.name).min(MORE), 0)?;
+            block.resize(block_len(self.rt, self.origin.name).min(MORE), 0)?;
         }
         let count = read_into(input, block.as_mut_slice())?.min(block.len());
         let skipped = self.skip.min(count);
@@ -253,9 +253,9 @@ impl<'a> Conversion<'a> {
         if one && self.any && before > 0 {
             return End::Remaining;
         }
-        let end = match self.job.item {
-            Some(item) if item != self.index => self.skip_to(item),
-            _ => self.show_next(one),
+        let (end, is_shown) = match self.job.item {
+            Some(item) if item != self.index => (self.skip_to(item), false),
+            _ => (self.show_next(one), true),
         };
         let passed = before - self.stream.rest().len().min(before);
         self.passed = passed;
@@ -264,7 +264,7 @@ impl<'a> Conversion<'a> {
         }
         self.any |= passed > 0;
         self.note_simple(passed);
-        if self.note_misfit(passed).is_err() {
+        if is_shown && self.note_misfit(passed).is_err() {
             return End::Memory;
         }
         match self.note_violation(passed) {
@@ -293,7 +293,7 @@ impl<'a> Conversion<'a> {
     fn show_next(&mut self, one: bool) -> End {
         let before = self.stream.rest().len();
         let end = match self.job.view {
-            View::Items if self.job.check => self.stream.check(one),
+            View::Items if self.job.check => self.stream.check(one || self.has_numbered_check()),
             View::Items if self.job.encode.is_some() => self.show_encoded(),
             View::Items if self.job.show.style.form == Form::Hex => self.show_dumps(),
             View::Items => self.show_some(),
@@ -308,6 +308,11 @@ impl<'a> Conversion<'a> {
         end
     }
 
+    /// Whether the item of one number alone has to fit the CDDL.
+    fn has_numbered_check(&self) -> bool {
+        self.cddl.is_some() && self.job.item.is_some()
+    }
+
     /// Shows some items, and tells what follows them.
     fn show_some(&mut self) -> End {
         match show_of(self.rt.alloc(), self.job, self.tables) {
@@ -318,7 +323,7 @@ impl<'a> Conversion<'a> {
 
     /// Shows some items as dumps, and tells what follows them.
     fn show_dumps(&mut self) -> End {
-        let dumps = Dumps::new(self.rt, self.job, self.place, self.tables);
+        let dumps = Dumps::new(self.rt, self.job, self.origin, self.tables);
         let asked = (self.came, self.job.show.one);
         let (end, status) = show_each(&dumps, &mut self.stream, asked, &mut self.out);
         self.ended(status);
@@ -333,7 +338,7 @@ impl<'a> Conversion<'a> {
         let encoding = Encoding {
             rt: self.rt,
             job: self.job,
-            place: self.place,
+            origin: self.origin,
             set,
             tables: self.tables,
         };
@@ -348,7 +353,7 @@ impl<'a> Conversion<'a> {
         let plain = Plain {
             rt: self.rt,
             job: self.job,
-            place: self.place,
+            origin: self.origin,
             tables: self.tables,
         };
         let asked = (self.came, self.job.show.one || self.job.item.is_some());
@@ -367,7 +372,7 @@ impl<'a> Conversion<'a> {
             return;
         }
         if let Some(word) = shape_of(self.stream.passed(passed)) {
-            let name = label(self.place.name);
+            let name = label(self.origin.name);
             let _ = eprintln!(self.rt; "cborcat: {name}: this looks like {word}: --as={word}");
         }
     }
@@ -382,7 +387,7 @@ impl<'a> Conversion<'a> {
             Ok(_) => end,
             Err(_) => End::Memory,
         };
-        let status = report_end(self.rt, self.place, self.left(), end);
+        let status = report_end(self.rt, self.origin, self.left(), end);
         self.ended(status);
         Next::NextInput
     }
@@ -392,7 +397,7 @@ impl<'a> Conversion<'a> {
         if self.changes.count == 0 {
             return self.stop(End::Cut);
         }
-        report_none_left(self.rt, self.place);
+        report_none_left(self.rt, self.origin);
         self.ended(Status::Bad);
         Next::NextInput
     }
@@ -405,7 +410,7 @@ impl<'a> Conversion<'a> {
         if let Some(item) = self.job.item
             && self.index <= item
         {
-            report_few(self.rt, self.place, item, self.index);
+            report_few(self.rt, self.origin, item, self.index);
             self.ended(Status::Bad);
         }
         if let View::Index(_) = self.job.view {
@@ -419,7 +424,7 @@ impl<'a> Conversion<'a> {
         if let View::At(byte) = self.job.view {
             let count = self.came;
             let what = format_args!("no item has this byte; {count} bytes came");
-            self.place.say_at_byte(self.rt, byte, what);
+            self.origin.say_at_byte(self.rt, byte, what);
             self.ended(Status::Bad);
         }
         Next::NextInput
@@ -432,7 +437,7 @@ impl<'a> Conversion<'a> {
             if let Some(item) = change.item
                 && count <= item
             {
-                report_few(self.rt, self.place, item, count);
+                report_few(self.rt, self.origin, item, count);
                 self.ended(Status::Bad);
             }
         }
@@ -443,7 +448,7 @@ impl<'a> Conversion<'a> {
         let rest = self.stream.rest();
         let item = &rest[..len.min(rest.len())];
         let asked = (self.job, self.tables);
-        let status = report_lost(self.rt, asked, self.place, item);
+        let status = report_lost(self.rt, asked, self.origin, item);
         self.ended(status);
         let _ = self.stream.skip(true);
         self.any = true;
@@ -468,7 +473,7 @@ impl<'a> Conversion<'a> {
 
     /// Says that the next item is longer than is allowed.
     fn stop_long(&mut self) -> Next {
-        report_long(self.rt, self.place, self.begins(), self.job.limit);
+        report_long(self.rt, self.origin, self.begins(), self.job.limit);
         self.ended(Status::Bad);
         Next::NextInput
     }

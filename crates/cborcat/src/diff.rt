@@ -1,7 +1,7 @@
 //! `--diff`: reads two inputs whole, compares their items, and writes a line for each difference.
 
 use crate::input::{block_len, read_all, read_first};
-use crate::messages::{Place, report_end, say, say_out_of_memory};
+use crate::messages::{Origin, report_end, say, say_out_of_memory};
 use crate::naming::{Tables, encoded_in};
 use crate::output::{Target, Written, write};
 use crate::recognized::{Data, data_of, form_of};
@@ -62,14 +62,14 @@ impl Diff<'_> {
                 may_be_notation: false,
             }
         };
-        let place = Place {
+        let origin = Origin {
             name,
             form: data.form,
             text: &text,
             color: self.job.color,
             changed: false,
         };
-        self.check(&place, &data.bytes)?;
+        self.check(&origin, &data.bytes)?;
         Ok(data.bytes)
     }
 
@@ -91,7 +91,7 @@ impl Diff<'_> {
     }
 
     /// Says what is wrong with items, if something is.
-    fn check(self, place: &Place, bytes: &[u8]) -> Result<(), Status> {
+    fn check(self, origin: &Origin, bytes: &[u8]) -> Result<(), Status> {
         let shown = skip_items(bytes, false);
         if shown.end == End::Done {
             return Ok(());
@@ -100,7 +100,7 @@ impl Diff<'_> {
             begins: shown.used,
             bytes: bytes.get(shown.used..).unwrap_or(b""),
         };
-        let _ = report_end(self.rt, place, left, shown.end);
+        let _ = report_end(self.rt, origin, left, shown.end);
         Err(Status::Trouble)
     }
 

@@ -3,7 +3,7 @@
 //! malformed item.
 
 use crate::each::ShowsItem;
-use crate::messages::{Place, report_lost};
+use crate::messages::{Origin, report_lost};
 use crate::naming::Tables;
 use crate::shown::show_of;
 use crate::status::Status;
@@ -19,7 +19,7 @@ use cborcat_arguments::Job;
 pub struct Dumps<'a> {
     rt: &'a HostRuntime,
     job: &'a Job<'a>,
-    place: &'a Place<'a>,
+    origin: &'a Origin<'a>,
     /// How they are shown, with the names that items may have.
     style: DumpStyle<'a>,
     /// The names that items, and the steps of the path, may have.
@@ -37,7 +37,7 @@ impl<'a> Dumps<'a> {
     pub fn new(
         rt: &'a HostRuntime,
         job: &'a Job<'a>,
-        place: &'a Place<'a>,
+        origin: &'a Origin<'a>,
         tables: Option<Tables<'a>>,
     ) -> Dumps<'a> {
         let mut style = DumpStyle {
@@ -54,7 +54,7 @@ impl<'a> Dumps<'a> {
         Dumps {
             rt,
             job,
-            place,
+            origin,
             style,
             tables,
         }
@@ -129,7 +129,7 @@ impl ShowsItem for Dumps<'_> {
             End::Memory => return Err(Error::Memory),
             End::Lost { .. } => {
                 let asked = (self.job, self.tables);
-                return Ok(report_lost(self.rt, asked, self.place, item.bytes));
+                return Ok(report_lost(self.rt, asked, self.origin, item.bytes));
             }
             _ => {}
         }

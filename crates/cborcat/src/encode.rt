@@ -3,7 +3,7 @@
 
 use crate::dumps::Dumps;
 use crate::each::ShowsItem;
-use crate::messages::{Place, report_byte, report_lost};
+use crate::messages::{Origin, report_byte, report_lost};
 use crate::naming::Tables;
 use crate::shown::show_of;
 use crate::status::Status;
@@ -20,7 +20,7 @@ use cborcat_arguments::Job;
 pub struct Encoding<'a> {
     pub rt: &'a HostRuntime,
     pub job: &'a Job<'a>,
-    pub place: &'a Place<'a>,
+    pub origin: &'a Origin<'a>,
     /// The rules that the items are to keep.
     pub set: RuleSet,
     /// The names that are shown.
@@ -35,7 +35,7 @@ impl ShowsItem for Encoding<'_> {
             Err(error) => return self.refuse(item, error),
         };
         if self.job.show.style.form == Form::Hex {
-            let dumps = Dumps::new(self.rt, self.job, self.place, self.tables);
+            let dumps = Dumps::new(self.rt, self.job, self.origin, self.tables);
             let bytes = again.as_slice();
             return dumps.show_one(Piece { begins: 0, bytes }, out);
         }
@@ -45,7 +45,7 @@ impl ShowsItem for Encoding<'_> {
             End::Lost { .. } => Ok(report_lost(
                 self.rt,
                 (self.job, self.tables),
-                self.place,
+                self.origin,
                 &again,
             )),
             _ => Ok(Status::Fine),
@@ -57,7 +57,7 @@ impl Encoding<'_> {
     /// Says why an item cannot be encoded so that it keeps the rules.
     fn refuse(self, item: Piece, error: ReencodeError) -> Result<Status, Error> {
         let message = not_encoded(self.rt.alloc(), self.set, item, error)?;
-        report_byte(self.rt, self.place, item, (message.place, &message.text))?;
+        report_byte(self.rt, self.origin, item, (message.place, &message.text))?;
         Ok(Status::Bad)
     }
 }

@@ -12,6 +12,7 @@ mod diff;
 mod dumps;
 mod each;
 mod encode;
+mod fits;
 mod input;
 mod messages;
 mod naming;

@@ -1,4 +1,4 @@
-//! Writes messages on standard error: what is wrong with an input, where, and what to do. `Place`:
+//! Writes messages on standard error: what is wrong with an input, where, and what to do. `Origin`:
 //! the name, form and text of an input. Messages use them to name its bytes.
 
 use crate::naming::Tables;
@@ -19,7 +19,7 @@ use std::io;
 
 /// Where the data of an input comes from.
 #[derive(Drop)]
-pub struct Place<'a> {
+pub struct Origin<'a> {
     /// The name of the input.
     pub name: &'a str,
     /// The form that it was read in.
@@ -78,7 +78,7 @@ pub fn say_no_text(rt: &HostRuntime, at: usize) {
     let _ = eprintln!(rt; "  it is read as bytes, because no text has byte {at} (0x{at:x})");
 }
 
-impl Place<'_> {
+impl Origin<'_> {
     /// Where the digits of a byte of the data are in the text, if that is hex.
     fn digits(&self, byte: usize) -> Option<usize> {
         match self.form {
@@ -110,7 +110,7 @@ impl Place<'_> {
     }
 }
 
-impl Places for Place<'_> {
+impl Places for Origin<'_> {
     fn push_byte(&self, out: &mut String, byte: usize) -> Result<(), AllocError> {
         match self.digits(byte) {
             Some(at) => {
@@ -123,24 +123,24 @@ impl Places for Place<'_> {
 }
 
 /// Says why no further item is converted.
-pub fn report_end(rt: &HostRuntime, place: &Place, left: Piece, end: End) -> Status {
+pub fn report_end(rt: &HostRuntime, origin: &Origin, left: Piece, end: End) -> Status {
     let said = match end {
-        End::Fault { error, end } => report_fault(rt, place, left, (error, end)),
-        End::Cut => report_cut(rt, place, left),
+        End::Fault { error, end } => report_fault(rt, origin, left, (error, end)),
+        End::Cut => report_cut(rt, origin, left),
         End::Remaining => {
-            place.say_at_byte(rt, left.begins, "bytes remain after the item");
+            origin.say_at_byte(rt, left.begins, "bytes remain after the item");
             let _ = eprintln!(rt; "  without -1 they are read as further items");
             Ok(())
         }
         End::Memory => Err(Error::Memory),
         End::TwoByteSimple { at } => {
-            report_byte(rt, place, left, (at.saturating_add(1), TWO_BYTES))
+            report_byte(rt, origin, left, (at.saturating_add(1), TWO_BYTES))
         }
         End::Full | End::Done | End::Lost { .. } => Ok(()),
     };
     match said {
         Ok(()) => Status::Bad,
-        Err(_) => say_out_of_memory(rt, place.name),
+        Err(_) => say_out_of_memory(rt, origin.name),
     }
 }
 
@@ -148,43 +148,43 @@ pub fn report_end(rt: &HostRuntime, place: &Place, left: Piece, end: End) -> Sta
 /// left.
 fn report_fault(
     rt: &HostRuntime,
-    place: &Place,
+    origin: &Origin,
     left: Piece,
     fault: (Error, usize),
 ) -> Result<(), Error> {
     let (error, end) = fault;
     let at = place_of_fault(left.bytes, error, end);
     let around = Around::of_end(rt.alloc(), left.first(end))?;
-    let what = around.fault_words(place, error)?;
-    let words = around.words(place, false)?;
-    say_byte(rt, place, left, at, (&what, &words));
+    let what = around.fault_words(origin, error)?;
+    let words = around.words(origin, false)?;
+    say_byte(rt, origin, left, at, (&what, &words));
     Ok(())
 }
 
 /// Says what is wrong at a byte of a whole item, before which there may be others.
 pub fn report_byte(
     rt: &HostRuntime,
-    place: &Place,
+    origin: &Origin,
     left: Piece,
     message: (usize, &str),
 ) -> Result<(), Error> {
     let (at_fault, what) = message;
-    let words = words_around(rt, place, left, at_fault)?;
-    say_byte(rt, place, left, at_fault, (what, &words));
+    let words = words_around(rt, origin, left, at_fault)?;
+    say_byte(rt, origin, left, at_fault, (what, &words));
     Ok(())
 }
 
 /// Where in its item one of the bytes is that are left.
 fn words_around(
     rt: &HostRuntime,
-    place: &Place,
+    origin: &Origin,
     left: Piece,
     at: usize,
 ) -> Result<String, AllocError> {
     let byte = left.number(at);
     let (_, item) = item_with(left, byte);
     let around = Around::new(rt.alloc(), item, byte.saturating_sub(item.begins))?;
-    around.words(place, true)
+    around.words(origin, true)
 }
 
 /// Says where in the item something is wrong, in a line of its own.
@@ -197,55 +197,55 @@ fn say_where(rt: &HostRuntime, words: &str) {
 /// Says what is wrong at one of the bytes that are left, and where in the item that is.
 pub fn say_byte(
     rt: &HostRuntime,
-    place: &Place,
+    origin: &Origin,
     left: Piece,
     at_fault: usize,
     words: (&str, &str),
 ) {
     let (what, in_item) = words;
     let byte = left.number(at_fault);
-    match place.digits(byte) {
+    match origin.digits(byte) {
         Some(at) => {
-            say_at(rt, (place.name, place.text), at, what);
+            say_at(rt, (origin.name, origin.text), at, what);
             say_where(rt, in_item);
-            let excerpt = Excerpt::of_text(place.text, at, "^^");
-            say_excerpt(rt, place.color, &excerpt);
+            let excerpt = Excerpt::of_text(origin.text, at, "^^");
+            say_excerpt(rt, origin.color, &excerpt);
         }
         None => {
             let _ = eprintln!(rt;
                 "cborcat: {}: byte {byte} (0x{byte:x}){}: {what}",
-                label(place.name),
-                place.within()
+                label(origin.name),
+                origin.within()
             );
             say_where(rt, in_item);
             if let Some(excerpt) = Excerpt::of_bytes(left.bytes, at_fault) {
-                say_excerpt(rt, place.color, &excerpt);
+                say_excerpt(rt, origin.color, &excerpt);
             }
         }
     }
 }
 
 /// Says which item is not whole, and how much of it is there.
-fn report_cut(rt: &HostRuntime, place: &Place, left: Piece) -> Result<(), Error> {
+fn report_cut(rt: &HostRuntime, origin: &Origin, left: Piece) -> Result<(), Error> {
     let around = Around::of_end(rt.alloc(), left)?;
-    let words = around.cut_words(place)?;
+    let words = around.cut_words(origin)?;
     let end = left.number(left.bytes.len());
-    match place.digits(end) {
+    match origin.digits(end) {
         Some(at) => say_at(
             rt,
-            (place.name, place.text),
+            (origin.name, origin.text),
             at,
             format_args!("truncated: {words}"),
         ),
         None => {
-            let within = match place.form {
+            let within = match origin.form {
                 Input::Base64 => " in the base 64",
                 Input::Diag => " in the bytes of the notation",
                 _ => "",
             };
             let _ = eprintln!(rt;
                 "cborcat: {}: truncated{within}: {words}",
-                label(place.name)
+                label(origin.name)
             );
         }
     }
@@ -279,11 +279,11 @@ fn words_of_lost(
 pub fn report_lost(
     rt: &HostRuntime,
     asked: (&Job, Option<Tables<'_>>),
-    place: &Place,
+    origin: &Origin,
     bytes: &[u8],
 ) -> Status {
     let (job, tables) = asked;
-    let name = label(place.name);
+    let name = label(origin.name);
     match words_of_lost(rt.alloc(), job, tables, bytes) {
         Ok(words) => {
             let _ = eprintln!(rt; "cborcat: {name}: {words}");
@@ -297,22 +297,22 @@ pub fn report_lost(
 }
 
 /// Says that an input has too few items for the number before the path.
-pub fn report_few(rt: &HostRuntime, place: &Place, item: usize, count: usize) {
-    let name = label(place.name);
+pub fn report_few(rt: &HostRuntime, origin: &Origin, item: usize, count: usize) {
+    let name = label(origin.name);
     let what = if count == 1 { "item" } else { "items" };
     let _ = eprintln!(rt; "cborcat: {name}: {item}: no such item; {count} {what} came, from 0 on");
 }
 
 /// Says that no item is left of an input that has to be one.
-pub fn report_none_left(rt: &HostRuntime, place: &Place) {
-    let name = label(place.name);
+pub fn report_none_left(rt: &HostRuntime, origin: &Origin) {
+    let name = label(origin.name);
     let _ = eprintln!(rt; "cborcat: {name}: no item is left after --delete, but -1 asks for one");
 }
 
 /// Says that an item is longer than is allowed.
-pub fn report_long(rt: &HostRuntime, place: &Place, begins: usize, limit: usize) {
+pub fn report_long(rt: &HostRuntime, origin: &Origin, begins: usize, limit: usize) {
     let what = format_args!("the item is longer than {limit} bytes (--limit)");
-    place.say_at_byte(rt, begins, what);
+    origin.say_at_byte(rt, begins, what);
 }
 
 /// Says why a text does not have its form, and what it may be.

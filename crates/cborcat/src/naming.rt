@@ -1,6 +1,8 @@
-//! `Tables`: the names that the program uses, from `cbor_names` and from the file of `--names`. It
-//! finds the byte strings that hold an item by their names, and the names of keys for JSON.
+//! `Tables`: the names that the program uses, from `cbor_names` and from the file of `--names`,
+//! which is TOML or CDDL. It finds the byte strings that hold an item by their names, and the names
+//! of keys for JSON.
 
+use crate::cddl::with_cddl;
 use crate::messages::{label, say};
 use crate::status::Status;
 use cbor_bytes::{Extent, extent};
@@ -38,6 +40,9 @@ pub fn tables_of(rt: &HostRuntime, job: &Job) -> Result<Names, Status> {
             return Err(Status::Trouble);
         }
     };
+    if path.ends_with(".cddl") {
+        return with_cddl(rt, known, path, &text);
+    }
     match with_file(alloc, known, text.as_str()) {
         Ok(names) => Ok(names),
         Err(error) => {

@@ -2,7 +2,7 @@
 //! of a string (`-t raw`). Says why an item cannot be written so.
 
 use crate::each::ShowsItem;
-use crate::messages::{Place, label, report_byte, report_lost};
+use crate::messages::{Origin, label, report_byte, report_lost};
 use crate::naming::{Tables, key_names};
 use crate::shown::show_of;
 use crate::status::Status;
@@ -25,7 +25,7 @@ use std::io::IsTerminal;
 pub struct Plain<'a> {
     pub rt: &'a HostRuntime,
     pub job: &'a Job<'a>,
-    pub place: &'a Place<'a>,
+    pub origin: &'a Origin<'a>,
     /// The names that stand in place of keys, if they do.
     pub tables: Option<Tables<'a>>,
 }
@@ -42,7 +42,7 @@ impl ShowsItem for Plain<'_> {
             End::Memory => return Err(Error::Memory),
             End::Lost { .. } => {
                 let asked = (self.job, self.tables);
-                return Ok(report_lost(self.rt, asked, self.place, item.bytes));
+                return Ok(report_lost(self.rt, asked, self.origin, item.bytes));
             }
             _ => {}
         }
@@ -134,12 +134,12 @@ impl Plain<'_> {
     /// Says at which byte of an item something keeps it from being written.
     fn refuse(self, item: Piece, message: (usize, &str)) -> Result<Status, Error> {
         if self.job.show.steps.is_empty() {
-            report_byte(self.rt, self.place, item, message)?;
+            report_byte(self.rt, self.origin, item, message)?;
             return Ok(Status::Bad);
         }
         let (at, what) = message;
         let around = Around::new(self.rt.alloc(), item, at)?;
-        let (name, part) = (label(self.place.name), self.job.path);
+        let (name, part) = (label(self.origin.name), self.job.path);
         let mut path = String::from_str(self.rt.alloc(), part)?;
         if !around.path.is_empty() {
             path.push('/')?;

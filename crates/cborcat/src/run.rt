@@ -5,7 +5,7 @@ use crate::cddl::{Cddl, cddl_of};
 use crate::conversion::Conversion;
 use crate::diff::Diff;
 use crate::input::{block_len, read_first};
-use crate::messages::{Place, say, say_no_text, say_pasted};
+use crate::messages::{Origin, say, say_no_text, say_pasted};
 use crate::naming::{Tables, shown_of, tables_of};
 use crate::output::{Target, close, open};
 use crate::recognized::{data_of, form_of, say_notation};
@@ -162,7 +162,7 @@ impl Runner<'_> {
         };
         let (form, text) = (Input::Bytes, b"".as_slice());
         let color = self.job.color;
-        let place = Place {
+        let origin = Origin {
             name,
             form,
             text,
@@ -170,7 +170,7 @@ impl Runner<'_> {
             changed: !self.job.changes.is_empty(),
         };
         let pasted = looks_like(&bytes);
-        let (next, end) = self.items(&place, bytes, input);
+        let (next, end) = self.items(&origin, bytes, input);
         if end == Ended::BadAtOnce {
             if at > 0 {
                 say_no_text(self.rt, at);
@@ -182,8 +182,8 @@ impl Runner<'_> {
 
     /// Converts the items of these bytes, and of those that the input still has. Also returns how
     /// that ended.
-    fn items<R: Read>(&mut self, place: &Place, first: Vec<u8>, input: &mut R) -> (Next, Ended) {
-        let mut conversion = Conversion::new(self, place, first);
+    fn items<R: Read>(&mut self, origin: &Origin, first: Vec<u8>, input: &mut R) -> (Next, Ended) {
+        let mut conversion = Conversion::new(self, origin, first);
         let next = conversion.all(input);
         let (status, any) = (conversion.status, conversion.any || conversion.long);
         drop(conversion);
@@ -207,14 +207,14 @@ impl Runner<'_> {
         };
         let mut none = b"".as_slice();
         let color = self.job.color;
-        let place = Place {
+        let origin = Origin {
             name,
             form: data.form,
             text,
             color,
             changed: !self.job.changes.is_empty(),
         };
-        let (next, end) = self.items(&place, data.bytes, &mut none);
+        let (next, end) = self.items(&origin, data.bytes, &mut none);
         if data.may_be_notation && end != Ended::Other {
             let status = say_notation(self.rt, name, text);
             self.ended(status);

@@ -83,12 +83,11 @@ const OPTIONS: [Row<'static>; 31] = [
 ];
 
 /// Arguments that cannot stand together.
-const CONFLICTS: [(&str, &str); 31] = [
+const CONFLICTS: [(&str, &str); 30] = [
     ("text", "file"),
     ("encode", "check"),
     ("cddl", "to"),
     ("cddl", "at"),
-    ("cddl", "path"),
     ("cddl", "encode"),
     ("cddl", "partial"),
     ("cddl", "diff"),

@@ -41,8 +41,9 @@ Output:
       --no-notes     no comments in notation, and no names
       --as=TYPE      treat each item shown as a TYPE such as COSE_Key if no tag
                      gives its type, and show the names of its keys and values
-      --names=FILE   also show the names of FILE: tables in TOML, beside those
-                     of COSE, CWT, EAT, SenML and CTAP2
+      --names=FILE   also show the names of FILE: tables in TOML, or the rules
+                     of a FILE.cddl; beside those of COSE, CWT, EAT, SenML and
+                     CTAP2
       --no-names     no names; other comments stay
       --names-as-keys
                      write keys as their names (-t json)
@@ -66,8 +67,9 @@ Output:
                      write nothing; report the first error of each input, or
                      its first violation of RULES (default: the grammar of
                      RFC 8949)
-      --cddl=FILE    write nothing; report the first item of each input that does
-                     not fit the CDDL (RFC 8610) of FILE; several are one text
+      --cddl=FILE    write nothing; report the first item of each input, or part
+                     at PATH, that does not fit the CDDL (RFC 8610) of FILE;
+                     several are one text
       --rule=NAME    the rule that items have to fit (default: the first)
       --encode=RULES re-encode each item so that it keeps RULES
       --diff         compare two files: a line for each difference: ~ changed,

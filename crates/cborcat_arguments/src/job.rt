@@ -140,7 +140,8 @@ impl Job<'_> {
 
     /// Whether there are names: they are shown, or a path may have them.
     pub fn has_names(&self) -> bool {
-        let is_followed = !self.path.is_empty() && !self.check || !self.changes.is_empty();
+        let has_path = !self.path.is_empty() && (!self.check || !self.schemas.is_empty());
+        let is_followed = has_path || !self.changes.is_empty();
         is_followed && self.names || self.shows_names()
     }
 

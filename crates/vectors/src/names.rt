@@ -9,9 +9,14 @@
 //! - `with_file` reads the input as a file of names. It gives `read`, or what is wrong.
 //! - `names_by ITEM` and `meanings_by ITEM` give names and meanings of an item in hex, also by the
 //!   file of names that is the input.
+//! - `names_by_cddl ITEM`, `meanings_by_cddl ITEM` and `encoded_by_cddl ITEM` give the same, and
+//!   the places of byte strings that hold items, by the text of CDDL that is the input. A rule
+//!   after the item is the item's type.
 
 use crate::lines::{lines_or, push_line};
 use crate::row::Row;
+use cbor_cddl::Schema;
+use cbor_cddl_names::with_schema;
 use cbor_names::{Fault, FileError, Names, Note, Type, known_names, notes, with_file};
 use std::alloc::{AllocError, Global};
 
@@ -22,6 +27,7 @@ pub fn answer(alloc: Global, row: &Row) -> Result<Option<String>, AllocError> {
         "name_before" | "names_at" => at_place(alloc, row),
         "with_file" => of_file(alloc, row),
         "names_by" | "meanings_by" => by_file(alloc, row),
+        "names_by_cddl" | "meanings_by_cddl" | "encoded_by_cddl" => by_cddl(alloc, row),
         _ => return Ok(None),
     };
     Ok(Some(found?))
@@ -48,6 +54,20 @@ fn by_file(alloc: Global, row: &Row) -> Result<String, AllocError> {
     }
 }
 
+/// What is said of the item that is the row's argument, by the text of CDDL that is its input.
+fn by_cddl(alloc: Global, row: &Row) -> Result<String, AllocError> {
+    let (digits, rule) = row.argument.split_once(" ").unwrap_or((row.argument, ""));
+    let Ok(bytes) = hex::decode(alloc, digits) else {
+        return String::from_str(alloc, "no hex");
+    };
+    // A rule of the prelude: the text needs no rule that is a type.
+    let Ok(schema) = Schema::load(alloc, row.text(), Some("any")) else {
+        return String::from_str(alloc, "no CDDL");
+    };
+    let names = with_schema(alloc, known_names(alloc)?, &schema)?;
+    said(alloc, row.call, &bytes, &names, names.find(rule))
+}
+
 /// What is wrong in the file that is the row's input.
 fn of_file(alloc: Global, row: &Row) -> Result<String, AllocError> {
     match with_file(alloc, known_names(alloc)?, row.text()) {
@@ -69,9 +89,9 @@ fn error_text(alloc: Global, error: FileError) -> Result<String, AllocError> {
 /// The word that a call asks of a note; empty if the note has none.
 fn word_of<'n>(call: &str, note: Note<'n>) -> &'n str {
     match call {
-        "names" | "names_by" => note.before,
-        "encoded" if note.encoded => "<<>>",
-        "encoded" => "",
+        "names" | "names_by" | "names_by_cddl" => note.before,
+        "encoded" | "encoded_by_cddl" if note.encoded => "<<>>",
+        "encoded" | "encoded_by_cddl" => "",
         _ => note.after,
     }
 }

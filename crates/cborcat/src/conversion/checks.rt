@@ -3,13 +3,13 @@
 //! first item that breaks a rule or does not fit.
 
 use super::Conversion;
-use crate::messages::{label, report_byte, say_byte};
+use crate::fits::Fits;
+use crate::messages::report_byte;
 use crate::status::Status;
 use cbor_grammar::Error;
 use cbor_inspect::two_byte_simple;
 use cbor_messages::{TWO_BYTES, first_violation};
 use cbor_places::Piece;
-use cbor_schema::Stop;
 
 impl<'a> Conversion<'a> {
     /// Says where the first simple value below 32 in two bytes is, if it is in the bytes that were
@@ -24,7 +24,7 @@ impl<'a> Conversion<'a> {
                 .saturating_sub(passed)
                 .saturating_add(at)
                 .saturating_add(1);
-            self.place.say_at_byte(self.rt, byte, TWO_BYTES);
+            self.origin.say_at_byte(self.rt, byte, TWO_BYTES);
             self.noted = true;
         }
     }
@@ -42,7 +42,7 @@ impl<'a> Conversion<'a> {
         let bytes = self.stream.passed(passed);
         let items = Piece { begins, bytes };
         if let Some(message) = first_violation(self.rt.alloc(), set, items)? {
-            report_byte(self.rt, self.place, items, (message.place, &message.text))?;
+            report_byte(self.rt, self.origin, items, (message.place, &message.text))?;
             self.broken = true;
             self.ended(Status::Bad);
         }
@@ -58,25 +58,22 @@ impl<'a> Conversion<'a> {
         if self.broken || passed == 0 {
             return Ok(());
         }
-        let begins = self.begins().saturating_sub(passed);
-        let bytes = self.stream.passed(passed);
-        let items = Piece { begins, bytes };
-        match cddl.first_misfit(self.rt.alloc(), items) {
-            Ok(None) => {}
-            Ok(Some(said)) => {
-                let words = (said.text.as_str(), said.in_item.as_str());
-                say_byte(self.rt, self.place, items, said.place, words);
-                self.broken = true;
-                self.ended(Status::Bad);
-            }
-            Err(Stop::Memory) => return Err(Error::Memory),
-            Err(stop) => {
-                let name = label(self.place.name);
-                let _ = eprintln!(self.rt; "cborcat: {name}: --cddl: {stop}");
-                self.broken = true;
-                self.ended(Status::Trouble);
-            }
-        }
+        let fits = Fits {
+            rt: self.rt,
+            job: self.job,
+            origin: self.origin,
+            tables: self.tables,
+            cddl,
+        };
+        let items = Piece {
+            begins: self.begins().saturating_sub(passed),
+            bytes: self.stream.passed(passed),
+        };
+        let number = self.job.item.unwrap_or(self.number);
+        let checked = fits.check(items, number)?;
+        self.number = number.saturating_add(checked.count);
+        self.broken = checked.is_over;
+        self.ended(checked.status);
         Ok(())
     }
 }

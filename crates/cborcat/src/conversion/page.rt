@@ -8,7 +8,7 @@ use crate::shown::show_of;
 use crate::status::Status;
 use cbor_grammar::Error;
 use cbor_inspect::{End, Show, parts_of};
-use cbor_page::{Heading, Place, push_items, push_page, push_partial, weight};
+use cbor_page::{Heading, PathStart, push_items, push_page, push_partial, weight};
 use cbor_places::Piece;
 use std::alloc::{AllocError, Global};
 
@@ -38,8 +38,13 @@ impl Page {
     }
 
     /// Adds the lines of an item.
-    fn push(&mut self, show: &Show<'_>, item: Piece<'_>, at: Place<'_>) -> Result<(), AllocError> {
-        let (shown, _) = push_items(&mut self.lines, show, item, at)?;
+    fn push(
+        &mut self,
+        show: &Show<'_>,
+        item: Piece<'_>,
+        paths: PathStart<'_>,
+    ) -> Result<(), AllocError> {
+        let (shown, _) = push_items(&mut self.lines, show, item, paths)?;
         if shown.end == End::Memory {
             return Err(AllocError);
         }
@@ -99,7 +104,7 @@ impl Conversion<'_> {
             Ok(true) => {}
             Ok(false) => {
                 let asked = (self.job, self.tables);
-                let status = report_lost(self.rt, asked, self.place, item.bytes);
+                let status = report_lost(self.rt, asked, self.origin, item.bytes);
                 self.ended(status);
             }
             Err(_) => return End::Memory,
@@ -112,7 +117,7 @@ impl Conversion<'_> {
 
     /// Says that a page would show too many bytes.
     fn say_over(&mut self, most: usize) {
-        let name = label(self.place.name);
+        let name = label(self.origin.name);
         let megabytes = weight(most) / 1_000_000;
         let _ = eprintln!(self.rt;
             "cborcat: {name}: more than {most} bytes: the page would have more than {megabytes} MB\n  \
@@ -136,11 +141,11 @@ impl Conversion<'_> {
             return Ok(Written::Whole);
         }
         let show = show_of(self.rt.alloc(), self.job, self.tables)?;
-        let place = Place {
+        let paths = PathStart {
             number: self.page.number,
             path: "",
         };
-        push_partial(&mut self.page.lines, &show, left, place)?;
+        push_partial(&mut self.page.lines, &show, left, paths)?;
         self.page.count(left.bytes.len());
         Ok(Written::Whole)
     }
@@ -152,7 +157,7 @@ impl Conversion<'_> {
             return;
         }
         let heading = Heading {
-            name: short_name(label(self.place.name)),
+            name: short_name(label(self.origin.name)),
             bytes: self.page.bytes,
             items: self.page.items,
         };
@@ -162,7 +167,7 @@ impl Conversion<'_> {
                 Written::Failed => Status::Trouble,
                 Written::Whole | Written::Closed => Status::Fine,
             },
-            Err(_) => say_out_of_memory(self.rt, self.place.name),
+            Err(_) => say_out_of_memory(self.rt, self.origin.name),
         };
         self.ended(status);
     }
@@ -177,7 +182,7 @@ fn push_whole(
 ) -> Result<bool, AllocError> {
     let (number, most) = how;
     if !page.ends_before(item.bytes.len(), most) {
-        page.push(show, item, Place { number, path: "" })?;
+        page.push(show, item, PathStart { number, path: "" })?;
     }
     Ok(true)
 }
@@ -210,11 +215,11 @@ fn push_parts(
         }
         let bytes = span.bytes(item.bytes);
         let begins = item.number(span.start);
-        let place = Place {
+        let paths = PathStart {
             number: 0,
             path: &path,
         };
-        page.push(&plain, Piece { begins, bytes }, place)?;
+        page.push(&plain, Piece { begins, bytes }, paths)?;
     }
     Ok(!found.is_empty())
 }

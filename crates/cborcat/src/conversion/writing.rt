@@ -87,7 +87,7 @@ impl Conversion<'_> {
                 Written::Failed => Status::Trouble,
                 Written::Whole | Written::Closed => Status::Fine,
             },
-            Err(_) => say_out_of_memory(self.rt, self.place.name),
+            Err(_) => say_out_of_memory(self.rt, self.origin.name),
         };
         self.ended(status);
     }
@@ -170,7 +170,7 @@ impl Conversion<'_> {
         let said = match end {
             End::Fault { error, end } => {
                 let around = Around::of_end(alloc, self.left().first(end))?;
-                let words = around.fault_words(self.place, error)?;
+                let words = around.fault_words(self.origin, error)?;
                 format!(in alloc; "malformed: {words}")?
             }
             End::Cut => String::from_str(alloc, "truncated")?,
@@ -197,7 +197,7 @@ impl Conversion<'_> {
                 show.partial(self.rt.alloc(), bytes, said)?
             }
             Form::Hex => {
-                let dumps = Dumps::new(self.rt, self.job, self.place, self.tables);
+                let dumps = Dumps::new(self.rt, self.job, self.origin, self.tables);
                 dumps.partial(bytes, said)?
             }
             Form::Digits | Form::Bytes => return Ok(None),
