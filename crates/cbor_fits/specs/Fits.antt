@@ -114,13 +114,21 @@ take_pair p s =
     if s.most == 0 then leave p true s
     else record { left = s.left; least = s.least - 1; most = s.most - 1; all_fit = s.all_fit }
 
--- goes over the pairs in their order, and takes those whose key and value fit
+-- takes or leaves a pair, whose key and value fit or not
+abbrev pub with_pair : Value × Value → Bool → Bool → Split → Split
+with_pair p false fits_value s = leave p true s
+with_pair p true false s = leave p false s
+with_pair p true true s = take_pair p s
+
+-- goes over the pairs in their order; a value is asked only if its key fits
 abbrev pub split : (Value → Option Bool) → (Value → Option Bool) → List (Value × Value) → Split → Option Split
 split key fits [] s = Some s
 split key fits (p ∷ ps) s =
-    key p.0 >>= λ k.
-    if k then fits p.1 >>= λ v. split key fits ps (if v then take_pair p s else leave p false s)
-    else split key fits ps (leave p true s)
+    key p.0 >>= λ k. (if k then fits p.1 else Some false) >>= λ v. split key fits ps (with_pair p k v s)
+
+-- no pair is gone over yet
+abbrev pub no_split : Occurrence → Split
+no_split o = record { left = []; least = o.least; most = o.most; all_fit = true }
 
 -- A cut says that a pair whose key fits has to fit.
 abbrev pub entry_outcome : Bool → Split → Outcome
@@ -131,8 +139,7 @@ entry_outcome cut s =
 abbrev pub entry : (Value → Option Bool) → (Value → Option Bool) → Bool → Occurrence → List (Value × Value)
     → Option Outcome
 entry key fits cut o ps =
-    split key fits ps (record { left = []; least = o.least; most = o.most; all_fit = true })
-    >>= λ s. Some (entry_outcome cut s)
+    split key fits ps (no_split o) >>= λ s. Some (entry_outcome cut s)
 
 -- In an array the key of an entry is a name, and decides nothing.
 abbrev pub occurs_under : (Value → Option Bool) → (Value → Option Bool) → (Rest → Option Outcome) → Bool → Occurrence
@@ -227,24 +234,43 @@ abbrev pub fails : Option Bool → Option Bool
 fails (Some b) = Some (not b)
 fails None = None
 
--- Whether a value fits the type at index n, which is this node.
+-- the type that a control is about, which has to fit as well
+abbrev pub target : Node → Option ℕ
+target (node.Size t s) = Some t
+target (node.Bits t s) = Some t
+target (node.Encoded t u) = Some t
+target (node.EncodedSequence t u) = Some t
+target (node.Pattern t p anchored operand) = Some t
+target (node.Compared t c limit) = Some t
+target (node.Both t u) = Some t
+target (node.Unequal t u) = Some t
+target other = None
+
+abbrev pub fits_target : (ℕ → Value → Option Bool) → Option ℕ → Value → Option Bool
+fits_target f None x = Some true
+fits_target f (Some t) x = f t x
+
+-- Whether a value fits the type at index n, which is this node; of a control, whether it has what the control asks for.
+abbrev pub fits_itself : Rules → Matcher → ℕ → Node → Value → Option Bool
+fits_itself r m n (node.Rule i) x = m.fits (r.body i) x
+fits_itself r m n (node.Choice l) x = any_of (λ t. m.fits t x) (r.list l)
+fits_itself r m n (node.Array g) x = in_array (m.takes g) x
+fits_itself r m n (node.Map g) x = in_map (m.takes g) x
+fits_itself r m n (node.Tag number t) x = in_tag (λ k. Some (number == k)) (m.fits t) x
+fits_itself r m n (node.AnyTag numbers t) x = in_tag (number_fits m.fits numbers) (m.fits t) x
+fits_itself r m n (node.Simples t) x = in_simple (λ k. m.fits t (integer (pos k))) x
+fits_itself r m n (node.Both t u) x = m.fits u x
+fits_itself r m n (node.Unequal t u) x = fails (m.fits u x)
+fits_itself r m n (node.Size t s) x = has_size (λ k. m.fits s (integer (pos k))) x
+fits_itself r m n (node.Bits t s) x = has_bits (λ k. m.fits s (integer (pos k))) x
+fits_itself r m n (node.Encoded t u) x = has_inside r.decoded (m.fits u) x
+fits_itself r m n (node.EncodedSequence t u) x = has_inside r.decoded_sequence (m.fits u) x
+fits_itself r m n (node.Pattern t p anchored operand) x = Some (has_match (r.is_match n) x)
+fits_itself r m n (node.Compared t c limit) x = Some (compares_with c limit x)
+fits_itself r m n leaf x = Some (fits_leaf r leaf x)
+
 abbrev pub fits_node : Rules → Matcher → ℕ → Node → Value → Option Bool
-fits_node r m n (node.Rule i) x = m.fits (r.body i) x
-fits_node r m n (node.Choice l) x = any_of (λ t. m.fits t x) (r.list l)
-fits_node r m n (node.Array g) x = in_array (m.takes g) x
-fits_node r m n (node.Map g) x = in_map (m.takes g) x
-fits_node r m n (node.Tag number t) x = in_tag (λ k. Some (number == k)) (m.fits t) x
-fits_node r m n (node.AnyTag numbers t) x = in_tag (number_fits m.fits numbers) (m.fits t) x
-fits_node r m n (node.Simples t) x = in_simple (λ k. m.fits t (integer (pos k))) x
-fits_node r m n (node.Both t u) x = both (m.fits t x) (m.fits u x)
-fits_node r m n (node.Unequal t u) x = both (m.fits t x) (fails (m.fits u x))
-fits_node r m n (node.Size t s) x = both (m.fits t x) (has_size (λ k. m.fits s (integer (pos k))) x)
-fits_node r m n (node.Bits t s) x = both (m.fits t x) (has_bits (λ k. m.fits s (integer (pos k))) x)
-fits_node r m n (node.Encoded t u) x = both (m.fits t x) (has_inside r.decoded (m.fits u) x)
-fits_node r m n (node.EncodedSequence t u) x = both (m.fits t x) (has_inside r.decoded_sequence (m.fits u) x)
-fits_node r m n (node.Pattern t p anchored) x = both (m.fits t x) (Some (has_match (r.is_match n) x))
-fits_node r m n (node.Compared t c limit) x = both (m.fits t x) (Some (compares_with c limit x))
-fits_node r m n leaf x = Some (fits_leaf r leaf x)
+fits_node r m n t x = both (fits_target m.fits (target t) x) (fits_itself r m n t x)
 
 -- What the group at index n, which is this node, takes. A type takes one member.
 abbrev pub takes_node : Rules → Matcher → ℕ → Node → Rest → Option Outcome

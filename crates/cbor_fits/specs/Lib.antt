@@ -5,3 +5,4 @@ pub mod Leaf
 pub mod Fits
 pub mod Tables
 pub mod Rests
+pub mod Splits

@@ -1,5 +1,6 @@
 -- What a `Rest` and an `Outcome` stand for in the definitions.
 use Rattle.std.specs.Prelude.{List, map}
+use Rattle.std.specs.Borrow.{Bor}
 use Rattle.cbor_fits.specs.Value.{Value}
 use Rattle.cbor_fits.specs.View.{view}
 use Rattle.cbor_fits.specs.Fits as spec
@@ -12,9 +13,13 @@ use Rattle.cbor_fits.specs.declared.rest.Outcome.TheVariants as outcome
 abbrev pub pair_view : Datum × Datum → Value × Value
 pair_view p = (view p.0, view p.1)
 
+-- the same behind a reference
+abbrev pub pair_view_of : Bor (Datum × Datum) → Value × Value
+pair_view_of r = pair_view r.now
+
 abbrev pub rest_view : Rest → spec.Rest
 rest_view (rest.Members xs) = spec.members (map view xs.now)
-rest_view (rest.Pairs v) = spec.pairs (map (λ r. pair_view r.now) v.items)
+rest_view (rest.Pairs v) = spec.pairs (map pair_view_of v.items)
 
 abbrev pub outcome_view : Outcome → spec.Outcome
 outcome_view (outcome.Takes r) = spec.takes (rest_view r)

@@ -1,13 +1,26 @@
 //! Whether an item fits a control (RFC 8610, section 3.8).
 
+ghost use Rattle.std.specs.Prelude.{◌≡◌, ◌≤◌, ◌+◌, ◌^◌, Some, IfOk, pos};
+ghost use Rattle.cbor_fits.specs.Value.{integer};
+ghost use Rattle.cbor_fits.specs.View.{view};
+ghost use Rattle.cbor_fits.specs.Tables.{rules_of};
+ghost use Rattle.cbor_fits.specs.Fits.{matcher, has_size, any_from, has_bits, all_bits_of, all_bits};
+ghost use Rattle.cbor_fits.specs.Fits.{has_inside, has_match, bytes_needed};
+
 use crate::budget::Budget;
 use crate::read::{read_item, read_sequence};
 use crate::stop::Stop;
 use crate::tables::Tables;
 use crate::value::Datum;
 
+/// No byte string in memory has a bit past this one.
+const LAST_BIT: u64 = 1 << 62;
+
 /// How many bytes a number needs.
-fn bytes_needed(number: u64, most: u8) -> u64 {
+fn bytes_needed(number: u64, most: u8) -> u64
+    ensures needed { result ≡ bytes_needed most number }
+    ensures few { result ≤ most }
+{
     if most == 0 || number == 0 {
         return 0;
     }
@@ -23,7 +36,10 @@ impl Tables<'_> {
         sizes: usize,
         datum: &Datum,
         inner: u32,
-    ) -> Result<bool, Stop> {
+    ) -> Result<bool, Stop>
+        ensures { IfOk result (λ b. 
+            has_size (λ k. (matcher (rules_of self.now) inner).fits sizes (integer (pos k))) (view datum.now) ≡ Some b) }
+    {
         match datum {
             Datum::Bytes(content) => {
                 self.fits_number(budget, sizes, content.len() as u64, inner)
@@ -46,10 +62,13 @@ impl Tables<'_> {
         sizes: usize,
         first: u64,
         inner: u32,
-    ) -> Result<bool, Stop> {
+    ) -> Result<bool, Stop>
+        requires { first ≤ 8 }
+        ensures { IfOk result (λ b. 
+            any_from (λ k. (matcher (rules_of self.now) inner).fits sizes (integer (pos k))) 65 first ≡ Some b) }
+    {
         'sizes: for more in 0..65u64 {
-            let size = first.saturating_add(more);
-            if self.fits_number(budget, sizes, size, inner)? {
+            if self.fits_number(budget, sizes, first + more, inner)? {
                 return Ok(true);
             }
         }
@@ -64,7 +83,10 @@ impl Tables<'_> {
         bits: usize,
         datum: &Datum,
         inner: u32,
-    ) -> Result<bool, Stop> {
+    ) -> Result<bool, Stop>
+        ensures { IfOk result (λ b. 
+            has_bits (λ k. (matcher (rules_of self.now) inner).fits bits (integer (pos k))) (view datum.now) ≡ Some b) }
+    {
         match datum {
             Datum::Bytes(content) => self.fits_bits_of_bytes(budget, bits, content, inner),
             Datum::Unsigned(number) => {
@@ -87,9 +109,15 @@ impl Tables<'_> {
         bits: usize,
         content: &[u8],
         inner: u32,
-    ) -> Result<bool, Stop> {
+    ) -> Result<bool, Stop>
+        ensures { IfOk result (λ b. 
+            all_bits_of (λ k. (matcher (rules_of self.now) inner).fits bits (integer (pos k))) 0 content.now ≡ Some b) }
+    {
         let mut first = 0u64;
         'bytes: for byte in content {
+            if first > LAST_BIT {
+                return Err(Stop::Work);
+            }
             let set = SetBits {
                 first,
                 count: 8,
@@ -98,7 +126,7 @@ impl Tables<'_> {
             if !self.fits_set_bits(budget, bits, set, inner)? {
                 return Ok(false);
             }
-            first = first.saturating_add(8);
+            first += 8;
         }
         Ok(true)
     }
@@ -111,12 +139,19 @@ impl Tables<'_> {
         bits: usize,
         set: SetBits,
         inner: u32,
-    ) -> Result<bool, Stop> {
+    ) -> Result<bool, Stop>
+        requires { set.first + set.count ≤ 2 ^ 63 }
+        ensures { IfOk result (λ b. 
+            all_bits (λ k. (matcher (rules_of self.now) inner).fits bits (integer (pos k)))
+            set.count set.first set.number ≡ Some b) }
+    {
         let mut number = set.number;
         'bits: for bit in 0..set.count {
-            let name = set.first.saturating_add(bit);
-            if number % 2 == 1 && !self.fits_number(budget, bits, name, inner)? {
-                return Ok(false);
+            let is_set = number % 2 == 1;
+            if is_set {
+                if !self.fits_number(budget, bits, set.first + bit, inner)? {
+                    return Ok(false);
+                }
             }
             number = number / 2;
         }
@@ -131,7 +166,10 @@ impl Tables<'_> {
         index: usize,
         datum: &Datum,
         inner: u32,
-    ) -> Result<bool, Stop> {
+    ) -> Result<bool, Stop>
+        ensures { IfOk result (λ b. 
+            has_inside (rules_of self.now).decoded ((matcher (rules_of self.now) inner).fits index) (view datum.now) ≡ Some b) }
+    {
         let Datum::Bytes(content) = datum else {
             return Ok(false);
         };
@@ -149,7 +187,10 @@ impl Tables<'_> {
         index: usize,
         datum: &Datum,
         inner: u32,
-    ) -> Result<bool, Stop> {
+    ) -> Result<bool, Stop>
+        ensures { IfOk result (λ b. 
+            has_inside (rules_of self.now).decoded_sequence ((matcher (rules_of self.now) inner).fits index) (view datum.now) ≡ Some b) }
+    {
         let Datum::Bytes(content) = datum else {
             return Ok(false);
         };
@@ -160,7 +201,9 @@ impl Tables<'_> {
     }
 
     /// `.regexp`, `.pcre`: the text matches the pattern.
-    pub(crate) fn fits_pattern(&self, index: usize, datum: &Datum) -> Result<bool, Stop> {
+    pub(crate) fn fits_pattern(&self, index: usize, datum: &Datum) -> Result<bool, Stop>
+        ensures { IfOk result (λ b. b ≡ has_match ((rules_of self.now).is_match index) (view datum.now)) }
+    {
         match datum {
             Datum::Text(content) => Ok(self.is_match(index, content)?),
             _ => Ok(false),

@@ -1,5 +1,12 @@
 //! What a group takes (RFC 8610, sections 2.1 and 3.2): ordered choice, greedy occurrences, cuts.
 
+ghost use Rattle.std.specs.Prelude.{◌≡◌, Some, IfOk, map};
+ghost use Rattle.cbor_fits.specs.Rests.{rest_view, outcome_view, pair_view_of};
+ghost use Rattle.cbor_fits.specs.Tables.{rules_of};
+ghost use Rattle.cbor_fits.specs.Fits.{matcher, one_member, in_turn, first_of, refuses, occurs};
+ghost use Rattle.cbor_fits.specs.Fits.{occurs_under};
+ghost use Rattle.cbor_fits.specs.Fits.{entry as entry_takes};
+
 use crate::budget::Budget;
 use crate::rest::{Outcome, Rest};
 use crate::split::{Entry, Split};
@@ -17,7 +24,10 @@ impl Tables<'_> {
         index: usize,
         rest: &Rest<'r>,
         depth: u32,
-    ) -> Result<Outcome<'r>, Stop> {
+    ) -> Result<Outcome<'r>, Stop>
+        ensures { IfOk result (λ o.
+            (matcher (rules_of self.now) depth).takes index (rest_view rest.now) ≡ Some (outcome_view o)) }
+    {
         if depth == 0 {
             return Err(Stop::Deep);
         }
@@ -62,7 +72,10 @@ impl Tables<'_> {
         index: usize,
         rest: &Rest<'r>,
         inner: u32,
-    ) -> Result<Outcome<'r>, Stop> {
+    ) -> Result<Outcome<'r>, Stop>
+        ensures { IfOk result (λ o.
+            one_member ((matcher (rules_of self.now) inner).fits index) (rest_view rest.now) ≡ Some (outcome_view o)) }
+    {
         let Rest::Members(members) = rest else {
             return Ok(Outcome::Refuses);
         };
@@ -84,7 +97,10 @@ impl Tables<'_> {
         list: List,
         rest: &Rest<'r>,
         inner: u32,
-    ) -> Result<Outcome<'r>, Stop> {
+    ) -> Result<Outcome<'r>, Stop>
+        ensures { IfOk result (λ o.
+            in_turn (matcher (rules_of self.now) inner).takes ((rules_of self.now).list list) (rest_view rest.now) ≡ Some (outcome_view o)) }
+    {
         let mut left = rest.copy(self.alloc)?;
         'parts: for index in self.list(list) {
             match self.takes(budget, *index, &left, inner)? {
@@ -104,7 +120,11 @@ impl Tables<'_> {
         list: List,
         rest: &Rest<'r>,
         inner: u32,
-    ) -> Result<Outcome<'r>, Stop> {
+    ) -> Result<Outcome<'r>, Stop>
+        ensures { IfOk result (λ o.
+            first_of (λ g. (matcher (rules_of self.now) inner).takes g (rest_view rest.now)) ((rules_of self.now).list list)
+            refuses ≡ Some (outcome_view o)) }
+    {
         let mut cuts = false;
         'groups: for index in self.list(list) {
             match self.takes(budget, *index, rest, inner)? {
@@ -129,11 +149,14 @@ impl Tables<'_> {
         occurrence: Occurrence,
         rest: &Rest<'r>,
         inner: u32,
-    ) -> Result<Outcome<'r>, Stop> {
+    ) -> Result<Outcome<'r>, Stop>
+        ensures { IfOk result (λ o.
+            occurs ((matcher (rules_of self.now) inner).takes index) occurrence (rest_view rest.now) ≡ Some (outcome_view o)) }
+    {
         let mut left = rest.copy(self.alloc)?;
         let mut least = occurrence.least;
         let mut most = occurrence.most;
-        'turns: for _turn in 0..rest.len() + 1 {
+        'turns: for turn in 0..rest.len() + 1 {
             if most == 0 {
                 return Ok(Outcome::Takes(left));
             }
@@ -166,7 +189,12 @@ impl Tables<'_> {
         entry: Entry,
         rest: &Rest<'r>,
         inner: u32,
-    ) -> Result<Outcome<'r>, Stop> {
+    ) -> Result<Outcome<'r>, Stop>
+        ensures { IfOk result (λ o.
+            occurs_under ((matcher (rules_of self.now) inner).fits entry.key)
+            ((matcher (rules_of self.now) inner).fits entry.value) ((matcher (rules_of self.now) inner).takes entry.value)
+            entry.cut entry.occurrence (rest_view rest.now) ≡ Some (outcome_view o)) }
+    {
         match rest {
             Rest::Members(_) => {
                 self.take_repeated(budget, entry.value, entry.occurrence, rest, inner)
@@ -183,7 +211,12 @@ impl Tables<'_> {
         entry: Entry,
         pairs: &[&'r (Datum, Datum)],
         inner: u32,
-    ) -> Result<Outcome<'r>, Stop> {
+    ) -> Result<Outcome<'r>, Stop>
+        ensures { IfOk result (λ o.
+            entry_takes ((matcher (rules_of self.now) inner).fits entry.key)
+            ((matcher (rules_of self.now) inner).fits entry.value) entry.cut entry.occurrence
+            (map pair_view_of pairs.now) ≡ Some (outcome_view o)) }
+    {
         let mut split = Split::new(self.alloc, entry.occurrence);
         'pairs: for pair in pairs {
             let fits_key = self.fits(budget, entry.key, &pair.0, inner)?;

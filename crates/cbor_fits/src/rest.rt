@@ -1,7 +1,7 @@
 //! What is left for a group to take, and what a group does with it.
-ghost use Rattle.std.specs.Prelude.{◌≡◌, length, IfOk};
+ghost use Rattle.std.specs.Prelude.{◌≡◌, length, IfOk, map};
 ghost use Rattle.cbor_fits.specs.View.{view};
-ghost use Rattle.cbor_fits.specs.Rests.{rest_view, outcome_view};
+ghost use Rattle.cbor_fits.specs.Rests.{rest_view, outcome_view, pair_view, pair_view_of};
 ghost use Rattle.cbor_fits.specs.Fits.{size, is_whole};
 
 use crate::value::Datum;
@@ -31,9 +31,11 @@ pub(crate) enum Outcome<'a> {
 pub(crate) fn all_pairs<'a>(
     alloc: Global,
     pairs: &'a [(Datum, Datum)],
-) -> Result<Vec<&'a (Datum, Datum)>, AllocError> {
+) -> Result<Vec<&'a (Datum, Datum)>, AllocError>
+    ensures { IfOk result (λ v. map pair_view_of v.items ≡ map pair_view pairs.now) }
+{
     let mut all = Vec::with_capacity(alloc, pairs.len())?;
-    for pair in pairs {
+    'pairs: for pair in pairs {
         all.push(pair)?;
     }
     Ok(all)
@@ -43,9 +45,11 @@ pub(crate) fn all_pairs<'a>(
 fn same_pairs<'a>(
     alloc: Global,
     pairs: &[&'a (Datum, Datum)],
-) -> Result<Vec<&'a (Datum, Datum)>, AllocError> {
+) -> Result<Vec<&'a (Datum, Datum)>, AllocError>
+    ensures { IfOk result (λ v. map pair_view_of v.items ≡ map pair_view_of pairs.now) }
+{
     let mut all = Vec::with_capacity(alloc, pairs.len())?;
-    for pair in pairs {
+    'pairs: for pair in pairs {
         all.push(*pair)?;
     }
     Ok(all)

@@ -1,5 +1,10 @@
 //! `Split`: which pairs an entry of a map takes (RFC 8610, sections 3.5.1 to 3.5.4).
 
+ghost use Rattle.std.specs.Prelude.{◌≡◌, OnOk, true, [], map};
+ghost use Rattle.cbor_fits.specs.Rests.{pair_view, outcome_view};
+ghost use Rattle.cbor_fits.specs.Splits.{split_view};
+ghost use Rattle.cbor_fits.specs.Fits.{with_pair, entry_outcome, no_split};
+
 use crate::rest::{Outcome, Rest};
 use crate::value::Datum;
 use cbor_cddl::Occurrence;
@@ -33,7 +38,9 @@ pub(crate) struct Split<'a> {
 
 impl<'a> Split<'a> {
     /// Nothing is gone over yet.
-    pub(crate) fn new(alloc: Global, occurrence: Occurrence) -> Split<'a> {
+    pub(crate) fn new(alloc: Global, occurrence: Occurrence) -> Split<'a>
+        ensures { split_view result ≡ no_split occurrence }
+    {
         Split {
             left: Vec::new(alloc),
             least: occurrence.least,
@@ -48,21 +55,28 @@ impl<'a> Split<'a> {
         pair: &'a (Datum, Datum),
         fits_key: bool,
         fits_value: bool,
-    ) -> Result<(), AllocError> {
-        if fits_value && self.most != 0 {
+    ) -> Result<(), AllocError>
+        ensures { OnOk result (split_view self.new
+            ≡ with_pair (pair_view pair.now) fits_key fits_value (split_view self.old)) }
+    {
+        if !fits_key {
+            self.left.push(pair)?;
+        } else if !fits_value {
+            self.left.push(pair)?;
+            self.all_fit = false;
+        } else if self.most == 0 {
+            self.left.push(pair)?;
+        } else {
             self.least = self.least.saturating_sub(1);
             self.most -= 1;
-        } else {
-            self.left.push(pair)?;
-        }
-        if fits_key && !fits_value {
-            self.all_fit = false;
         }
         Ok(())
     }
 
     /// What the entry does once all pairs are gone over.
-    pub(crate) fn outcome(self, cut: bool) -> Outcome<'a> {
+    pub(crate) fn outcome(self, cut: bool) -> Outcome<'a>
+        ensures { outcome_view result ≡ entry_outcome cut (split_view self.entry) }
+    {
         if cut && !self.all_fit {
             return Outcome::Cuts;
         }

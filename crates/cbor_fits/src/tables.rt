@@ -124,7 +124,7 @@ impl<'a> Tables<'a> {
     pub(crate) fn is_match(&self, node: usize, text: &str) -> Result<bool, AllocError>
         ensures { IfOk result (λ b. b ≡ (rules_of self.now).is_match node text.now) }
     {
-        for pattern in self.patterns {
+        'patterns: for pattern in self.patterns {
             if pattern.node == node {
                 let mut matcher = pattern.regex.matcher(self.alloc)?;
                 return Ok(matcher.is_match(text));

@@ -1,5 +1,12 @@
 //! Whether an item fits a type (RFC 8610, sections 2.2 and 3).
 
+ghost use Rattle.std.specs.Prelude.{◌≡◌, ◌==◌, ℕ, Option, Some, IfOk, pos};
+ghost use Rattle.cbor_fits.specs.Value.{integer};
+ghost use Rattle.cbor_fits.specs.View.{view};
+ghost use Rattle.cbor_fits.specs.Tables.{rules_of};
+ghost use Rattle.cbor_fits.specs.Fits.{matcher, fits_itself, any_of, in_array, in_map, in_tag};
+ghost use Rattle.cbor_fits.specs.Fits.{number_fits, in_simple, fails, target};
+
 use crate::budget::Budget;
 use crate::leaf::compares_with;
 use crate::rest::{Rest, all_pairs};
@@ -9,7 +16,9 @@ use crate::value::Datum;
 use cbor_cddl::{List, Node};
 
 /// The type that a control is about.
-fn target_of(node: Node) -> Option<usize> {
+fn target_of(node: Node) -> Option<usize>
+    ensures { result ≡ target node }
+{
     match node {
         Node::Size { target, .. }
         | Node::Bits { target, .. }
@@ -32,7 +41,9 @@ impl Tables<'_> {
         index: usize,
         datum: &Datum,
         depth: u32,
-    ) -> Result<bool, Stop> {
+    ) -> Result<bool, Stop>
+        ensures { IfOk result (λ b. (matcher (rules_of self.now) depth).fits index (view datum.now) ≡ Some b) }
+    {
         if depth == 0 {
             return Err(Stop::Deep);
         }
@@ -57,7 +68,11 @@ impl Tables<'_> {
         index: usize,
         datum: &Datum,
         inner: u32,
-    ) -> Result<bool, Stop> {
+    ) -> Result<bool, Stop>
+        ensures { IfOk result (λ b. 
+            fits_itself (rules_of self.now) (matcher (rules_of self.now) inner) index
+            ((rules_of self.now).node index) (view datum.now) ≡ Some b) }
+    {
         match self.node(index) {
             Node::Rule(rule) => self.fits(budget, self.body(rule), datum, inner),
             Node::Choice(list) => self.fits_one_of(budget, list, datum, inner),
@@ -94,7 +109,11 @@ impl Tables<'_> {
         list: List,
         datum: &Datum,
         inner: u32,
-    ) -> Result<bool, Stop> {
+    ) -> Result<bool, Stop>
+        ensures { IfOk result (λ b. 
+            any_of (λ t. (matcher (rules_of self.now) inner).fits t (view datum.now))
+            ((rules_of self.now).list list) ≡ Some b) }
+    {
         'types: for index in self.list(list) {
             if self.fits(budget, *index, datum, inner)? {
                 return Ok(true);
@@ -111,7 +130,10 @@ impl Tables<'_> {
         group: usize,
         datum: &Datum,
         inner: u32,
-    ) -> Result<bool, Stop> {
+    ) -> Result<bool, Stop>
+        ensures { IfOk result (λ b. 
+            in_array ((matcher (rules_of self.now) inner).takes group) (view datum.now) ≡ Some b) }
+    {
         let Datum::Array(members) = datum else {
             return Ok(false);
         };
@@ -128,7 +150,10 @@ impl Tables<'_> {
         group: usize,
         datum: &Datum,
         inner: u32,
-    ) -> Result<bool, Stop> {
+    ) -> Result<bool, Stop>
+        ensures { IfOk result (λ b. 
+            in_map ((matcher (rules_of self.now) inner).takes group) (view datum.now) ≡ Some b) }
+    {
         let Datum::Map(pairs) = datum else {
             return Ok(false);
         };
@@ -146,7 +171,10 @@ impl Tables<'_> {
         index: usize,
         datum: &Datum,
         inner: u32,
-    ) -> Result<bool, Stop> {
+    ) -> Result<bool, Stop>
+        ensures { IfOk result (λ b. 
+            in_tag (λ k. Some (number == k)) ((matcher (rules_of self.now) inner).fits index) (view datum.now) ≡ Some b) }
+    {
         match datum {
             Datum::Tag(found, content) => {
                 if number == *found {
@@ -168,7 +196,11 @@ impl Tables<'_> {
         index: usize,
         datum: &Datum,
         inner: u32,
-    ) -> Result<bool, Stop> {
+    ) -> Result<bool, Stop>
+        ensures { IfOk result (λ b. 
+            in_tag (number_fits (matcher (rules_of self.now) inner).fits numbers)
+            ((matcher (rules_of self.now) inner).fits index) (view datum.now) ≡ Some b) }
+    {
         let Datum::Tag(found, content) = datum else {
             return Ok(false);
         };
@@ -192,7 +224,10 @@ impl Tables<'_> {
         index: usize,
         datum: &Datum,
         inner: u32,
-    ) -> Result<bool, Stop> {
+    ) -> Result<bool, Stop>
+        ensures { IfOk result (λ b. 
+            in_simple (λ k. (matcher (rules_of self.now) inner).fits index (integer (pos k))) (view datum.now) ≡ Some b) }
+    {
         match datum {
             Datum::Simple(number) => {
                 self.fits_number(budget, index, u64::from(*number), inner)
@@ -209,7 +244,10 @@ impl Tables<'_> {
         index: usize,
         number: u64,
         inner: u32,
-    ) -> Result<bool, Stop> {
+    ) -> Result<bool, Stop>
+        ensures { IfOk result (λ b. 
+            (matcher (rules_of self.now) inner).fits index (integer (pos number)) ≡ Some b) }
+    {
         self.fits(budget, index, &Datum::Unsigned(number), inner)
     }
 
@@ -221,7 +259,10 @@ impl Tables<'_> {
         index: usize,
         datum: &Datum,
         inner: u32,
-    ) -> Result<bool, Stop> {
+    ) -> Result<bool, Stop>
+        ensures { IfOk result (λ b. 
+            fails ((matcher (rules_of self.now) inner).fits index (view datum.now)) ≡ Some b) }
+    {
         let fits = self.fits(budget, index, datum, inner)?;
         Ok(!fits)
     }
