@@ -30,3 +30,9 @@ member_count (x ∷ xs) = ap suc (member_count xs)
 pub pair_count : (ps : List (Datum × Datum)) → length (list_of_pairs (pairs_of (map pair_view ps))) ≡ length ps
 pair_count [] = refl
 pair_count (p ∷ ps) = ap suc (pair_count ps)
+
+pub view-Bytes : (v : Vec ℕ Global) → view (Bytes v) ≡ spec.bytes v.items
+view-Bytes v = search (rules, the_lemmas)
+
+pub view-Unsigned : (n : ℕ) → view (Unsigned n) ≡ spec.integer (pos n)
+view-Unsigned n = search (rules, the_lemmas)

@@ -187,7 +187,7 @@ bytes_needed zero n = 0
 bytes_needed (suc most) n = if n == 0 then 0 else bytes_needed most (n / 256) + 1
 
 -- one of so many numbers from `first` on
-abbrev pub any_from : (ℕ → Option Bool) → ℕ → ℕ → Option Bool
+unfoldable pub any_from : (ℕ → Option Bool) → ℕ → ℕ → Option Bool
 any_from f zero first = Some false
 any_from f (suc count) first = f first >>= λ b. if b then Some true else any_from f count (first + 1)
 

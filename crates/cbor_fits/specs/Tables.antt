@@ -43,6 +43,13 @@ is_match_of n [] t = false
 is_match_of n (p ∷ ps) t =
     if p.node == n then is_some (find_str (regex_pattern p.regex) t 0) else is_match_of n ps t
 
+-- What bytes encode. Nothing is read yet, and a call that asks for it stops.
+unfoldable pub decoded : List ℕ → Option Value
+decoded b = None
+
+unfoldable pub decoded_sequence : List ℕ → Option Value
+decoded_sequence b = None
+
 abbrev pub rules_of : Tables → Rules
 rules_of t = record {
   node = node_at t.schema.now;
@@ -51,6 +58,6 @@ rules_of t = record {
   is_group = is_group_within (length t.schema.now.rules.items + 1) t.schema.now;
   literal = λ s. part t.schema.now.pool.items s.start s.end;
   is_match = λ n text. is_match_of n t.patterns.now text;
-  decoded = λ b. None;
-  decoded_sequence = λ b. None;
+  decoded = decoded;
+  decoded_sequence = decoded_sequence;
 }

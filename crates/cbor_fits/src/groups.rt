@@ -4,7 +4,7 @@ ghost use Rattle.std.specs.Prelude.{◌≡◌, Some, IfOk, map};
 ghost use Rattle.cbor_fits.specs.Rests.{rest_view, outcome_view, pair_view_of};
 ghost use Rattle.cbor_fits.specs.Tables.{rules_of};
 ghost use Rattle.cbor_fits.specs.Fits.{matcher, one_member, in_turn, first_of, refuses, occurs};
-ghost use Rattle.cbor_fits.specs.Fits.{occurs_under};
+ghost use Rattle.cbor_fits.specs.Fits.{occurs_under, takes_node};
 ghost use Rattle.cbor_fits.specs.Fits.{entry as entry_takes};
 
 use crate::budget::Budget;
@@ -32,12 +32,28 @@ impl Tables<'_> {
             return Err(Stop::Deep);
         }
         budget.step()?;
+        self.takes_itself(budget, index, rest, depth - 1)
+    }
+
+    /// What the group at an index does with what is left, by what is inside it.
+    #[cycle(fits)]
+    fn takes_itself<'r>(
+        &self,
+        budget: &mut Budget,
+        index: usize,
+        rest: &Rest<'r>,
+        inner: u32,
+    ) -> Result<Outcome<'r>, Stop>
+        ensures { IfOk result (λ o.
+            takes_node (rules_of self.now) (matcher (rules_of self.now) inner) index
+            ((rules_of self.now).node index) (rest_view rest.now) ≡ Some (outcome_view o)) }
+    {
         let node = self.node(index);
         match node {
-            Node::Sequence(list) => self.take_in_turn(budget, list, rest, depth - 1),
-            Node::GroupChoice(list) => self.take_first_of(budget, list, rest, depth - 1),
+            Node::Sequence(list) => self.take_in_turn(budget, list, rest, inner),
+            Node::GroupChoice(list) => self.take_first_of(budget, list, rest, inner),
             Node::Repeated { item, occurrence } => {
-                self.take_repeated(budget, item, occurrence, rest, depth - 1)
+                self.take_repeated(budget, item, occurrence, rest, inner)
             }
             Node::Entry {
                 key,
@@ -51,16 +67,16 @@ impl Tables<'_> {
                     value,
                     occurrence,
                 };
-                self.take_entry(budget, entry, rest, depth - 1)
+                self.take_entry(budget, entry, rest, inner)
             }
             Node::Rule(rule) => {
                 if self.is_group(node) {
-                    self.takes(budget, self.body(rule), rest, depth - 1)
+                    self.takes(budget, self.body(rule), rest, inner)
                 } else {
-                    self.take_member(budget, index, rest, depth - 1)
+                    self.take_member(budget, index, rest, inner)
                 }
             }
-            _ => self.take_member(budget, index, rest, depth - 1),
+            _ => self.take_member(budget, index, rest, inner),
         }
     }
 

@@ -16,6 +16,9 @@ decreases-fits l = l.depth * 8
 abbrev pub decreases-takes : goal.decreases-takes
 decreases-takes l = l.depth * 8
 
+abbrev pub decreases-takes_itself : goal.decreases-takes_itself
+decreases-takes_itself l = l.inner * 8 + 7
+
 abbrev pub decreases-fits_itself : goal.decreases-fits_itself
 decreases-fits_itself l = l.inner * 8 + 7
 
