@@ -1,14 +1,16 @@
 -- One level is what the definition says of it, and each loop comes to the answer for all.
-use Rattle.std.proofs.Common.{◌≡◌, ◌+◌, ◌-◌, ◌<◌, ℕ, Bool, true, false, Option, Some, None, IfOk, map, pos, ap, sym, subst, ◌∙◌, arith}
+use Rattle.std.proofs.Common.{◌≡◌, ◌+◌, ◌-◌, ◌%◌, ◌<◌, refl, rules, tests, ℕ, Bool, true, false, Option, Some, None, IfOk, map, pos, ap, sym, subst, ◌∙◌, arith}
+use Rattle.std.proofs.lemmas.Bool.Decides.{nat_tests}
 use Rattle.cbor_fits.specs.Value.{integer}
 use Rattle.cbor_fits.specs.View.{view}
 use Rattle.cbor_fits.specs.Tables.{rules_of}
 use Rattle.cbor_fits.specs.Rests.{rest_view, outcome_view, pair_view, pair_view_of}
-use Rattle.cbor_fits.specs.Fits.{Outcome, matcher, has_size, any_from}
+use Rattle.cbor_fits.specs.Fits.{Outcome, matcher, has_size, any_from, size}
 use Rattle.cbor_fits.proofs.Views.{view-Array, view-Map, view-Bytes, view-Unsigned}
 use Rattle.cbor_fits.proofs.Levels.{fits_alone, fits_after, fits_not_after, takes_at}
 use Rattle.cbor_fits.proofs.Inside.{array_takes, map_takes, inside_fits, turn_on, bits_on, from_here, from_next, from_end}
 use Rattle.cbor_fits.proofs.tables.Tables.+fits.Goals as goal
+use Rattle.cbor_fits.proofs.tables.Tables.+fits.Goals.{fits_set_bits-then-is_set+in_ok-fits_number+else-not-branch, fits_set_bits-else-is_set}
 
 pub fits-returns-in-None : goal.fits-returns-in-None
 fits-returns-in-None t c =
@@ -95,7 +97,22 @@ takes-returns t c =
     c.takes_itself.ensures
 
 pub fits_set_bits-bits-preserved : goal.fits_set_bits-bits-preserved
-fits_set_bits-bits-preserved t c = ?
+fits_set_bits-bits-preserved t c =
+    let f = λ (k : ℕ). (matcher (rules_of c.args.self.now) c.args.inner).fits c.args.bits (integer (pos k)) in
+    let here : c.bits.number % 2 ≡ 1 → f (c.args.set.first + c.bits.bit) ≡ Some true =
+        elim c.if-is_set.branch [
+          fits_set_bits-then-is_set+in_ok-fits_number+else-not-branch w ↦ λ e.
+              let yes : w.in_ok-fits_number.field-0 ≡ true = first_of (assumption (w.if-not-branch.false), search rules, grind (arith, tests)) in
+              w.in_ok-fits_number.ensures ∙ ap (λ b. Some b) yes
+        | fits_set_bits-else-is_set w ↦ λ e. absurd (first_of (omega arith, grind (arith, nat_tests))) ] in
+    bits_on f (c.args.set.count - c.bits.bit) (c.args.set.first + c.bits.bit) c.bits.number _ c.bits.invariant (omega arith)
+    here _ _ _ (omega arith) (omega arith) refl
 
 pub take_repeated-turns-preserved : goal.take_repeated-turns-preserved
-take_repeated-turns-preserved t c = ?
+take_repeated-turns-preserved t c =
+    let f = (matcher (rules_of c.args.self.now) c.args.inner).takes c.args.index in
+    turn_on f (size (rest_view c.args.rest.now) + 1 - c.turns.turn) c.turns.least c.turns.most (rest_view c.turns.left)
+    (rest_view c.in-Takes.next) _ c.turns.invariant (omega arith) (omega arith)
+    (c.in_ok-next.ensures ∙ ap (λ o. Some (outcome_view o)) c.in-Takes.is)
+    (λ e. c.if-len.false (c.len.ensures ∙ (e ∙ sym c.len-in-Takes.ensures))) _ _ _ (omega arith)
+    c.saturating_sub-least.ensures refl
