@@ -98,8 +98,9 @@ pub bits_on : (f : ℕ → Option Bool) (n k number : ℕ) (whole : Option Bool)
 bits_on f n k number whole inv h here m j half em ej eh =
     let rest = all_bits f (n - 1) (k + 1) (number / 2) in
     let turned : all_bits f n k number ≡ rest = all_bits_next f n k number h
-        ∙ (elim (eqb_tells (number % 2) 1) [
-          inl p ↦ ap (λ b. if b then both (f k) rest else rest) p.0 ∙ ap (λ o. both o rest) (here p.1)
-        | inr q ↦ ap (λ b. if b then both (f k) rest else rest) q.0 ]) in
+    ∙ (elim (eqb_tells (number % 2) 1) [
+      | inl p ↦ ap (λ b. if b then both (f k) rest else rest) p.0 ∙ ap (λ o. both o rest) (here p.1)
+      | inr q ↦ ap (λ b. if b then both (f k) rest else rest) q.0
+    ]) in
     ap (λ c. all_bits f c j half) em ∙ (ap (λ c. all_bits f (n - 1) c half) ej
     ∙ (ap (λ c. all_bits f (n - 1) (k + 1) c) eh ∙ (sym turned ∙ inv)))

@@ -37,16 +37,14 @@ impl Tables<'_> {
         datum: &Datum,
         inner: u32,
     ) -> Result<bool, Stop>
-        ensures { IfOk result (λ b. 
+        ensures { IfOk result (λ b.
             has_size (λ k. (matcher (rules_of self.now) inner).fits sizes (integer (pos k))) (view datum.now) ≡ Some b) }
     {
         match datum {
             Datum::Bytes(content) => {
                 self.fits_number(budget, sizes, content.len() as u64, inner)
             }
-            Datum::Text(content) => {
-                self.fits_number(budget, sizes, content.len() as u64, inner)
-            }
+            Datum::Text(content) => { self.fits_number(budget, sizes, content.len() as u64, inner) }
             Datum::Unsigned(number) => {
                 self.fits_one_from(budget, sizes, bytes_needed(*number, 8), inner)
             }
@@ -64,7 +62,7 @@ impl Tables<'_> {
         inner: u32,
     ) -> Result<bool, Stop>
         requires { first ≤ 8 }
-        ensures { IfOk result (λ b. 
+        ensures { IfOk result (λ b.
             any_from (λ k. (matcher (rules_of self.now) inner).fits sizes (integer (pos k))) 65 first ≡ Some b) }
     {
         'sizes: for more in 0..65u64 {
@@ -84,7 +82,7 @@ impl Tables<'_> {
         datum: &Datum,
         inner: u32,
     ) -> Result<bool, Stop>
-        ensures { IfOk result (λ b. 
+        ensures { IfOk result (λ b.
             has_bits (λ k. (matcher (rules_of self.now) inner).fits bits (integer (pos k))) (view datum.now) ≡ Some b) }
     {
         match datum {
@@ -110,7 +108,7 @@ impl Tables<'_> {
         content: &[u8],
         inner: u32,
     ) -> Result<bool, Stop>
-        ensures { IfOk result (λ b. 
+        ensures { IfOk result (λ b.
             all_bits_of (λ k. (matcher (rules_of self.now) inner).fits bits (integer (pos k))) 0 content.now ≡ Some b) }
     {
         let mut first = 0u64;
@@ -141,7 +139,7 @@ impl Tables<'_> {
         inner: u32,
     ) -> Result<bool, Stop>
         requires { set.first + set.count ≤ 2 ^ 63 }
-        ensures { IfOk result (λ b. 
+        ensures { IfOk result (λ b.
             all_bits (λ k. (matcher (rules_of self.now) inner).fits bits (integer (pos k)))
             set.count set.first set.number ≡ Some b) }
     {
@@ -167,7 +165,7 @@ impl Tables<'_> {
         datum: &Datum,
         inner: u32,
     ) -> Result<bool, Stop>
-        ensures { IfOk result (λ b. 
+        ensures { IfOk result (λ b.
             has_inside (rules_of self.now).decoded ((matcher (rules_of self.now) inner).fits index) (view datum.now) ≡ Some b) }
     {
         let Datum::Bytes(content) = datum else {
@@ -188,7 +186,7 @@ impl Tables<'_> {
         datum: &Datum,
         inner: u32,
     ) -> Result<bool, Stop>
-        ensures { IfOk result (λ b. 
+        ensures { IfOk result (λ b.
             has_inside (rules_of self.now).decoded_sequence ((matcher (rules_of self.now) inner).fits index) (view datum.now) ≡ Some b) }
     {
         let Datum::Bytes(content) = datum else {

@@ -69,7 +69,7 @@ impl Tables<'_> {
         datum: &Datum,
         inner: u32,
     ) -> Result<bool, Stop>
-        ensures { IfOk result (λ b. 
+        ensures { IfOk result (λ b.
             fits_itself (rules_of self.now) (matcher (rules_of self.now) inner) index
             ((rules_of self.now).node index) (view datum.now) ≡ Some b) }
     {
@@ -110,7 +110,7 @@ impl Tables<'_> {
         datum: &Datum,
         inner: u32,
     ) -> Result<bool, Stop>
-        ensures { IfOk result (λ b. 
+        ensures { IfOk result (λ b.
             any_of (λ t. (matcher (rules_of self.now) inner).fits t (view datum.now))
             ((rules_of self.now).list list) ≡ Some b) }
     {
@@ -131,7 +131,7 @@ impl Tables<'_> {
         datum: &Datum,
         inner: u32,
     ) -> Result<bool, Stop>
-        ensures { IfOk result (λ b. 
+        ensures { IfOk result (λ b.
             in_array ((matcher (rules_of self.now) inner).takes group) (view datum.now) ≡ Some b) }
     {
         let Datum::Array(members) = datum else {
@@ -151,7 +151,7 @@ impl Tables<'_> {
         datum: &Datum,
         inner: u32,
     ) -> Result<bool, Stop>
-        ensures { IfOk result (λ b. 
+        ensures { IfOk result (λ b.
             in_map ((matcher (rules_of self.now) inner).takes group) (view datum.now) ≡ Some b) }
     {
         let Datum::Map(pairs) = datum else {
@@ -172,7 +172,7 @@ impl Tables<'_> {
         datum: &Datum,
         inner: u32,
     ) -> Result<bool, Stop>
-        ensures { IfOk result (λ b. 
+        ensures { IfOk result (λ b.
             in_tag (λ k. Some (number == k)) ((matcher (rules_of self.now) inner).fits index) (view datum.now) ≡ Some b) }
     {
         match datum {
@@ -197,7 +197,7 @@ impl Tables<'_> {
         datum: &Datum,
         inner: u32,
     ) -> Result<bool, Stop>
-        ensures { IfOk result (λ b. 
+        ensures { IfOk result (λ b.
             in_tag (number_fits (matcher (rules_of self.now) inner).fits numbers)
             ((matcher (rules_of self.now) inner).fits index) (view datum.now) ≡ Some b) }
     {
@@ -225,13 +225,11 @@ impl Tables<'_> {
         datum: &Datum,
         inner: u32,
     ) -> Result<bool, Stop>
-        ensures { IfOk result (λ b. 
+        ensures { IfOk result (λ b.
             in_simple (λ k. (matcher (rules_of self.now) inner).fits index (integer (pos k))) (view datum.now) ≡ Some b) }
     {
         match datum {
-            Datum::Simple(number) => {
-                self.fits_number(budget, index, u64::from(*number), inner)
-            }
+            Datum::Simple(number) => { self.fits_number(budget, index, u64::from(*number), inner) }
             _ => Ok(false),
         }
     }
@@ -245,7 +243,7 @@ impl Tables<'_> {
         number: u64,
         inner: u32,
     ) -> Result<bool, Stop>
-        ensures { IfOk result (λ b. 
+        ensures { IfOk result (λ b.
             (matcher (rules_of self.now) inner).fits index (integer (pos number)) ≡ Some b) }
     {
         self.fits(budget, index, &Datum::Unsigned(number), inner)
@@ -260,7 +258,7 @@ impl Tables<'_> {
         datum: &Datum,
         inner: u32,
     ) -> Result<bool, Stop>
-        ensures { IfOk result (λ b. 
+        ensures { IfOk result (λ b.
             fails ((matcher (rules_of self.now) inner).fits index (view datum.now)) ≡ Some b) }
     {
         let fits = self.fits(budget, index, datum, inner)?;

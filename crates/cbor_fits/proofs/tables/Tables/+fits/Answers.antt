@@ -100,11 +100,12 @@ pub fits_set_bits-bits-preserved : goal.fits_set_bits-bits-preserved
 fits_set_bits-bits-preserved t c =
     let f = λ (k : ℕ). (matcher (rules_of c.args.self.now) c.args.inner).fits c.args.bits (integer (pos k)) in
     let here : c.bits.number % 2 ≡ 1 → f (c.args.set.first + c.bits.bit) ≡ Some true =
-        elim c.if-is_set.branch [
-          fits_set_bits-then-is_set+in_ok-fits_number+else-not-branch w ↦ λ e.
-              let yes : w.in_ok-fits_number.field-0 ≡ true = first_of (assumption (w.if-not-branch.false), search rules, grind (arith, tests)) in
-              w.in_ok-fits_number.ensures ∙ ap (λ b. Some b) yes
-        | fits_set_bits-else-is_set w ↦ λ e. absurd (first_of (omega arith, grind (arith, nat_tests))) ] in
+    elim c.if-is_set.branch [
+      | fits_set_bits-then-is_set+in_ok-fits_number+else-not-branch w ↦ λ e.
+          let yes : w.in_ok-fits_number.field-0 ≡ true = first_of (assumption (w.if-not-branch.false), search rules, grind (arith, tests)) in
+          w.in_ok-fits_number.ensures ∙ ap (λ b. Some b) yes
+      | fits_set_bits-else-is_set w ↦ λ e. absurd (first_of (omega arith, grind (arith, nat_tests)))
+    ] in
     bits_on f (c.args.set.count - c.bits.bit) (c.args.set.first + c.bits.bit) c.bits.number _ c.bits.invariant (omega arith)
     here _ _ _ (omega arith) (omega arith) refl
 

@@ -110,22 +110,22 @@ abbrev pub invariant-take_in_turn-parts : goal.invariant-take_in_turn-parts
 invariant-take_in_turn-parts l =
     let takes = (matcher (rules_of l.self) l.inner).takes in
     in_turn takes (drop l.index-index l.index-items) (rest_view l.left)
-        ≡ in_turn takes ((rules_of l.self).list l.fn.list) (rest_view l.rest)
+    ≡ in_turn takes ((rules_of l.self).list l.fn.list) (rest_view l.rest)
 
 abbrev pub invariant-take_first_of-groups : goal.invariant-take_first_of-groups
 invariant-take_first_of-groups l =
     let takes = λ (g : ℕ). (matcher (rules_of l.self) l.inner).takes g (rest_view l.rest) in
     first_of takes (drop l.index-index l.index-items) (if l.cuts then cuts else refuses)
-        ≡ first_of takes ((rules_of l.self).list l.fn.list) refuses
+    ≡ first_of takes ((rules_of l.self).list l.fn.list) refuses
 
 abbrev pub invariant-take_repeated-turns : goal.invariant-take_repeated-turns
 invariant-take_repeated-turns l =
     let takes = (matcher (rules_of l.self) l.inner).takes l.index in
     repeated takes (size (rest_view l.rest) + 1 - l.turn) l.least l.most (rest_view l.left)
-        ≡ occurs takes l.fn.occurrence (rest_view l.rest)
+    ≡ occurs takes l.fn.occurrence (rest_view l.rest)
 
 abbrev pub invariant-take_pairs-pairs : goal.invariant-take_pairs-pairs
 invariant-take_pairs-pairs l =
     let m = matcher (rules_of l.self) l.inner in
     split (m.fits l.entry.key) (m.fits l.entry.value) (map pair_view_of (drop l.pair-index l.pairs)) (split_view l.split)
-        ≡ split (m.fits l.entry.key) (m.fits l.entry.value) (map pair_view_of l.pairs) (no_split l.entry.occurrence)
+    ≡ split (m.fits l.entry.key) (m.fits l.entry.value) (map pair_view_of l.pairs) (no_split l.entry.occurrence)
