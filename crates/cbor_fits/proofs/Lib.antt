@@ -1,0 +1,4 @@
+pub mod Views
+pub mod Levels
+pub mod Matches
+pub mod Inside

@@ -1,0 +1,244 @@
+//! What a group takes (RFC 8610, sections 2.1 and 3.2): ordered choice, greedy occurrences, cuts.
+
+ghost use Rattle.std.specs.Prelude.{◌≡◌, Some, IfOk, map};
+ghost use Rattle.cbor_fits.specs.Rests.{rest_view, outcome_view, pair_view_of};
+ghost use Rattle.cbor_fits.specs.Tables.{rules_of};
+ghost use Rattle.cbor_fits.specs.Fits.{matcher, one_member, in_turn, first_of, refuses, occurs};
+ghost use Rattle.cbor_fits.specs.Fits.{occurs_under, takes_node};
+ghost use Rattle.cbor_fits.specs.Fits.{entry as entry_takes};
+
+use crate::budget::Budget;
+use crate::rest::{Outcome, Rest};
+use crate::split::{Entry, Split};
+use crate::stop::Stop;
+use crate::tables::Tables;
+use crate::value::Datum;
+use cbor_cddl::{List, Node, Occurrence};
+
+impl Tables<'_> {
+    /// What the group at an index does with what is left.
+    #[cycle(fits)]
+    pub(crate) fn takes<'r>(
+        &self,
+        budget: &mut Budget,
+        index: usize,
+        rest: &Rest<'r>,
+        depth: u32,
+    ) -> Result<Outcome<'r>, Stop>
+        ensures { IfOk result (λ o.
+            (matcher (rules_of self.now) depth).takes index (rest_view rest.now) ≡ Some (outcome_view o)) }
+    {
+        if depth == 0 {
+            return Err(Stop::Deep);
+        }
+        budget.step()?;
+        self.takes_itself(budget, index, rest, depth - 1)
+    }
+
+    /// What the group at an index does with what is left, by what is inside it.
+    #[cycle(fits)]
+    fn takes_itself<'r>(
+        &self,
+        budget: &mut Budget,
+        index: usize,
+        rest: &Rest<'r>,
+        inner: u32,
+    ) -> Result<Outcome<'r>, Stop>
+        ensures { IfOk result (λ o.
+            takes_node (rules_of self.now) (matcher (rules_of self.now) inner) index
+            ((rules_of self.now).node index) (rest_view rest.now) ≡ Some (outcome_view o)) }
+    {
+        let node = self.node(index);
+        match node {
+            Node::Sequence(list) => self.take_in_turn(budget, list, rest, inner),
+            Node::GroupChoice(list) => self.take_first_of(budget, list, rest, inner),
+            Node::Repeated { item, occurrence } => {
+                self.take_repeated(budget, item, occurrence, rest, inner)
+            }
+            Node::Entry {
+                key,
+                cut,
+                value,
+                occurrence,
+            } => {
+                let entry = Entry {
+                    key,
+                    cut,
+                    value,
+                    occurrence,
+                };
+                self.take_entry(budget, entry, rest, inner)
+            }
+            Node::Rule(rule) => {
+                if self.is_group(node) {
+                    self.takes(budget, self.body(rule), rest, inner)
+                } else {
+                    self.take_member(budget, index, rest, inner)
+                }
+            }
+            _ => self.take_member(budget, index, rest, inner),
+        }
+    }
+
+    /// Takes the next member if it fits a type.
+    #[cycle(fits)]
+    fn take_member<'r>(
+        &self,
+        budget: &mut Budget,
+        index: usize,
+        rest: &Rest<'r>,
+        inner: u32,
+    ) -> Result<Outcome<'r>, Stop>
+        ensures { IfOk result (λ o.
+            one_member ((matcher (rules_of self.now) inner).fits index) (rest_view rest.now) ≡ Some (outcome_view o)) }
+    {
+        let Rest::Members(members) = rest else {
+            return Ok(Outcome::Refuses);
+        };
+        let [first, rest @ ..] = members else {
+            return Ok(Outcome::Refuses);
+        };
+        if self.fits(budget, index, first, inner)? {
+            Ok(Outcome::Takes(Rest::Members(rest)))
+        } else {
+            Ok(Outcome::Refuses)
+        }
+    }
+
+    /// What the parts of a group do, one after the other.
+    #[cycle(fits)]
+    fn take_in_turn<'r>(
+        &self,
+        budget: &mut Budget,
+        list: List,
+        rest: &Rest<'r>,
+        inner: u32,
+    ) -> Result<Outcome<'r>, Stop>
+        ensures { IfOk result (λ o.
+            in_turn (matcher (rules_of self.now) inner).takes ((rules_of self.now).list list) (rest_view rest.now) ≡ Some (outcome_view o)) }
+    {
+        let mut left = rest.copy(self.alloc)?;
+        'parts: for index in self.list(list) {
+            match self.takes(budget, *index, &left, inner)? {
+                Outcome::Takes(next) => left = next,
+                Outcome::Refuses => return Ok(Outcome::Refuses),
+                Outcome::Cuts => return Ok(Outcome::Cuts),
+            }
+        }
+        Ok(Outcome::Takes(left))
+    }
+
+    /// What the first alternative does that takes. A cut ends its alternative.
+    #[cycle(fits)]
+    fn take_first_of<'r>(
+        &self,
+        budget: &mut Budget,
+        list: List,
+        rest: &Rest<'r>,
+        inner: u32,
+    ) -> Result<Outcome<'r>, Stop>
+        ensures { IfOk result (λ o.
+            first_of (λ g. (matcher (rules_of self.now) inner).takes g (rest_view rest.now)) ((rules_of self.now).list list)
+            refuses ≡ Some (outcome_view o)) }
+    {
+        let mut cuts = false;
+        'groups: for index in self.list(list) {
+            match self.takes(budget, *index, rest, inner)? {
+                Outcome::Takes(next) => return Ok(Outcome::Takes(next)),
+                Outcome::Refuses => {}
+                Outcome::Cuts => cuts = true,
+            }
+        }
+        if cuts {
+            Ok(Outcome::Cuts)
+        } else {
+            Ok(Outcome::Refuses)
+        }
+    }
+
+    /// What a group does, as often as it takes something, within an occurrence.
+    #[cycle(fits)]
+    fn take_repeated<'r>(
+        &self,
+        budget: &mut Budget,
+        index: usize,
+        occurrence: Occurrence,
+        rest: &Rest<'r>,
+        inner: u32,
+    ) -> Result<Outcome<'r>, Stop>
+        ensures { IfOk result (λ o.
+            occurs ((matcher (rules_of self.now) inner).takes index) occurrence (rest_view rest.now) ≡ Some (outcome_view o)) }
+    {
+        let mut left = rest.copy(self.alloc)?;
+        let mut least = occurrence.least;
+        let mut most = occurrence.most;
+        'turns: for turn in 0..rest.len() + 1 {
+            if most == 0 {
+                return Ok(Outcome::Takes(left));
+            }
+            match self.takes(budget, index, &left, inner)? {
+                Outcome::Takes(next) => {
+                    if next.len() == left.len() {
+                        return Ok(Outcome::Takes(left));
+                    }
+                    left = next;
+                }
+                Outcome::Refuses => {
+                    if least == 0 {
+                        return Ok(Outcome::Takes(left));
+                    }
+                    return Ok(Outcome::Refuses);
+                }
+                Outcome::Cuts => return Ok(Outcome::Cuts),
+            }
+            least = least.saturating_sub(1);
+            most -= 1;
+        }
+        Err(Stop::Work)
+    }
+
+    /// What an entry does. In an array its key is a name.
+    #[cycle(fits)]
+    fn take_entry<'r>(
+        &self,
+        budget: &mut Budget,
+        entry: Entry,
+        rest: &Rest<'r>,
+        inner: u32,
+    ) -> Result<Outcome<'r>, Stop>
+        ensures { IfOk result (λ o.
+            occurs_under ((matcher (rules_of self.now) inner).fits entry.key)
+            ((matcher (rules_of self.now) inner).fits entry.value) ((matcher (rules_of self.now) inner).takes entry.value)
+            entry.cut entry.occurrence (rest_view rest.now) ≡ Some (outcome_view o)) }
+    {
+        match rest {
+            Rest::Members(_) => {
+                self.take_repeated(budget, entry.value, entry.occurrence, rest, inner)
+            }
+            Rest::Pairs(pairs) => self.take_pairs(budget, entry, pairs, inner),
+        }
+    }
+
+    /// What an entry does with pairs: it takes those whose key and value fit.
+    #[cycle(fits)]
+    fn take_pairs<'r>(
+        &self,
+        budget: &mut Budget,
+        entry: Entry,
+        pairs: &[&'r (Datum, Datum)],
+        inner: u32,
+    ) -> Result<Outcome<'r>, Stop>
+        ensures { IfOk result (λ o.
+            entry_takes ((matcher (rules_of self.now) inner).fits entry.key)
+            ((matcher (rules_of self.now) inner).fits entry.value) entry.cut entry.occurrence
+            (map pair_view_of pairs.now) ≡ Some (outcome_view o)) }
+    {
+        let mut split = Split::new(self.alloc, entry.occurrence);
+        'pairs: for pair in pairs {
+            let fits_key = self.fits(budget, entry.key, &pair.0, inner)?;
+            let fits_value = fits_key && self.fits(budget, entry.value, &pair.1, inner)?;
+            split.add(*pair, fits_key, fits_value)?;
+        }
+        Ok(split.outcome(entry.cut))
+    }
+}
