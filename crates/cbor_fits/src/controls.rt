@@ -177,7 +177,7 @@ impl Tables<'_> {
         }
     }
 
-    /// `.cborseq`: the bytes encode items, the array of which fits.
+    /// `.cborseq`: the bytes encode items, and the array of these items fits.
     #[cycle(fits)]
     pub(crate) fn fits_sequence(
         &self,

@@ -60,7 +60,7 @@ impl Tables<'_> {
         }
     }
 
-    /// Whether an item fits the type at an index, of which the target fits if it is a control.
+    /// Whether an item fits the type at an index. If that is a control, the item fits its target.
     #[cycle(fits)]
     fn fits_itself(
         &self,
@@ -122,7 +122,7 @@ impl Tables<'_> {
         Ok(false)
     }
 
-    /// Whether an item is an array all of which a group takes.
+    /// Whether an item is an array, and a group takes all of its members.
     #[cycle(fits)]
     fn fits_array(
         &self,
@@ -142,7 +142,7 @@ impl Tables<'_> {
         Ok(outcome.is_whole())
     }
 
-    /// Whether an item is a map all of which a group takes.
+    /// Whether an item is a map, and a group takes all of its pairs.
     #[cycle(fits)]
     fn fits_map(
         &self,
