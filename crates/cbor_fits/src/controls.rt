@@ -1,4 +1,4 @@
-//! Whether an item fits a control (RFC 8610, section 3.8).
+//! Checks whether an item fits a type with a control, such as `.size` (RFC 8610, section 3.8).
 
 ghost use Rattle.std.specs.Prelude.{◌≡◌, ◌≤◌, ◌+◌, ◌^◌, Some, IfOk, pos};
 ghost use Rattle.cbor_fits.specs.Value.{integer};

@@ -1,4 +1,5 @@
-//! What a group takes (RFC 8610, sections 2.1 and 3.2): ordered choice, greedy occurrences, cuts.
+//! Finds what a group takes (RFC 8610, sections 2.1 and 3.2): ordered choice, greedy occurrences,
+//! cuts.
 
 ghost use Rattle.std.specs.Prelude.{◌≡◌, Some, IfOk, map};
 ghost use Rattle.cbor_fits.specs.Rests.{rest_view, outcome_view, pair_view_of};

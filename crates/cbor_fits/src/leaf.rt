@@ -1,4 +1,4 @@
-//! Whether a value fits a type that has no parts, and how numbers compare.
+//! Checks whether a value fits a type that has no parts, and compares numbers.
 ghost use Rattle.std.specs.Prelude.{◌≡◌, pos, negsuc, ℤ, int_le, ◌&&◌};
 ghost use Rattle.cbor_fits.specs.View.{view};
 ghost use Rattle.cbor_fits.specs.Value.{integer};

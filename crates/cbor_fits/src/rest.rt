@@ -1,4 +1,4 @@
-//! What is left for a group to take, and what a group does with it.
+//! `Rest`: what is left for a group to take. `Outcome`: what a group does with it.
 ghost use Rattle.std.specs.Prelude.{◌≡◌, length, IfOk, map};
 ghost use Rattle.cbor_fits.specs.View.{view};
 ghost use Rattle.cbor_fits.specs.Rests.{rest_view, outcome_view, pair_view, pair_view_of};

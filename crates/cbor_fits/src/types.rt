@@ -1,4 +1,4 @@
-//! Whether an item fits a type (RFC 8610, sections 2.2 and 3).
+//! Checks whether an item fits a type (RFC 8610, sections 2.2 and 3).
 
 ghost use Rattle.std.specs.Prelude.{◌≡◌, ◌==◌, ℕ, Option, Some, IfOk, pos};
 ghost use Rattle.cbor_fits.specs.Value.{integer};
