@@ -31,7 +31,7 @@ extern "C" {
 #define CBOR_DIAG_VERSION 100
 
 /* Bytes of stack that are enough for each call, as measured. */
-#define CBOR_DIAG_STACK_SIZE 262144
+#define CBOR_DIAG_STACK_SIZE 1048576
 
 /* The form of an input or of an output. Each form can be both. */
 enum cbor_diag_form {
