@@ -38,9 +38,19 @@ struct Cddl<'a> {
     rule: &'a [u8],
 }
 
+/// Ends the span of each empty part where it begins, as a schema in bytes needs it.
+fn end_spans(schema: &mut Schema) {
+    for index in 0..schema.spans.len() {
+        if let Some(span) = schema.spans.get_mut(index) {
+            span.end = span.end.max(span.start);
+        }
+    }
+}
+
 /// Loads a text. Its patterns are prepared, too.
 fn load(alloc: Global, text: &str, rule: Option<&str>) -> Result<Checker, Fault> {
-    let schema = Schema::load(alloc, text, rule)?;
+    let mut schema = Schema::load(alloc, text, rule)?;
+    end_spans(&mut schema);
     Checker::new(alloc, schema)
 }
 
