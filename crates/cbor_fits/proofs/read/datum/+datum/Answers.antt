@@ -31,9 +31,10 @@ datum_of-returns-in_ok-pairs_of-in-Map t c =
 
 pub pairs_of-pairs-init : goal.pairs_of-pairs-init
 pairs_of-pairs-init t c =
-    let e = c.new-entries.ensures in
-    (ap length e.keys ∙ sym (ap length e.pairs),
-    ap (λ s. with_entries s (map entry_of c.deref-key-items.result.now)) (sorted_none c.new-entries.result e.keys e.pairs))
+    let e = c.new-entries.ensures in (
+      ap length e.keys ∙ sym (ap length e.pairs),
+      ap (λ s. with_entries s (map entry_of c.deref-key-items.result.now)) (sorted_none c.new-entries.result e.keys e.pairs),
+    )
 
 pub pairs_of-put-requires : goal.pairs_of-put-requires
 pairs_of-put-requires t c = c.pairs.invariant.0
@@ -46,11 +47,12 @@ pairs_of-pairs-preserved t c =
     let left = map entry_of (drop (c.pairs.key-index + 1) items) in
     let key = c.in_ok-datum.ensures in
     let value = c.in_ok-datum_of.ensures in
-    let put = c.in_ok-put.ensures.put ∙ (λ j. with_entry s (key_bytes (item_view x.0), (key j, value j))) in
-    (c.in_ok-put.ensures.as_many,
-    ap (λ e. with_entries e left) put
-    ∙ (sym (at_item (λ ps. with_entries s (map entry_of ps)) items c.pairs.key-index x (omega arith) c.pairs-item.is)
-    ∙ c.pairs.invariant.1))
+    let put = c.in_ok-put.ensures.put ∙ (λ j. with_entry s (key_bytes (item_view x.0), (key j, value j))) in (
+      c.in_ok-put.ensures.as_many,
+      ap (λ e. with_entries e left) put
+          ∙ (sym (at_item (λ ps. with_entries s (map entry_of ps)) items c.pairs.key-index x (omega arith) c.pairs-item.is)
+          ∙ c.pairs.invariant.1),
+    )
 
 pub pairs_of-returns : goal.pairs_of-returns
 pairs_of-returns t c =
