@@ -2,3 +2,5 @@ pub mod Views
 pub mod Levels
 pub mod Matches
 pub mod Inside
+pub mod InOrder
+pub mod Decodes

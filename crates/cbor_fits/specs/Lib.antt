@@ -2,6 +2,8 @@ pub mod Value
 pub mod View
 pub mod Rules
 pub mod Leaf
+pub mod Decoded
+pub mod Reads
 pub mod Fits
 pub mod Tables
 pub mod Rests

@@ -1,14 +1,14 @@
 -- The rules that the tables of a loaded schema stand for.
 use Rattle.std.specs.Prelude.{ℕ, zero, suc, List, [], ◌∷◌, length, get_or, slice_range, Bool, true, false, nat_le, is_some}
-use Rattle.std.specs.Prelude.{◌+◌, ◌&&◌, ◌==◌, if◌then◌else◌, Option, None}
+use Rattle.std.specs.Prelude.{◌+◌, ◌&&◌, ◌==◌, if◌then◌else◌}
 use Rattle.regex.specs.Patterns.{find_str}
 use Rattle.regex.specs.Strings.{regex_pattern}
 use Rattle.cbor_cddl.specs.declared.schema.Node.{Node}
 use Rattle.cbor_cddl.specs.declared.schema.Node.TheVariants as node
 use Rattle.cbor_cddl.specs.declared.schema.Rule.{Rule}
 use Rattle.cbor_cddl.specs.declared.schema.Schema.{Schema}
-use Rattle.cbor_fits.specs.Value.{Value}
 use Rattle.cbor_fits.specs.Rules.{Rules}
+use Rattle.cbor_fits.specs.Decoded.{decoded, decoded_sequence}
 use Rattle.cbor_fits.specs.declared.tables.Pattern.{Pattern}
 use Rattle.cbor_fits.specs.declared.tables.Tables.{Tables}
 
@@ -42,13 +42,6 @@ abbrev pub is_match_of : ℕ → List Pattern → List ℕ → Bool
 is_match_of n [] t = false
 is_match_of n (p ∷ ps) t =
     if p.node == n then is_some (find_str (regex_pattern p.regex) t 0) else is_match_of n ps t
-
--- What bytes encode. Nothing is read yet, and a call that asks for it stops.
-unfoldable pub decoded : List ℕ → Option Value
-decoded b = None
-
-unfoldable pub decoded_sequence : List ℕ → Option Value
-decoded_sequence b = None
 
 abbrev pub rules_of : Tables → Rules
 rules_of t = record {

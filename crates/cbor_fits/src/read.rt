@@ -1,24 +1,78 @@
-//! Reads items as values. It is not written yet: each call stops, so `.cbor` and `.cborseq` are not
-//! decided.
-
-ghost use Rattle.std.specs.Prelude.{◌≡◌, IfOk, option_map};
+//! Reads items as values.
+ghost use Rattle.std.specs.Prelude.{◌≡◌, map, IfOk, option_map};
+ghost use Rattle.cbor_diag.specs.View.{view as item_view};
+ghost use Rattle.cbor_grammar.specs.Embedded.{sequence};
 ghost use Rattle.cbor_fits.specs.View.{view};
-ghost use Rattle.cbor_fits.specs.Tables.{decoded, decoded_sequence};
+ghost use Rattle.cbor_fits.specs.Reads.{front_of, listed};
+ghost use Rattle.cbor_fits.specs.Decoded.{decoded, decoded_sequence};
+
+mod datum;
+mod keys;
 
 use crate::stop::Stop;
 use crate::value::Datum;
+use cbor_diag::{DataItem, parse_bytes, parse_bytes_partial};
+use cbor_grammar::Error;
+use datum::datum_of;
 use std::alloc::Global;
 
 /// The item that the bytes encode, if they encode one.
-pub(crate) fn read_item(_alloc: Global, _bytes: &[u8]) -> Result<Option<Datum>, Stop>
-    ensures { IfOk result (λ o. option_map view o ≡ decoded _bytes.now) }
+pub(crate) fn read_item(alloc: Global, bytes: &[u8]) -> Result<Option<Datum>, Stop>
+    ensures { IfOk result (λ o. option_map view o ≡ decoded bytes.now) }
 {
-    Err(Stop::Work)
+    match parse_bytes(alloc, bytes) {
+        Ok(item) => match datum_of(alloc, &item) {
+            Ok(datum) => Ok(Some(datum)),
+            Err(_) => Err(Stop::Memory),
+        },
+        Err(error) => match error {
+            Error::Memory => Err(Stop::Memory),
+            _ => Ok(None),
+        },
+    }
+}
+
+/// The item at the front of the bytes, and the bytes after it, if one is there.
+fn read_front(alloc: Global, bytes: &[u8]) -> Result<Option<(DataItem, &[u8])>, Stop>
+    ensures { IfOk result (λ o. option_map (λ x. (item_view x.0, x.1.now)) o ≡ front_of bytes.now) }
+{
+    match parse_bytes_partial(alloc, bytes) {
+        Ok(Some((item, used))) => Ok(Some((item, &bytes[used..]))),
+        Ok(None) => Ok(None),
+        Err(error) => match error {
+            Error::Memory => Err(Stop::Memory),
+            _ => Ok(None),
+        },
+    }
+}
+
+/// The items that the bytes encode one after the other, and the bytes after them.
+fn read_items(alloc: Global, bytes: &[u8]) -> Result<(Vec<Datum>, &[u8]), Stop>
+    ensures { IfOk result (λ x. (map view x.0.items, x.1.now) ≡ listed (sequence 1 bytes.now)) }
+{
+    let mut data = Vec::new(alloc);
+    let mut rest = bytes;
+    'items: for _ in 0..bytes.len() {
+        let Some((item, after)) = read_front(alloc, rest)? else {
+            return Ok((data, rest));
+        };
+        match datum_of(alloc, &item) {
+            Ok(datum) => data.push(datum)?,
+            Err(_) => return Err(Stop::Memory),
+        }
+        rest = after;
+    }
+    Ok((data, rest))
 }
 
 /// The array of the items that the bytes encode one after the other.
-pub(crate) fn read_sequence(_alloc: Global, _bytes: &[u8]) -> Result<Option<Datum>, Stop>
-    ensures { IfOk result (λ o. option_map view o ≡ decoded_sequence _bytes.now) }
+pub(crate) fn read_sequence(alloc: Global, bytes: &[u8]) -> Result<Option<Datum>, Stop>
+    ensures { IfOk result (λ o. option_map view o ≡ decoded_sequence bytes.now) }
 {
-    Err(Stop::Work)
+    let (data, rest) = read_items(alloc, bytes)?;
+    if rest.is_empty() {
+        Ok(Some(Datum::Array(data)))
+    } else {
+        Ok(None)
+    }
 }

@@ -1,0 +1,130 @@
+-- What reading bytes gives, from the clauses of the functions that read them.
+use Rattle.std.proofs.Common.{◌≡◌, ◌≢◌, ℕ, zero, suc, ◌<◌, ◌≤◌, List, [], ◌∷◌, ◌++◌, length, drop, map, Option, Some, None, option_map}
+use Rattle.std.proofs.Common.{Result, Ok, Err, Bool, true, false, ◌==◌, ◌+◌, ◌-◌, slice_index, refl, sym, ap, ◌∙◌, arith}
+use Rattle.cbor_grammar.specs.declared.error.Error.{Error}
+use Rattle.cbor_grammar.specs.declared.error.Error.TheVariants as refusal
+use Rattle.cbor_grammar.specs.Item.{Item, Items}
+use Rattle.cbor_grammar.specs.Facts.{IsItem, BeginsWithItem, IsCut, HasFault}
+use Rattle.cbor_grammar.specs.WellFormed.{levels_left}
+use Rattle.cbor_grammar.specs.Reading.{Read, read_item}
+use Rattle.cbor_grammar.specs.Embedded.{embedded, sequence, sequence_of, and_then}
+use Rattle.cbor_grammar.proofs.shared.EmbeddedItems.{embeds_exactly, rejects_exactly}
+use Rattle.cbor_fits.specs.Value as spec
+use Rattle.cbor_fits.specs.Value.{Value, list_of, values_of}
+use Rattle.cbor_fits.specs.Decoded.{decoded, decoded_sequence, array_of_all, value_of, values_of_items}
+use Rattle.cbor_fits.proofs.InOrder.{values_of-list_of}
+use Rattle.std.proofs.lemmas.List.{append_assoc, append-nil}
+use Rattle.cbor_fits.specs.Reads.{front_item, front_of, listed, after, front_read}
+
+pub decoded_is : (b : List ℕ) (i : Item) → ((k : ℕ) → slice_index b k < 256) → IsItem b i
+    → Some (value_of i) ≡ decoded b
+unfolding decoded
+decoded_is b i fits here =
+    sym (ap (option_map value_of) (((embeds_exactly 1 b (omega arith) (omega arith) fits).one i).1 here))
+
+none_of : (o : Option Item) → ((i : Item) → o ≡ Some i → ⊥) → None ≡ option_map value_of o
+none_of None h = refl
+none_of (Some i) h = absurd (h i refl)
+
+-- bytes that encode no item
+pub decoded_none : (b : List ℕ) → ((k : ℕ) → slice_index b k < 256) → ((i : Item) → IsItem b i → ⊥) → None ≡ decoded b
+unfolding decoded
+decoded_none b fits never =
+    none_of (embedded 1 b) (λ i is. never i (((embeds_exactly 1 b (omega arith) (omega arith) fits).one i).0 is))
+
+pub front_found : (b : List ℕ) (i : Item) (n : ℕ) → BeginsWithItem b i n → Some (i, drop n b) ≡ front_of b
+front_found b i n h = sym (ap front_item ((rejects_exactly 1 b (omega arith)).front n i h.1 h.2))
+
+pub front_cut : (b : List ℕ) → IsCut b → None ≡ front_of b
+front_cut b h = sym (ap front_item ((rejects_exactly 1 b (omega arith)).cut h))
+
+pub front_fault : (b : List ℕ) (e : Error) → HasFault b e → None ≡ front_of b
+front_fault b e h = sym (ap front_item ((rejects_exactly 1 b (omega arith)).fault e h))
+
+-- what an option holds, or else this
+abbrev or : {A : Type 0} → A → Option A → A
+or x None = x
+or x (Some y) = y
+
+-- an item at the front, and the sequence after it
+one_more : (n : ℕ) (b : List ℕ) (x : Item × List ℕ) (read : Read Item) → Some x ≡ front_item read
+    → listed (and_then (sequence_of front_read n) b read) ≡ after (value_of x.0 ∷ []) (listed (sequence_of front_read n x.1))
+one_more n b x (Ok y) is =
+    ap (λ z. after (value_of z.0 ∷ []) (listed (sequence_of front_read n z.1))) (sym (ap (or x) is))
+one_more n b x (Err e) is = absurd cc
+
+sequence_more : (n : ℕ) (b : List ℕ) (x : Item × List ℕ) → Some x ≡ front_of b
+    → listed (sequence_of front_read (suc n) b) ≡ after (value_of x.0 ∷ []) (listed (sequence_of front_read n x.1))
+unfolding sequence_of
+sequence_more n b x is = one_more n b x (front_read b) is
+
+none_more : (n : ℕ) (b : List ℕ) (read : Read Item) → None ≡ front_item read
+    → listed (and_then (sequence_of front_read n) b read) ≡ ([], b)
+none_more n b (Ok y) is = absurd cc
+none_more n b (Err e) is = refl
+
+sequence_ends : (n : ℕ) (b : List ℕ) → None ≡ front_of b → listed (sequence_of front_read n b) ≡ ([], b)
+unfolding sequence_of
+sequence_ends zero b is = refl
+sequence_ends (suc n) b is = none_more n b (front_read b) is
+
+sequence_zero : (b : List ℕ) → listed (sequence_of front_read 0 b) ≡ ([], b)
+unfolding sequence_of
+sequence_zero b = refl
+
+-- ---- the loop over the items of a sequence
+
+pub starts : (b : List ℕ) (n : ℕ) (vs : List Value) → vs ≡ [] → n ≡ length b
+    → listed (sequence 1 b) ≡ after vs (listed (sequence_of front_read n b))
+starts b n vs none all =
+    ap (λ m. listed (sequence_of front_read m b)) (sym all) ∙ ap (λ l. after l (listed (sequence_of front_read n b))) (sym none)
+
+-- one item more is read
+pub goes_on : (n k : ℕ) (b : List ℕ) (x : Item × List ℕ) (vs more : List Value) → k < n → Some x ≡ front_of b
+    → more ≡ vs ++ value_of x.0 ∷ []
+    → after vs (listed (sequence_of front_read (n - k) b)) ≡ after more (listed (sequence_of front_read (n - (k + 1)) x.1))
+goes_on n k b x vs more less is added =
+    let s = listed (sequence_of front_read (n - (k + 1)) x.1) in
+    let left : n - k ≡ suc (n - (k + 1)) = omega arith in
+    ap (λ m. after vs (listed (sequence_of front_read m b))) left
+    ∙ (ap (after vs) (sequence_more (n - (k + 1)) b x is)
+    ∙ (ap (λ l. (l, s.1)) (sym (append_assoc vs (value_of x.0 ∷ []) s.0)) ∙ ap (λ l. after l s) (sym added)))
+
+-- no item is at the front
+pub stops : (n : ℕ) (b : List ℕ) (vs : List Value) → None ≡ front_of b
+    → after vs (listed (sequence_of front_read n b)) ≡ (vs, b)
+stops n b vs is = ap (after vs) (sequence_ends n b is) ∙ ap (λ l. (l, b)) (append-nil vs)
+
+-- the bytes have no more items than bytes
+pub ends : (n : ℕ) (b : List ℕ) (vs : List Value) → n ≡ 0 → after vs (listed (sequence_of front_read n b)) ≡ (vs, b)
+ends n b vs none =
+    ap (λ m. after vs (listed (sequence_of front_read m b))) none
+    ∙ (ap (after vs) (sequence_zero b) ∙ ap (λ l. (l, b)) (append-nil vs))
+
+-- ---- the end of a sequence
+
+whole_of : (s : Items × List ℕ) (vs : List Value) (rest : List ℕ) → (vs, rest) ≡ listed s → rest ≡ []
+    → Some (spec.array (values_of vs)) ≡ array_of_all s
+whole_of (is, []) vs rest e none =
+    ap (λ l. Some (spec.array (values_of l))) (ap (λ p. p.0) e)
+    ∙ ap (λ l. Some (spec.array l)) (values_of-list_of (values_of_items is))
+whole_of (is, first ∷ b) vs rest e none =
+    let some : rest ≡ first ∷ b = ap (λ p. p.1) e in
+    absurd cc
+
+others_of : (s : Items × List ℕ) (vs : List Value) (rest : List ℕ) → (vs, rest) ≡ listed s → (length rest == 0) ≡ false
+    → None ≡ array_of_all s
+others_of (is, []) vs rest e some =
+    let none : (length rest == 0) ≡ true = ap (λ p. length p.1 == 0) e in
+    absurd cc
+others_of (is, first ∷ b) vs rest e some = refl
+
+pub whole : (b : List ℕ) (vs : List Value) (rest : List ℕ) → (vs, rest) ≡ listed (sequence 1 b)
+    → rest ≡ [] → Some (spec.array (values_of vs)) ≡ decoded_sequence b
+unfolding decoded_sequence
+whole b vs rest e none = whole_of (sequence 1 b) vs rest e none
+
+pub others : (b : List ℕ) (vs : List Value) (rest : List ℕ) → (vs, rest) ≡ listed (sequence 1 b)
+    → (length rest == 0) ≡ false → None ≡ decoded_sequence b
+unfolding decoded_sequence
+others b vs rest e some = others_of (sequence 1 b) vs rest e some

@@ -1,0 +1,151 @@
+-- The values that bytes encode: the item that `cbor_grammar` defines for them, without what its encoding adds.
+use Rattle.std.specs.Prelude.{ℕ, suc, ◌+◌, ◌%◌, ◌^◌, List, [], ◌∷◌, pos, negsuc, Bool, true, false, if◌then◌else◌}
+use Rattle.std.specs.Prelude.{Option, Some, None, option_map}
+use Rattle.std.specs.List.{flat_map, insert}
+use Rattle.std.specs.declared.cmp.Ordering.{Ordering}
+use Rattle.std.specs.declared.cmp.Ordering.TheVariants.{Less}
+use Rattle.std.specs.Cmp.Lexicographic.{slice_cmp}
+use Rattle.std.specs.Ordering.{nat_cmp}
+use Rattle.cbor_floats.specs.declared.float.EncodedFloat.{EncodedFloat}
+use Rattle.cbor_floats.specs.declared.float.EncodedFloat.TheVariants.{Half, Single, Double}
+use Rattle.cbor_floats.specs.Value as floats
+use Rattle.cbor_floats.specs.Preferred.{shorter}
+use Rattle.cbor_grammar.specs.declared.width.IntegerWidth.TheVariants.{Unknown}
+use Rattle.cbor_grammar.specs.declared.width.FloatWidth.{FloatWidth}
+use Rattle.cbor_grammar.specs.declared.width.FloatWidth.TheVariants as float_width
+use Rattle.cbor_grammar.specs.declared.strings.StringKind.{StringKind}
+use Rattle.cbor_grammar.specs.declared.strings.StringKind.TheVariants.{Bytes, Text}
+use Rattle.cbor_grammar.specs.Item as item
+use Rattle.cbor_grammar.specs.Item.{Chunk, Atom, Item, Items, Pairs}
+use Rattle.cbor_grammar.specs.Written.{encoded}
+use Rattle.cbor_grammar.specs.Embedded.{embedded, sequence}
+use Rattle.cbor_grammar.specs.Reading.{Read, read_item}
+use Rattle.cbor_fits.specs.Value as spec
+use Rattle.cbor_fits.specs.Value.{Value, Values, pairs_of}
+
+-- a float by the bits of its width; an unstated width has 64
+abbrev pub float_of : ℕ → FloatWidth → EncodedFloat
+float_of bits float_width.Sixteen = Half (bits % 2 ^ 16)
+float_of bits float_width.ThirtyTwo = Single (bits % 2 ^ 32)
+float_of bits float_width.SixtyFour = Double bits
+float_of bits float_width.Unknown = Double bits
+
+-- the content of chunks, joined
+abbrev pub content_of : List Chunk → List ℕ
+content_of cs = flat_map (λ c. c.bytes) cs
+
+abbrev pub string_value : StringKind → List ℕ → Value
+string_value Bytes content = spec.bytes content
+string_value Text content = spec.text content
+
+-- the value of an item that holds no item
+abbrev pub atom_value : Atom → Value
+atom_value (item.integer n w) = spec.integer (pos n)
+atom_value (item.negative n w) = spec.integer (negsuc n)
+atom_value (item.string kind c) = string_value kind c.bytes
+atom_value (item.chunked_string kind cs) = string_value kind (content_of cs)
+atom_value (item.float bits w) = spec.float (floats.value_of (float_of bits w))
+atom_value (item.simple n) = spec.simple n
+
+-- ---- the order of keys
+
+-- the float in the shortest width that has it
+abbrev pub preferred_or : EncodedFloat → Option EncodedFloat → EncodedFloat
+preferred_or float None = float
+preferred_or float (Some shorter) = shorter
+
+abbrev pub float_atom : EncodedFloat → Atom
+float_atom (Half bits) = item.float bits float_width.Sixteen
+float_atom (Single bits) = item.float bits float_width.ThirtyTwo
+float_atom (Double bits) = item.float bits float_width.SixtyFour
+
+abbrev pub core_float : EncodedFloat → Atom
+core_float float = float_atom (preferred_or float (shorter float))
+
+abbrev pub core_string : StringKind → List ℕ → Atom
+core_string kind content = item.string kind (record { bytes = content; width = Unknown })
+
+-- the item as the core deterministic encoding has it (RFC 8949, section 4.2.1)
+abbrev pub core_atom : Atom → Atom
+core_atom (item.integer n w) = item.integer n Unknown
+core_atom (item.negative n w) = item.negative n Unknown
+core_atom (item.string kind c) = core_string kind c.bytes
+core_atom (item.chunked_string kind cs) = core_string kind (content_of cs)
+core_atom (item.float bits w) = core_float (float_of bits w)
+core_atom (item.simple n) = item.simple n
+
+-- the key as it is compared: arrays, maps and tags as they are
+abbrev pub core_key : Item → Item
+core_key (item.atom a) = item.atom (core_atom a)
+core_key (item.array is w) = item.array is w
+core_key (item.map ps w) = item.map ps w
+core_key (item.tagged t w i) = item.tagged t w i
+
+abbrev pub key_bytes : Item → List ℕ
+key_bytes k = encoded (core_key k)
+
+-- the bytes of a key, with the key and its value
+abbrev pub Entry : Type 0
+Entry = List ℕ × (Value × Value)
+
+abbrev pub is_less : Ordering → Bool
+is_less Less = true
+is_less other = false
+
+-- whether a key comes before another: by their bytes, from the first on; a front of a key comes before it
+abbrev pub is_before : List ℕ → List ℕ → Bool
+is_before k l = is_less (slice_cmp nat_cmp k l)
+
+-- how many keys at the front do not come after the key
+abbrev pub place : List ℕ → List (List ℕ) → ℕ
+place k [] = 0
+place k (l ∷ ls) = if is_before k l then 0 else suc (place k ls)
+
+-- keys in order, and in the same order the pairs that they are the keys of
+pub record Sorted : Type 0 where
+  pub keys : List (List ℕ)
+  pub pairs : List (Value × Value)
+
+-- one entry more, after those with the same key
+abbrev pub with_entry : Sorted → Entry → Sorted
+with_entry s e =
+    record { keys = insert s.keys (place e.0 s.keys) e.0; pairs = insert s.pairs (place e.0 s.keys) e.1 }
+
+-- more entries, each put where it belongs
+abbrev pub with_entries : Sorted → List Entry → Sorted
+with_entries s [] = s
+with_entries s (e ∷ es) = with_entries (with_entry s e) es
+
+-- the pairs of entries, in the order of their keys
+abbrev pub in_order : List Entry → List (Value × Value)
+in_order es = (with_entries (record { keys = []; pairs = [] }) es).pairs
+
+-- ---- items
+
+abbrev mutual
+  -- the value of an item
+  pub value_of : Item → Value
+  value_of (item.atom a) = atom_value a
+  value_of (item.array is w) = spec.array (values_of_items is)
+  value_of (item.map ps w) = spec.map (pairs_of (in_order (entries ps)))
+  value_of (item.tagged t w i) = spec.tagged t (value_of i)
+
+  pub values_of_items : Items → Values
+  values_of_items item.no_items = spec.no_values
+  values_of_items (item.item i is) = spec.value (value_of i) (values_of_items is)
+
+  pub entries : Pairs → List Entry
+  entries item.no_pairs = []
+  entries (item.pair k v ps) = (key_bytes k, (value_of k, value_of v)) ∷ entries ps
+
+-- the value of the item that the bytes encode, if they encode one
+unfoldable pub decoded : List ℕ → Option Value
+decoded b = option_map value_of (embedded 1 b)
+
+abbrev pub array_of_all : Items × List ℕ → Option Value
+array_of_all (is, []) = Some (spec.array (values_of_items is))
+array_of_all (is, first ∷ b) = None
+
+-- the array of the values of the items that the bytes encode one after the other, if they encode nothing else
+unfoldable pub decoded_sequence : List ℕ → Option Value
+decoded_sequence b = array_of_all (sequence 1 b)
