@@ -286,7 +286,7 @@ $(WASM): $(ARCHIVE) $(wildcard machines/wasm/*)
 	machines/wasm/build $(@D)
 
 $(PAGE): $(WASM) VERSION $(wildcard page/* crates/cbor_page/page/* examples/*)
-	page/make $(WASM) $@
+	page/make $(@D)/wasm/page.wasm $@
 
 # Both pages in browsers, and the library in semphluk.html against the native one.
 check-page: $(SHARED) $(DIST)/bin/cborcat
