@@ -4,7 +4,8 @@ ghost use Rattle.std.specs.Prelude.{◌≡◌, ◌≤◌, ◌+◌, ◌^◌, Some
 ghost use Rattle.cbor_fits.specs.Value.{integer};
 ghost use Rattle.cbor_fits.specs.View.{view};
 ghost use Rattle.cbor_fits.specs.Tables.{rules_of};
-ghost use Rattle.cbor_fits.specs.Fits.{matcher, has_size, any_from, has_bits, all_bits_of, all_bits};
+ghost use Rattle.cbor_fits.specs.Fits.{matcher, has_size, any_from};
+ghost use Rattle.cbor_fits.specs.Fits.{has_bits, all_bits_of, all_bits};
 ghost use Rattle.cbor_fits.specs.Fits.{has_inside, has_match, bytes_needed};
 
 use crate::budget::Budget;
@@ -38,7 +39,8 @@ impl Tables<'_> {
         inner: u32,
     ) -> Result<bool, Stop>
         ensures { IfOk result (λ b.
-            has_size (λ k. (matcher (rules_of self.now) inner).fits sizes (integer (pos k))) (view datum.now) ≡ Some b) }
+            has_size (λ k. (matcher (rules_of self.now) inner).fits sizes (integer (pos k)))
+            (view datum.now) ≡ Some b) }
     {
         match datum {
             Datum::Bytes(content) => {
@@ -63,7 +65,8 @@ impl Tables<'_> {
     ) -> Result<bool, Stop>
         requires { first ≤ 8 }
         ensures { IfOk result (λ b.
-            any_from (λ k. (matcher (rules_of self.now) inner).fits sizes (integer (pos k))) 65 first ≡ Some b) }
+            any_from (λ k. (matcher (rules_of self.now) inner).fits sizes (integer
+            (pos k))) 65 first ≡ Some b) }
     {
         'sizes: for more in 0..65u64 {
             if self.fits_number(budget, sizes, first + more, inner)? {
@@ -83,7 +86,8 @@ impl Tables<'_> {
         inner: u32,
     ) -> Result<bool, Stop>
         ensures { IfOk result (λ b.
-            has_bits (λ k. (matcher (rules_of self.now) inner).fits bits (integer (pos k))) (view datum.now) ≡ Some b) }
+            has_bits (λ k. (matcher (rules_of self.now) inner).fits bits (integer (pos k)))
+            (view datum.now) ≡ Some b) }
     {
         match datum {
             Datum::Bytes(content) => self.fits_bits_of_bytes(budget, bits, content, inner),
@@ -109,7 +113,8 @@ impl Tables<'_> {
         inner: u32,
     ) -> Result<bool, Stop>
         ensures { IfOk result (λ b.
-            all_bits_of (λ k. (matcher (rules_of self.now) inner).fits bits (integer (pos k))) 0 content.now ≡ Some b) }
+            all_bits_of (λ k. (matcher (rules_of self.now) inner).fits bits (integer
+            (pos k))) 0 content.now ≡ Some b) }
     {
         let mut first = 0u64;
         'bytes: for byte in content {
@@ -166,7 +171,8 @@ impl Tables<'_> {
         inner: u32,
     ) -> Result<bool, Stop>
         ensures { IfOk result (λ b.
-            has_inside (rules_of self.now).decoded ((matcher (rules_of self.now) inner).fits index) (view datum.now) ≡ Some b) }
+            has_inside (rules_of self.now).decoded ((matcher (rules_of self.now) inner).fits
+            index) (view datum.now) ≡ Some b) }
     {
         let Datum::Bytes(content) = datum else {
             return Ok(false);
@@ -187,7 +193,8 @@ impl Tables<'_> {
         inner: u32,
     ) -> Result<bool, Stop>
         ensures { IfOk result (λ b.
-            has_inside (rules_of self.now).decoded_sequence ((matcher (rules_of self.now) inner).fits index) (view datum.now) ≡ Some b) }
+            has_inside (rules_of self.now).decoded_sequence ((matcher
+            (rules_of self.now) inner).fits index) (view datum.now) ≡ Some b) }
     {
         let Datum::Bytes(content) = datum else {
             return Ok(false);
@@ -200,7 +207,8 @@ impl Tables<'_> {
 
     /// `.regexp`, `.pcre`: the text matches the pattern.
     pub(crate) fn fits_pattern(&self, index: usize, datum: &Datum) -> Result<bool, Stop>
-        ensures { IfOk result (λ b. b ≡ has_match ((rules_of self.now).is_match index) (view datum.now)) }
+        ensures { IfOk result (λ b. b ≡ has_match ((rules_of self.now).is_match index)
+            (view datum.now)) }
     {
         match datum {
             Datum::Text(content) => Ok(self.is_match(index, content)?),

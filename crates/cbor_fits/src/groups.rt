@@ -27,7 +27,8 @@ impl Tables<'_> {
         depth: u32,
     ) -> Result<Outcome<'r>, Stop>
         ensures { IfOk result (λ o.
-            (matcher (rules_of self.now) depth).takes index (rest_view rest.now) ≡ Some (outcome_view o)) }
+            (matcher (rules_of self.now) depth).takes index (rest_view rest.now)
+            ≡ Some (outcome_view o)) }
     {
         if depth == 0 {
             return Err(Stop::Deep);
@@ -91,7 +92,8 @@ impl Tables<'_> {
         inner: u32,
     ) -> Result<Outcome<'r>, Stop>
         ensures { IfOk result (λ o.
-            one_member ((matcher (rules_of self.now) inner).fits index) (rest_view rest.now) ≡ Some (outcome_view o)) }
+            one_member ((matcher (rules_of self.now) inner).fits index) (rest_view rest.now)
+            ≡ Some (outcome_view o)) }
     {
         let Rest::Members(members) = rest else {
             return Ok(Outcome::Refuses);
@@ -116,7 +118,8 @@ impl Tables<'_> {
         inner: u32,
     ) -> Result<Outcome<'r>, Stop>
         ensures { IfOk result (λ o.
-            in_turn (matcher (rules_of self.now) inner).takes ((rules_of self.now).list list) (rest_view rest.now) ≡ Some (outcome_view o)) }
+            in_turn (matcher (rules_of self.now) inner).takes ((rules_of self.now).list list)
+            (rest_view rest.now) ≡ Some (outcome_view o)) }
     {
         let mut left = rest.copy(self.alloc)?;
         'parts: for index in self.list(list) {
@@ -139,7 +142,8 @@ impl Tables<'_> {
         inner: u32,
     ) -> Result<Outcome<'r>, Stop>
         ensures { IfOk result (λ o.
-            first_of (λ g. (matcher (rules_of self.now) inner).takes g (rest_view rest.now)) ((rules_of self.now).list list)
+            first_of (λ g. (matcher (rules_of self.now) inner).takes g (rest_view rest.now))
+            ((rules_of self.now).list list)
             refuses ≡ Some (outcome_view o)) }
     {
         let mut cuts = false;
@@ -168,7 +172,8 @@ impl Tables<'_> {
         inner: u32,
     ) -> Result<Outcome<'r>, Stop>
         ensures { IfOk result (λ o.
-            occurs ((matcher (rules_of self.now) inner).takes index) occurrence (rest_view rest.now) ≡ Some (outcome_view o)) }
+            occurs ((matcher (rules_of self.now) inner).takes index) occurrence
+            (rest_view rest.now) ≡ Some (outcome_view o)) }
     {
         let mut left = rest.copy(self.alloc)?;
         let mut least = occurrence.least;
@@ -209,7 +214,8 @@ impl Tables<'_> {
     ) -> Result<Outcome<'r>, Stop>
         ensures { IfOk result (λ o.
             occurs_under ((matcher (rules_of self.now) inner).fits entry.key)
-            ((matcher (rules_of self.now) inner).fits entry.value) ((matcher (rules_of self.now) inner).takes entry.value)
+            ((matcher (rules_of self.now) inner).fits entry.value) ((matcher
+            (rules_of self.now) inner).takes entry.value)
             entry.cut entry.occurrence (rest_view rest.now) ≡ Some (outcome_view o)) }
     {
         match rest {

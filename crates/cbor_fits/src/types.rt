@@ -42,7 +42,8 @@ impl Tables<'_> {
         datum: &Datum,
         depth: u32,
     ) -> Result<bool, Stop>
-        ensures { IfOk result (λ b. (matcher (rules_of self.now) depth).fits index (view datum.now) ≡ Some b) }
+        ensures { IfOk result (λ b. (matcher (rules_of self.now) depth).fits index
+            (view datum.now) ≡ Some b) }
     {
         if depth == 0 {
             return Err(Stop::Deep);
@@ -173,7 +174,8 @@ impl Tables<'_> {
         inner: u32,
     ) -> Result<bool, Stop>
         ensures { IfOk result (λ b.
-            in_tag (λ k. Some (number == k)) ((matcher (rules_of self.now) inner).fits index) (view datum.now) ≡ Some b) }
+            in_tag (λ k. Some (number == k)) ((matcher (rules_of self.now) inner).fits index)
+            (view datum.now) ≡ Some b) }
     {
         match datum {
             Datum::Tag(found, content) => {
@@ -226,7 +228,8 @@ impl Tables<'_> {
         inner: u32,
     ) -> Result<bool, Stop>
         ensures { IfOk result (λ b.
-            in_simple (λ k. (matcher (rules_of self.now) inner).fits index (integer (pos k))) (view datum.now) ≡ Some b) }
+            in_simple (λ k. (matcher (rules_of self.now) inner).fits index (integer (pos k)))
+            (view datum.now) ≡ Some b) }
     {
         match datum {
             Datum::Simple(number) => { self.fits_number(budget, index, u64::from(*number), inner) }
