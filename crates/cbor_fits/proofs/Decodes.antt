@@ -1,6 +1,6 @@
 -- What reading bytes gives, from the clauses of the functions that read them.
 use Rattle.std.proofs.Common.{◌≡◌, ◌≢◌, ℕ, zero, suc, ◌<◌, ◌≤◌, List, [], ◌∷◌, ◌++◌, length, drop, map, Option, Some, None, option_map}
-use Rattle.std.proofs.Common.{Result, Ok, Err, Bool, true, false, ◌==◌, ◌+◌, ◌-◌, slice_index, refl, sym, ap, ◌∙◌, arith}
+use Rattle.std.proofs.Common.{Result, Ok, Err, Bool, true, false, ◌||◌, if◌then◌else◌, ◌==◌, ◌+◌, ◌-◌, slice_index, refl, sym, ap, ◌∙◌, arith}
 use Rattle.cbor_grammar.specs.declared.error.Error.{Error}
 use Rattle.cbor_grammar.specs.declared.error.Error.TheVariants as refusal
 use Rattle.cbor_grammar.specs.Item.{Item, Items}
@@ -11,18 +11,22 @@ use Rattle.cbor_grammar.specs.Embedded.{embedded, sequence, sequence_of, and_the
 use Rattle.cbor_grammar.proofs.shared.EmbeddedItems.{embeds_exactly, rejects_exactly}
 use Rattle.cbor_fits.specs.Value as spec
 use Rattle.cbor_fits.specs.Value.{Value, list_of, values_of}
-use Rattle.cbor_fits.specs.Decoded.{decoded, decoded_sequence, array_of_all, value_of, values_of_items}
-use Rattle.cbor_fits.proofs.InOrder.{values_of-list_of}
+use Rattle.cbor_fits.specs.Decoded.{decoded, decoded_sequence, array_of_all, value_of, values_of_items, valid_value}
+use Rattle.cbor_fits.specs.Decoded.{valid_value_of, has_key_twice, items_have_key_twice}
+use Rattle.cbor_fits.proofs.InOrder.{values_of-list_of, or_assoc, or_false}
 use Rattle.std.proofs.lemmas.List.{append_assoc, append-nil}
 use Rattle.cbor_fits.specs.Reads.{front_item, front_of, listed, after, front_read}
 
-pub decoded_is : (b : List ℕ) (i : Item) → ((k : ℕ) → slice_index b k < 256) → IsItem b i
-    → Some (value_of i) ≡ decoded b
+pub decoded_is : (b : List ℕ) (i : Item) → ((k : ℕ) → slice_index b k < 256) → IsItem b i → valid_value i ≡ decoded b
 unfolding decoded
 decoded_is b i fits here =
-    sym (ap (option_map value_of) (((embeds_exactly 1 b (omega arith) (omega arith) fits).one i).1 here))
+    sym (ap valid_value_of (((embeds_exactly 1 b (omega arith) (omega arith) fits).one i).1 here))
 
-none_of : (o : Option Item) → ((i : Item) → o ≡ Some i → ⊥) → None ≡ option_map value_of o
+-- an item in which a key stands twice, or in which none does
+pub valid : (i : Item) (b : Bool) → b ≡ has_key_twice i → valid_value i ≡ (if b then None else Some (value_of i))
+valid i b is = ap (λ c. if c then None else Some (value_of i)) (sym is)
+
+none_of : (o : Option Item) → ((i : Item) → o ≡ Some i → ⊥) → None ≡ valid_value_of o
 none_of None h = refl
 none_of (Some i) h = absurd (h i refl)
 
@@ -101,14 +105,58 @@ ends n b vs none =
     ap (λ m. after vs (listed (sequence_of front_read m b))) none
     ∙ (ap (after vs) (sequence_zero b) ∙ ap (λ l. (l, b)) (append-nil vs))
 
+-- ---- keys that stand twice in a sequence
+
+abbrev pub twice : Items × List ℕ → Bool
+twice s = items_have_key_twice s.0
+
+twice_in_one : (n : ℕ) (b : List ℕ) (x : Item × List ℕ) (read : Read Item) → Some x ≡ front_item read
+    → twice (and_then (sequence_of front_read n) b read) ≡ (has_key_twice x.0 || twice (sequence_of front_read n x.1))
+twice_in_one n b x (Ok y) is =
+    ap (λ z. has_key_twice z.0 || twice (sequence_of front_read n z.1)) (sym (ap (or x) is))
+twice_in_one n b x (Err e) is = absurd cc
+
+-- one item more is read
+pub twice_more : (n k : ℕ) (b : List ℕ) (x : Item × List ℕ) (old new : Bool) → k < n → Some x ≡ front_of b
+    → new ≡ (old || has_key_twice x.0)
+    → (old || twice (sequence_of front_read (n - k) b)) ≡ (new || twice (sequence_of front_read (n - (k + 1)) x.1))
+unfolding sequence_of
+twice_more n k b x old new less is flag =
+    let left : n - k ≡ suc (n - (k + 1)) = omega arith in
+    let more = twice (sequence_of front_read (n - (k + 1)) x.1) in
+    ap (λ m. old || twice (sequence_of front_read m b)) left
+    ∙ (ap (λ t. old || t) (twice_in_one (n - (k + 1)) b x (front_read b) is)
+    ∙ (sym (or_assoc old (has_key_twice x.0) more) ∙ ap (λ f. f || more) (sym flag)))
+
+twice_in_none : (n : ℕ) (b : List ℕ) (read : Read Item) → None ≡ front_item read
+    → twice (and_then (sequence_of front_read n) b read) ≡ false
+twice_in_none n b (Ok y) is = absurd cc
+twice_in_none n b (Err e) is = refl
+
+twice_in_rest : (n : ℕ) (b : List ℕ) → None ≡ front_of b → twice (sequence_of front_read n b) ≡ false
+unfolding sequence_of
+twice_in_rest zero b is = refl
+twice_in_rest (suc n) b is = twice_in_none n b (front_read b) is
+
+-- no item is at the front
+pub twice_stops : (n : ℕ) (b : List ℕ) (old : Bool) → None ≡ front_of b
+    → (old || twice (sequence_of front_read n b)) ≡ old
+twice_stops n b old is = ap (λ t. old || t) (twice_in_rest n b is) ∙ sym (or_false old)
+
+-- the bytes have no more items than bytes
+pub twice_ends : (n : ℕ) (b : List ℕ) (old : Bool) → n ≡ 0 → (old || twice (sequence_of front_read n b)) ≡ old
+unfolding sequence_of
+twice_ends n b old none = ap (λ m. old || twice (sequence_of front_read m b)) none ∙ sym (or_false old)
+
 -- ---- the end of a sequence
 
 whole_of : (s : Items × List ℕ) (vs : List Value) (rest : List ℕ) → (vs, rest) ≡ listed s → rest ≡ []
-    → Some (spec.array (values_of vs)) ≡ array_of_all s
-whole_of (is, []) vs rest e none =
+    → twice s ≡ false → Some (spec.array (values_of vs)) ≡ array_of_all s
+whole_of (is, []) vs rest e none once =
     ap (λ l. Some (spec.array (values_of l))) (ap (λ p. p.0) e)
-    ∙ ap (λ l. Some (spec.array l)) (values_of-list_of (values_of_items is))
-whole_of (is, first ∷ b) vs rest e none =
+    ∙ (ap (λ l. Some (spec.array l)) (values_of-list_of (values_of_items is))
+    ∙ ap (λ b. if b then None else Some (spec.array (values_of_items is))) (sym once))
+whole_of (is, first ∷ b) vs rest e none once =
     let some : rest ≡ first ∷ b = ap (λ p. p.1) e in
     absurd cc
 
@@ -119,12 +167,21 @@ others_of (is, []) vs rest e some =
     absurd cc
 others_of (is, first ∷ b) vs rest e some = refl
 
+twice_of : (s : Items × List ℕ) → twice s ≡ true → None ≡ array_of_all s
+twice_of (is, []) known = ap (λ b. if b then None else Some (spec.array (values_of_items is))) (sym known)
+twice_of (is, first ∷ b) known = refl
+
 pub whole : (b : List ℕ) (vs : List Value) (rest : List ℕ) → (vs, rest) ≡ listed (sequence 1 b)
-    → rest ≡ [] → Some (spec.array (values_of vs)) ≡ decoded_sequence b
+    → rest ≡ [] → twice (sequence 1 b) ≡ false → Some (spec.array (values_of vs)) ≡ decoded_sequence b
 unfolding decoded_sequence
-whole b vs rest e none = whole_of (sequence 1 b) vs rest e none
+whole b vs rest e none once = whole_of (sequence 1 b) vs rest e none once
 
 pub others : (b : List ℕ) (vs : List Value) (rest : List ℕ) → (vs, rest) ≡ listed (sequence 1 b)
     → (length rest == 0) ≡ false → None ≡ decoded_sequence b
 unfolding decoded_sequence
 others b vs rest e some = others_of (sequence 1 b) vs rest e some
+
+-- a key stands twice
+pub not_once : (b : List ℕ) → twice (sequence 1 b) ≡ true → None ≡ decoded_sequence b
+unfolding decoded_sequence
+not_once b known = twice_of (sequence 1 b) known

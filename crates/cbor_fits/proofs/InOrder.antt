@@ -1,16 +1,18 @@
 -- Values of items, level by level, and the order of pairs.
-use Rattle.std.proofs.Common.{◌≡◌, ℕ, zero, suc, ◌+◌, ◌<◌, ◌≤◌, true, false, length, get_or, cond, Vec, Global, List, [], ◌∷◌, ◌++◌, map, take, drop, refl, ap, sym, ◌∙◌}
-use Rattle.std.proofs.lemmas.List.{map-append, take-map, drop-map, at_drop_more, drop_all}
-use Rattle.std.specs.List.{insert}
+use Rattle.std.proofs.Common.{◌≡◌, ℕ, zero, suc, ◌+◌, ◌<◌, Bool, true, false, ◌||◌, length, get_or, cond, Vec, Global, List, [], ◌∷◌}
+use Rattle.std.proofs.Common.{map, drop, Option, Some, None, is_some, Ordering, Less, Equal, Greater, refl, ap, sym, ◌∙◌}
+use Rattle.std.proofs.lemmas.List.{at_drop_more}
+use Rattle.std.specs.Map.{lookup}
+use Rattle.std.specs.Ordering.{match_ordering}
+use Rattle.std.specs.BTreeMap.{insert_entry, is_at}
 use Rattle.cbor_diag.specs.declared.syntax.DataItem.{DataItem}
 use Rattle.cbor_diag.specs.View as item
 use Rattle.cbor_fits.specs.Value as spec
 use Rattle.cbor_fits.specs.Value.{Value, Values, values_of, list_of}
-use Rattle.cbor_fits.specs.Decoded.{values_of_items, entries, is_before, place, Sorted, with_entry}
-use Rattle.cbor_fits.specs.Reads.{datum_value, entry_of, sorted_view}
+use Rattle.cbor_fits.specs.Decoded.{values_of_items, entries, Entry, key_order, with_entry, has_key}
+use Rattle.cbor_fits.specs.Reads.{datum_value, entry_of, entry_view}
 use Rattle.cbor_fits.specs.Rests.{pair_view}
 use Rattle.cbor_fits.specs.declared.value.Datum.{Datum}
-use Rattle.cbor_fits.specs.declared.read.keys.Entries.{Entries}
 
 pub values_view : (is : List DataItem) → values_of_items (item.items_view is) ≡ values_of (map datum_value is)
 values_view [] = refl
@@ -24,49 +26,53 @@ pub values_of-list_of : (vs : Values) → values_of (list_of vs) ≡ vs
 values_of-list_of spec.no_values = refl
 values_of-list_of (spec.value v vs) = ap (spec.value v) (values_of-list_of vs)
 
-pub map-insert : {A B : Type 0} (f : A → B) (xs : List A) (n : ℕ) (x : A) → map f (insert xs n x) ≡ insert (map f xs) n (f x)
-map-insert f xs n x =
-    map-append f (take n xs) (x ∷ drop n xs) ∙ (λ j. sym (take-map f n xs) j ++ f x ∷ sym (drop-map f n xs) j)
-
 -- what is left of a list, with the element that is here
 pub at_item : {X Y : Type 0} (F : List X → Y) (xs : List X) (i : ℕ) (x : X) → i < length xs → x ≡ get_or xs i x
     → F (drop i xs) ≡ F (x ∷ drop (i + 1) xs)
 at_item F xs i x here is = at_drop_more F xs i x here ∙ ap (λ y. F (y ∷ drop (i + 1) xs)) (sym is)
 
--- ---- places of keys
+-- ---- entries
 
-abbrev pub keys_of : List (Vec ℕ Global) → List (List ℕ)
-keys_of ks = map (λ k. k.items) ks
+abbrev pub Stored : Type 0
+Stored = Vec ℕ Global × (Datum × Datum)
 
-pub place_here : (k : List ℕ) (ks : List (Vec ℕ Global)) (i : ℕ) (x : Vec ℕ Global) → i < length ks → x ≡ get_or ks i x
-    → is_before k x.items ≡ true → place k (keys_of (drop i ks)) ≡ 0
-place_here k ks i x here is before =
-    at_item (λ l. place k (keys_of l)) ks i x here is
-    ∙ ap (λ b. cond b 0 (suc (place k (keys_of (drop (i + 1) ks))))) before
+-- which key comes first
+abbrev pub stored_order : Vec ℕ Global → Vec ℕ Global → Ordering
+stored_order k l = key_order k.items l.items
 
-pub place_after : (k : List ℕ) (ks : List (Vec ℕ Global)) (i : ℕ) (x : Vec ℕ Global) → i < length ks → x ≡ get_or ks i x
-    → is_before k x.items ≡ false → place k (keys_of (drop i ks)) ≡ suc (place k (keys_of (drop (i + 1) ks)))
-place_after k ks i x here is before =
-    at_item (λ l. place k (keys_of l)) ks i x here is
-    ∙ ap (λ b. cond b 0 (suc (place k (keys_of (drop (i + 1) ks))))) before
+-- what stored entries stand for
+abbrev pub seen : List Stored → List Entry
+seen es = map entry_view es
 
-pub place_past : (k : List ℕ) (ks : List (Vec ℕ Global)) (i : ℕ) → length ks ≤ i → place k (keys_of (drop i ks)) ≡ 0
-place_past k ks i past = ap (λ l. place k (keys_of l)) (drop_all i ks past)
+seen-match : (o : Ordering) (a b c : List Stored)
+    → seen (match_ordering o a b c) ≡ match_ordering o (seen a) (seen b) (seen c)
+seen-match Less a b c = refl
+seen-match Equal a b c = refl
+seen-match Greater a b c = refl
 
-abbrev pub none_yet : Sorted
-none_yet = record { keys = []; pairs = [] }
+-- an entry more stands for an entry more
+pub seen-insert : (es : List Stored) (k : Vec ℕ Global) (p : Datum × Datum)
+    → seen (insert_entry stored_order es k p) ≡ with_entry (seen es) (k.items, pair_view p)
+seen-insert [] k p = refl
+seen-insert (e ∷ es) k p = seen-match (stored_order k e.0) _ _ _ ∙ rw (seen-insert es k p)
 
-pub sorted_none : (e : Entries) → e.keys.items ≡ [] → e.pairs.items ≡ [] → sorted_view e ≡ none_yet
-sorted_none e keys pairs = λ j. record { keys = keys_of (keys j); pairs = map pair_view (pairs j) }
+found : {X Y : Type 0} (b : Bool) (x : X) (y : Y) (l : Option X) (m : Option Y) → is_some l ≡ is_some m
+    → is_some (cond b (Some x) l) ≡ is_some (cond b (Some y) m)
+found true x y l m h = refl
+found false x y l m h = h
 
--- an entry at its place
-pub sorted_put : (old new : Entries) (bytes : List ℕ) (key : Vec ℕ Global) (n : ℕ) (p : Datum × Datum)
-    → new.keys.items ≡ insert old.keys.items n key → new.pairs.items ≡ insert old.pairs.items n p
-    → key.items ≡ bytes → n ≡ place bytes (keys_of old.keys.items)
-    → sorted_view new ≡ with_entry (sorted_view old) (bytes, pair_view p)
-sorted_put old new bytes key n p keys pairs is here =
-    let seen = ap keys_of keys ∙ (map-insert (λ k. k.items) old.keys.items n key
-    ∙ (λ j. insert (keys_of old.keys.items) (here j) (is j))) in
-    let both = ap (map pair_view) pairs ∙ (map-insert pair_view old.pairs.items n p
-    ∙ (λ j. insert (map pair_view old.pairs.items) (here j) (pair_view p))) in
-    λ j. record { keys = seen j; pairs = both j }
+-- a key is in stored entries if it is in what they stand for
+pub seen-lookup : (es : List Stored) (k : Vec ℕ Global)
+    → is_some (lookup (is_at (stored_order k)) es) ≡ has_key (seen es) k.items
+seen-lookup [] k = refl
+seen-lookup (e ∷ es) k = found (is_at (stored_order k) e.0) e.1 (pair_view e.1) _ _ (seen-lookup es k)
+
+-- ---- flags
+
+pub or_assoc : (a b c : Bool) → ((a || b) || c) ≡ (a || (b || c))
+or_assoc true b c = refl
+or_assoc false b c = refl
+
+pub or_false : (a : Bool) → a ≡ (a || false)
+or_false true = refl
+or_false false = refl

@@ -1,11 +1,12 @@
 -- The values that bytes encode: the item that `cbor_grammar` defines for them, without what its encoding adds.
-use Rattle.std.specs.Prelude.{ℕ, suc, ◌+◌, ◌%◌, ◌^◌, List, [], ◌∷◌, pos, negsuc, Bool, true, false, if◌then◌else◌}
-use Rattle.std.specs.Prelude.{Option, Some, None, option_map}
-use Rattle.std.specs.List.{flat_map, insert}
+use Rattle.std.specs.Prelude.{ℕ, ◌%◌, ◌^◌, List, [], ◌∷◌, map, pos, negsuc, Bool, true, false, ◌||◌, if◌then◌else◌}
+use Rattle.std.specs.Prelude.{Option, Some, None, is_some}
+use Rattle.std.specs.List.{flat_map}
 use Rattle.std.specs.declared.cmp.Ordering.{Ordering}
-use Rattle.std.specs.declared.cmp.Ordering.TheVariants.{Less}
 use Rattle.std.specs.Cmp.Lexicographic.{slice_cmp}
 use Rattle.std.specs.Ordering.{nat_cmp}
+use Rattle.std.specs.Map.{lookup}
+use Rattle.std.specs.BTreeMap.{insert_entry, is_at}
 use Rattle.cbor_floats.specs.declared.float.EncodedFloat.{EncodedFloat}
 use Rattle.cbor_floats.specs.declared.float.EncodedFloat.TheVariants.{Half, Single, Double}
 use Rattle.cbor_floats.specs.Value as floats
@@ -88,37 +89,31 @@ key_bytes k = encoded (core_key k)
 abbrev pub Entry : Type 0
 Entry = List ℕ × (Value × Value)
 
-abbrev pub is_less : Ordering → Bool
-is_less Less = true
-is_less other = false
+-- which key comes first: by their bytes, from the first on; a front of a key comes before it
+abbrev pub key_order : List ℕ → List ℕ → Ordering
+key_order = slice_cmp nat_cmp
 
--- whether a key comes before another: by their bytes, from the first on; a front of a key comes before it
-abbrev pub is_before : List ℕ → List ℕ → Bool
-is_before k l = is_less (slice_cmp nat_cmp k l)
-
--- how many keys at the front do not come after the key
-abbrev pub place : List ℕ → List (List ℕ) → ℕ
-place k [] = 0
-place k (l ∷ ls) = if is_before k l then 0 else suc (place k ls)
-
--- keys in order, and in the same order the pairs that they are the keys of
-pub record Sorted : Type 0 where
-  pub keys : List (List ℕ)
-  pub pairs : List (Value × Value)
-
--- one entry more, after those with the same key
-abbrev pub with_entry : Sorted → Entry → Sorted
-with_entry s e =
-    record { keys = insert s.keys (place e.0 s.keys) e.0; pairs = insert s.pairs (place e.0 s.keys) e.1 }
+-- entries in the order of their keys, and one more
+abbrev pub with_entry : List Entry → Entry → List Entry
+with_entry es e = insert_entry key_order es e.0 e.1
 
 -- more entries, each put where it belongs
-abbrev pub with_entries : Sorted → List Entry → Sorted
-with_entries s [] = s
-with_entries s (e ∷ es) = with_entries (with_entry s e) es
+abbrev pub with_entries : List Entry → List Entry → List Entry
+with_entries sorted [] = sorted
+with_entries sorted (e ∷ es) = with_entries (with_entry sorted e) es
 
 -- the pairs of entries, in the order of their keys
 abbrev pub in_order : List Entry → List (Value × Value)
-in_order es = (with_entries (record { keys = []; pairs = [] }) es).pairs
+in_order es = map (λ e. e.1) (with_entries [] es)
+
+-- whether one of the entries has this key
+abbrev pub has_key : List Entry → List ℕ → Bool
+has_key es k = is_some (lookup (is_at (key_order k)) es)
+
+-- whether one of more entries has the key of an entry before it
+abbrev pub a_key_stands_twice : List Entry → List Entry → Bool
+a_key_stands_twice sorted [] = false
+a_key_stands_twice sorted (e ∷ es) = has_key sorted e.0 || a_key_stands_twice (with_entry sorted e) es
 
 -- ---- items
 
@@ -138,14 +133,39 @@ abbrev mutual
   entries item.no_pairs = []
   entries (item.pair k v ps) = (key_bytes k, (value_of k, value_of v)) ∷ entries ps
 
--- the value of the item that the bytes encode, if they encode one
+abbrev mutual
+  -- whether a map in the item has a key twice
+  pub has_key_twice : Item → Bool
+  has_key_twice (item.atom a) = false
+  has_key_twice (item.array is w) = items_have_key_twice is
+  has_key_twice (item.map ps w) = pairs_have_key_twice ps || a_key_stands_twice [] (entries ps)
+  has_key_twice (item.tagged t w i) = has_key_twice i
+
+  pub items_have_key_twice : Items → Bool
+  items_have_key_twice item.no_items = false
+  items_have_key_twice (item.item i is) = has_key_twice i || items_have_key_twice is
+
+  pub pairs_have_key_twice : Pairs → Bool
+  pairs_have_key_twice item.no_pairs = false
+  pairs_have_key_twice (item.pair k v ps) = has_key_twice k || (has_key_twice v || pairs_have_key_twice ps)
+
+-- the value of an item, if each map in it has each key once
+abbrev pub valid_value : Item → Option Value
+valid_value i = if has_key_twice i then None else Some (value_of i)
+
+abbrev pub valid_value_of : Option Item → Option Value
+valid_value_of None = None
+valid_value_of (Some i) = valid_value i
+
+-- the value of the item that the bytes encode, if they encode one in which each map has each key once
 unfoldable pub decoded : List ℕ → Option Value
-decoded b = option_map value_of (embedded 1 b)
+decoded b = valid_value_of (embedded 1 b)
 
 abbrev pub array_of_all : Items × List ℕ → Option Value
-array_of_all (is, []) = Some (spec.array (values_of_items is))
+array_of_all (is, []) = if items_have_key_twice is then None else Some (spec.array (values_of_items is))
 array_of_all (is, first ∷ b) = None
 
--- the array of the values of the items that the bytes encode one after the other, if they encode nothing else
+-- the array of the values of the items that the bytes encode one after the other, if they encode nothing else, and each
+-- map in them has each key once
 unfoldable pub decoded_sequence : List ℕ → Option Value
 decoded_sequence b = array_of_all (sequence 1 b)

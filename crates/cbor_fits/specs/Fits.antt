@@ -296,3 +296,7 @@ matcher r (suc levels) = step r (matcher r levels)
 -- the value fits the type at index n
 abbrev pub Fits : Rules → ℕ → Value → Type 0
 Fits r n x = (levels : ℕ) × ((matcher r levels).fits n x ≡ Some true)
+
+-- whether bytes encode an item that fits the type at index n, within so many levels
+abbrev pub accepts : Rules → ℕ → ℕ → List ℕ → Option Bool
+accepts r levels n b = is_fit ((matcher r levels).fits n) (r.decoded b)

@@ -1,5 +1,5 @@
 -- What the readers return, as the definitions have it.
-use Rattle.std.specs.Prelude.{ℕ, List, ◌++◌, map, Option, Some, None, Ok, Err}
+use Rattle.std.specs.Prelude.{ℕ, List, ◌++◌, Vec, Global, Option, Some, None, Ok, Err}
 use Rattle.cbor_grammar.specs.Item.{Item, Items}
 use Rattle.cbor_grammar.specs.Reading.{Read, read_item}
 use Rattle.cbor_grammar.specs.WellFormed.{levels_left}
@@ -7,8 +7,8 @@ use Rattle.cbor_diag.specs.declared.syntax.DataItem.{DataItem}
 use Rattle.cbor_diag.specs.View.{view}
 use Rattle.cbor_fits.specs.Value.{Value, list_of}
 use Rattle.cbor_fits.specs.Rests.{pair_view}
-use Rattle.cbor_fits.specs.Decoded.{Entry, Sorted, key_bytes, value_of, values_of_items}
-use Rattle.cbor_fits.specs.declared.read.keys.Entries.{Entries}
+use Rattle.cbor_fits.specs.Decoded.{Entry, key_bytes, value_of, values_of_items}
+use Rattle.cbor_fits.specs.declared.value.Datum.{Datum}
 
 -- the value of an item
 abbrev pub datum_value : DataItem → Value
@@ -29,8 +29,9 @@ front_read b = read_item (levels_left 1) b
 abbrev pub front_of : List ℕ → Option (Item × List ℕ)
 front_of b = front_item (front_read b)
 
-abbrev pub sorted_view : Entries → Sorted
-sorted_view e = record { keys = map (λ k. k.items) e.keys.items; pairs = map pair_view e.pairs.items }
+-- the entry of a key's bytes and a pair
+abbrev pub entry_view : Vec ℕ Global × (Datum × Datum) → Entry
+entry_view e = (e.0.items, pair_view e.1)
 
 -- the values of items in sequence, and the bytes after them
 abbrev pub listed : Items × List ℕ → List Value × List ℕ

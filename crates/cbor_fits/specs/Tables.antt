@@ -43,14 +43,18 @@ is_match_of n [] t = false
 is_match_of n (p ∷ ps) t =
     if p.node == n then is_some (find_str (regex_pattern p.regex) t 0) else is_match_of n ps t
 
-abbrev pub rules_of : Tables → Rules
-rules_of t = record {
-  node = node_at t.schema.now;
-  list = λ l. part t.schema.now.lists.items l.start l.end;
-  body = body_of t.schema.now.rules.items;
-  is_group = is_group_within (length t.schema.now.rules.items + 1) t.schema.now;
-  literal = λ s. part t.schema.now.pool.items s.start s.end;
-  is_match = λ n text. is_match_of n t.patterns.now text;
+-- the rules of a schema with the patterns of its nodes
+abbrev pub rules : Schema → List Pattern → Rules
+rules s patterns = record {
+  node = node_at s;
+  list = λ l. part s.lists.items l.start l.end;
+  body = body_of s.rules.items;
+  is_group = is_group_within (length s.rules.items + 1) s;
+  literal = λ l. part s.pool.items l.start l.end;
+  is_match = λ n text. is_match_of n patterns text;
   decoded = decoded;
   decoded_sequence = decoded_sequence;
 }
+
+abbrev pub rules_of : Tables → Rules
+rules_of t = rules t.schema.now t.patterns.now

@@ -12,8 +12,10 @@ mod stop;
 mod tables;
 mod types;
 mod value;
+mod verdict;
 
 pub use budget::Budget;
 pub use stop::Stop;
 pub use tables::{Pattern, Tables};
 pub use value::Datum;
+pub use verdict::DEEPEST;

@@ -1,10 +1,10 @@
 //! Reads items as values.
-ghost use Rattle.std.specs.Prelude.{◌≡◌, map, IfOk, option_map};
+ghost use Rattle.std.specs.Prelude.{◌≡◌, ◌||◌, map, IfOk, OnOk, option_map};
 ghost use Rattle.cbor_diag.specs.View.{view as item_view};
 ghost use Rattle.cbor_grammar.specs.Embedded.{sequence};
 ghost use Rattle.cbor_fits.specs.View.{view};
 ghost use Rattle.cbor_fits.specs.Reads.{front_of, listed};
-ghost use Rattle.cbor_fits.specs.Decoded.{decoded, decoded_sequence};
+ghost use Rattle.cbor_fits.specs.Decoded.{decoded, decoded_sequence, items_have_key_twice};
 
 mod datum;
 mod keys;
@@ -13,18 +13,21 @@ use crate::stop::Stop;
 use crate::value::Datum;
 use cbor_diag::{DataItem, parse_bytes, parse_bytes_partial};
 use cbor_grammar::Error;
-use datum::datum_of;
+use datum::Reader;
 use std::alloc::Global;
 
-/// The item that the bytes encode, if they encode one.
+/// The item that the bytes encode, if they encode one in which no map has a key twice.
 pub(crate) fn read_item(alloc: Global, bytes: &[u8]) -> Result<Option<Datum>, Stop>
     ensures { IfOk result (λ o. option_map view o ≡ decoded bytes.now) }
 {
     match parse_bytes(alloc, bytes) {
-        Ok(item) => match datum_of(alloc, &item) {
-            Ok(datum) => Ok(Some(datum)),
-            Err(_) => Err(Stop::Memory),
-        },
+        Ok(item) => {
+            let mut reader = Reader::new(alloc);
+            match reader.datum_of(&item) {
+                Ok(datum) => Ok(if reader.key_twice { None } else { Some(datum) }),
+                Err(_) => Err(Stop::Memory),
+            }
+        }
         Err(error) => match error {
             Error::Memory => Err(Stop::Memory),
             _ => Ok(None),
@@ -47,8 +50,15 @@ fn read_front(alloc: Global, bytes: &[u8]) -> Result<Option<(DataItem, &[u8])>, 
 }
 
 /// The items that the bytes encode one after the other, and the bytes after them.
-fn read_items(alloc: Global, bytes: &[u8]) -> Result<(Vec<Datum>, &[u8]), Stop>
-    ensures { IfOk result (λ x. (map view x.0.items, x.1.now) ≡ listed (sequence 1 bytes.now)) }
+fn read_items<'b>(
+    alloc: Global,
+    reader: &mut Reader,
+    bytes: &'b [u8],
+) -> Result<(Vec<Datum>, &'b [u8]), Stop>
+    ensures values { IfOk result (λ x.
+        (map view x.0.items, x.1.now) ≡ listed (sequence 1 bytes.now)) }
+    ensures key_twice { OnOk result (reader.new.key_twice
+        ≡ (reader.old.key_twice || items_have_key_twice (sequence 1 bytes.now).0)) }
 {
     let mut data = Vec::new(alloc);
     let mut rest = bytes;
@@ -56,7 +66,7 @@ fn read_items(alloc: Global, bytes: &[u8]) -> Result<(Vec<Datum>, &[u8]), Stop>
         let Some((item, after)) = read_front(alloc, rest)? else {
             return Ok((data, rest));
         };
-        match datum_of(alloc, &item) {
+        match reader.datum_of(&item) {
             Ok(datum) => data.push(datum)?,
             Err(_) => return Err(Stop::Memory),
         }
@@ -65,12 +75,14 @@ fn read_items(alloc: Global, bytes: &[u8]) -> Result<(Vec<Datum>, &[u8]), Stop>
     Ok((data, rest))
 }
 
-/// The array of the items that the bytes encode one after the other.
+/// The array of the items that the bytes encode one after the other, if no map in them has a key
+/// twice.
 pub(crate) fn read_sequence(alloc: Global, bytes: &[u8]) -> Result<Option<Datum>, Stop>
     ensures { IfOk result (λ o. option_map view o ≡ decoded_sequence bytes.now) }
 {
-    let (data, rest) = read_items(alloc, bytes)?;
-    if rest.is_empty() {
+    let mut reader = Reader::new(alloc);
+    let (data, rest) = read_items(alloc, &mut reader, bytes)?;
+    if rest.is_empty() && !reader.key_twice {
         Ok(Some(Datum::Array(data)))
     } else {
         Ok(None)

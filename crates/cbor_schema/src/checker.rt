@@ -1,17 +1,15 @@
 //! `Checker`: a schema with its patterns compiled. Its call `misfit` matches an item against the
-//! schema and returns why it does not fit.
+//! schema and returns why it does not fit. `cbor_fits` decides whether it fits; `Run` finds why not.
+ghost use Rattle.std.specs.Prelude.{◌≡◌, ◌<◌, Some, IfOk, IfSome, is_none, length};
+ghost use Rattle.cbor_schema.specs.Verdict.{fits};
 
 use crate::message::Misfit;
 use crate::pattern::pattern_of;
 use crate::run::Run;
-use crate::stop::Stop;
 use cbor_cddl::{Fault, Node, Schema, Span};
+use cbor_fits::{DEEPEST, Pattern, Stop, Tables};
 use cbor_places::Piece;
-use regex::{Matcher, Regex};
-use std::alloc::{AllocError, Global};
-
-/// How deeply types and groups may be nested in each other, with the items that fit them.
-const DEEPEST: u32 = 700;
+use std::alloc::Global;
 
 /// A schema that is ready to be matched.
 #[derive(Drop)]
@@ -19,9 +17,8 @@ pub struct Checker {
     schema: Schema,
     /// Which rules are groups.
     groups: Vec<bool>,
-    /// The nodes with patterns, and these.
-    patterns: Vec<usize>,
-    regexes: Vec<Regex>,
+    /// The patterns, in the order of their nodes.
+    patterns: Vec<Pattern>,
 }
 
 /// Whether a rule is a group.
@@ -49,7 +46,6 @@ impl Checker {
             schema,
             groups: Vec::new(alloc),
             patterns: Vec::new(alloc),
-            regexes: Vec::new(alloc),
         };
         for rule in 0..checker.schema.rules.len() {
             let is_group = is_group(&checker.schema, rule);
@@ -64,8 +60,7 @@ impl Checker {
     /// Prepares the pattern of a node, if it has one.
     fn add_pattern(&mut self, alloc: Global, node: usize) -> Result<(), Fault> {
         if let Some(regex) = pattern_of(alloc, &self.schema, node)? {
-            self.patterns.push(node)?;
-            self.regexes.push(regex)?;
+            self.patterns.push(Pattern { node, regex })?;
         }
         Ok(())
     }
@@ -75,27 +70,31 @@ impl Checker {
         &self.schema
     }
 
-    /// The caches of the patterns.
-    fn matchers(&self, alloc: Global) -> Result<Vec<Matcher<'_>>, AllocError> {
-        let mut matchers = Vec::new(alloc);
-        for regex in &self.regexes {
-            matchers.push(regex.matcher(alloc)?)?;
-        }
-        Ok(matchers)
-    }
-
     /// Why an item does not fit the schema; `None` if it does. An item in which a map has a key
     /// twice fits nothing. Long keys of a path are named by their places in the data.
-    pub fn misfit(&self, alloc: Global, item: Piece) -> Result<Option<Misfit>, Stop> {
-        let matchers = self.matchers(alloc)?;
-        let mut run = Run::new(
-            alloc,
-            &self.schema,
-            &self.groups,
-            &self.patterns,
-            matchers,
-            item.bytes,
-        );
+    ///
+    /// The errors are [`Stop::Memory`], [`Stop::NoItem`] if the bytes are no item, [`Stop::Work`]
+    /// after 10 million steps, and [`Stop::Deep`] if rules and items are nested more than 700 deep.
+    pub fn misfit(&self, alloc: Global, item: Piece) -> Result<Option<Misfit>, Stop>
+        ensures verdict { IfOk result (λ m. fits self.now item.bytes.now ≡ Some (is_none m)) }
+        ensures place { IfOk result
+            (λ found. IfSome found (λ m. m.place < length item.bytes.now)) }
+    {
+        if Tables::new(alloc, &self.schema, &self.patterns).accepts(item.bytes)? {
+            return Ok(None);
+        }
+        if item.bytes.is_empty() {
+            return Err(Stop::NoItem);
+        }
+        let mut misfit = self.explained(alloc, item)?;
+        misfit.place = misfit.place.min(item.bytes.len() - 1);
+        Ok(Some(misfit))
+    }
+
+    /// Why an item does not fit. If no reason is found, or not all are looked for because there are
+    /// too many, it is the best one so far, or the type of the root.
+    fn explained(&self, alloc: Global, item: Piece) -> Result<Misfit, Stop> {
+        let mut run = Run::new(alloc, &self.schema, &self.groups, &self.patterns, item.bytes)?;
         let whole = Span {
             start: 0,
             end: item.bytes.len(),
@@ -104,16 +103,17 @@ impl Checker {
             return Err(Stop::NoItem);
         };
         let root = self.schema.root;
-        let fits = match run.items.second_key {
-            Some(key) => run.miss_second_key(key)?,
-            None => run.fits(root, index, DEEPEST)?,
+        let looked_for = match run.items.second_key {
+            Some(key) => run.miss_second_key(key),
+            None => run.fits(root, index, DEEPEST),
         };
-        if fits {
-            return Ok(None);
+        match looked_for {
+            Ok(_) | Err(Stop::Work) | Err(Stop::Deep) => {}
+            Err(stop) => return Err(stop),
         }
         if run.blame.best.is_none() {
             run.miss_item(root, index)?;
         }
-        Ok(Some(run.misfit(item.begins)?))
+        run.misfit(item.begins)
     }
 }

@@ -3,8 +3,8 @@
 use crate::blame::{Found, Want};
 use crate::items::{Item, Kind};
 use crate::run::{Inner, Run};
-use crate::stop::Stop;
 use cbor_cddl::{Comparison, Node, Span, Value, float_of};
+use cbor_fits::Stop;
 
 /// How many bytes a number takes.
 fn bytes_of(number: i128) -> i128 {
@@ -195,7 +195,10 @@ impl<'a> Run<'a> {
         let Ok(text) = str::from_utf8(self.items.bytes(span)) else {
             return false;
         };
-        let Ok(place) = self.patterns.binary_search(&node) else {
+        let Ok(place) = self
+            .patterns
+            .binary_search_by_key(&node, |pattern| pattern.node)
+        else {
             return false;
         };
         match self.matchers.get_mut(place) {

@@ -1,11 +1,11 @@
 //! `Items`: reads items from bytes, also those in byte strings, into vectors for the matcher. It
 //! joins the chunks of strings, and sorts the pairs of maps by their keys.
 
-use crate::stop::Stop;
 use cbor_bytes::head::read_head;
 use cbor_bytes::strings::{read_chunk_length, split_at};
 use cbor_bytes::{Extent, extent};
 use cbor_cddl::Span;
+use cbor_fits::Stop;
 use cbor_floats::EncodedFloat;
 use cbor_grammar::argument::{Argument, after_break};
 use cbor_grammar::head::ItemHead;

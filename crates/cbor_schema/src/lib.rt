@@ -34,9 +34,8 @@ mod order;
 mod paths;
 mod pattern;
 mod run;
-mod stop;
 mod types;
 
+pub use cbor_fits::Stop;
 pub use checker::Checker;
 pub use message::{MessageParts, Misfit, Others};
-pub use stop::Stop;

@@ -4,8 +4,8 @@
 use crate::blame::{Found, Want};
 use crate::items::{Item, Kind};
 use crate::run::Run;
-use crate::stop::Stop;
 use cbor_cddl::{List, Node, Occurrence, Span, likeness};
+use cbor_fits::Stop;
 use std::alloc::AllocError;
 
 /// What a group does with the pairs that are left.

@@ -5,9 +5,9 @@ use crate::blame::{Best, Found, Miss, Want};
 use crate::items::Kind;
 use crate::message::{Misfit, Others};
 use crate::run::Run;
-use crate::stop::Stop;
 use cbor_cddl::{Node, Span, likeness};
 use cbor_edn_writer::bytes_to_edn;
+use cbor_fits::Stop;
 use std::alloc::AllocError;
 use std::fmt::Write;
 

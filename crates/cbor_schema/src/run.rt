@@ -4,8 +4,8 @@
 
 use crate::blame::{Blame, Found, Miss, Want};
 use crate::items::{Item, Items};
-use crate::stop::Stop;
 use cbor_cddl::{Node, Schema, Span};
+use cbor_fits::{Pattern, Stop};
 use regex::Matcher;
 use std::alloc::{AllocError, Global};
 use std::collections::BTreeMap;
@@ -34,8 +34,8 @@ pub(crate) struct Run<'a> {
     pub(crate) schema: &'a Schema,
     /// Which rules are groups.
     pub(crate) groups: &'a [bool],
-    /// For each pattern its node, in their order.
-    pub(crate) patterns: &'a [usize],
+    /// The patterns, in the order of their nodes.
+    pub(crate) patterns: &'a [Pattern],
     pub(crate) matchers: Vec<Matcher<'a>>,
     pub(crate) items: Items<'a>,
     pub(crate) blame: Blame,
@@ -61,12 +61,15 @@ impl<'a> Run<'a> {
         alloc: Global,
         schema: &'a Schema,
         groups: &'a [bool],
-        patterns: &'a [usize],
-        matchers: Vec<Matcher<'a>>,
+        patterns: &'a [Pattern],
         data: &'a [u8],
-    ) -> Run<'a> {
+    ) -> Result<Run<'a>, AllocError> {
+        let mut matchers = Vec::with_capacity(alloc, patterns.len())?;
+        for pattern in patterns {
+            matchers.push(pattern.regex.matcher(alloc)?)?;
+        }
         let nowhere = Span { start: 0, end: 0 };
-        Run {
+        Ok(Run {
             alloc,
             schema,
             groups,
@@ -82,7 +85,7 @@ impl<'a> Run<'a> {
             taken: Vec::new(alloc),
             trail: Vec::new(alloc),
             taken_bytes: 0,
-        }
+        })
     }
 
     /// Counts a step.

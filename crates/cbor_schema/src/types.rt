@@ -4,8 +4,8 @@
 use crate::blame::{Found, LessFar, Tried, Want};
 use crate::items::{Item, Kind};
 use crate::run::Run;
-use crate::stop::Stop;
 use cbor_cddl::{Floats, List, Node, Span};
+use cbor_fits::Stop;
 use cbor_floats::{EncodedFloat, Width};
 use std::alloc::AllocError;
 
