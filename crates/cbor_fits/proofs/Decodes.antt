@@ -116,6 +116,10 @@ twice_in_one n b x (Ok y) is =
     ap (λ z. has_key_twice z.0 || twice (sequence_of front_read n z.1)) (sym (ap (or x) is))
 twice_in_one n b x (Err e) is = absurd cc
 
+pub twice_starts : (b : List ℕ) (n : ℕ) (old : Bool) → n ≡ length b
+    → (old || twice (sequence 1 b)) ≡ (old || twice (sequence_of front_read n b))
+twice_starts b n old all = ap (λ m. old || twice (sequence_of front_read m b)) (sym all)
+
 -- one item more is read
 pub twice_more : (n k : ℕ) (b : List ℕ) (x : Item × List ℕ) (old new : Bool) → k < n → Some x ≡ front_of b
     → new ≡ (old || has_key_twice x.0)

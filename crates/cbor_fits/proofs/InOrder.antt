@@ -1,7 +1,8 @@
 -- Values of items, level by level, and the order of pairs.
 use Rattle.std.proofs.Common.{◌≡◌, ℕ, zero, suc, ◌+◌, ◌<◌, Bool, true, false, ◌||◌, length, get_or, cond, Vec, Global, List, [], ◌∷◌}
-use Rattle.std.proofs.Common.{map, drop, Option, Some, None, is_some, Ordering, Less, Equal, Greater, refl, ap, sym, ◌∙◌}
-use Rattle.std.proofs.lemmas.List.{at_drop_more}
+use Rattle.std.proofs.Common.{◌++◌, map, take, drop, Option, Some, None, is_some, Ordering, Less, Equal, Greater, refl, ap, sym, ◌∙◌, arith}
+use Rattle.std.proofs.lemmas.List.{at_drop_more, map-append}
+use Rattle.std.proofs.Math.Seq.{take-suc}
 use Rattle.std.specs.Map.{lookup}
 use Rattle.std.specs.Ordering.{match_ordering}
 use Rattle.std.specs.BTreeMap.{insert_entry, is_at}
@@ -10,6 +11,7 @@ use Rattle.cbor_diag.specs.View as item
 use Rattle.cbor_fits.specs.Value as spec
 use Rattle.cbor_fits.specs.Value.{Value, Values, values_of, list_of}
 use Rattle.cbor_fits.specs.Decoded.{values_of_items, entries, Entry, key_order, with_entry, has_key}
+use Rattle.cbor_fits.specs.Decoded.{a_key_stands_twice}
 use Rattle.cbor_fits.specs.Reads.{datum_value, entry_of, entry_view}
 use Rattle.cbor_fits.specs.Rests.{pair_view}
 use Rattle.cbor_fits.specs.declared.value.Datum.{Datum}
@@ -30,6 +32,14 @@ values_of-list_of (spec.value v vs) = ap (spec.value v) (values_of-list_of vs)
 pub at_item : {X Y : Type 0} (F : List X → Y) (xs : List X) (i : ℕ) (x : X) → i < length xs → x ≡ get_or xs i x
     → F (drop i xs) ≡ F (x ∷ drop (i + 1) xs)
 at_item F xs i x here is = at_drop_more F xs i x here ∙ ap (λ y. F (y ∷ drop (i + 1) xs)) (sym is)
+
+-- the list so far, with the element that is here
+pub one_more : {X Y : Type 0} (f : X → Y) (xs : List X) (i : ℕ) (x : X) → i < length xs → x ≡ get_or xs i x
+    → map f (take i xs) ++ f x ∷ [] ≡ map f (take (i + 1) xs)
+one_more f xs i x here is =
+    let next : suc i ≡ i + 1 = omega arith in
+    (λ j. map f (take i xs) ++ f (is j) ∷ []) ∙ (sym (map-append f (take i xs) (get_or xs i x ∷ []))
+    ∙ (ap (map f) (sym (take-suc xs i x here)) ∙ ap (λ n. map f (take n xs)) next))
 
 -- ---- entries
 
@@ -67,6 +77,11 @@ pub seen-lookup : (es : List Stored) (k : Vec ℕ Global)
 seen-lookup [] k = refl
 seen-lookup (e ∷ es) k = found (is_at (stored_order k) e.0) e.1 (pair_view e.1) _ _ (seen-lookup es k)
 
+-- the pairs of stored entries stand for those of the entries
+pub seen-pairs : (es : List Stored) → map pair_view (map (λ e. e.1) es) ≡ map (λ e. e.1) (seen es)
+seen-pairs [] = refl
+seen-pairs (e ∷ es) = ap (λ ps. pair_view e.1 ∷ ps) (seen-pairs es)
+
 -- ---- flags
 
 pub or_assoc : (a b c : Bool) → ((a || b) || c) ≡ (a || (b || c))
@@ -76,3 +91,18 @@ or_assoc false b c = refl
 pub or_false : (a : Bool) → a ≡ (a || false)
 or_false true = refl
 or_false false = refl
+
+pub or_assoc-3 : (a b c d : Bool) → (((a || b) || c) || d) ≡ (a || (b || (c || d)))
+or_assoc-3 true b c d = refl
+or_assoc-3 false b c d = or_assoc b c d
+
+-- one key more is known, or not
+pub stands_twice_so_far : (sorted : List Entry) (e : Entry) (es : List Entry) (old here : Bool) → here ≡ has_key sorted e.0
+    → ((old || here) || a_key_stands_twice (with_entry sorted e) es) ≡ (old || a_key_stands_twice sorted (e ∷ es))
+stands_twice_so_far sorted e es old here is =
+    or_assoc old here (a_key_stands_twice (with_entry sorted e) es)
+    ∙ ap (λ h. old || (h || a_key_stands_twice (with_entry sorted e) es)) is
+
+-- what a flag says that was down
+pub raised : (old new here : Bool) → new ≡ (old || here) → old ≡ false → new ≡ here
+raised old new here is none = is ∙ ap (λ f. f || here) none

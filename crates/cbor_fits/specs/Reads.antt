@@ -1,5 +1,6 @@
 -- What the readers return, as the definitions have it.
-use Rattle.std.specs.Prelude.{ℕ, List, ◌++◌, Vec, Global, Option, Some, None, Ok, Err}
+use Rattle.std.specs.Prelude.{ℕ, List, ◌++◌, Vec, Option, Some, None, Ok, Err}
+use Rattle.std.specs.Global.{Global}
 use Rattle.cbor_grammar.specs.Item.{Item, Items}
 use Rattle.cbor_grammar.specs.Reading.{Read, read_item}
 use Rattle.cbor_grammar.specs.WellFormed.{levels_left}

@@ -24,7 +24,8 @@ pub(crate) fn read_item(alloc: Global, bytes: &[u8]) -> Result<Option<Datum>, St
         Ok(item) => {
             let mut reader = Reader::new(alloc);
             match reader.datum_of(&item) {
-                Ok(datum) => Ok(if reader.key_twice { None } else { Some(datum) }),
+                Ok(_) if reader.key_twice => Ok(None),
+                Ok(datum) => Ok(Some(datum)),
                 Err(_) => Err(Stop::Memory),
             }
         }
@@ -82,7 +83,10 @@ pub(crate) fn read_sequence(alloc: Global, bytes: &[u8]) -> Result<Option<Datum>
 {
     let mut reader = Reader::new(alloc);
     let (data, rest) = read_items(alloc, &mut reader, bytes)?;
-    if rest.is_empty() && !reader.key_twice {
+    if reader.key_twice {
+        return Ok(None);
+    }
+    if rest.is_empty() {
         Ok(Some(Datum::Array(data)))
     } else {
         Ok(None)

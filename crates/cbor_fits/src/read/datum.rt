@@ -146,9 +146,10 @@ impl Reader {
             let second = self.datum_of(value)?;
             let bytes = key_bytes(self.alloc, key)?;
             let old = entries.insert(bytes, (first, second))?;
-            is_known = is_known || old.is_some();
+            is_known = is_known | old.is_some();
         }
-        self.key_twice = self.key_twice || is_known;
-        pairs_in(self.alloc, entries)
+        self.key_twice = self.key_twice | is_known;
+        let pairs = pairs_in(self.alloc, entries)?;
+        Ok(pairs)
     }
 }

@@ -1,6 +1,6 @@
 -- The values of the items so far; the entries so far, and those that are left, are in order as all are. A key stands
 -- twice in what is read and what is left if it does in all.
-use Rattle.std.proofs.Common.{◌≡◌, ◌||◌, ◌×◌, [], map, take, drop}
+use Rattle.std.proofs.Common.{◌≡◌, ◌||◌, [], map, take, drop}
 use Rattle.cbor_diag.specs.View.{items_view, pairs_view}
 use Rattle.cbor_fits.specs.View.{view}
 use Rattle.cbor_fits.specs.Reads.{datum_value, entry_of}
@@ -12,7 +12,7 @@ abbrev pub invariant-data_of-items : goal.invariant-data_of-items
 invariant-data_of-items l =
     (map view l.data.items ≡ map datum_value (take l.item-index l.item-items))
     × ((l.self.key_twice || items_have_key_twice (items_view (drop l.item-index l.item-items)))
-    ≡ (l.initial.self.key_twice || items_have_key_twice (items_view l.item-items)))
+    ≡ (l.fn.self.key_twice || items_have_key_twice (items_view l.item-items)))
 
 abbrev pub invariant-pairs_of-pairs : goal.invariant-pairs_of-pairs
 invariant-pairs_of-pairs l =
@@ -21,4 +21,4 @@ invariant-pairs_of-pairs l =
     × ((l.is_known || a_key_stands_twice (seen l.entries.entries) (map entry_of (drop l.key-index l.key-items)))
     ≡ a_key_stands_twice [] (map entry_of l.key-items))
     × ((l.self.key_twice || pairs_have_key_twice (pairs_view (drop l.key-index l.key-items)))
-    ≡ (l.initial.self.key_twice || pairs_have_key_twice (pairs_view l.key-items)))
+    ≡ (l.fn.self.key_twice || pairs_have_key_twice (pairs_view l.key-items)))
