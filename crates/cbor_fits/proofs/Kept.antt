@@ -1,5 +1,5 @@
 -- Answers that are kept stay right, whatever else of a `Work` changes.
-use Rattle.std.proofs.Common.{◌≡◌, ℕ, ◌<◌, ◌-◌, List, [], ◌++◌, length, get_or, take, replicate, Option, Some, None, sym, subst}
+use Rattle.std.proofs.Common.{◌≡◌, ℕ, ◌<◌, ◌-◌, List, [], ◌++◌, length, get_or, take, replicate, Bool, Option, Some, None, sym, subst}
 use Rattle.std.specs.List.{All}
 use Rattle.std.proofs.Math.ListN.{set}
 use Rattle.std.proofs.lemmas.List.Elements.{All-nil, All-get_or, All-set, All-replicate, All-append, All-take}
@@ -7,7 +7,7 @@ use Rattle.cbor_fits.specs.Rules.{Rules}
 use Rattle.cbor_fits.specs.Value.{Value}
 use Rattle.cbor_fits.specs.View.{view}
 use Rattle.cbor_fits.specs.Fits.{matcher}
-use Rattle.cbor_fits.specs.Kept.{IsRight, IsRightIfAny, Holds, known_of}
+use Rattle.cbor_fits.specs.Kept.{IsRight, IsRightIfAny, Holds}
 use Rattle.cbor_fits.specs.declared.work.Question.{Question}
 use Rattle.cbor_fits.specs.declared.work.Known.{Known}
 use Rattle.cbor_fits.specs.declared.work.Work.{Work}
@@ -22,14 +22,14 @@ holds_same r v w same h = subst (All (IsRightIfAny r)) same h
 
 -- the answer of a slot is right
 pub holds_at : (r : Rules) (w : Work) (i : ℕ) (o : Option Known) (k : Known) → i < length w.known.items
-    → o ≡ get_or w.known.items i o → o ≡ Some k → Holds r w → IsRight r k
+    → o ≡ get_or w.known.items i o → o ≡ Some k → Holds r w → IsRight r k.question k.fits
 unfolding Holds
 holds_at r w i o k here is some h =
     subst (IsRightIfAny r) some (subst (IsRightIfAny r) (sym is) (All-get_or (IsRightIfAny r) w.known.items i o here h))
 
 -- a right answer takes the place of another one
 pub holds_set : (r : Rules) (v w : Work) (i : ℕ) (k : Known) → w.known.items ≡ set v.known.items i (Some k)
-    → Holds r v → IsRight r k → Holds r w
+    → Holds r v → IsRight r k.question k.fits → Holds r w
 unfolding Holds
 holds_set r v w i k is h right =
     subst (All (IsRightIfAny r)) (sym is) (All-set (IsRightIfAny r) v.known.items i (Some k) right h)
@@ -43,9 +43,9 @@ holds_more r v w n m is h =
     (All-take (IsRightIfAny r) n v.known.items h) (All-replicate (IsRightIfAny r) m None tt))
 
 -- an answer on the same item
-pub right_for : (r : Rules) (q : Question) (k : Known) → k.question.index ≡ q.index → k.question.depth ≡ q.depth
-    → view k.question.datum.now ≡ view q.datum.now → IsRight r k → IsRight r (known_of q k.fits)
-right_for r q k index depth datum right =
-    subst (λ (x : Value). (matcher r q.depth).fits q.index x ≡ Some k.fits) datum
-    (subst (λ (n : ℕ). (matcher r q.depth).fits n (view k.question.datum.now) ≡ Some k.fits) index
-    (subst (λ (d : ℕ). (matcher r d).fits k.question.index (view k.question.datum.now) ≡ Some k.fits) depth right))
+pub right_for : (r : Rules) (p q : Question) (b : Bool) → p.index ≡ q.index → p.depth ≡ q.depth
+    → view p.datum.now ≡ view q.datum.now → IsRight r p b → IsRight r q b
+right_for r p q b index depth datum right =
+    subst (λ (x : Value). (matcher r q.depth).fits q.index x ≡ Some b) datum
+    (subst (λ (n : ℕ). (matcher r q.depth).fits n (view p.datum.now) ≡ Some b) index
+    (subst (λ (d : ℕ). (matcher r d).fits p.index (view p.datum.now) ≡ Some b) depth right))

@@ -8,18 +8,14 @@ use Rattle.cbor_fits.specs.declared.work.Question.{Question}
 use Rattle.cbor_fits.specs.declared.work.Known.{Known}
 use Rattle.cbor_fits.specs.declared.work.Work.{Work}
 
--- a question with this answer
-abbrev pub known_of : Question → Bool → Known
-known_of q b = record { question = q; fits = b }
-
 -- the answer is what the rules say
-abbrev pub IsRight : Rules → Known → Type 0
-IsRight r k = (matcher r k.question.depth).fits k.question.index (view k.question.datum.now) ≡ Some k.fits
+abbrev pub IsRight : Rules → Question → Bool → Type 0
+IsRight r q b = (matcher r q.depth).fits q.index (view q.datum.now) ≡ Some b
 
 -- the answer of a slot, if there is one, is right
 abbrev pub IsRightIfAny : Rules → Option Known → Type 0
 IsRightIfAny r None = Unit {0}
-IsRightIfAny r (Some k) = IsRight r k
+IsRightIfAny r (Some k) = IsRight r k.question k.fits
 
 -- each answer that is kept is right
 unfoldable pub Holds : Rules → Work → Type 0

@@ -37,7 +37,7 @@ fn target_of(node: Node) -> Option<usize>
 impl Tables<'_> {
     /// Whether an item fits the type at an index.
     #[cycle(fits)]
-    pub(crate) fn fits<'a>(
+    pub fn fits<'a>(
         &self,
         work: &mut Work<'a>,
         index: usize,
@@ -65,8 +65,17 @@ impl Tables<'_> {
         if let Some(fits) = work.answer(slot, question) {
             return Ok(fits);
         }
+        let before = work.left();
         let fits = self.fits_anew(work, index, datum, depth - 1)?;
-        work.keep(slot, Known { question, fits })?;
+        let steps = before.saturating_sub(work.left());
+        work.keep(
+            slot,
+            Known {
+                question,
+                fits,
+                steps,
+            },
+        )?;
         Ok(fits)
     }
 

@@ -4,7 +4,7 @@
 
 ghost use Rattle.std.specs.Prelude.{◌≡◌, IfSome, OnOk};
 ghost use Rattle.cbor_fits.specs.Rules.{Rules};
-ghost use Rattle.cbor_fits.specs.Kept.{Holds, IsRight, known_of};
+ghost use Rattle.cbor_fits.specs.Kept.{Holds, IsRight};
 
 use crate::same::same;
 use crate::stop::Stop;
@@ -16,6 +16,12 @@ const MOST_STEPS: u32 = 10_000_000;
 
 /// How many steps a match makes before it keeps answers.
 const STEPS_BEFORE_ANSWERS: u32 = 10_000;
+
+/// An answer that took fewer steps is not kept.
+const LEAST_STEPS: u32 = 8;
+
+/// How many parts of items are compared for a step.
+const PARTS_IN_STEP: u32 = 16;
 
 /// How many answers the table has room for.
 const SLOTS: usize = 4096;
@@ -38,6 +44,8 @@ pub(crate) struct Known<'a> {
     pub(crate) question: Question<'a>,
     /// Whether the item fits.
     pub(crate) fits: bool,
+    /// How many steps the answer took.
+    pub(crate) steps: u32,
 }
 
 /// How many steps a match has left, and the answers that it has found.
@@ -103,10 +111,17 @@ impl<'a> Work<'a> {
         }
     }
 
-    /// The answer to a question, if the slot has it.
-    pub(crate) fn answer(&self, slot: usize, question: Question) -> Option<bool>
-        ensures { IfSome result (λ b. (r : Rules) → Holds r self.now
-            → IsRight r (known_of question.entry b)) }
+    /// How many steps are left.
+    pub(crate) fn left(&self) -> u32 {
+        self.left
+    }
+
+    /// The answer to a question, if the slot has it. To compare two items takes steps, but no more
+    /// than the answer took.
+    pub(crate) fn answer(&mut self, slot: usize, question: Question) -> Option<bool>
+        ensures right { IfSome result (λ b. (r : Rules) → Holds r self.old
+            → IsRight r question.entry b) }
+        ensures kept { (r : Rules) → Holds r self.old → Holds r self.new }
     {
         if slot >= self.known.len() {
             return None;
@@ -115,10 +130,14 @@ impl<'a> Work<'a> {
             return None;
         };
         let other = known.question;
+        let most = known.steps.min(self.left).saturating_mul(PARTS_IN_STEP);
+        let mut parts = most;
         if other.index == question.index
             && other.depth == question.depth
-            && same(other.datum, question.datum)
+            && same(other.datum, question.datum, &mut parts)
         {
+            let steps = most.saturating_sub(parts) / PARTS_IN_STEP;
+            self.left = self.left.saturating_sub(steps);
             Some(known.fits)
         } else {
             None
@@ -135,11 +154,14 @@ impl<'a> Work<'a> {
         Ok(())
     }
 
-    /// Keeps an answer in a slot.
+    /// Keeps an answer in a slot, if it took enough steps.
     pub(crate) fn keep(&mut self, slot: usize, known: Known<'a>) -> Result<(), Stop>
-        ensures { OnOk result ((r : Rules) → Holds r self.old → IsRight r known.entry
-            → Holds r self.new) }
+        ensures { OnOk result ((r : Rules) → Holds r self.old
+            → IsRight r known.entry.question known.entry.fits → Holds r self.new) }
     {
+        if known.steps < LEAST_STEPS {
+            return Ok(());
+        }
         self.make_slots()?;
         if slot < self.known.len() {
             self.known[slot] = Some(known);

@@ -127,7 +127,7 @@ invariant-take_in_turn-parts l =
     let takes = (matcher (rules_of l.self) l.inner).takes in
     record {
       right : in_turn takes (drop l.index-index l.index-items) (rest_view l.left)
-      ≡ in_turn takes ((rules_of l.self).list l.fn.list) (rest_view l.rest);
+          ≡ in_turn takes ((rules_of l.self).list l.fn.list) (rest_view l.rest);
       kept : Holds (rules_of l.self) l.work;
     }
 
@@ -136,7 +136,7 @@ invariant-take_first_of-groups l =
     let takes = λ (g : ℕ). (matcher (rules_of l.self) l.inner).takes g (rest_view l.rest) in
     record {
       right : first_of takes (drop l.index-index l.index-items) (if l.cuts then cuts else refuses)
-      ≡ first_of takes ((rules_of l.self).list l.fn.list) refuses;
+          ≡ first_of takes ((rules_of l.self).list l.fn.list) refuses;
       kept : Holds (rules_of l.self) l.work;
     }
 
@@ -145,7 +145,7 @@ invariant-take_repeated-turns l =
     let takes = (matcher (rules_of l.self) l.inner).takes l.index in
     record {
       right : repeated takes (size (rest_view l.rest) + 1 - l.turn) l.least l.most (rest_view l.left)
-      ≡ occurs takes l.fn.occurrence (rest_view l.rest);
+          ≡ occurs takes l.fn.occurrence (rest_view l.rest);
       kept : Holds (rules_of l.self) l.work;
     }
 
@@ -154,6 +154,6 @@ invariant-take_pairs-pairs l =
     let m = matcher (rules_of l.self) l.inner in
     record {
       right : split (m.fits l.entry.key) (m.fits l.entry.value) (map pair_view_of (drop l.pair-index l.pairs)) (split_view l.split)
-      ≡ split (m.fits l.entry.key) (m.fits l.entry.value) (map pair_view_of l.pairs) (no_split l.entry.occurrence);
+          ≡ split (m.fits l.entry.key) (m.fits l.entry.value) (map pair_view_of l.pairs) (no_split l.entry.occurrence);
       kept : Holds (rules_of l.self) l.work;
     }
