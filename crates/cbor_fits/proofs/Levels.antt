@@ -1,9 +1,9 @@
 -- What fits and what is taken within some levels, by one level fewer.
-use Rattle.std.proofs.Common.{◌≡◌, ℕ, zero, suc, ◌<◌, ◌-◌, Bool, true, false, Option, Some, None, refl, ap, sym, ◌∙◌, arith}
+use Rattle.std.proofs.Common.{◌≡◌, ℕ, zero, suc, ◌<◌, ◌-◌, true, false, Option, Some, None, ap, sym, ◌∙◌, arith}
 use Rattle.cbor_cddl.specs.declared.schema.Node.{Node}
 use Rattle.cbor_fits.specs.Value.{Value}
 use Rattle.cbor_fits.specs.Rules.{Rules}
-use Rattle.cbor_fits.specs.Fits.{Matcher, Rest, Outcome, step, matcher, fits_node, fits_itself, fits_target, target, both}
+use Rattle.cbor_fits.specs.Fits.{Matcher, Rest, step, matcher, fits_node, fits_itself, fits_target, target, both}
 use Rattle.cbor_fits.specs.Fits.{takes_node}
 
 pub matcher_at : (r : Rules) (d : ℕ) → 0 < d → matcher r d ≡ step r (matcher r (d - 1))

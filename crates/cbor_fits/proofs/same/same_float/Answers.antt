@@ -1,7 +1,7 @@
 -- Bits that are written for a float are read back as it.
 use Rattle.std.proofs.Common.{◌≡◌, T, subst, sym, ap, ◌∙◌}
 use Rattle.std.proofs.lemmas.Bool.{eqb-true}
-use lib.Ieee.{Float, binary64, of_bits, to_bits, fits}
+use lib.Ieee.{binary64, of_bits, to_bits}
 use lib.Ieee.Bits.{of_bits-to_bits}
 use Rattle.cbor_fits.proofs.same.same_float.Goals as goal
 

@@ -1,5 +1,5 @@
 -- One level is what the definition says of it, and each loop comes to the answer for all.
-use Rattle.std.proofs.Common.{◌≡◌, ◌+◌, ◌-◌, ◌%◌, ◌<◌, refl, rules, tests, ℕ, Bool, true, false, Option, Some, None, IfOk, map, pos, ap, sym, subst, ◌∙◌, arith}
+use Rattle.std.proofs.Common.{◌≡◌, ◌+◌, ◌-◌, ◌%◌, ◌<◌, refl, rules, tests, ℕ, Bool, true, Option, Some, IfOk, map, pos, ap, sym, subst, ◌∙◌, arith}
 use Rattle.std.proofs.lemmas.Bool.Decides.{nat_tests}
 use Rattle.cbor_fits.specs.Value.{integer}
 use Rattle.cbor_fits.specs.View.{view}
