@@ -4,3 +4,5 @@ pub mod Matches
 pub mod Inside
 pub mod InOrder
 pub mod Decodes
+pub mod Kept
+pub mod MoreLevels

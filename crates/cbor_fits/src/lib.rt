@@ -4,6 +4,7 @@
 mod budget;
 mod controls;
 mod groups;
+mod laws;
 mod leaf;
 mod read;
 mod rest;
