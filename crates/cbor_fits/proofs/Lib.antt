@@ -4,5 +4,5 @@ pub mod Matches
 pub mod Inside
 pub mod InOrder
 pub mod Decodes
-pub mod Kept
+pub mod Stays
 pub mod MoreLevels
