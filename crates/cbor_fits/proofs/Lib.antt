@@ -5,3 +5,5 @@ pub mod Inside
 pub mod Kept
 pub mod InOrder
 pub mod Decodes
+pub mod Stays
+pub mod MoreLevels

@@ -3,6 +3,7 @@
 
 mod controls;
 mod groups;
+mod laws;
 mod leaf;
 mod read;
 mod rest;
