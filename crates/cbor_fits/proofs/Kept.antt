@@ -1,5 +1,5 @@
 -- Answers that are kept stay right, whatever else of a `Work` changes.
-use Rattle.std.proofs.Common.{◌≡◌, ℕ, ◌<◌, [], ◌++◌, length, get_or, take, replicate, Bool, Option, Some, None, sym, subst}
+use Rattle.std.proofs.Common.{◌≡◌, ℕ, ◌<◌, ◌≤◌, [], ◌++◌, length, get_or, take, replicate, Bool, Option, Some, None, sym, subst}
 use Rattle.std.specs.List.{All}
 use Rattle.std.proofs.Math.ListN.{set}
 use Rattle.std.proofs.lemmas.List.Elements.{All-nil, All-get_or, All-set, All-replicate, All-append, All-take}
@@ -8,6 +8,7 @@ use Rattle.cbor_fits.specs.Value.{Value}
 use Rattle.cbor_fits.specs.View.{view}
 use Rattle.cbor_fits.specs.Fits.{matcher}
 use Rattle.cbor_fits.specs.Kept.{IsRight, IsRightIfAny, Holds}
+use Rattle.cbor_fits.proofs.MoreLevels.{fits_on}
 use Rattle.cbor_fits.specs.declared.work.Question.{Question}
 use Rattle.cbor_fits.specs.declared.work.Known.{Known}
 use Rattle.cbor_fits.specs.declared.work.Work.{Work}
@@ -42,10 +43,10 @@ holds_more r v w n m is h =
     subst (All (IsRightIfAny r)) (sym is) (All-append (IsRightIfAny r) (take n v.known.items) (replicate m None)
     (All-take (IsRightIfAny r) n v.known.items h) (All-replicate (IsRightIfAny r) m None tt))
 
--- an answer on the same item
-pub right_for : (r : Rules) (p q : Question) (b : Bool) → p.index ≡ q.index → p.depth ≡ q.depth
+-- an answer on the same item, within more levels
+pub right_for : (r : Rules) (p q : Question) (b : Bool) → p.index ≡ q.index → p.depth ≤ q.depth
     → view p.datum.now ≡ view q.datum.now → IsRight r p b → IsRight r q b
-right_for r p q b index depth datum right =
+right_for r p q b index more datum right =
     subst (λ (x : Value). (matcher r q.depth).fits q.index x ≡ Some b) datum
     (subst (λ (n : ℕ). (matcher r q.depth).fits n (view p.datum.now) ≡ Some b) index
-    (subst (λ (d : ℕ). (matcher r d).fits p.index (view p.datum.now) ≡ Some b) depth right))
+    (fits_on r p.index (view p.datum.now) b p.depth q.depth more right))

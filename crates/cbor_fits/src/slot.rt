@@ -1,4 +1,5 @@
-//! Chooses the slot of a question: by a hash, which is of the first parts of its item alone.
+//! Chooses the slot of a question: by a hash of the type and of the first parts of the item. How many
+//! levels there are does not count, since an answer stays the same with more levels.
 
 use crate::value::Datum;
 use crate::work::Question;
@@ -20,7 +21,6 @@ pub(crate) fn slot_of(question: Question) -> usize {
         parts: MOST_PARTS,
     };
     hash.add(question.index as u64);
-    hash.add(u64::from(question.depth));
     hash.add_datum(question.datum);
     (hash.state >> 52) as usize
 }

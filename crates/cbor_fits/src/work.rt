@@ -116,8 +116,8 @@ impl<'a> Work<'a> {
         self.left
     }
 
-    /// The answer to a question, if the slot has it. To compare two items takes steps, but no more
-    /// than the answer took.
+    /// The answer to a question, if the slot has it. An answer stays the same with more levels. To
+    /// compare two items takes steps, but no more than the answer took.
     pub(crate) fn answer(&mut self, slot: usize, question: Question) -> Option<bool>
         ensures right { IfSome result (λ b. (r : Rules) → Holds r self.old
             → IsRight r question.entry b) }
@@ -133,7 +133,7 @@ impl<'a> Work<'a> {
         let most = known.steps.min(self.left).saturating_mul(PARTS_IN_STEP);
         let mut parts = most;
         if other.index == question.index
-            && other.depth == question.depth
+            && other.depth <= question.depth
             && same(other.datum, question.datum, &mut parts)
         {
             let steps = most.saturating_sub(parts) / PARTS_IN_STEP;
