@@ -1,9 +1,9 @@
 -- What fits and what is taken within some levels, by one level fewer.
-use Rattle.std.proofs.Common.{◌≡◌, ℕ, zero, suc, ◌<◌, ◌-◌, Bool, true, false, Option, Some, None, refl, ap, sym, ◌∙◌, arith}
+use Rattle.std.proofs.Common.{◌≡◌, ℕ, zero, suc, ◌<◌, ◌-◌, true, false, Option, Some, None, ap, sym, ◌∙◌, arith}
 use Rattle.cbor_cddl.specs.declared.schema.Node.{Node}
 use Rattle.cbor_fits.specs.Value.{Value}
 use Rattle.cbor_fits.specs.Rules.{Rules}
-use Rattle.cbor_fits.specs.Fits.{Matcher, Rest, Outcome, step, matcher, fits_node, fits_itself, fits_target, target, both}
+use Rattle.cbor_fits.specs.Fits.{Matcher, Rest, step, matcher, fits_node, fits_itself, fits_target, target, both}
 use Rattle.cbor_fits.specs.Fits.{takes_node}
 
 pub matcher_at : (r : Rules) (d : ℕ) → 0 < d → matcher r d ≡ step r (matcher r (d - 1))
@@ -19,27 +19,22 @@ pub takes_at : (r : Rules) (d n : ℕ) (rest : Rest) → 0 < d
     → (matcher r d).takes n rest ≡ takes_node r (matcher r (d - 1)) n (r.node n) rest
 takes_at r d n rest h = ap (λ m. m.takes n rest) (matcher_at r d h)
 
-module _ (r : Rules) (d n : ℕ) (x : Value) (node : Node) (w : Option ℕ) (h : 0 < d) (is : node ≡ r.node n)
+module _ (r : Rules) (m : Matcher) (n : ℕ) (x : Value) (node : Node) (w : Option ℕ) (is : node ≡ r.node n)
     (says : w ≡ target node) where
   -- the target of the node
-  at_target : (o : Option ℕ) → w ≡ o → (matcher r d).fits n x
-      ≡ both (fits_target (matcher r (d - 1)).fits o x) (fits_itself r (matcher r (d - 1)) n (r.node n) x)
-  at_target o e = fits_at r d n x h
-      ∙ ap (λ p. both (fits_target (matcher r (d - 1)).fits p x) (fits_itself r (matcher r (d - 1)) n (r.node n) x))
-      (sym (says ∙ ap target is) ∙ e)
+  at_target : (o : Option ℕ) → w ≡ o
+      → fits_node r m n (r.node n) x ≡ both (fits_target m.fits o x) (fits_itself r m n (r.node n) x)
+  at_target o e = ap (λ p. both (fits_target m.fits p x) (fits_itself r m n (r.node n) x)) (sym (says ∙ ap target is) ∙ e)
 
   -- no control
-  pub fits_alone : w ≡ None → (matcher r d).fits n x ≡ fits_itself r (matcher r (d - 1)) n (r.node n) x
+  pub fits_alone : w ≡ None → fits_node r m n (r.node n) x ≡ fits_itself r m n (r.node n) x
   fits_alone e = at_target None e
 
   -- a control whose target fits
-  pub fits_after : (t : ℕ) → w ≡ Some t → (matcher r (d - 1)).fits t x ≡ Some true
-      → (matcher r d).fits n x ≡ fits_itself r (matcher r (d - 1)) n (r.node n) x
-  fits_after t e fits = at_target (Some t) e
-      ∙ ap (λ p. both p (fits_itself r (matcher r (d - 1)) n (r.node n) x)) fits
+  pub fits_after : (t : ℕ) → w ≡ Some t → m.fits t x ≡ Some true
+      → fits_node r m n (r.node n) x ≡ fits_itself r m n (r.node n) x
+  fits_after t e fits = at_target (Some t) e ∙ ap (λ p. both p (fits_itself r m n (r.node n) x)) fits
 
   -- a control whose target does not fit
-  pub fits_not_after : (t : ℕ) → w ≡ Some t → (matcher r (d - 1)).fits t x ≡ Some false
-      → (matcher r d).fits n x ≡ Some false
-  fits_not_after t e fits = at_target (Some t) e
-      ∙ ap (λ p. both p (fits_itself r (matcher r (d - 1)) n (r.node n) x)) fits
+  pub fits_not_after : (t : ℕ) → w ≡ Some t → m.fits t x ≡ Some false → fits_node r m n (r.node n) x ≡ Some false
+  fits_not_after t e fits = at_target (Some t) e ∙ ap (λ p. both p (fits_itself r m n (r.node n) x)) fits

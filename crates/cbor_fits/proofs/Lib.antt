@@ -2,5 +2,8 @@ pub mod Views
 pub mod Levels
 pub mod Matches
 pub mod Inside
+pub mod Kept
 pub mod InOrder
 pub mod Decodes
+pub mod Stays
+pub mod MoreLevels

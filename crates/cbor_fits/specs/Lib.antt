@@ -8,3 +8,4 @@ pub mod Fits
 pub mod Tables
 pub mod Rests
 pub mod Splits
+pub mod Kept

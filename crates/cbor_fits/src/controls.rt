@@ -1,18 +1,19 @@
 //! Checks whether an item fits a type with a control, such as `.size` (RFC 8610, section 3.8).
 
-ghost use Rattle.std.specs.Prelude.{◌≡◌, ◌≤◌, ◌+◌, ◌^◌, Some, IfOk, pos};
+ghost use Rattle.std.specs.Prelude.{◌≡◌, ◌≤◌, ◌+◌, ◌^◌, Some, IfOk, OnOk, pos};
 ghost use Rattle.cbor_fits.specs.Value.{integer};
 ghost use Rattle.cbor_fits.specs.View.{view};
 ghost use Rattle.cbor_fits.specs.Tables.{rules_of};
+ghost use Rattle.cbor_fits.specs.Kept.{Holds};
 ghost use Rattle.cbor_fits.specs.Fits.{matcher, has_size, any_from};
 ghost use Rattle.cbor_fits.specs.Fits.{has_bits, all_bits_of, all_bits};
 ghost use Rattle.cbor_fits.specs.Fits.{has_inside, has_match, bytes_needed};
 
-use crate::budget::Budget;
 use crate::read::{read_item, read_sequence};
 use crate::stop::Stop;
 use crate::tables::Tables;
 use crate::value::Datum;
+use crate::work::Work;
 
 /// No byte string in memory has a bit past this one.
 const LAST_BIT: u64 = 1 << 62;
@@ -33,22 +34,22 @@ impl Tables<'_> {
     #[cycle(fits)]
     pub(crate) fn fits_size(
         &self,
-        budget: &mut Budget,
+        work: &mut Work,
         sizes: usize,
         datum: &Datum,
         inner: u32,
     ) -> Result<bool, Stop>
-        ensures { IfOk result (λ b.
+        requires { Holds (rules_of self.now) work.old }
+        ensures right { IfOk result (λ b.
             has_size (λ k. (matcher (rules_of self.now) inner).fits sizes (integer (pos k)))
             (view datum.now) ≡ Some b) }
+        ensures kept { OnOk result (Holds (rules_of self.now) work.new) }
     {
         match datum {
-            Datum::Bytes(content) => {
-                self.fits_number(budget, sizes, content.len() as u64, inner)
-            }
-            Datum::Text(content) => { self.fits_number(budget, sizes, content.len() as u64, inner) }
+            Datum::Bytes(content) => { self.fits_number(work, sizes, content.len() as u64, inner) }
+            Datum::Text(content) => { self.fits_number(work, sizes, content.len() as u64, inner) }
             Datum::Unsigned(number) => {
-                self.fits_one_from(budget, sizes, bytes_needed(*number, 8), inner)
+                self.fits_one_from(work, sizes, bytes_needed(*number, 8), inner)
             }
             _ => Ok(false),
         }
@@ -58,18 +59,20 @@ impl Tables<'_> {
     #[cycle(fits)]
     fn fits_one_from(
         &self,
-        budget: &mut Budget,
+        work: &mut Work,
         sizes: usize,
         first: u64,
         inner: u32,
     ) -> Result<bool, Stop>
-        requires { first ≤ 8 }
-        ensures { IfOk result (λ b.
+        requires kept { Holds (rules_of self.now) work.old }
+        requires small { first ≤ 8 }
+        ensures right { IfOk result (λ b.
             any_from (λ k. (matcher (rules_of self.now) inner).fits sizes (integer
             (pos k))) 65 first ≡ Some b) }
+        ensures kept { OnOk result (Holds (rules_of self.now) work.new) }
     {
         'sizes: for more in 0..65u64 {
-            if self.fits_number(budget, sizes, first + more, inner)? {
+            if self.fits_number(work, sizes, first + more, inner)? {
                 return Ok(true);
             }
         }
@@ -80,24 +83,26 @@ impl Tables<'_> {
     #[cycle(fits)]
     pub(crate) fn fits_bits(
         &self,
-        budget: &mut Budget,
+        work: &mut Work,
         bits: usize,
         datum: &Datum,
         inner: u32,
     ) -> Result<bool, Stop>
-        ensures { IfOk result (λ b.
+        requires { Holds (rules_of self.now) work.old }
+        ensures right { IfOk result (λ b.
             has_bits (λ k. (matcher (rules_of self.now) inner).fits bits (integer (pos k)))
             (view datum.now) ≡ Some b) }
+        ensures kept { OnOk result (Holds (rules_of self.now) work.new) }
     {
         match datum {
-            Datum::Bytes(content) => self.fits_bits_of_bytes(budget, bits, content, inner),
+            Datum::Bytes(content) => self.fits_bits_of_bytes(work, bits, content, inner),
             Datum::Unsigned(number) => {
                 let set = SetBits {
                     first: 0,
                     count: 64,
                     number: *number,
                 };
-                self.fits_set_bits(budget, bits, set, inner)
+                self.fits_set_bits(work, bits, set, inner)
             }
             _ => Ok(false),
         }
@@ -107,14 +112,16 @@ impl Tables<'_> {
     #[cycle(fits)]
     fn fits_bits_of_bytes(
         &self,
-        budget: &mut Budget,
+        work: &mut Work,
         bits: usize,
         content: &[u8],
         inner: u32,
     ) -> Result<bool, Stop>
-        ensures { IfOk result (λ b.
+        requires { Holds (rules_of self.now) work.old }
+        ensures right { IfOk result (λ b.
             all_bits_of (λ k. (matcher (rules_of self.now) inner).fits bits (integer
             (pos k))) 0 content.now ≡ Some b) }
+        ensures kept { OnOk result (Holds (rules_of self.now) work.new) }
     {
         let mut first = 0u64;
         'bytes: for byte in content {
@@ -126,7 +133,7 @@ impl Tables<'_> {
                 count: 8,
                 number: u64::from(*byte),
             };
-            if !self.fits_set_bits(budget, bits, set, inner)? {
+            if !self.fits_set_bits(work, bits, set, inner)? {
                 return Ok(false);
             }
             first += 8;
@@ -138,21 +145,23 @@ impl Tables<'_> {
     #[cycle(fits)]
     fn fits_set_bits(
         &self,
-        budget: &mut Budget,
+        work: &mut Work,
         bits: usize,
         set: SetBits,
         inner: u32,
     ) -> Result<bool, Stop>
-        requires { set.first + set.count ≤ 2 ^ 63 }
-        ensures { IfOk result (λ b.
+        requires kept { Holds (rules_of self.now) work.old }
+        requires within { set.first + set.count ≤ 2 ^ 63 }
+        ensures right { IfOk result (λ b.
             all_bits (λ k. (matcher (rules_of self.now) inner).fits bits (integer (pos k)))
             set.count set.first set.number ≡ Some b) }
+        ensures kept { OnOk result (Holds (rules_of self.now) work.new) }
     {
         let mut number = set.number;
         'bits: for bit in 0..set.count {
             let is_set = number % 2 == 1;
             if is_set {
-                if !self.fits_number(budget, bits, set.first + bit, inner)? {
+                if !self.fits_number(work, bits, set.first + bit, inner)? {
                     return Ok(false);
                 }
             }
@@ -165,20 +174,27 @@ impl Tables<'_> {
     #[cycle(fits)]
     pub(crate) fn fits_inside(
         &self,
-        budget: &mut Budget,
+        work: &mut Work,
         index: usize,
         datum: &Datum,
         inner: u32,
     ) -> Result<bool, Stop>
-        ensures { IfOk result (λ b.
+        requires { Holds (rules_of self.now) work.old }
+        ensures right { IfOk result (λ b.
             has_inside (rules_of self.now).decoded ((matcher (rules_of self.now) inner).fits
             index) (view datum.now) ≡ Some b) }
+        ensures kept { OnOk result (Holds (rules_of self.now) work.new) }
     {
         let Datum::Bytes(content) = datum else {
             return Ok(false);
         };
         match read_item(self.alloc, content)? {
-            Some(item) => self.fits(budget, index, &item, inner),
+            Some(item) => {
+                let mut inside = work.inside(self.alloc);
+                let fits = self.fits(&mut inside, index, &item, inner)?;
+                work.go_on_after(&inside);
+                Ok(fits)
+            }
             None => Ok(false),
         }
     }
@@ -187,20 +203,27 @@ impl Tables<'_> {
     #[cycle(fits)]
     pub(crate) fn fits_sequence(
         &self,
-        budget: &mut Budget,
+        work: &mut Work,
         index: usize,
         datum: &Datum,
         inner: u32,
     ) -> Result<bool, Stop>
-        ensures { IfOk result (λ b.
+        requires { Holds (rules_of self.now) work.old }
+        ensures right { IfOk result (λ b.
             has_inside (rules_of self.now).decoded_sequence ((matcher
             (rules_of self.now) inner).fits index) (view datum.now) ≡ Some b) }
+        ensures kept { OnOk result (Holds (rules_of self.now) work.new) }
     {
         let Datum::Bytes(content) = datum else {
             return Ok(false);
         };
         match read_sequence(self.alloc, content)? {
-            Some(items) => self.fits(budget, index, &items, inner),
+            Some(items) => {
+                let mut inside = work.inside(self.alloc);
+                let fits = self.fits(&mut inside, index, &items, inner)?;
+                work.go_on_after(&inside);
+                Ok(fits)
+            }
             None => Ok(false),
         }
     }

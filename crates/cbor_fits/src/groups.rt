@@ -1,61 +1,66 @@
 //! Finds what a group takes (RFC 8610, sections 2.1 and 3.2): ordered choice, greedy occurrences,
 //! cuts.
 
-ghost use Rattle.std.specs.Prelude.{◌≡◌, Some, IfOk, map};
+ghost use Rattle.std.specs.Prelude.{◌≡◌, Some, IfOk, OnOk, map};
 ghost use Rattle.cbor_fits.specs.Rests.{rest_view, outcome_view, pair_view_of};
 ghost use Rattle.cbor_fits.specs.Tables.{rules_of};
+ghost use Rattle.cbor_fits.specs.Kept.{Holds};
 ghost use Rattle.cbor_fits.specs.Fits.{matcher, one_member, in_turn, first_of, refuses, occurs};
 ghost use Rattle.cbor_fits.specs.Fits.{occurs_under, takes_node};
 ghost use Rattle.cbor_fits.specs.Fits.{entry as entry_takes};
 
-use crate::budget::Budget;
 use crate::rest::{Outcome, Rest};
 use crate::split::{Entry, Split};
 use crate::stop::Stop;
 use crate::tables::Tables;
 use crate::value::Datum;
+use crate::work::Work;
 use cbor_cddl::{List, Node, Occurrence};
 
 impl Tables<'_> {
     /// What the group at an index does with what is left.
     #[cycle(fits)]
-    pub(crate) fn takes<'r>(
+    pub(crate) fn takes<'a>(
         &self,
-        budget: &mut Budget,
+        work: &mut Work<'a>,
         index: usize,
-        rest: &Rest<'r>,
+        rest: &Rest<'a>,
         depth: u32,
-    ) -> Result<Outcome<'r>, Stop>
-        ensures { IfOk result (λ o.
+    ) -> Result<Outcome<'a>, Stop>
+        requires { Holds (rules_of self.now) work.old }
+        ensures right { IfOk result (λ o.
             (matcher (rules_of self.now) depth).takes index (rest_view rest.now)
             ≡ Some (outcome_view o)) }
+        ensures kept { OnOk result (Holds (rules_of self.now) work.new) }
     {
         if depth == 0 {
             return Err(Stop::Deep);
         }
-        budget.step()?;
-        self.takes_itself(budget, index, rest, depth - 1)
+        work.step()?;
+        self.takes_itself(work, index, rest, depth - 1)
     }
 
     /// What the group at an index does with what is left, by what is inside it.
     #[cycle(fits)]
-    fn takes_itself<'r>(
+    fn takes_itself<'a>(
         &self,
-        budget: &mut Budget,
+        work: &mut Work<'a>,
         index: usize,
-        rest: &Rest<'r>,
+        rest: &Rest<'a>,
         inner: u32,
-    ) -> Result<Outcome<'r>, Stop>
-        ensures { IfOk result (λ o.
+    ) -> Result<Outcome<'a>, Stop>
+        requires { Holds (rules_of self.now) work.old }
+        ensures right { IfOk result (λ o.
             takes_node (rules_of self.now) (matcher (rules_of self.now) inner) index
             ((rules_of self.now).node index) (rest_view rest.now) ≡ Some (outcome_view o)) }
+        ensures kept { OnOk result (Holds (rules_of self.now) work.new) }
     {
         let node = self.node(index);
         match node {
-            Node::Sequence(list) => self.take_in_turn(budget, list, rest, inner),
-            Node::GroupChoice(list) => self.take_first_of(budget, list, rest, inner),
+            Node::Sequence(list) => self.take_in_turn(work, list, rest, inner),
+            Node::GroupChoice(list) => self.take_first_of(work, list, rest, inner),
             Node::Repeated { item, occurrence } => {
-                self.take_repeated(budget, item, occurrence, rest, inner)
+                self.take_repeated(work, item, occurrence, rest, inner)
             }
             Node::Entry {
                 key,
@@ -69,31 +74,33 @@ impl Tables<'_> {
                     value,
                     occurrence,
                 };
-                self.take_entry(budget, entry, rest, inner)
+                self.take_entry(work, entry, rest, inner)
             }
             Node::Rule(rule) => {
                 if self.is_group(node) {
-                    self.takes(budget, self.body(rule), rest, inner)
+                    self.takes(work, self.body(rule), rest, inner)
                 } else {
-                    self.take_member(budget, index, rest, inner)
+                    self.take_member(work, index, rest, inner)
                 }
             }
-            _ => self.take_member(budget, index, rest, inner),
+            _ => self.take_member(work, index, rest, inner),
         }
     }
 
     /// Takes the next member if it fits a type.
     #[cycle(fits)]
-    fn take_member<'r>(
+    fn take_member<'a>(
         &self,
-        budget: &mut Budget,
+        work: &mut Work<'a>,
         index: usize,
-        rest: &Rest<'r>,
+        rest: &Rest<'a>,
         inner: u32,
-    ) -> Result<Outcome<'r>, Stop>
-        ensures { IfOk result (λ o.
+    ) -> Result<Outcome<'a>, Stop>
+        requires { Holds (rules_of self.now) work.old }
+        ensures right { IfOk result (λ o.
             one_member ((matcher (rules_of self.now) inner).fits index) (rest_view rest.now)
             ≡ Some (outcome_view o)) }
+        ensures kept { OnOk result (Holds (rules_of self.now) work.new) }
     {
         let Rest::Members(members) = rest else {
             return Ok(Outcome::Refuses);
@@ -101,7 +108,7 @@ impl Tables<'_> {
         let [first, rest @ ..] = members else {
             return Ok(Outcome::Refuses);
         };
-        if self.fits(budget, index, first, inner)? {
+        if self.fits(work, index, first, inner)? {
             Ok(Outcome::Takes(Rest::Members(rest)))
         } else {
             Ok(Outcome::Refuses)
@@ -110,20 +117,22 @@ impl Tables<'_> {
 
     /// What the parts of a group do, one after the other.
     #[cycle(fits)]
-    fn take_in_turn<'r>(
+    fn take_in_turn<'a>(
         &self,
-        budget: &mut Budget,
+        work: &mut Work<'a>,
         list: List,
-        rest: &Rest<'r>,
+        rest: &Rest<'a>,
         inner: u32,
-    ) -> Result<Outcome<'r>, Stop>
-        ensures { IfOk result (λ o.
+    ) -> Result<Outcome<'a>, Stop>
+        requires { Holds (rules_of self.now) work.old }
+        ensures right { IfOk result (λ o.
             in_turn (matcher (rules_of self.now) inner).takes ((rules_of self.now).list list)
             (rest_view rest.now) ≡ Some (outcome_view o)) }
+        ensures kept { OnOk result (Holds (rules_of self.now) work.new) }
     {
         let mut left = rest.copy(self.alloc)?;
         'parts: for index in self.list(list) {
-            match self.takes(budget, *index, &left, inner)? {
+            match self.takes(work, *index, &left, inner)? {
                 Outcome::Takes(next) => left = next,
                 Outcome::Refuses => return Ok(Outcome::Refuses),
                 Outcome::Cuts => return Ok(Outcome::Cuts),
@@ -134,21 +143,23 @@ impl Tables<'_> {
 
     /// What the first alternative does that takes. A cut ends its alternative.
     #[cycle(fits)]
-    fn take_first_of<'r>(
+    fn take_first_of<'a>(
         &self,
-        budget: &mut Budget,
+        work: &mut Work<'a>,
         list: List,
-        rest: &Rest<'r>,
+        rest: &Rest<'a>,
         inner: u32,
-    ) -> Result<Outcome<'r>, Stop>
-        ensures { IfOk result (λ o.
+    ) -> Result<Outcome<'a>, Stop>
+        requires { Holds (rules_of self.now) work.old }
+        ensures right { IfOk result (λ o.
             first_of (λ g. (matcher (rules_of self.now) inner).takes g (rest_view rest.now))
             ((rules_of self.now).list list)
             refuses ≡ Some (outcome_view o)) }
+        ensures kept { OnOk result (Holds (rules_of self.now) work.new) }
     {
         let mut cuts = false;
         'groups: for index in self.list(list) {
-            match self.takes(budget, *index, rest, inner)? {
+            match self.takes(work, *index, rest, inner)? {
                 Outcome::Takes(next) => return Ok(Outcome::Takes(next)),
                 Outcome::Refuses => {}
                 Outcome::Cuts => cuts = true,
@@ -163,17 +174,19 @@ impl Tables<'_> {
 
     /// What a group does, as often as it takes something, within an occurrence.
     #[cycle(fits)]
-    fn take_repeated<'r>(
+    fn take_repeated<'a>(
         &self,
-        budget: &mut Budget,
+        work: &mut Work<'a>,
         index: usize,
         occurrence: Occurrence,
-        rest: &Rest<'r>,
+        rest: &Rest<'a>,
         inner: u32,
-    ) -> Result<Outcome<'r>, Stop>
-        ensures { IfOk result (λ o.
+    ) -> Result<Outcome<'a>, Stop>
+        requires { Holds (rules_of self.now) work.old }
+        ensures right { IfOk result (λ o.
             occurs ((matcher (rules_of self.now) inner).takes index) occurrence
             (rest_view rest.now) ≡ Some (outcome_view o)) }
+        ensures kept { OnOk result (Holds (rules_of self.now) work.new) }
     {
         let mut left = rest.copy(self.alloc)?;
         let mut least = occurrence.least;
@@ -182,7 +195,7 @@ impl Tables<'_> {
             if most == 0 {
                 return Ok(Outcome::Takes(left));
             }
-            match self.takes(budget, index, &left, inner)? {
+            match self.takes(work, index, &left, inner)? {
                 Outcome::Takes(next) => {
                     if next.len() == left.len() {
                         return Ok(Outcome::Takes(left));
@@ -205,45 +218,49 @@ impl Tables<'_> {
 
     /// What an entry does. In an array its key is a name.
     #[cycle(fits)]
-    fn take_entry<'r>(
+    fn take_entry<'a>(
         &self,
-        budget: &mut Budget,
+        work: &mut Work<'a>,
         entry: Entry,
-        rest: &Rest<'r>,
+        rest: &Rest<'a>,
         inner: u32,
-    ) -> Result<Outcome<'r>, Stop>
-        ensures { IfOk result (λ o.
+    ) -> Result<Outcome<'a>, Stop>
+        requires { Holds (rules_of self.now) work.old }
+        ensures right { IfOk result (λ o.
             occurs_under ((matcher (rules_of self.now) inner).fits entry.key)
             ((matcher (rules_of self.now) inner).fits entry.value) ((matcher
             (rules_of self.now) inner).takes entry.value)
             entry.cut entry.occurrence (rest_view rest.now) ≡ Some (outcome_view o)) }
+        ensures kept { OnOk result (Holds (rules_of self.now) work.new) }
     {
         match rest {
             Rest::Members(_) => {
-                self.take_repeated(budget, entry.value, entry.occurrence, rest, inner)
+                self.take_repeated(work, entry.value, entry.occurrence, rest, inner)
             }
-            Rest::Pairs(pairs) => self.take_pairs(budget, entry, pairs, inner),
+            Rest::Pairs(pairs) => self.take_pairs(work, entry, pairs, inner),
         }
     }
 
     /// What an entry does with pairs: it takes those whose key and value fit.
     #[cycle(fits)]
-    fn take_pairs<'r>(
+    fn take_pairs<'a>(
         &self,
-        budget: &mut Budget,
+        work: &mut Work<'a>,
         entry: Entry,
-        pairs: &[&'r (Datum, Datum)],
+        pairs: &[&'a (Datum, Datum)],
         inner: u32,
-    ) -> Result<Outcome<'r>, Stop>
-        ensures { IfOk result (λ o.
+    ) -> Result<Outcome<'a>, Stop>
+        requires { Holds (rules_of self.now) work.old }
+        ensures right { IfOk result (λ o.
             entry_takes ((matcher (rules_of self.now) inner).fits entry.key)
             ((matcher (rules_of self.now) inner).fits entry.value) entry.cut entry.occurrence
             (map pair_view_of pairs.now) ≡ Some (outcome_view o)) }
+        ensures kept { OnOk result (Holds (rules_of self.now) work.new) }
     {
         let mut split = Split::new(self.alloc, entry.occurrence);
         'pairs: for pair in pairs {
-            let fits_key = self.fits(budget, entry.key, &pair.0, inner)?;
-            let fits_value = fits_key && self.fits(budget, entry.value, &pair.1, inner)?;
+            let fits_key = self.fits(work, entry.key, &pair.0, inner)?;
+            let fits_value = fits_key && self.fits(work, entry.value, &pair.1, inner)?;
             split.add(*pair, fits_key, fits_value)?;
         }
         Ok(split.outcome(entry.cut))

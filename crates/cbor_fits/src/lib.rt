@@ -1,21 +1,22 @@
 //! Says whether CBOR items fit CDDL (RFC 8610), by the definition in `specs/Fits.antt`.
 #![tactic(auto)]
 
-mod budget;
 mod controls;
 mod groups;
+mod laws;
 mod leaf;
 mod read;
 mod rest;
+mod same;
+mod slot;
 mod split;
 mod stop;
 mod tables;
 mod types;
 mod value;
 mod verdict;
+mod work;
 
-pub use budget::Budget;
 pub use stop::Stop;
 pub use tables::{Pattern, Tables};
-pub use value::Datum;
 pub use verdict::DEEPEST;

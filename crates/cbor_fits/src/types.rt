@@ -1,18 +1,20 @@
 //! Checks whether an item fits a type (RFC 8610, sections 2.2 and 3).
 
-ghost use Rattle.std.specs.Prelude.{◌≡◌, ◌==◌, ℕ, Option, Some, IfOk, pos};
+ghost use Rattle.std.specs.Prelude.{◌≡◌, ◌==◌, ℕ, Option, Some, IfOk, OnOk, pos};
 ghost use Rattle.cbor_fits.specs.Value.{integer};
 ghost use Rattle.cbor_fits.specs.View.{view};
 ghost use Rattle.cbor_fits.specs.Tables.{rules_of};
-ghost use Rattle.cbor_fits.specs.Fits.{matcher, fits_itself, any_of, in_array, in_map, in_tag};
-ghost use Rattle.cbor_fits.specs.Fits.{number_fits, in_simple, fails, target};
+ghost use Rattle.cbor_fits.specs.Kept.{Holds};
+ghost use Rattle.cbor_fits.specs.Fits.{matcher, fits_node, fits_itself, any_of, in_array, in_map};
+ghost use Rattle.cbor_fits.specs.Fits.{in_tag, number_fits, in_simple, fails, target};
 
-use crate::budget::Budget;
 use crate::leaf::compares_with;
 use crate::rest::{Rest, all_pairs};
+use crate::slot::slot_of;
 use crate::stop::Stop;
 use crate::tables::Tables;
 use crate::value::Datum;
+use crate::work::{Known, Question, Work};
 use cbor_cddl::{List, Node};
 
 /// The type that a control is about.
@@ -35,25 +37,68 @@ fn target_of(node: Node) -> Option<usize>
 impl Tables<'_> {
     /// Whether an item fits the type at an index.
     #[cycle(fits)]
-    pub(crate) fn fits(
+    pub(crate) fn fits<'a>(
         &self,
-        budget: &mut Budget,
+        work: &mut Work<'a>,
         index: usize,
-        datum: &Datum,
+        datum: &'a Datum,
         depth: u32,
     ) -> Result<bool, Stop>
-        ensures { IfOk result (λ b. (matcher (rules_of self.now) depth).fits index
+        requires { Holds (rules_of self.now) work.old }
+        ensures right { IfOk result (λ b. (matcher (rules_of self.now) depth).fits index
             (view datum.now) ≡ Some b) }
+        ensures kept { OnOk result (Holds (rules_of self.now) work.new) }
     {
         if depth == 0 {
             return Err(Stop::Deep);
         }
-        budget.step()?;
+        work.step()?;
+        if !work.keeps(datum) {
+            return self.fits_anew(work, index, datum, depth - 1);
+        }
+        let question = Question {
+            index,
+            depth,
+            datum,
+        };
+        let slot = slot_of(question);
+        if let Some(fits) = work.answer(slot, question) {
+            return Ok(fits);
+        }
+        let before = work.left();
+        let fits = self.fits_anew(work, index, datum, depth - 1)?;
+        let steps = before.saturating_sub(work.left());
+        work.keep(
+            slot,
+            Known {
+                question,
+                fits,
+                steps,
+            },
+        )?;
+        Ok(fits)
+    }
+
+    /// Whether an item fits the type at an index, by what is inside.
+    #[cycle(fits)]
+    fn fits_anew<'a>(
+        &self,
+        work: &mut Work<'a>,
+        index: usize,
+        datum: &'a Datum,
+        inner: u32,
+    ) -> Result<bool, Stop>
+        requires { Holds (rules_of self.now) work.old }
+        ensures right { IfOk result (λ b.
+            fits_node (rules_of self.now) (matcher (rules_of self.now) inner) index
+            ((rules_of self.now).node index) (view datum.now) ≡ Some b) }
+        ensures kept { OnOk result (Holds (rules_of self.now) work.new) }
+    {
         match target_of(self.node(index)) {
-            None => self.fits_itself(budget, index, datum, depth - 1),
+            None => self.fits_itself(work, index, datum, inner),
             Some(target) => {
-                if self.fits(budget, target, datum, depth - 1)? {
-                    self.fits_itself(budget, index, datum, depth - 1)
+                if self.fits(work, target, datum, inner)? {
+                    self.fits_itself(work, index, datum, inner)
                 } else {
                     Ok(false)
                 }
@@ -63,35 +108,35 @@ impl Tables<'_> {
 
     /// Whether an item fits the type at an index. If that is a control, the item fits its target.
     #[cycle(fits)]
-    fn fits_itself(
+    fn fits_itself<'a>(
         &self,
-        budget: &mut Budget,
+        work: &mut Work<'a>,
         index: usize,
-        datum: &Datum,
+        datum: &'a Datum,
         inner: u32,
     ) -> Result<bool, Stop>
-        ensures { IfOk result (λ b.
+        requires { Holds (rules_of self.now) work.old }
+        ensures right { IfOk result (λ b.
             fits_itself (rules_of self.now) (matcher (rules_of self.now) inner) index
             ((rules_of self.now).node index) (view datum.now) ≡ Some b) }
+        ensures kept { OnOk result (Holds (rules_of self.now) work.new) }
     {
         match self.node(index) {
-            Node::Rule(rule) => self.fits(budget, self.body(rule), datum, inner),
-            Node::Choice(list) => self.fits_one_of(budget, list, datum, inner),
-            Node::Array(group) => self.fits_array(budget, group, datum, inner),
-            Node::Map(group) => self.fits_map(budget, group, datum, inner),
-            Node::Tag { number, item } => self.fits_tag(budget, number, item, datum, inner),
+            Node::Rule(rule) => self.fits(work, self.body(rule), datum, inner),
+            Node::Choice(list) => self.fits_one_of(work, list, datum, inner),
+            Node::Array(group) => self.fits_array(work, group, datum, inner),
+            Node::Map(group) => self.fits_map(work, group, datum, inner),
+            Node::Tag { number, item } => self.fits_tag(work, number, item, datum, inner),
             Node::AnyTag { numbers, item } => {
-                self.fits_any_tag(budget, numbers, item, datum, inner)
+                self.fits_any_tag(work, numbers, item, datum, inner)
             }
-            Node::Simples(numbers) => self.fits_simple(budget, numbers, datum, inner),
-            Node::Both { other, .. } => self.fits(budget, other, datum, inner),
-            Node::Unequal { other, .. } => self.fits_not(budget, other, datum, inner),
-            Node::Size { sizes, .. } => self.fits_size(budget, sizes, datum, inner),
-            Node::Bits { bits, .. } => self.fits_bits(budget, bits, datum, inner),
-            Node::Encoded { item, .. } => self.fits_inside(budget, item, datum, inner),
-            Node::EncodedSequence { array, .. } => {
-                self.fits_sequence(budget, array, datum, inner)
-            }
+            Node::Simples(numbers) => self.fits_simple(work, numbers, datum, inner),
+            Node::Both { other, .. } => self.fits(work, other, datum, inner),
+            Node::Unequal { other, .. } => self.fits_not(work, other, datum, inner),
+            Node::Size { sizes, .. } => self.fits_size(work, sizes, datum, inner),
+            Node::Bits { bits, .. } => self.fits_bits(work, bits, datum, inner),
+            Node::Encoded { item, .. } => self.fits_inside(work, item, datum, inner),
+            Node::EncodedSequence { array, .. } => { self.fits_sequence(work, array, datum, inner) }
             Node::Pattern { .. } => self.fits_pattern(index, datum),
             Node::Compared {
                 comparison,
@@ -104,19 +149,21 @@ impl Tables<'_> {
 
     /// Whether an item fits one of several types.
     #[cycle(fits)]
-    fn fits_one_of(
+    fn fits_one_of<'a>(
         &self,
-        budget: &mut Budget,
+        work: &mut Work<'a>,
         list: List,
-        datum: &Datum,
+        datum: &'a Datum,
         inner: u32,
     ) -> Result<bool, Stop>
-        ensures { IfOk result (λ b.
+        requires { Holds (rules_of self.now) work.old }
+        ensures right { IfOk result (λ b.
             any_of (λ t. (matcher (rules_of self.now) inner).fits t (view datum.now))
             ((rules_of self.now).list list) ≡ Some b) }
+        ensures kept { OnOk result (Holds (rules_of self.now) work.new) }
     {
         'types: for index in self.list(list) {
-            if self.fits(budget, *index, datum, inner)? {
+            if self.fits(work, *index, datum, inner)? {
                 return Ok(true);
             }
         }
@@ -125,62 +172,68 @@ impl Tables<'_> {
 
     /// Whether an item is an array, and a group takes all of its members.
     #[cycle(fits)]
-    fn fits_array(
+    fn fits_array<'a>(
         &self,
-        budget: &mut Budget,
+        work: &mut Work<'a>,
         group: usize,
-        datum: &Datum,
+        datum: &'a Datum,
         inner: u32,
     ) -> Result<bool, Stop>
-        ensures { IfOk result (λ b.
+        requires { Holds (rules_of self.now) work.old }
+        ensures right { IfOk result (λ b.
             in_array ((matcher (rules_of self.now) inner).takes group) (view datum.now) ≡ Some b) }
+        ensures kept { OnOk result (Holds (rules_of self.now) work.new) }
     {
         let Datum::Array(members) = datum else {
             return Ok(false);
         };
         let rest = Rest::Members(members);
-        let outcome = self.takes(budget, group, &rest, inner)?;
+        let outcome = self.takes(work, group, &rest, inner)?;
         Ok(outcome.is_whole())
     }
 
     /// Whether an item is a map, and a group takes all of its pairs.
     #[cycle(fits)]
-    fn fits_map(
+    fn fits_map<'a>(
         &self,
-        budget: &mut Budget,
+        work: &mut Work<'a>,
         group: usize,
-        datum: &Datum,
+        datum: &'a Datum,
         inner: u32,
     ) -> Result<bool, Stop>
-        ensures { IfOk result (λ b.
+        requires { Holds (rules_of self.now) work.old }
+        ensures right { IfOk result (λ b.
             in_map ((matcher (rules_of self.now) inner).takes group) (view datum.now) ≡ Some b) }
+        ensures kept { OnOk result (Holds (rules_of self.now) work.new) }
     {
         let Datum::Map(pairs) = datum else {
             return Ok(false);
         };
         let rest = Rest::Pairs(all_pairs(self.alloc, pairs)?);
-        let outcome = self.takes(budget, group, &rest, inner)?;
+        let outcome = self.takes(work, group, &rest, inner)?;
         Ok(outcome.is_whole())
     }
 
     /// Whether an item has this tag, and what is below it fits.
     #[cycle(fits)]
-    fn fits_tag(
+    fn fits_tag<'a>(
         &self,
-        budget: &mut Budget,
+        work: &mut Work<'a>,
         number: u64,
         index: usize,
-        datum: &Datum,
+        datum: &'a Datum,
         inner: u32,
     ) -> Result<bool, Stop>
-        ensures { IfOk result (λ b.
+        requires { Holds (rules_of self.now) work.old }
+        ensures right { IfOk result (λ b.
             in_tag (λ k. Some (number == k)) ((matcher (rules_of self.now) inner).fits index)
             (view datum.now) ≡ Some b) }
+        ensures kept { OnOk result (Holds (rules_of self.now) work.new) }
     {
         match datum {
             Datum::Tag(found, content) => {
                 if number == *found {
-                    self.fits(budget, index, content, inner)
+                    self.fits(work, index, content, inner)
                 } else {
                     Ok(false)
                 }
@@ -191,26 +244,28 @@ impl Tables<'_> {
 
     /// Whether an item has a tag whose number fits, and what is below it fits.
     #[cycle(fits)]
-    fn fits_any_tag(
+    fn fits_any_tag<'a>(
         &self,
-        budget: &mut Budget,
+        work: &mut Work<'a>,
         numbers: Option<usize>,
         index: usize,
-        datum: &Datum,
+        datum: &'a Datum,
         inner: u32,
     ) -> Result<bool, Stop>
-        ensures { IfOk result (λ b.
+        requires { Holds (rules_of self.now) work.old }
+        ensures right { IfOk result (λ b.
             in_tag (number_fits (matcher (rules_of self.now) inner).fits numbers)
             ((matcher (rules_of self.now) inner).fits index) (view datum.now) ≡ Some b) }
+        ensures kept { OnOk result (Holds (rules_of self.now) work.new) }
     {
         let Datum::Tag(found, content) = datum else {
             return Ok(false);
         };
         match numbers {
-            None => self.fits(budget, index, content, inner),
+            None => self.fits(work, index, content, inner),
             Some(numbers) => {
-                if self.fits_number(budget, numbers, *found, inner)? {
-                    self.fits(budget, index, content, inner)
+                if self.fits_number(work, numbers, *found, inner)? {
+                    self.fits(work, index, content, inner)
                 } else {
                     Ok(false)
                 }
@@ -222,17 +277,19 @@ impl Tables<'_> {
     #[cycle(fits)]
     fn fits_simple(
         &self,
-        budget: &mut Budget,
+        work: &mut Work,
         index: usize,
         datum: &Datum,
         inner: u32,
     ) -> Result<bool, Stop>
-        ensures { IfOk result (λ b.
+        requires { Holds (rules_of self.now) work.old }
+        ensures right { IfOk result (λ b.
             in_simple (λ k. (matcher (rules_of self.now) inner).fits index (integer (pos k)))
             (view datum.now) ≡ Some b) }
+        ensures kept { OnOk result (Holds (rules_of self.now) work.new) }
     {
         match datum {
-            Datum::Simple(number) => { self.fits_number(budget, index, u64::from(*number), inner) }
+            Datum::Simple(number) => { self.fits_number(work, index, u64::from(*number), inner) }
             _ => Ok(false),
         }
     }
@@ -241,30 +298,38 @@ impl Tables<'_> {
     #[cycle(fits)]
     pub(crate) fn fits_number(
         &self,
-        budget: &mut Budget,
+        work: &mut Work,
         index: usize,
         number: u64,
         inner: u32,
     ) -> Result<bool, Stop>
-        ensures { IfOk result (λ b.
+        requires { Holds (rules_of self.now) work.old }
+        ensures right { IfOk result (λ b.
             (matcher (rules_of self.now) inner).fits index (integer (pos number)) ≡ Some b) }
+        ensures kept { OnOk result (Holds (rules_of self.now) work.new) }
     {
-        self.fits(budget, index, &Datum::Unsigned(number), inner)
+        let number = Datum::Unsigned(number);
+        let mut inside = work.inside(self.alloc);
+        let fits = self.fits(&mut inside, index, &number, inner)?;
+        work.go_on_after(&inside);
+        Ok(fits)
     }
 
     /// Whether an item does not fit.
     #[cycle(fits)]
-    fn fits_not(
+    fn fits_not<'a>(
         &self,
-        budget: &mut Budget,
+        work: &mut Work<'a>,
         index: usize,
-        datum: &Datum,
+        datum: &'a Datum,
         inner: u32,
     ) -> Result<bool, Stop>
-        ensures { IfOk result (λ b.
+        requires { Holds (rules_of self.now) work.old }
+        ensures right { IfOk result (λ b.
             fails ((matcher (rules_of self.now) inner).fits index (view datum.now)) ≡ Some b) }
+        ensures kept { OnOk result (Holds (rules_of self.now) work.new) }
     {
-        let fits = self.fits(budget, index, datum, inner)?;
+        let fits = self.fits(work, index, datum, inner)?;
         Ok(!fits)
     }
 }

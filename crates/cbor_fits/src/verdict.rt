@@ -3,10 +3,10 @@ ghost use Rattle.std.specs.Prelude.{◌≡◌, Some, IfOk};
 ghost use Rattle.cbor_fits.specs.Tables.{rules_of};
 ghost use Rattle.cbor_fits.specs.Fits.{accepts};
 
-use crate::budget::Budget;
 use crate::read::read_item;
 use crate::stop::Stop;
 use crate::tables::Tables;
+use crate::work::Work;
 
 /// How deeply types and groups may be nested in each other, with the items that fit them.
 pub const DEEPEST: u32 = 700;
@@ -22,7 +22,10 @@ impl Tables<'_> {
             accepts (rules_of self.now) 700 self.now.schema.now.root bytes.now ≡ Some b) }
     {
         match read_item(self.alloc, bytes)? {
-            Some(item) => self.fits(&mut Budget::new(), self.schema.root, &item, DEEPEST),
+            Some(item) => {
+                let mut work = Work::new(self.alloc);
+                self.fits(&mut work, self.schema.root, &item, DEEPEST)
+            }
             None => Ok(false),
         }
     }

@@ -1,100 +1,118 @@
 -- One level is what the definition says of it, and each loop comes to the answer for all.
-use Rattle.std.proofs.Common.{◌≡◌, ◌+◌, ◌-◌, ◌%◌, ◌<◌, refl, rules, tests, ℕ, Bool, true, false, Option, Some, None, IfOk, map, pos, ap, sym, subst, ◌∙◌, arith}
+use Rattle.std.proofs.Common.{◌≡◌, ◌+◌, ◌-◌, ◌%◌, ◌<◌, refl, rules, tests, ℕ, Bool, true, Option, Some, IfOk, map, pos, ap, sym, subst, ◌∙◌, arith}
 use Rattle.std.proofs.lemmas.Bool.Decides.{nat_tests}
 use Rattle.cbor_fits.specs.Value.{integer}
 use Rattle.cbor_fits.specs.View.{view}
 use Rattle.cbor_fits.specs.Tables.{rules_of}
 use Rattle.cbor_fits.specs.Rests.{rest_view, outcome_view, pair_view, pair_view_of}
+use Rattle.cbor_fits.specs.Kept.{Holds}
 use Rattle.cbor_fits.specs.Fits.{Outcome, matcher, has_size, any_from, size}
 use Rattle.cbor_fits.proofs.Views.{view-Array, view-Map, view-Bytes, view-Unsigned}
-use Rattle.cbor_fits.proofs.Levels.{fits_alone, fits_after, fits_not_after, takes_at}
+use Rattle.cbor_fits.proofs.Levels.{fits_at, fits_alone, fits_after, fits_not_after, takes_at}
 use Rattle.cbor_fits.proofs.Inside.{array_takes, map_takes, inside_fits, turn_on, bits_on, from_here, from_next, from_end}
 use Rattle.cbor_fits.proofs.tables.Tables.+fits.Goals as goal
 use Rattle.cbor_fits.proofs.tables.Tables.+fits.Goals.{fits_set_bits-then-is_set+in_ok-fits_number+else-not-branch, fits_set_bits-else-is_set}
 
-pub fits-returns-in-None : goal.fits-returns-in-None
-fits-returns-in-None t c =
+pub fits-returns-then-not-keeps-clause-right : goal.fits-returns-then-not-keeps-clause-right
+fits-returns-then-not-keeps-clause-right t c =
     let h : 0 < c.args.depth = omega arith in
-    let e = fits_alone (rules_of c.args.self.now) c.args.depth c.args.index (view c.args.datum.now) c.node.result
-    c.target_of.result h c.node.ensures c.target_of.ensures c.in-None.is in
-    subst (λ (a : Option Bool). IfOk c.fits_itself.result (λ b. a ≡ Some b)) (sym e) c.fits_itself.ensures
+    let e = fits_at (rules_of c.args.self.now) c.args.depth c.args.index (view c.args.datum.now) h in
+    subst (λ (a : Option Bool). IfOk c.fits_anew.result (λ b. a ≡ Some b)) (sym e) c.fits_anew.ensures.right
 
-pub fits-returns-then-branch : goal.fits-returns-then-branch
-fits-returns-then-branch t c =
+pub fits-returns-clause-right : goal.fits-returns-clause-right
+fits-returns-clause-right t c =
     let h : 0 < c.args.depth = omega arith in
-    let e = fits_after (rules_of c.args.self.now) c.args.depth c.args.index (view c.args.datum.now) c.node.result
-    c.target_of.result h c.node.ensures c.target_of.ensures c.in-Some.target c.in-Some.is
-    (c.in_ok-fits-in-Some.ensures ∙ ap (λ b. Some b) c.if-branch.true) in
+    fits_at (rules_of c.args.self.now) c.args.depth c.args.index (view c.args.datum.now) h ∙ c.in_ok-fits.ensures.right
+
+pub fits-returns-clause-kept : goal.fits-returns-clause-kept
+fits-returns-clause-kept t c =
+    let r = rules_of c.args.self.now in
+    let h : 0 < c.args.depth = omega arith in
+    let right = fits_at r c.args.depth c.args.index (view c.args.datum.now) h ∙ c.in_ok-fits.ensures.right in
+    c.in_ok-keep.ensures r c.in_ok-fits.ensures.kept right
+
+pub fits_anew-returns-in-None-clause-right : goal.fits_anew-returns-in-None-clause-right
+fits_anew-returns-in-None-clause-right t c =
+    let r = rules_of c.args.self.now in
+    let e = fits_alone r (matcher r c.args.inner) c.args.index (view c.args.datum.now) c.node.result c.target_of.result
+    c.node.ensures c.target_of.ensures c.in-None.is in
+    subst (λ (a : Option Bool). IfOk c.fits_itself.result (λ b. a ≡ Some b)) (sym e) c.fits_itself.ensures.right
+
+pub fits_anew-returns-then-branch-clause-right : goal.fits_anew-returns-then-branch-clause-right
+fits_anew-returns-then-branch-clause-right t c =
+    let r = rules_of c.args.self.now in
+    let e = fits_after r (matcher r c.args.inner) c.args.index (view c.args.datum.now) c.node.result c.target_of.result
+    c.node.ensures c.target_of.ensures c.in-Some.target c.in-Some.is
+    (c.in_ok-fits-in-Some.ensures.right ∙ ap (λ b. Some b) c.if-branch.true) in
     subst (λ (a : Option Bool). IfOk c.fits_itself-then-branch.result (λ b. a ≡ Some b)) (sym e)
-    c.fits_itself-then-branch.ensures
+    c.fits_itself-then-branch.ensures.right
 
-pub fits-returns-else-branch : goal.fits-returns-else-branch
-fits-returns-else-branch t c =
-    let h : 0 < c.args.depth = omega arith in
-    fits_not_after (rules_of c.args.self.now) c.args.depth c.args.index (view c.args.datum.now) c.node.result
-    c.target_of.result h c.node.ensures c.target_of.ensures c.in-Some.target c.in-Some.is
-    (c.in_ok-fits-in-Some.ensures ∙ ap (λ b. Some b) c.if-branch.false)
+pub fits_anew-returns-else-branch-clause-right : goal.fits_anew-returns-else-branch-clause-right
+fits_anew-returns-else-branch-clause-right t c =
+    let r = rules_of c.args.self.now in
+    fits_not_after r (matcher r c.args.inner) c.args.index (view c.args.datum.now) c.node.result c.target_of.result
+    c.node.ensures c.target_of.ensures c.in-Some.target c.in-Some.is
+    (c.in_ok-fits-in-Some.ensures.right ∙ ap (λ b. Some b) c.if-branch.false)
 
-pub fits_array-returns : goal.fits_array-returns
-fits_array-returns t c =
+pub fits_array-returns-clause-right : goal.fits_array-returns-clause-right
+fits_array-returns-clause-right t c =
     let v = c.in-Array.members in
     array_takes ((matcher (rules_of c.args.self.now) c.args.inner).takes c.args.group) (view c.args.datum.now)
     (map view v.items) (map view c.deref.result.now) (outcome_view c.in_ok-outcome.outcome) c.is_whole.result (ap view c.in-Array.is ∙ view-Array v)
-    (ap (map view) c.deref.ensures.value) c.in_ok-outcome.ensures c.is_whole.ensures
+    (ap (map view) c.deref.ensures.value) c.in_ok-outcome.ensures.right c.is_whole.ensures
 
-pub fits_map-returns : goal.fits_map-returns
-fits_map-returns t c =
+pub fits_map-returns-clause-right : goal.fits_map-returns-clause-right
+fits_map-returns-clause-right t c =
     let v = c.in-Map.pairs in
     map_takes ((matcher (rules_of c.args.self.now) c.args.inner).takes c.args.group) (view c.args.datum.now)
     (map pair_view v.items) (map pair_view_of c.in_ok-all_pairs.field-0.items) (outcome_view c.in_ok-outcome.outcome)
     c.is_whole.result
     (ap view c.in-Map.is ∙ view-Map v) (c.in_ok-all_pairs.ensures ∙ ap (map pair_view) c.deref.ensures.value)
-    c.in_ok-outcome.ensures c.is_whole.ensures
+    c.in_ok-outcome.ensures.right c.is_whole.ensures
 
-pub fits_inside-returns-in-Some : goal.fits_inside-returns-in-Some
-fits_inside-returns-in-Some t c =
+pub fits_inside-returns-in_ok-fits-in-Some-clause-right : goal.fits_inside-returns-in_ok-fits-in-Some-clause-right
+fits_inside-returns-in_ok-fits-in-Some-clause-right t c =
     let v = c.in-Bytes.content in
     let r = rules_of c.args.self.now in
-    let e = inside_fits r.decoded ((matcher r c.args.inner).fits c.args.index) (view c.args.datum.now) v.items
+    inside_fits r.decoded ((matcher r c.args.inner).fits c.args.index) (view c.args.datum.now) v.items
     c.deref.result.now c.in_ok-item.field-0 c.in-Some.item (ap view c.in-Bytes.is ∙ view-Bytes v) c.deref.ensures.value
-    c.in_ok-item.ensures c.in-Some.is in
-    subst (λ (a : Option Bool). IfOk c.fits.result (λ b. a ≡ Some b)) (sym e) c.fits.ensures
+    c.in_ok-item.ensures c.in-Some.is ∙ c.in_ok-fits-in-Some.ensures.right
 
-pub fits_sequence-returns-in-Some : goal.fits_sequence-returns-in-Some
-fits_sequence-returns-in-Some t c =
+pub fits_sequence-returns-in_ok-fits-in-Some-clause-right : goal.fits_sequence-returns-in_ok-fits-in-Some-clause-right
+fits_sequence-returns-in_ok-fits-in-Some-clause-right t c =
     let v = c.in-Bytes.content in
     let r = rules_of c.args.self.now in
-    let e = inside_fits r.decoded_sequence ((matcher r c.args.inner).fits c.args.index) (view c.args.datum.now) v.items
+    inside_fits r.decoded_sequence ((matcher r c.args.inner).fits c.args.index) (view c.args.datum.now) v.items
     c.deref.result.now c.in_ok-items.field-0 c.in-Some.items (ap view c.in-Bytes.is ∙ view-Bytes v) c.deref.ensures.value
-    c.in_ok-items.ensures c.in-Some.is in
-    subst (λ (a : Option Bool). IfOk c.fits.result (λ b. a ≡ Some b)) (sym e) c.fits.ensures
+    c.in_ok-items.ensures c.in-Some.is ∙ c.in_ok-fits-in-Some.ensures.right
 
-pub fits_one_from-returns-then-branch : goal.fits_one_from-returns-then-branch
-fits_one_from-returns-then-branch t c =
-    from_here _ (65 - c.sizes.more) (c.args.first + c.sizes.more) _ c.sizes.invariant (omega arith)
-    (c.in_ok-fits_number.ensures ∙ ap (λ b. Some b) c.if-branch.true)
+pub fits_one_from-returns-then-branch-clause-right : goal.fits_one_from-returns-then-branch-clause-right
+fits_one_from-returns-then-branch-clause-right t c =
+    from_here _ (65 - c.sizes.more) (c.args.first + c.sizes.more) _ c.sizes.invariant.right (omega arith)
+    (c.in_ok-fits_number.ensures.right ∙ ap (λ b. Some b) c.if-branch.true)
 
 pub fits_one_from-sizes-preserved : goal.fits_one_from-sizes-preserved
 fits_one_from-sizes-preserved t c =
-    from_next _ (65 - c.sizes.more) (c.args.first + c.sizes.more) _ _ _ c.sizes.invariant (omega arith)
-    (c.in_ok-fits_number.ensures ∙ ap (λ b. Some b) c.if-branch.false) (omega arith) (omega arith)
+    let right = from_next _ (65 - c.sizes.more) (c.args.first + c.sizes.more) _ _ _ c.sizes.invariant.right (omega arith)
+    (c.in_ok-fits_number.ensures.right ∙ ap (λ b. Some b) c.if-branch.false) (omega arith) (omega arith) in
+    record { right = right; kept = c.in_ok-fits_number.ensures.kept }
 
-pub fits_one_from-returns : goal.fits_one_from-returns
-fits_one_from-returns t c =
-    from_end _ (65 - c.sizes.more) (c.args.first + c.sizes.more) _ c.sizes.invariant (omega arith)
+pub fits_one_from-returns-clause-right : goal.fits_one_from-returns-clause-right
+fits_one_from-returns-clause-right t c =
+    from_end _ (65 - c.sizes.more) (c.args.first + c.sizes.more) _ c.sizes.invariant.right (omega arith)
 
-pub fits_size-returns-in-Unsigned : goal.fits_size-returns-in-Unsigned
-fits_size-returns-in-Unsigned t c =
+pub fits_size-returns-in-Unsigned-clause-right : goal.fits_size-returns-in-Unsigned-clause-right
+fits_size-returns-in-Unsigned-clause-right t c =
     let f = λ (k : ℕ). (matcher (rules_of c.args.self.now) c.args.inner).fits c.args.sizes (integer (pos k)) in
     let e = ap (has_size f) (ap view c.in-Unsigned.is ∙ view-Unsigned _) ∙ ap (any_from f 65) (sym c.bytes_needed.ensures.needed) in
-    subst (λ (a : Option Bool). IfOk c.fits_one_from.result (λ b. a ≡ Some b)) (sym e) c.fits_one_from.ensures
+    subst (λ (a : Option Bool). IfOk c.fits_one_from.result (λ b. a ≡ Some b)) (sym e) c.fits_one_from.ensures.right
 
-pub takes-returns : goal.takes-returns
-takes-returns t c =
+pub takes-returns-clause-right : goal.takes-returns-clause-right
+takes-returns-clause-right t c =
     let h : 0 < c.args.depth = omega arith in
     let e = takes_at (rules_of c.args.self.now) c.args.depth c.args.index (rest_view c.args.rest.now) h in
     subst (λ (a : Option Outcome). IfOk c.takes_itself.result (λ o. a ≡ Some (outcome_view o))) (sym e)
-    c.takes_itself.ensures
+    c.takes_itself.ensures.right
 
 pub fits_set_bits-bits-preserved : goal.fits_set_bits-bits-preserved
 fits_set_bits-bits-preserved t c =
@@ -103,17 +121,26 @@ fits_set_bits-bits-preserved t c =
     elim c.if-is_set.branch [
       | fits_set_bits-then-is_set+in_ok-fits_number+else-not-branch w ↦ λ e.
           let yes : w.in_ok-fits_number.field-0 ≡ true = first_of (assumption (w.if-not-branch.false), search rules, grind (arith, tests)) in
-          w.in_ok-fits_number.ensures ∙ ap (λ b. Some b) yes
+          w.in_ok-fits_number.ensures.right ∙ ap (λ b. Some b) yes
       | fits_set_bits-else-is_set w ↦ λ e. absurd (first_of (omega arith, grind (arith, nat_tests)))
     ] in
-    bits_on f (c.args.set.count - c.bits.bit) (c.args.set.first + c.bits.bit) c.bits.number _ c.bits.invariant (omega arith)
-    here _ _ _ (omega arith) (omega arith) refl
+    let right = bits_on f (c.args.set.count - c.bits.bit) (c.args.set.first + c.bits.bit) c.bits.number _ c.bits.invariant.right (omega arith)
+    here _ _ _ (omega arith) (omega arith) refl in
+    let kept : Holds (rules_of c.args.self.now) c.if-is_set.work =
+    elim c.if-is_set.branch [
+      | fits_set_bits-then-is_set+in_ok-fits_number+else-not-branch w ↦
+          subst (Holds (rules_of c.args.self.now)) (sym w.work-is) w.in_ok-fits_number.ensures.kept
+      | fits_set_bits-else-is_set w ↦
+          subst (Holds (rules_of c.args.self.now)) (sym w.work-is) c.bits.invariant.kept
+    ] in
+    record { right = right; kept = kept }
 
 pub take_repeated-turns-preserved : goal.take_repeated-turns-preserved
 take_repeated-turns-preserved t c =
     let f = (matcher (rules_of c.args.self.now) c.args.inner).takes c.args.index in
-    turn_on f (size (rest_view c.args.rest.now) + 1 - c.turns.turn) c.turns.least c.turns.most (rest_view c.turns.left)
-    (rest_view c.in-Takes.next) _ c.turns.invariant (omega arith) (omega arith)
-    (c.in_ok-next.ensures ∙ ap (λ o. Some (outcome_view o)) c.in-Takes.is)
+    let right = turn_on f (size (rest_view c.args.rest.now) + 1 - c.turns.turn) c.turns.least c.turns.most (rest_view c.turns.left)
+    (rest_view c.in-Takes.next) _ c.turns.invariant.right (omega arith) (omega arith)
+    (c.in_ok-next.ensures.right ∙ ap (λ o. Some (outcome_view o)) c.in-Takes.is)
     (λ e. c.if-len.false (c.len.ensures ∙ (e ∙ sym c.len-in-Takes.ensures))) _ _ _ (omega arith)
-    c.saturating_sub-least.ensures refl
+    c.saturating_sub-least.ensures refl in
+    record { right = right; kept = c.in_ok-next.ensures.kept }
