@@ -146,9 +146,14 @@ impl Schema {
         }
     }
 
-    /// The schema as bytes, without its labels, which matching does not need. A schema with 2^32
-    /// parts or bytes of text counts as out of memory.
+    /// The schema as bytes: what its root leads to, and no labels, since matching needs no more. A
+    /// schema with 2^32 parts or bytes of text counts as out of memory.
     pub fn to_flat(&self, alloc: Global) -> Result<Vec<u8>, AllocError> {
+        self.pruned(alloc)?.all_to_flat(alloc)
+    }
+
+    /// All of the schema as bytes, but its labels.
+    fn all_to_flat(&self, alloc: Global) -> Result<Vec<u8>, AllocError> {
         let sizes = self.sizes();
         let mut writer = Writer {
             out: Vec::new(alloc),

@@ -28,6 +28,7 @@ mod near;
 mod parser;
 mod pattern;
 mod prelude;
+mod prune;
 mod rank;
 mod schema;
 mod text;
