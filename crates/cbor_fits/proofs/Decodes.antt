@@ -1,12 +1,12 @@
 -- What reading bytes gives, from the clauses of the functions that read them.
-use Rattle.std.proofs.Common.{◌≡◌, ◌≢◌, ℕ, zero, suc, ◌<◌, ◌≤◌, List, [], ◌∷◌, ◌++◌, length, drop, map, Option, Some, None, option_map}
-use Rattle.std.proofs.Common.{Result, Ok, Err, Bool, true, false, ◌||◌, if◌then◌else◌, ◌==◌, ◌+◌, ◌-◌, slice_index, refl, sym, ap, ◌∙◌, arith}
+use Rattle.std.proofs.Common.{◌≡◌, ℕ, zero, suc, ◌<◌, List, [], ◌∷◌, ◌++◌, length, drop, Option, Some}
+use Rattle.std.proofs.Common.{None}
+use Rattle.std.proofs.Common.{Ok, Err, Bool, true, false, ◌||◌, if◌then◌else◌, ◌==◌, ◌+◌, ◌-◌, slice_index}
+use Rattle.std.proofs.Common.{refl, sym, ap, ◌∙◌, arith}
 use Rattle.cbor_grammar.specs.declared.error.Error.{Error}
-use Rattle.cbor_grammar.specs.declared.error.Error.TheVariants as refusal
 use Rattle.cbor_grammar.specs.Item.{Item, Items}
 use Rattle.cbor_grammar.specs.Facts.{IsItem, BeginsWithItem, IsCut, HasFault}
-use Rattle.cbor_grammar.specs.WellFormed.{levels_left}
-use Rattle.cbor_grammar.specs.Reading.{Read, read_item}
+use Rattle.cbor_grammar.specs.Reading.{Read}
 use Rattle.cbor_grammar.specs.Embedded.{embedded, sequence, sequence_of, and_then}
 use Rattle.cbor_grammar.proofs.shared.EmbeddedItems.{embeds_exactly, rejects_exactly}
 use Rattle.cbor_fits.specs.Value as spec
@@ -52,7 +52,8 @@ or x (Some y) = y
 
 -- an item at the front, and the sequence after it
 one_more : (n : ℕ) (b : List ℕ) (x : Item × List ℕ) (read : Read Item) → Some x ≡ front_item read
-    → listed (and_then (sequence_of front_read n) b read) ≡ after (value_of x.0 ∷ []) (listed (sequence_of front_read n x.1))
+    → listed (and_then (sequence_of front_read n) b read)
+    ≡ after (value_of x.0 ∷ []) (listed (sequence_of front_read n x.1))
 one_more n b x (Ok y) is =
     ap (λ z. after (value_of z.0 ∷ []) (listed (sequence_of front_read n z.1))) (sym (ap (or x) is))
 one_more n b x (Err e) is = absurd cc
@@ -81,12 +82,14 @@ sequence_zero b = refl
 pub starts : (b : List ℕ) (n : ℕ) (vs : List Value) → vs ≡ [] → n ≡ length b
     → listed (sequence 1 b) ≡ after vs (listed (sequence_of front_read n b))
 starts b n vs none all =
-    ap (λ m. listed (sequence_of front_read m b)) (sym all) ∙ ap (λ l. after l (listed (sequence_of front_read n b))) (sym none)
+    ap (λ m. listed (sequence_of front_read m b)) (sym all)
+    ∙ ap (λ l. after l (listed (sequence_of front_read n b))) (sym none)
 
 -- one item more is read
 pub goes_on : (n k : ℕ) (b : List ℕ) (x : Item × List ℕ) (vs more : List Value) → k < n → Some x ≡ front_of b
     → more ≡ vs ++ value_of x.0 ∷ []
-    → after vs (listed (sequence_of front_read (n - k) b)) ≡ after more (listed (sequence_of front_read (n - (k + 1)) x.1))
+    → after vs (listed (sequence_of front_read (n - k) b))
+    ≡ after more (listed (sequence_of front_read (n - (k + 1)) x.1))
 goes_on n k b x vs more less is added =
     let s = listed (sequence_of front_read (n - (k + 1)) x.1) in
     let left : n - k ≡ suc (n - (k + 1)) = omega arith in

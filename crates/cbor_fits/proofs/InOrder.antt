@@ -1,6 +1,8 @@
 -- Values of items, level by level, and the order of pairs.
-use Rattle.std.proofs.Common.{◌≡◌, ℕ, zero, suc, ◌+◌, ◌<◌, Bool, true, false, ◌||◌, length, get_or, cond, Vec, Global, List, [], ◌∷◌}
-use Rattle.std.proofs.Common.{◌++◌, map, take, drop, Option, Some, None, is_some, Ordering, Less, Equal, Greater, refl, ap, sym, ◌∙◌, arith}
+use Rattle.std.proofs.Common.{◌≡◌, ℕ, suc, ◌+◌, ◌<◌, Bool, true, false, ◌||◌, length, get_or, cond, Vec, Global}
+use Rattle.std.proofs.Common.{List, [], ◌∷◌}
+use Rattle.std.proofs.Common.{◌++◌, map, take, drop, Option, Some, is_some, Ordering, Less, Equal, Greater, refl}
+use Rattle.std.proofs.Common.{ap, sym, ◌∙◌, arith}
 use Rattle.std.proofs.lemmas.List.{at_drop_more, map-append}
 use Rattle.std.proofs.Math.Seq.{take-suc}
 use Rattle.std.specs.Map.{lookup}
@@ -97,7 +99,8 @@ or_assoc-3 true b c d = refl
 or_assoc-3 false b c d = or_assoc b c d
 
 -- one key more is known, or not
-pub stands_twice_so_far : (sorted : List Entry) (e : Entry) (es : List Entry) (old here : Bool) → here ≡ has_key sorted e.0
+pub stands_twice_so_far : (sorted : List Entry) (e : Entry) (es : List Entry) (old here : Bool)
+    → here ≡ has_key sorted e.0
     → ((old || here) || a_key_stands_twice (with_entry sorted e) es) ≡ (old || a_key_stands_twice sorted (e ∷ es))
 stands_twice_so_far sorted e es old here is =
     or_assoc old here (a_key_stands_twice (with_entry sorted e) es)

@@ -1,6 +1,7 @@
 -- What is inside a value, step by step.
-use Rattle.std.proofs.Common.{◌≡◌, ◌≢◌, ℕ, zero, suc, ◌<◌, ◌+◌, ◌-◌, ◌/◌, ◌%◌, inl, inr, Bool, true, false, Option, Some, None, List, map}
-use Rattle.std.proofs.Common.{option_map, if◌then◌else◌, ◌==◌, refl, ap, sym, ◌∙◌, subst, arith}
+use Rattle.std.proofs.Common.{◌≡◌, ◌≢◌, ℕ, zero, suc, ◌<◌, ◌+◌, ◌-◌, ◌/◌, ◌%◌, inl, inr, Bool, true, false, Option}
+use Rattle.std.proofs.Common.{Some, List}
+use Rattle.std.proofs.Common.{option_map, if◌then◌else◌, ◌==◌, ap, sym, ◌∙◌, arith}
 use Rattle.std.proofs.lemmas.Bool.{ne_eqb}
 use Rattle.std.proofs.lemmas.Bool.Decides.{eqb_tells}
 use Rattle.cbor_fits.specs.declared.value.Datum.{Datum}

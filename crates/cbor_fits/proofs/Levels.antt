@@ -24,7 +24,8 @@ module _ (r : Rules) (m : Matcher) (n : ℕ) (x : Value) (node : Node) (w : Opti
   -- the target of the node
   at_target : (o : Option ℕ) → w ≡ o
       → fits_node r m n (r.node n) x ≡ both (fits_target m.fits o x) (fits_itself r m n (r.node n) x)
-  at_target o e = ap (λ p. both (fits_target m.fits p x) (fits_itself r m n (r.node n) x)) (sym (says ∙ ap target is) ∙ e)
+  at_target o e = ap (λ p. both (fits_target m.fits p x) (fits_itself r m n (r.node n) x))
+      (sym (says ∙ ap target is) ∙ e)
 
   -- no control
   pub fits_alone : w ≡ None → fits_node r m n (r.node n) x ≡ fits_itself r m n (r.node n) x

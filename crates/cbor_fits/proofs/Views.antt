@@ -1,8 +1,9 @@
 -- A `Datum`, variant by variant, beside the value that it is.
-use Rattle.std.proofs.Common.{◌≡◌, ℕ, suc, map, List, [], ◌∷◌, Vec, Global, String, Box, Float, pos, negsuc, length, refl, ap, rules}
-use Rattle.std.proofs.Common.{string_bytes}
-use Rattle.cbor_fits.specs.declared.value.Datum.{Datum, Unsigned, Negative, Float as FloatOf, Simple, Bytes, Text, Array}
-use Rattle.cbor_fits.specs.declared.value.Datum.{Map, Tag, the_lemmas}
+use Rattle.std.proofs.Common.{◌≡◌, ℕ, suc, map, List, [], ◌∷◌, Vec, Global, pos, length}
+use Rattle.std.proofs.Common.{refl, ap, rules}
+use Rattle.cbor_fits.specs.declared.value.Datum.{Datum, Unsigned, Bytes}
+use Rattle.cbor_fits.specs.declared.value.Datum.{Array}
+use Rattle.cbor_fits.specs.declared.value.Datum.{Map, the_lemmas}
 use Rattle.cbor_fits.specs.Value as spec
 use Rattle.cbor_fits.specs.Value.{Value, list_of, values_of, list_of_pairs, pairs_of}
 use Rattle.cbor_fits.specs.View.{view}

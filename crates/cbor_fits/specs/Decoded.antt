@@ -1,5 +1,5 @@
 -- The values that bytes encode: the item that `cbor_grammar` defines for them, without what its encoding adds.
-use Rattle.std.specs.Prelude.{ℕ, ◌%◌, ◌^◌, List, [], ◌∷◌, map, pos, negsuc, Bool, true, false, ◌||◌, if◌then◌else◌}
+use Rattle.std.specs.Prelude.{ℕ, ◌%◌, ◌^◌, List, [], ◌∷◌, map, pos, negsuc, Bool, false, ◌||◌, if◌then◌else◌}
 use Rattle.std.specs.Prelude.{Option, Some, None, is_some}
 use Rattle.std.specs.List.{flat_map}
 use Rattle.std.specs.declared.cmp.Ordering.{Ordering}
@@ -20,7 +20,6 @@ use Rattle.cbor_grammar.specs.Item as item
 use Rattle.cbor_grammar.specs.Item.{Chunk, Atom, Item, Items, Pairs}
 use Rattle.cbor_grammar.specs.Written.{encoded}
 use Rattle.cbor_grammar.specs.Embedded.{embedded, sequence}
-use Rattle.cbor_grammar.specs.Reading.{Read, read_item}
 use Rattle.cbor_fits.specs.Value as spec
 use Rattle.cbor_fits.specs.Value.{Value, Values, pairs_of}
 

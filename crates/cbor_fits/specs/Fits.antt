@@ -1,7 +1,8 @@
 -- Which values fit loaded CDDL (RFC 8610). `step` says when a value fits a type, and what a group takes, by what fits
 -- and takes one level further in. `matcher` repeats it.
-use Rattle.std.specs.Prelude.{◌≡◌, ℕ, zero, suc, ◌+◌, ◌-◌, ◌*◌, ◌/◌, ◌%◌, List, [], ◌∷◌, ◌++◌, length, Bool, true, false}
-use Rattle.std.specs.Prelude.{Option, Some, None, not, nat_le, ◌==◌, if◌then◌else◌, pos, negsuc, ◌&&◌}
+use Rattle.std.specs.Prelude.{◌≡◌, ℕ, zero, suc, ◌+◌, ◌-◌, ◌/◌, ◌%◌, List, [], ◌∷◌, ◌++◌, length, Bool, true}
+use Rattle.std.specs.Prelude.{false}
+use Rattle.std.specs.Prelude.{Option, Some, None, not, ◌==◌, if◌then◌else◌, pos, ◌&&◌}
 use Rattle.cbor_cddl.specs.declared.schema.Node.{Node}
 use Rattle.cbor_cddl.specs.declared.schema.Node.TheVariants as node
 use Rattle.cbor_cddl.specs.declared.schema.Occurrence.{Occurrence}
@@ -37,8 +38,8 @@ abbrev pub size : Rest → ℕ
 size (members xs) = length xs
 size (pairs ps) = length ps
 
--- A group takes some of what is left, or none, and fits. Or it does not fit. If it cuts, no occurrence around it goes on
--- without it.
+-- A group takes some of what is left, or none, and fits. Or it does not fit. If it cuts, no occurrence around it goes
+-- on without it.
 pub data Outcome : Type 0 where
   takes : Rest → Outcome
   refuses : Outcome

@@ -1,5 +1,5 @@
 -- Types without parts, and numbers: RFC 8610, sections 2.2 and 3.6, and the prelude, appendix D.
-use Rattle.std.specs.Prelude.{ℕ, ◌+◌, ◌*◌, ◌^◌, List, length, Bool, true, false, ◌&&◌, ◌||◌, ◌==◌, if◌then◌else◌}
+use Rattle.std.specs.Prelude.{ℕ, ◌^◌, List, length, Bool, true, false, ◌&&◌, ◌||◌, ◌==◌, if◌then◌else◌}
 use Rattle.std.specs.Prelude.{◌-◌, min, ℤ, pos, negsuc, int_lt, int_le, Float, is_nan, bytes_eq, suc}
 use Rattle.std.specs.Float.{round_to_format}
 use Rattle.std.specs.Float.Ieee as ieee
@@ -14,7 +14,8 @@ use Rattle.cbor_cddl.specs.declared.schema.Comparison.{Comparison}
 use Rattle.cbor_cddl.specs.declared.schema.Comparison.TheVariants as compare
 use Rattle.cbor_cddl.specs.declared.schema.Value as limit
 use Rattle.cbor_cddl.specs.declared.schema.Value.TheVariants as limit_of
-use Rattle.cbor_fits.specs.Value.{Value, integer, float, simple, bytes, text, array, map, tagged, list_of, list_of_pairs}
+use Rattle.cbor_fits.specs.Value.{Value, integer, float, simple, bytes, text, array, map, tagged, list_of}
+use Rattle.cbor_fits.specs.Value.{list_of_pairs}
 use Rattle.cbor_fits.specs.Rules.{Rules}
 
 -- the major type (RFC 8949, section 3.1)

@@ -1,5 +1,5 @@
 -- What a `Rest` and an `Outcome` stand for in the definitions.
-use Rattle.std.specs.Prelude.{List, map}
+use Rattle.std.specs.Prelude.{map}
 use Rattle.std.specs.Borrow.{Bor}
 use Rattle.cbor_fits.specs.Value.{Value}
 use Rattle.cbor_fits.specs.View.{view}

@@ -1,5 +1,5 @@
 -- What a `Split` stands for in the definitions.
-use Rattle.std.specs.Prelude.{List, map}
+use Rattle.std.specs.Prelude.{map}
 use Rattle.cbor_fits.specs.Fits as spec
 use Rattle.cbor_fits.specs.Rests.{pair_view_of}
 use Rattle.cbor_fits.specs.declared.split.Split.{Split}

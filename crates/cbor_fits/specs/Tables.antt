@@ -1,5 +1,6 @@
 -- The rules that the tables of a loaded schema stand for.
-use Rattle.std.specs.Prelude.{ℕ, zero, suc, List, [], ◌∷◌, length, get_or, slice_range, Bool, true, false, nat_le, is_some}
+use Rattle.std.specs.Prelude.{ℕ, zero, suc, List, [], ◌∷◌, length, get_or, slice_range, Bool, true, false, nat_le}
+use Rattle.std.specs.Prelude.{is_some}
 use Rattle.std.specs.Prelude.{◌+◌, ◌&&◌, ◌==◌, if◌then◌else◌}
 use Rattle.regex.specs.Patterns.{find_str}
 use Rattle.regex.specs.Strings.{regex_pattern}

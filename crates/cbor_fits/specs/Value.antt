@@ -1,6 +1,6 @@
 -- The data model of CBOR (RFC 8949, section 2): what an item says, however it is encoded. Integers, floats and simple
 -- values are apart: 1 is not 1.0. A float has no width, and a string has no chunks.
-use Rattle.std.specs.Prelude.{ℕ, suc, List, [], ◌∷◌, ℤ, Float}
+use Rattle.std.specs.Prelude.{ℕ, List, [], ◌∷◌, ℤ, Float}
 
 mutual
   pub data Value : Type 0 where

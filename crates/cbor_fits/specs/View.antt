@@ -1,5 +1,5 @@
 -- The value that a `Datum` stands for in the definitions.
-use Rattle.std.specs.Prelude.{ℕ, List, pos, negsuc, string_bytes, map}
+use Rattle.std.specs.Prelude.{pos, negsuc, string_bytes}
 use Rattle.cbor_fits.specs.Value as spec
 use Rattle.cbor_fits.specs.Value.{Value, values_of, pairs_of}
 use Rattle.cbor_fits.specs.declared.value.Datum.{Datum, fold-Datum}

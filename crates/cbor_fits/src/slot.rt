@@ -1,5 +1,5 @@
-//! Chooses the slot of a question: by a hash of the type and of the first parts of the item. How many
-//! levels there are does not count, since an answer stays the same with more levels.
+//! Chooses the slot of a question: by a hash of the type and of the first parts of the item. How
+//! many levels there are does not count, since an answer stays the same with more levels.
 
 use crate::value::Datum;
 use crate::work::Question;

@@ -1,5 +1,6 @@
 //! `Checker`: a schema with its patterns compiled. Its call `misfit` matches an item against the
-//! schema and returns why it does not fit. `cbor_fits` decides whether it fits; `Run` finds why not.
+//! schema and returns why it does not fit. `cbor_fits` decides whether it fits; `Run` finds why
+//! not.
 ghost use Rattle.std.specs.Prelude.{◌≡◌, ◌<◌, Some, IfOk, IfSome, is_none, length};
 ghost use Rattle.cbor_schema.specs.Verdict.{fits};
 

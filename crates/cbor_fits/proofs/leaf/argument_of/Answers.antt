@@ -1,6 +1,5 @@
 -- The count of a container is that of its members.
-use Rattle.std.proofs.Common.{◌≡◌, ℕ, length, ap, ◌∙◌, map, List, [], ◌∷◌, refl, arith, suc}
-use Rattle.cbor_fits.specs.Value.{list_of, values_of, list_of_pairs, pairs_of}
+use Rattle.std.proofs.Common.{ap, ◌∙◌, arith}
 use Rattle.cbor_fits.specs.View.{view}
 use Rattle.cbor_fits.specs.Leaf.{argument}
 use Rattle.cbor_fits.proofs.Views.{view-Array, view-Map, member_count, pair_count}

@@ -1,5 +1,5 @@
 -- The item at the front, by the clauses of `parse_bytes_partial`.
-use Rattle.std.proofs.Common.{Ok, Some, IfSome, subst, ap, ◌∙◌, arith}
+use Rattle.std.proofs.Common.{Ok, Some, IfSome, subst, ap, ◌∙◌}
 use Rattle.std.proofs.lemmas.List.{take_rest}
 use Rattle.cbor_grammar.specs.Facts.{BeginsWithItem}
 use Rattle.cbor_diag.specs.View.{view as item_view}

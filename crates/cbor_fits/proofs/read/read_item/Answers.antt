@@ -1,5 +1,5 @@
 -- The item that the bytes encode, by the clauses of `parse_bytes`.
-use Rattle.std.proofs.Common.{◌≡◌, Some, true, false, ap, sym, ◌∙◌, arith}
+use Rattle.std.proofs.Common.{Some, true, false, ap, sym, ◌∙◌, arith}
 use Rattle.cbor_diag.specs.View.{view as item_view}
 use Rattle.cbor_fits.specs.Decoded.{has_key_twice}
 use Rattle.cbor_fits.proofs.Decodes.{decoded_is, decoded_none, valid}

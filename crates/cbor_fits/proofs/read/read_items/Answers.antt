@@ -1,13 +1,13 @@
 -- Each turn reads the item at the front; the loop ends where there is none.
-use Rattle.std.proofs.Common.{◌≡◌, ◌-◌, ◌+◌, ◌++◌, ◌∷◌, ◌||◌, [], List, ℕ, length, map, Bor, option_map, ap, sym, ◌∙◌, arith}
+use Rattle.std.proofs.Common.{◌≡◌, ◌-◌, ◌++◌, ◌∷◌, [], List, ℕ, length, map, Bor, option_map, ap, sym, ◌∙◌}
+use Rattle.std.proofs.Common.{arith}
 use Rattle.std.proofs.lemmas.List.{map-append}
 use Rattle.cbor_grammar.specs.Item.{Item}
-use Rattle.cbor_grammar.specs.Embedded.{sequence_of}
 use Rattle.cbor_diag.specs.declared.syntax.DataItem.{DataItem}
 use Rattle.cbor_diag.specs.View.{view as item_view}
 use Rattle.cbor_fits.specs.View.{view}
-use Rattle.cbor_fits.specs.Reads.{front_read, listed, after}
-use Rattle.cbor_fits.proofs.Decodes.{starts, goes_on, stops, ends, twice, twice_starts, twice_more, twice_stops, twice_ends}
+use Rattle.cbor_fits.proofs.Decodes.{starts, goes_on, stops, ends, twice_starts, twice_more, twice_stops}
+use Rattle.cbor_fits.proofs.Decodes.{twice_ends}
 use Rattle.cbor_fits.proofs.read.read_items.Goals as goal
 
 abbrev seen : DataItem × Bor (List ℕ) → Item × List ℕ

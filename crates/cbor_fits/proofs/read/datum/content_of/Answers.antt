@@ -1,5 +1,5 @@
 -- Each turn appends the content of a chunk.
-use Rattle.std.proofs.Common.{◌≡◌, ◌+◌, ◌++◌, [], map, drop, ap, sym, ◌∙◌, arith}
+use Rattle.std.proofs.Common.{◌+◌, ◌++◌, map, drop, ap, sym, ◌∙◌, arith}
 use Rattle.std.proofs.lemmas.List.{append_assoc, append-nil, at_drop_all}
 use Rattle.cbor_fits.specs.Decoded.{content_of}
 use Rattle.cbor_fits.proofs.InOrder.{at_item}

@@ -1,5 +1,6 @@
 -- One level is what the definition says of it, and each loop comes to the answer for all.
-use Rattle.std.proofs.Common.{◌≡◌, ◌+◌, ◌-◌, ◌%◌, ◌<◌, refl, rules, tests, ℕ, Bool, true, Option, Some, IfOk, map, pos, ap, sym, subst, ◌∙◌, arith}
+use Rattle.std.proofs.Common.{◌≡◌, ◌+◌, ◌-◌, ◌%◌, ◌<◌, refl, rules, tests, ℕ, Bool, true, Option, Some, IfOk, map, pos}
+use Rattle.std.proofs.Common.{ap, sym, subst, ◌∙◌, arith}
 use Rattle.std.proofs.lemmas.Bool.Decides.{nat_tests}
 use Rattle.cbor_fits.specs.Value.{integer}
 use Rattle.cbor_fits.specs.View.{view}
@@ -9,9 +10,11 @@ use Rattle.cbor_fits.specs.Kept.{Holds}
 use Rattle.cbor_fits.specs.Fits.{Outcome, matcher, has_size, any_from, size}
 use Rattle.cbor_fits.proofs.Views.{view-Array, view-Map, view-Bytes, view-Unsigned}
 use Rattle.cbor_fits.proofs.Levels.{fits_at, fits_alone, fits_after, fits_not_after, takes_at}
-use Rattle.cbor_fits.proofs.Inside.{array_takes, map_takes, inside_fits, turn_on, bits_on, from_here, from_next, from_end}
+use Rattle.cbor_fits.proofs.Inside.{array_takes, map_takes, inside_fits, turn_on, bits_on, from_here, from_next}
+use Rattle.cbor_fits.proofs.Inside.{from_end}
 use Rattle.cbor_fits.proofs.tables.Tables.+fits.Goals as goal
-use Rattle.cbor_fits.proofs.tables.Tables.+fits.Goals.{fits_set_bits-then-is_set+in_ok-fits_number+else-not-branch, fits_set_bits-else-is_set}
+use Rattle.cbor_fits.proofs.tables.Tables.+fits.Goals.{fits_set_bits-then-is_set+in_ok-fits_number+else-not-branch}
+use Rattle.cbor_fits.proofs.tables.Tables.+fits.Goals.{fits_set_bits-else-is_set}
 
 pub fits-returns-then-not-keeps-clause-right : goal.fits-returns-then-not-keeps-clause-right
 fits-returns-then-not-keeps-clause-right t c =
@@ -58,7 +61,8 @@ pub fits_array-returns-clause-right : goal.fits_array-returns-clause-right
 fits_array-returns-clause-right t c =
     let v = c.in-Array.members in
     array_takes ((matcher (rules_of c.args.self.now) c.args.inner).takes c.args.group) (view c.args.datum.now)
-    (map view v.items) (map view c.deref.result.now) (outcome_view c.in_ok-outcome.outcome) c.is_whole.result (ap view c.in-Array.is ∙ view-Array v)
+    (map view v.items) (map view c.deref.result.now) (outcome_view c.in_ok-outcome.outcome) c.is_whole.result
+    (ap view c.in-Array.is ∙ view-Array v)
     (ap (map view) c.deref.ensures.value) c.in_ok-outcome.ensures.right c.is_whole.ensures
 
 pub fits_map-returns-clause-right : goal.fits_map-returns-clause-right
@@ -83,7 +87,8 @@ fits_sequence-returns-in_ok-fits-in-Some-clause-right t c =
     let v = c.in-Bytes.content in
     let r = rules_of c.args.self.now in
     inside_fits r.decoded_sequence ((matcher r c.args.inner).fits c.args.index) (view c.args.datum.now) v.items
-    c.deref.result.now c.in_ok-items.field-0 c.in-Some.items (ap view c.in-Bytes.is ∙ view-Bytes v) c.deref.ensures.value
+    c.deref.result.now c.in_ok-items.field-0 c.in-Some.items
+    (ap view c.in-Bytes.is ∙ view-Bytes v) c.deref.ensures.value
     c.in_ok-items.ensures c.in-Some.is ∙ c.in_ok-fits-in-Some.ensures.right
 
 pub fits_one_from-returns-then-branch-clause-right : goal.fits_one_from-returns-then-branch-clause-right
@@ -93,7 +98,8 @@ fits_one_from-returns-then-branch-clause-right t c =
 
 pub fits_one_from-sizes-preserved : goal.fits_one_from-sizes-preserved
 fits_one_from-sizes-preserved t c =
-    let right = from_next _ (65 - c.sizes.more) (c.args.first + c.sizes.more) _ _ _ c.sizes.invariant.right (omega arith)
+    let right = from_next _ (65 - c.sizes.more) (c.args.first + c.sizes.more) _ _ _ c.sizes.invariant.right
+        (omega arith)
     (c.in_ok-fits_number.ensures.right ∙ ap (λ b. Some b) c.if-branch.false) (omega arith) (omega arith) in
     record { right = right; kept = c.in_ok-fits_number.ensures.kept }
 
@@ -104,7 +110,8 @@ fits_one_from-returns-clause-right t c =
 pub fits_size-returns-in-Unsigned-clause-right : goal.fits_size-returns-in-Unsigned-clause-right
 fits_size-returns-in-Unsigned-clause-right t c =
     let f = λ (k : ℕ). (matcher (rules_of c.args.self.now) c.args.inner).fits c.args.sizes (integer (pos k)) in
-    let e = ap (has_size f) (ap view c.in-Unsigned.is ∙ view-Unsigned _) ∙ ap (any_from f 65) (sym c.bytes_needed.ensures.needed) in
+    let e = ap (has_size f) (ap view c.in-Unsigned.is ∙ view-Unsigned _)
+        ∙ ap (any_from f 65) (sym c.bytes_needed.ensures.needed) in
     subst (λ (a : Option Bool). IfOk c.fits_one_from.result (λ b. a ≡ Some b)) (sym e) c.fits_one_from.ensures.right
 
 pub takes-returns-clause-right : goal.takes-returns-clause-right
@@ -120,11 +127,13 @@ fits_set_bits-bits-preserved t c =
     let here : c.bits.number % 2 ≡ 1 → f (c.args.set.first + c.bits.bit) ≡ Some true =
     elim c.if-is_set.branch [
       | fits_set_bits-then-is_set+in_ok-fits_number+else-not-branch w ↦ λ e.
-          let yes : w.in_ok-fits_number.field-0 ≡ true = first_of (assumption (w.if-not-branch.false), search rules, grind (arith, tests)) in
+          let yes : w.in_ok-fits_number.field-0 ≡ true =
+              first_of (assumption (w.if-not-branch.false), search rules, grind (arith, tests)) in
           w.in_ok-fits_number.ensures.right ∙ ap (λ b. Some b) yes
       | fits_set_bits-else-is_set w ↦ λ e. absurd (first_of (omega arith, grind (arith, nat_tests)))
     ] in
-    let right = bits_on f (c.args.set.count - c.bits.bit) (c.args.set.first + c.bits.bit) c.bits.number _ c.bits.invariant.right (omega arith)
+    let right = bits_on f (c.args.set.count - c.bits.bit) (c.args.set.first + c.bits.bit)
+        c.bits.number _ c.bits.invariant.right (omega arith)
     here _ _ _ (omega arith) (omega arith) refl in
     let kept : Holds (rules_of c.args.self.now) c.if-is_set.work =
     elim c.if-is_set.branch [
@@ -138,7 +147,8 @@ fits_set_bits-bits-preserved t c =
 pub take_repeated-turns-preserved : goal.take_repeated-turns-preserved
 take_repeated-turns-preserved t c =
     let f = (matcher (rules_of c.args.self.now) c.args.inner).takes c.args.index in
-    let right = turn_on f (size (rest_view c.args.rest.now) + 1 - c.turns.turn) c.turns.least c.turns.most (rest_view c.turns.left)
+    let right = turn_on f (size (rest_view c.args.rest.now) + 1 - c.turns.turn) c.turns.least c.turns.most
+        (rest_view c.turns.left)
     (rest_view c.in-Takes.next) _ c.turns.invariant.right (omega arith) (omega arith)
     (c.in_ok-next.ensures.right ∙ ap (λ o. Some (outcome_view o)) c.in-Takes.is)
     (λ e. c.if-len.false (c.len.ensures ∙ (e ∙ sym c.len-in-Takes.ensures))) _ _ _ (omega arith)

@@ -118,7 +118,8 @@ abbrev pub invariant-fits_set_bits-bits : goal.invariant-fits_set_bits-bits
 invariant-fits_set_bits-bits l =
     let fits = λ (k : ℕ). (matcher (rules_of l.self) l.inner).fits l.bits (integer (pos k)) in
     record {
-      right : all_bits fits (l.set.count - l.bit) (l.set.first + l.bit) l.number ≡ all_bits fits l.set.count l.set.first l.set.number;
+      right : all_bits fits (l.set.count - l.bit) (l.set.first + l.bit) l.number ≡
+          all_bits fits l.set.count l.set.first l.set.number;
       kept : Holds (rules_of l.self) l.work;
     }
 
@@ -153,7 +154,8 @@ abbrev pub invariant-take_pairs-pairs : goal.invariant-take_pairs-pairs
 invariant-take_pairs-pairs l =
     let m = matcher (rules_of l.self) l.inner in
     record {
-      right : split (m.fits l.entry.key) (m.fits l.entry.value) (map pair_view_of (drop l.pair-index l.pairs)) (split_view l.split)
+      right : split (m.fits l.entry.key) (m.fits l.entry.value) (map pair_view_of (drop l.pair-index l.pairs))
+          (split_view l.split)
           ≡ split (m.fits l.entry.key) (m.fits l.entry.value) (map pair_view_of l.pairs) (no_split l.entry.occurrence);
       kept : Holds (rules_of l.self) l.work;
     }
