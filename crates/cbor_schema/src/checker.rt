@@ -10,7 +10,7 @@ use crate::run::Run;
 use cbor_cddl::{Fault, Node, Schema, Span};
 use cbor_fits::{DEEPEST, Pattern, Stop, Tables};
 use cbor_places::Piece;
-use std::alloc::Global;
+use std::alloc::{AllocError, Global};
 
 /// A schema that is ready to be matched.
 #[derive(Drop)]
@@ -40,34 +40,44 @@ fn is_group(schema: &Schema, rule: usize) -> bool {
     false
 }
 
+/// Which rules are groups.
+fn groups_of(alloc: Global, schema: &Schema) -> Result<Vec<bool>, AllocError> {
+    let mut groups = Vec::with_capacity(alloc, schema.rules.len())?;
+    for rule in 0..schema.rules.len() {
+        groups.push(is_group(schema, rule))?;
+    }
+    Ok(groups)
+}
+
+/// The patterns of a schema, in the order of their nodes.
+fn patterns_of(alloc: Global, schema: &Schema) -> Result<Vec<Pattern>, Fault> {
+    let mut patterns = Vec::new(alloc);
+    for node in 0..schema.nodes.len() {
+        if let Some(regex) = pattern_of(alloc, schema, node)? {
+            patterns.push(Pattern { node, regex })?;
+        }
+    }
+    Ok(patterns)
+}
+
 impl Checker {
     /// Prepares a schema. The only fault is that of a pattern.
-    pub fn new(alloc: Global, schema: Schema) -> Result<Checker, Fault> {
-        let mut checker = Checker {
+    pub fn new(alloc: Global, schema: Schema) -> Result<Checker, Fault>
+        ensures { IfOk result (λ checker. checker.schema ≡ schema) }
+    {
+        let groups = groups_of(alloc, &schema)?;
+        let patterns = patterns_of(alloc, &schema)?;
+        Ok(Checker {
             schema,
-            groups: Vec::new(alloc),
-            patterns: Vec::new(alloc),
-        };
-        for rule in 0..checker.schema.rules.len() {
-            let is_group = is_group(&checker.schema, rule);
-            checker.groups.push(is_group)?;
-        }
-        for node in 0..checker.schema.nodes.len() {
-            checker.add_pattern(alloc, node)?;
-        }
-        Ok(checker)
-    }
-
-    /// Prepares the pattern of a node, if it has one.
-    fn add_pattern(&mut self, alloc: Global, node: usize) -> Result<(), Fault> {
-        if let Some(regex) = pattern_of(alloc, &self.schema, node)? {
-            self.patterns.push(Pattern { node, regex })?;
-        }
-        Ok(())
+            groups,
+            patterns,
+        })
     }
 
     /// The schema.
-    pub fn schema(&self) -> &Schema {
+    pub fn schema(&self) -> &Schema
+        ensures { result.now ≡ self.now.schema }
+    {
         &self.schema
     }
 
@@ -95,7 +105,13 @@ impl Checker {
     /// Why an item does not fit. If no reason is found, or not all are looked for because there are
     /// too many, it is the best one so far, or the type of the root.
     fn explained(&self, alloc: Global, item: Piece) -> Result<Misfit, Stop> {
-        let mut run = Run::new(alloc, &self.schema, &self.groups, &self.patterns, item.bytes)?;
+        let mut run = Run::new(
+            alloc,
+            &self.schema,
+            &self.groups,
+            &self.patterns,
+            item.bytes,
+        )?;
         let whole = Span {
             start: 0,
             end: item.bytes.len(),

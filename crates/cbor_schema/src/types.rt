@@ -220,8 +220,8 @@ impl<'a> Run<'a> {
         Ok(fits)
     }
 
-    /// Whether an item fits a rule of the prelude, which the node names. The name is what is wanted,
-    /// but for the content of its tag.
+    /// Whether an item fits a rule of the prelude, which the node names. The name is what is
+    /// wanted, but for the content of its tag.
     #[cycle(fits)]
     fn fits_prelude(
         &mut self,
