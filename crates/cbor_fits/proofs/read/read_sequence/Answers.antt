@@ -11,7 +11,7 @@ use Rattle.cbor_fits.proofs.read.read_sequence.Goals as goal
 pub returns-then-reader : goal.returns-then-reader
 returns-then-reader c =
     let flag = raised c.new-reader.result.key_twice c.read_items.new.reader.key_twice
-        (twice (sequence 1 c.args.bytes.now))
+    (twice (sequence 1 c.args.bytes.now))
     c.in_ok-data.ensures.key_twice c.new-reader.ensures in
     not_once c.args.bytes.now (sym flag ∙ c.if-reader.true)
 
@@ -19,7 +19,7 @@ pub returns-then-is_empty : goal.returns-then-is_empty
 returns-then-is_empty c =
     let d = c.in_ok-data in
     let flag = raised c.new-reader.result.key_twice c.read_items.new.reader.key_twice
-        (twice (sequence 1 c.args.bytes.now))
+    (twice (sequence 1 c.args.bytes.now))
     d.ensures.key_twice c.new-reader.ensures in
     ap Some (view-Array d.data) ∙ whole c.args.bytes.now (map view d.data.items) d.rest.now d.ensures.values
     (nil_from_length d.rest.now (eqb-true (length d.rest.now) 0 (sym c.is_empty.ensures ∙ c.if-is_empty.true)))

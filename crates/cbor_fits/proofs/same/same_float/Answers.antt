@@ -13,4 +13,4 @@ returns c = λ e.
     of_bits-to_bits binary64 c.args.second (subst T (sym c.well_formed.1.0.1) tt) in
     let bits : c.f64_to_bits_with_nan.result ≡ c.f64_to_bits_with_nan-2.result = eqb-true _ _ e in
     sym first ∙ (ap (of_bits binary64) (sym c.f64_to_bits_with_nan.ensures
-        ∙ (bits ∙ c.f64_to_bits_with_nan-2.ensures)) ∙ second)
+    ∙ (bits ∙ c.f64_to_bits_with_nan-2.ensures)) ∙ second)

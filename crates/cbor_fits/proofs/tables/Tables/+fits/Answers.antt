@@ -99,7 +99,7 @@ fits_one_from-returns-then-branch-clause-right t c =
 pub fits_one_from-sizes-preserved : goal.fits_one_from-sizes-preserved
 fits_one_from-sizes-preserved t c =
     let right = from_next _ (65 - c.sizes.more) (c.args.first + c.sizes.more) _ _ _ c.sizes.invariant.right
-        (omega arith)
+    (omega arith)
     (c.in_ok-fits_number.ensures.right ∙ ap (λ b. Some b) c.if-branch.false) (omega arith) (omega arith) in
     record { right = right; kept = c.in_ok-fits_number.ensures.kept }
 
@@ -111,7 +111,7 @@ pub fits_size-returns-in-Unsigned-clause-right : goal.fits_size-returns-in-Unsig
 fits_size-returns-in-Unsigned-clause-right t c =
     let f = λ (k : ℕ). (matcher (rules_of c.args.self.now) c.args.inner).fits c.args.sizes (integer (pos k)) in
     let e = ap (has_size f) (ap view c.in-Unsigned.is ∙ view-Unsigned _)
-        ∙ ap (any_from f 65) (sym c.bytes_needed.ensures.needed) in
+    ∙ ap (any_from f 65) (sym c.bytes_needed.ensures.needed) in
     subst (λ (a : Option Bool). IfOk c.fits_one_from.result (λ b. a ≡ Some b)) (sym e) c.fits_one_from.ensures.right
 
 pub takes-returns-clause-right : goal.takes-returns-clause-right
@@ -128,12 +128,12 @@ fits_set_bits-bits-preserved t c =
     elim c.if-is_set.branch [
       | fits_set_bits-then-is_set+in_ok-fits_number+else-not-branch w ↦ λ e.
           let yes : w.in_ok-fits_number.field-0 ≡ true =
-              first_of (assumption (w.if-not-branch.false), search rules, grind (arith, tests)) in
+          first_of (assumption (w.if-not-branch.false), search rules, grind (arith, tests)) in
           w.in_ok-fits_number.ensures.right ∙ ap (λ b. Some b) yes
       | fits_set_bits-else-is_set w ↦ λ e. absurd (first_of (omega arith, grind (arith, nat_tests)))
     ] in
     let right = bits_on f (c.args.set.count - c.bits.bit) (c.args.set.first + c.bits.bit)
-        c.bits.number _ c.bits.invariant.right (omega arith)
+    c.bits.number _ c.bits.invariant.right (omega arith)
     here _ _ _ (omega arith) (omega arith) refl in
     let kept : Holds (rules_of c.args.self.now) c.if-is_set.work =
     elim c.if-is_set.branch [
@@ -148,7 +148,7 @@ pub take_repeated-turns-preserved : goal.take_repeated-turns-preserved
 take_repeated-turns-preserved t c =
     let f = (matcher (rules_of c.args.self.now) c.args.inner).takes c.args.index in
     let right = turn_on f (size (rest_view c.args.rest.now) + 1 - c.turns.turn) c.turns.least c.turns.most
-        (rest_view c.turns.left)
+    (rest_view c.turns.left)
     (rest_view c.in-Takes.next) _ c.turns.invariant.right (omega arith) (omega arith)
     (c.in_ok-next.ensures.right ∙ ap (λ o. Some (outcome_view o)) c.in-Takes.is)
     (λ e. c.if-len.false (c.len.ensures ∙ (e ∙ sym c.len-in-Takes.ensures))) _ _ _ (omega arith)

@@ -72,7 +72,7 @@ data_of-returns-clause-key_twice t c =
     let items = c.deref-item-items.result.now in
     let old = c.items.self.key_twice in
     or_false old ∙ (sym (at_drop_all (λ is. old || items_have_key_twice (items_view is)) items c.items.item-index
-        (omega arith))
+    (omega arith))
     ∙ (c.items.invariant.1
     ∙ ap (λ is. c.args.self.now.key_twice || items_have_key_twice (items_view is)) c.deref-item-items.ensures.value))
 
@@ -97,10 +97,10 @@ pairs_of-pairs-preserved t c =
     let bytes = c.in_ok-bytes.ensures in
     let old = c.pairs.self.key_twice in
     let put = ap seen c.in_ok-old.ensures.entries ∙ (seen-insert es c.in_ok-bytes.bytes
-        (c.in_ok-first.first, c.in_ok-second.second)
+    (c.in_ok-first.first, c.in_ok-second.second)
     ∙ (λ j. with_entry (seen es) (bytes j, (key j, value j)))) in
     let known = ap is_some c.in_ok-old.ensures.old ∙ (seen-lookup es c.in_ok-bytes.bytes
-        ∙ ap (has_key (seen es)) bytes) in (
+    ∙ ap (has_key (seen es)) bytes) in (
       ap (λ e. with_entries e left) put
           ∙ (sym (at_item (λ ps. with_entries (seen es) (map entry_of ps)) items i x (omega arith) c.pairs-item.is)
           ∙ c.pairs.invariant.0),
@@ -136,7 +136,7 @@ pairs_of-returns-clause-key_twice t c =
     let known = c.pairs.is_known in
     let before = c.args.self.now.key_twice in
     let nested = or_false old ∙ (sym (at_drop_all (λ ps. old || pairs_have_key_twice (pairs_view ps)) items i
-        (omega arith)) ∙ c.pairs.invariant.2) in
+    (omega arith)) ∙ c.pairs.invariant.2) in
     let here = or_false known
     ∙ (sym (at_drop_all (λ ps. known || a_key_stands_twice (seen es) (map entry_of ps)) items i (omega arith))
     ∙ c.pairs.invariant.1) in
