@@ -1,5 +1,5 @@
-//! Finds how many items at the front of bytes are no longer than `--limit`. Also drops or copies
-//! the first bytes of a buffer.
+//! Finds where the items at the front of bytes end that are no longer than `--limit`, and whether a
+//! longer one follows. Also drops or copies the first bytes of a buffer.
 
 use cbor_bytes::{Extent, extent};
 use std::alloc::{AllocError, Global};
