@@ -1,4 +1,5 @@
-//! Compares items, up to so many parts: each item is one, and so are 64 bytes of a string.
+//! Compares items, until a number of parts is used up. Each item is a part, and so are 64 bytes of a
+//! string.
 
 ghost use Rattle.std.specs.Prelude.{◌≡◌, true, map, length, Float};
 ghost use Rattle.cbor_fits.specs.View.{view};
@@ -10,7 +11,7 @@ use std::num::f64_to_bits_with_nan;
 /// How many bytes of a string are a part.
 const BYTES_IN_PART: usize = 64;
 
-/// Takes the parts of a string, and says whether so many are left.
+/// Takes the parts of a string, and says whether any are left.
 fn take_parts(parts: &mut u32, bytes: usize) -> bool {
     match u32::try_from(bytes / BYTES_IN_PART) {
         Ok(count) => {

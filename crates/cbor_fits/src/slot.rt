@@ -11,7 +11,7 @@ const MOST_PARTS: u32 = 256;
 /// How many bytes of a string are hashed.
 const MOST_BYTES: usize = 16;
 
-/// An odd number with ones and zeros in no order, by which each part is multiplied.
+/// Each part is multiplied by this odd number, whose ones and zeros are in no order.
 const FACTOR: u64 = 0x517c_c1b7_2722_0a95;
 
 /// The slot of a question.

@@ -26,7 +26,7 @@ const PARTS_IN_STEP: u32 = 16;
 /// How many answers the table has room for.
 const SLOTS: usize = 4096;
 
-/// Whether an item fits a type, within so many levels.
+/// Whether an item fits a type, within a number of levels.
 #[derive(Clone, Copy)]
 pub(crate) struct Question<'a> {
     /// The index of the type.
@@ -67,7 +67,7 @@ impl<'a> Work<'a> {
         Work::with_steps(alloc, MOST_STEPS)
     }
 
-    /// So many steps are left, and nothing is known.
+    /// This many steps are left, and nothing is known.
     fn with_steps(alloc: Global, left: u32) -> Work<'a>
         ensures { (r : Rules) → Holds r result }
     {
