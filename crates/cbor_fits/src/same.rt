@@ -1,5 +1,5 @@
-//! Compares items, until a number of parts is used up. Each item is a part, and so are 64 bytes of a
-//! string.
+//! Compares items, until a number of parts is used up. Each item is a part, and so are 64 bytes of
+//! a string.
 
 ghost use Rattle.std.specs.Prelude.{◌≡◌, true, map, length, Float};
 ghost use Rattle.cbor_fits.specs.View.{view};
