@@ -77,7 +77,10 @@ fn body_of(schema: &Schema, rule: usize) -> usize
 
 impl<'a> Tables<'a> {
     /// The tables of a schema, with the patterns of its nodes.
-    pub fn new(alloc: Global, schema: &'a Schema, patterns: &'a [Pattern]) -> Tables<'a> {
+    pub fn new(alloc: Global, schema: &'a Schema, patterns: &'a [Pattern]) -> Tables<'a>
+        ensures schema { result.schema ≡ schema }
+        ensures patterns { result.patterns ≡ patterns }
+    {
         Tables {
             alloc,
             schema,

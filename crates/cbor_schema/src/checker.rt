@@ -87,9 +87,9 @@ impl Checker {
     /// The errors are [`Stop::Memory`], [`Stop::NoItem`] if the bytes are no item, [`Stop::Work`]
     /// after 10 million steps, and [`Stop::Deep`] if rules and items are nested more than 700 deep.
     pub fn misfit(&self, alloc: Global, item: Piece) -> Result<Option<Misfit>, Stop>
-        ensures verdict { IfOk result (λ m. fits self.now item.bytes.now ≡ Some (is_none m)) }
+        ensures verdict { IfOk result (λ m. fits self.now item.entry.bytes.now ≡ Some (is_none m)) }
         ensures place { IfOk result
-            (λ found. IfSome found (λ m. m.place < length item.bytes.now)) }
+            (λ found. IfSome found (λ m. m.place < length item.entry.bytes.now)) }
     {
         if Tables::new(alloc, &self.schema, &self.patterns).accepts(item.bytes)? {
             return Ok(None);
