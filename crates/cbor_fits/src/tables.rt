@@ -78,8 +78,8 @@ fn body_of(schema: &Schema, rule: usize) -> usize
 impl<'a> Tables<'a> {
     /// The tables of a schema, with the patterns of its nodes.
     pub fn new(alloc: Global, schema: &'a Schema, patterns: &'a [Pattern]) -> Tables<'a>
-        ensures schema { result.schema ≡ schema }
-        ensures patterns { result.patterns ≡ patterns }
+        ensures schema { result.schema.now ≡ schema.now }
+        ensures patterns { result.patterns.now ≡ patterns.now }
     {
         Tables {
             alloc,
