@@ -2088,6 +2088,28 @@ static void test_threads(void)
     pthread_attr_destroy(&attributes);
 }
 
+static void *checking_schemas(void *unused)
+{
+    (void)unused;
+    test_schemas();
+    test_schema_rooms();
+    test_wrong_schemas();
+    test_schema_errors();
+    return NULL;
+}
+
+/* With the stack that the header promises to be enough: the main thread may have less. */
+static void test_schemas_in_a_thread(void)
+{
+    pthread_t thread;
+    pthread_attr_t attributes;
+    pthread_attr_init(&attributes);
+    pthread_attr_setstacksize(&attributes, CBOR_DIAG_STACK_SIZE);
+    check(pthread_create(&thread, &attributes, checking_schemas, NULL) == 0, "a thread could not be started");
+    pthread_join(thread, NULL);
+    pthread_attr_destroy(&attributes);
+}
+
 int main(int argc, char **argv)
 {
     size_t count = argc > 1 ? strtoul(argv[1], NULL, 10) : 500000;
@@ -2121,10 +2143,7 @@ int main(int argc, char **argv)
     test_pages();
     test_page_errors();
     test_names_faults();
-    test_schemas();
-    test_schema_rooms();
-    test_wrong_schemas();
-    test_schema_errors();
+    test_schemas_in_a_thread();
     test_hostile_parts();
     test_limits();
     test_memory();
