@@ -57,7 +57,8 @@ pub violation_of_all : (rules : Rules) (b : List ℕ) (found : Option Violation)
     → rules.distinct_keys ≡ false → found ≡ first_violation (without_memory rules) b → IsViolation rules b found
 violation_of_all rules b None nfc distinct is =
     (sym (first_of_all rules b None nfc distinct is), λ on. asked rules.distinct_keys distinct on)
-violation_of_all rules b (Some violation) nfc distinct is = inl (sym (first_of_all rules b (Some violation) nfc distinct is))
+violation_of_all rules b (Some violation) nfc distinct is = inl (sym
+    (first_of_all rules b (Some violation) nfc distinct is))
 
 pub keys_of_all : (rules : Rules) (b : List ℕ) (found : Option Violation) → rules.nfc ≡ false
     → rules.distinct_keys ≡ false → ((found ≡ None) ↔ KeepsRules (without_memory rules) b)
@@ -149,10 +150,12 @@ some_told violation n place detail told nought = some_number violation.kind (sym
 -- what is told of an error has a number
 pub some_why : (e : ReencodeError) (n place detail : ℕ) → IsToldWhy e n place detail → n ≢ 0
 some_why reencode_error.Memory n place detail told nought = told
-some_why (reencode_error.Violation violation) n place detail told nought = some_told violation n place detail told nought
+some_why (reencode_error.Violation violation) n place detail told nought =
+    some_told violation n place detail told nought
 some_why (reencode_error.KeyTwice first second) n place detail told nought =
     let fifteen : n ≡ 15 = told.0 in omega arith
-some_why (reencode_error.Written violation) n place detail told nought = some_number violation.kind (sym told.0 ∙ nought)
+some_why (reencode_error.Written violation) n place detail told nought = some_number violation.kind (sym told.0
+    ∙ nought)
 
 -- of out of memory nothing is told
 pub no_memory : (e : ReencodeError) (n place detail : ℕ) → e ≡ reencode_error.Memory → IsToldWhy e n place detail

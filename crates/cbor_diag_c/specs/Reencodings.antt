@@ -42,7 +42,8 @@ BreaksBy number input = (rules : Rules) × (rules_of number ≡ Some rules) × B
 -- The error that the input has. Where it breaks a rule that no choice keeps, that is the first such violation.
 abbrev pub IsWhyNot : Rules → List ℕ → ReencodeError → Type 0
 IsWhyNot rules input e =
-    ((violation : Violation) × (e ≡ reencode_error.Violation violation) × (first_violation (lasting rules) input ≡ Some violation))
+    ((violation : Violation) × (e ≡ reencode_error.Violation violation) × (first_violation (lasting rules) input
+    ≡ Some violation))
     ⊎ (first_violation (lasting rules) input ≡ None)
 
 -- What is told of an error: the number of what is wrong, its place and its detail. What was written is not there.

@@ -33,7 +33,7 @@ pub const SHORT_TEXT: usize = 24;
 
 /// Where in a dump an item is, as far as its digits depend on it.
 #[derive(Clone, Copy)]
-pub(crate) struct Place {
+pub(crate) struct DumpPlace {
     /// The item's level: 1 plus the number of items around it, including those that embed it.
     pub(crate) level: u8,
     /// The depth of its lines, which are indented by it.
@@ -42,16 +42,16 @@ pub(crate) struct Place {
     pub(crate) tag: Option<Tag>,
 }
 
-impl Place {
+impl DumpPlace {
     /// The place in a container.
-    fn inside(self) -> Place
+    fn inside(self) -> DumpPlace
         requires place { IsPlace self }
         requires level { self.level ≤ deepest }
         ensures level { result.level ≡ self.level + 1 }
         ensures depth { result.depth ≡ self.depth + 1 }
         ensures tag { tag_number result.tag ≡ None }
     {
-        Place {
+        DumpPlace {
             level: self.level + 1,
             depth: self.depth + 1,
             tag: None,
@@ -59,14 +59,14 @@ impl Place {
     }
 
     /// The place right below a tag.
-    fn below(self, tag: Tag) -> Place
+    fn below(self, tag: Tag) -> DumpPlace
         requires place { IsPlace self }
         requires level { self.level ≤ deepest }
         ensures level { result.level ≡ self.level + 1 }
         ensures depth { result.depth ≡ self.depth + 1 }
         ensures tag { tag_number result.tag ≡ Some tag.0 }
     {
-        Place {
+        DumpPlace {
             level: self.level + 1,
             depth: self.depth + 1,
             tag: Some(tag),
@@ -84,7 +84,7 @@ pub fn dump_width(bytes: &[u8], level: u8) -> cbor_grammar::Result<(usize, &[u8]
     ensures refused { IfErr result (λ e. Fails e (read_at level bytes.now)) }
 {
     let mut reach = Reach { widest: 0 };
-    let place = Place {
+    let place = DumpPlace {
         level,
         depth: 0,
         tag: None,
@@ -145,7 +145,7 @@ impl Reach {
 
     /// Counts the item at the front.
     #[cycle(reach)]
-    fn front<'a>(&mut self, bytes: &'a [u8], place: Place) -> cbor_grammar::Result<&'a [u8]>
+    fn front<'a>(&mut self, bytes: &'a [u8], place: DumpPlace) -> cbor_grammar::Result<&'a [u8]>
         requires { IsPlace place }
         ensures measured { IfOk result (λ rest. Measured (spec.width_there place)
             (read_at place.level bytes.now) rest.now self.old.widest self.new.widest) }
@@ -172,7 +172,7 @@ impl Reach {
         &mut self,
         count: Argument,
         bytes: &'a [u8],
-        place: Place,
+        place: DumpPlace,
     ) -> cbor_grammar::Result<&'a [u8]>
         requires place { IsPlace place }
         requires level { place.level ≤ deepest }
@@ -201,7 +201,7 @@ impl Reach {
         &mut self,
         count: Argument,
         bytes: &'a [u8],
-        place: Place,
+        place: DumpPlace,
     ) -> cbor_grammar::Result<&'a [u8]>
         requires place { IsPlace place }
         requires level { place.level ≤ deepest }
@@ -229,7 +229,7 @@ impl Reach {
         &mut self,
         head: (StringKind, Argument),
         bytes: &'a [u8],
-        place: Place,
+        place: DumpPlace,
     ) -> cbor_grammar::Result<&'a [u8]>
         requires place { IsPlace place }
         requires level { place.level ≤ deepest }
@@ -255,7 +255,7 @@ impl Reach {
         &mut self,
         kind: StringKind,
         bytes: &'a [u8],
-        place: Place,
+        place: DumpPlace,
     ) -> cbor_grammar::Result<&'a [u8]>
         requires place { IsPlace place }
         requires level { place.level ≤ deepest }

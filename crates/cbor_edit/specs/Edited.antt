@@ -20,8 +20,9 @@ kept Sixteen n = if nat_lt n (2 ^ 16) then Sixteen else shortest n
 kept ThirtyTwo n = if nat_lt n (2 ^ 32) then ThirtyTwo else shortest n
 kept SixtyFour n = SixtyFour
 
--- The bytes `was` with `new` in place of a part of them, which is `old`, are `now`: the part itself; or with bytes before
--- and after it, which stay; or in a byte string of definite length, whose head gets the length of the new content.
+-- The bytes `was` with `new` in place of a part of them, which is `old`, are `now`: the part itself; or with bytes
+-- before and after it, which stay; or in a byte string of definite length, whose head gets the length of the new
+-- content.
 pub data Edited (old new : List ℕ) : List ℕ → List ℕ → Type 0 where
   part : Edited old new old new
   beside : {was now : List ℕ} (before after : List ℕ) → Edited old new was now

@@ -140,9 +140,9 @@ fn push_between(
     Ok(Some(()))
 }
 
-/// Returns the first bytes of the array or the map that begins at a place, up to the end of the last
-/// of these members, without them: keys and values in a map. `None` if these are not in order, or
-/// no members.
+/// Returns the first bytes of the array or the map that begins at a place, up to the end of the
+/// last of these members, without them: keys and values in a map. `None` if these are not in order,
+/// or no members.
 pub fn without(
     alloc: Global,
     bytes: &[u8],

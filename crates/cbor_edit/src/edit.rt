@@ -5,7 +5,7 @@ ghost use Rattle.cbor_grammar.specs.Item.{Item};
 ghost use Rattle.cbor_grammar.specs.Facts.{IsItem};
 
 use crate::container::{with_more, without};
-use crate::place::{Change, Place, push_changed};
+use crate::place::{Change, EnclosedSpan, push_changed};
 use crate::replace::replaced;
 use crate::target::{Target, What, targets};
 use cbor_bytes::{Extent, extent};
@@ -102,7 +102,7 @@ fn shifted_changes(
             end: shifted(change.place.span.end, growths),
         };
         list.push(Change {
-            place: Place { around, span },
+            place: EnclosedSpan { around, span },
             new: Vec::from_slice(alloc, &change.new)?,
         })?;
     }
@@ -152,7 +152,7 @@ fn joined(alloc: Global, bytes: &[u8], changes: &[Change]) -> Result<Option<Chan
     let Some(()) = push_changed(&mut new, bytes, start, changes)? else {
         return Ok(None);
     };
-    let place = Place {
+    let place = EnclosedSpan {
         around: Vec::from_slice(alloc, &first.place.around)?,
         span: Span {
             start,
@@ -240,7 +240,7 @@ impl Edit<'_> {
         let Some(new) = new else {
             return Ok(None);
         };
-        let place = Place {
+        let place = EnclosedSpan {
             around: Vec::from_slice(alloc, &first.place.around)?,
             span: Span {
                 start,

@@ -31,5 +31,5 @@ mod width;
 
 pub use container::{with_more, without};
 pub use edit::{Edit, EditError, edited};
-pub use place::{Change, Place};
+pub use place::{Change, EnclosedSpan};
 pub use replace::replaced;

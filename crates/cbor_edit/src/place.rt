@@ -1,5 +1,5 @@
-//! `Place`: where bytes of an item are, and the byte strings that they are in. `Change`: a place,
-//! and the new bytes for it. `push_changed`: copies bytes, with some places changed.
+//! `EnclosedSpan`: bytes of an item, and the byte strings that they are in. `Change`: such bytes,
+//! and the new bytes for them. `push_changed`: copies bytes, with some places changed.
 ghost use Rattle.std.specs.Prelude.{◌≡◌, ℕ, ◌≤◌, ◌++◌, List, length, IfOk, IfSome};
 ghost use Rattle.cbor_edit.specs.Edited.{changed};
 
@@ -8,7 +8,7 @@ use std::alloc::AllocError;
 
 /// Bytes of an item, and the byte strings of definite length that they are in.
 #[derive(Drop)]
-pub struct Place {
+pub struct EnclosedSpan {
     /// Where the heads of the byte strings begin, the outermost first.
     pub around: Vec<usize>,
     /// The bytes.
@@ -18,7 +18,7 @@ pub struct Place {
 /// Bytes that take the place of others.
 #[derive(Drop)]
 pub struct Change {
-    pub place: Place,
+    pub place: EnclosedSpan,
     pub new: Vec<u8>,
 }
 

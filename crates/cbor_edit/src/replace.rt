@@ -5,7 +5,7 @@ ghost use Rattle.cbor_grammar.specs.declared.argument.Argument.{Argument};
 ghost use Rattle.cbor_edit.specs.Edited.{Edited, bytes_of};
 ghost use Rattle.cbor_edit.specs.mirror.Heads.{HasHead};
 
-use crate::place::Place;
+use crate::place::EnclosedSpan;
 use crate::width::{head_bytes, kept};
 use cbor_grammar::IntegerWidth;
 use cbor_grammar::argument::Argument;
@@ -26,7 +26,8 @@ struct StringHead {
 
 /// The head of the byte string of definite length that begins at a place.
 fn string_at(bytes: &[u8], start: usize) -> Option<StringHead>
-    ensures { IfSome result (λ s. HasHead bytes.now start 2 (Argument.Number s.len s.width) s.inner) }
+    ensures { IfSome result
+        (λ s. HasHead bytes.now start 2 (Argument.Number s.len s.width) s.inner) }
 {
     let (head, inner) = head_at(bytes, start)?;
     let ItemHead::String(kind, count) = head else {
@@ -111,7 +112,7 @@ impl Patch {
 pub fn replaced(
     alloc: Global,
     bytes: &[u8],
-    place: &Place,
+    place: &EnclosedSpan,
     part: &[u8],
 ) -> Result<Option<Vec<u8>>, AllocError>
     // All bytes are the same but for the part, and the lengths of these byte strings.

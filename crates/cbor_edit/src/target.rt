@@ -1,7 +1,7 @@
 //! Finds what an edit changes: the parts that the steps of a path lead to, or the container that
 //! gets a new member.
 
-use crate::place::Place;
+use crate::place::EnclosedSpan;
 use cbor_bytes::head::read_head;
 use cbor_bytes::{Extent, extent};
 use cbor_grammar::argument::Argument;
@@ -16,8 +16,8 @@ use std::alloc::{AllocError, Global};
 pub(crate) enum What {
     /// The bytes there, which are an item.
     Part,
-    /// The bytes there, which are a member of the container that begins at this place: with its key,
-    /// if that is a map.
+    /// The bytes there, which are a member of the container that begins at this place: with its
+    /// key, if that is a map.
     Member(usize),
     /// The array or the map there, which gets a member at its end.
     Container { is_map: bool },
@@ -26,7 +26,7 @@ pub(crate) enum What {
 /// Something that is changed.
 #[derive(Drop)]
 pub(crate) struct Target {
-    pub place: Place,
+    pub place: EnclosedSpan,
     pub what: What,
 }
 
@@ -60,7 +60,7 @@ fn is_inside(step: &[Step]) -> bool {
 fn found_at(
     alloc: Global,
     bytes: &[u8],
-    from: &Place,
+    from: &EnclosedSpan,
     step: (&[Step], Picture),
 ) -> Result<Vec<Found>, AllocError> {
     let (steps, picture) = step;
@@ -78,7 +78,7 @@ fn found_at(
 fn lost_in(
     alloc: Global,
     bytes: &[u8],
-    from: &Place,
+    from: &EnclosedSpan,
     step: (&[Step], Picture),
 ) -> Result<Option<Span>, AllocError> {
     let (steps, picture) = step;
@@ -104,9 +104,9 @@ fn lost_in(
 fn place_in(
     alloc: Global,
     bytes: &[u8],
-    from: &Place,
+    from: &EnclosedSpan,
     to: (Span, bool),
-) -> Result<(Place, usize), AllocError> {
+) -> Result<(EnclosedSpan, usize), AllocError> {
     let (span, is_inside) = to;
     let mut around = Vec::from_slice(alloc, &from.around)?;
     let mut at = from.span.start;
@@ -126,11 +126,11 @@ fn place_in(
             _ => break,
         };
     }
-    Ok((Place { around, span }, at))
+    Ok((EnclosedSpan { around, span }, at))
 }
 
 /// The span of a part that was found in the item at a place, or of its key and its value.
-fn span_of(from: &Place, found: Found, with_key: bool) -> Span {
+fn span_of(from: &EnclosedSpan, found: Found, with_key: bool) -> Span {
     let begins = from.span.start;
     let start = if with_key {
         found.named
@@ -145,9 +145,9 @@ fn span_of(from: &Place, found: Found, with_key: bool) -> Span {
 
 /// The places that a step leads to from another.
 fn push_places(
-    places: &mut Vec<Place>,
+    places: &mut Vec<EnclosedSpan>,
     bytes: &[u8],
-    from: &Place,
+    from: &EnclosedSpan,
     step: (&[Step], Picture),
 ) -> Result<(), AllocError> {
     let alloc = *places.allocator();
@@ -168,7 +168,7 @@ fn push_places(
 fn push_dropped(
     targets: &mut Vec<Target>,
     bytes: &[u8],
-    from: &Place,
+    from: &EnclosedSpan,
     step: (&[Step], Picture),
 ) -> Result<(), AllocError> {
     let alloc = *targets.allocator();
@@ -190,7 +190,7 @@ fn push_dropped(
 fn push_set(
     targets: &mut Vec<Target>,
     bytes: &[u8],
-    from: &Place,
+    from: &EnclosedSpan,
     step: (&[Step], Picture),
 ) -> Result<(), AllocError> {
     let alloc = *targets.allocator();
@@ -216,8 +216,8 @@ fn push_set(
     Ok(())
 }
 
-/// How a member is added to an item at the index or the key of a step, if it can be: a key to a map,
-/// and the next index to an array.
+/// How a member is added to an item at the index or the key of a step, if it can be: a key to a
+/// map, and the next index to an array.
 fn added_to(bytes: &[u8], container: Span, step: &[Step]) -> Option<What> {
     let Some(Step::Key(key)) = step.first() else {
         return None;
@@ -242,9 +242,9 @@ fn places_of(
     item: &[u8],
     steps: &[Step],
     picture: Picture,
-) -> Result<Vec<Place>, AllocError> {
+) -> Result<Vec<EnclosedSpan>, AllocError> {
     let mut places = Vec::new(alloc);
-    places.push(Place {
+    places.push(EnclosedSpan {
         around: Vec::new(alloc),
         span: Span {
             start: 0,

@@ -19,7 +19,8 @@ use Rattle.std.proofs.lemmas.Grind.{flat_map-append}
 use Rattle.cbor_grammar.specs.declared.strings.StringKind.{StringKind}
 use Rattle.cbor_grammar.specs.declared.width.IntegerWidth.{IntegerWidth}
 use Rattle.cbor_grammar.specs.Item as spec
-use Rattle.cbor_grammar.specs.Item.{Item, Chunk, atom, chunked_string, array, tagged, items_of, pairs_of, item_count, pair_count}
+use Rattle.cbor_grammar.specs.Item.{Item, Chunk, atom, chunked_string, array, tagged, items_of, pairs_of, item_count}
+use Rattle.cbor_grammar.specs.Item.{pair_count}
 use Rattle.cbor_grammar.specs.StringKind.{major_of}
 use Rattle.cbor_grammar.specs.Written.{encoded, encoded_head, encoded_open, encoded_close, encoded_chunk}
 use Rattle.cbor_edn_grammar.specs.Reading.{Read, after_byte}
@@ -93,7 +94,8 @@ array_written old gap mid opened new place count width is at left members counte
     (encoded_close width))
 
 pub map_written : (old gap mid opened new : List ℕ) (place count : ℕ) (width : Option IntegerWidth)
-    (ps : List (Item × Item)) → place ≡ length old → gap ≡ old ++ 0 ∷ [] → mid ≡ gap ++ pairs_bytes ps → count ≡ length ps
+    (ps : List (Item × Item)) → place ≡ length old → gap ≡ old ++ 0 ∷ [] → mid ≡ gap ++ pairs_bytes ps
+    → count ≡ length ps
     → opened ≡ take place mid ++ (encoded_open 5 count width ++ drop (place + 1) mid)
     → new ≡ opened ++ encoded_close width → new ≡ old ++ encoded (spec.map (pairs_of ps) width)
 map_written old gap mid opened new place count width ps at left members counted open_ close =

@@ -133,7 +133,8 @@ FoundAt p here q = (found : Option (Bor Note)) × IsGiven p.notes.now here found
 -- What the place of an item becomes, which has no note yet: it may get one, and what is known of its line. That is any,
 -- so a container may be on one line or on several.
 abbrev pub LaidOut : EdnPlace → EdnPlace → Type 0
-LaidOut p q = (line : Line) × ((q ≡ record p { line = line }) ⊎ ((here : ℕ) × FoundAt (record p { line = line }) here q))
+LaidOut p q = (line : Line) × ((q ≡ record p { line = line })
+    ⊎ ((here : ℕ) × FoundAt (record p { line = line }) here q))
 
 -- How many bytes the width of an argument is, after the first byte of its head.
 abbrev pub argument_bytes : IntegerWidth → ℕ

@@ -1,5 +1,5 @@
--- Diagnostic notation over several lines (RFC 7049 section 6): a short container is on one line, and a longer one has
--- a line for each member.
+-- Pretty notation, for contracts that cite it: an item laid out by the rule of 60 columns, or on one line, or with a
+-- line for each member. `NotationText` defines the text, and `Estimate` the length that the rule compares.
 use Rattle.std.specs.Prelude.{ℕ, ◌+◌, ◌++◌, List, codes}
 use Rattle.cbor_grammar.specs.declared.width.IntegerWidth.{IntegerWidth}
 use Rattle.cbor_grammar.specs.declared.encoding.Encoding.{Encoding}

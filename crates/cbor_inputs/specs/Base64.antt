@@ -17,8 +17,8 @@ digits_of text = filter (λ b. not (is_blank b)) text
 abbrev pub in_one_alphabet : Bool → List ℕ → List ℕ
 in_one_alphabet is_standard digits = if is_standard then map to_standard digits else map to_url_safe digits
 
--- The digits encode these bytes. RFC 4648 pads in the standard alphabet, and need not in that for URLs: so each digit is
--- read as the one alphabet has it where the digits have padding, and as the other has it where they have none.
+-- The digits encode these bytes. RFC 4648 pads in the standard alphabet, and need not in that for URLs: so each digit
+-- is read as the one alphabet has it where the digits have padding, and as the other has it where they have none.
 abbrev pub Encodes : List ℕ → List ℕ → Type 0
 Encodes digits bytes =
     AreBytes bytes × (in_one_alphabet (is_padded digits) digits ≡ encoding (not (is_padded digits)) bytes)

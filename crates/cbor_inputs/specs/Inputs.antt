@@ -21,8 +21,8 @@ Stands input.Hex text bytes = decode_of (loose Apart (unmarked text)) ≡ Ok byt
 Stands input.Diag text bytes = IsUtf8 (unmarked text) × (bytes_of_edn (unmarked text) ≡ Some bytes)
 Stands input.Base64 text bytes = Encodes (digits_of (unmarked text)) bytes
 
--- What the form takes the input for: items, one after the other. But a text of pairs of hex digits is hex, whatever bytes
--- they are: hex that was cut, or is wrong, is still hex.
+-- What the form takes the input for: items, one after the other. But a text of pairs of hex digits is hex, whatever
+-- bytes they are: hex that was cut, or is wrong, is still hex.
 abbrev pub Takes : Input → List ℕ → List ℕ → Type 0
 Takes form text bytes = Stands form text bytes × (form ≢ input.Hex → IsSequence bytes)
 

@@ -1,4 +1,5 @@
--- For viewers, bytes in which no byte below 32 follows 0xf8, and items by RFC 8949.
+-- Bytes in which no byte below 32 follows 0xf8 have no simple value that RFC 8949 forbids. So a viewer finds the items
+-- that RFC 8949 allows by searching for 0xf8.
 use Rattle.std.proofs.Common.{◌≡◌, ℕ, zero, suc, ◌+◌, ◌<◌, ◌≤◌, List, [], ◌∷◌, ◌++◌, length, take, drop}
 use Rattle.std.proofs.Common.{Option, Some, None, inl, inr, refl, sym, ap, append-nil, subst, ◌∙◌, arith}
 use Rattle.std.proofs.Common.{length-append, take-append-drop, append_assoc, Result, Ok, Err, OnOk, get_or, true}

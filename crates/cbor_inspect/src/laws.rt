@@ -11,8 +11,8 @@ ghost use Rattle.cbor_inspect.specs.Forms.{IsEdn};
 ghost use Rattle.cbor_paths.specs.Sequence.{IsShownOfFirst, IsStrictSequence};
 ghost use Rattle.cbor_inspect.specs.declared.items.Show.{Show};
 
-/// What is written of whole items as EDN, one after the other, is read back, if no simple value from
-/// 24 to 31 is in them.
+/// What is written of whole items as EDN, one after the other, is read back, if no simple value
+/// from 24 to 31 is in them.
 fn read_back()
     // As the encoding of these items.
     ensures items { (show : Show) (input rest written : List ℕ)

@@ -2,7 +2,8 @@
 //! output, so it finds two equal names and where their keys are in the input.
 #![tactic(auto, using(cbor_tokens::proofs::texts::Appending::appending_steps))]
 
-ghost use Rattle.std.specs.Prelude.{◌≡◌, ◌+◌, ◌≤◌, ◌∷◌, [], ◌++◌, ℕ, List, length, true, IfOk, IfSome, IfNone, OnOk};
+ghost use Rattle.std.specs.Prelude.{◌≡◌, ◌+◌, ◌≤◌, ◌∷◌, [], ◌++◌, ℕ, List, length, true};
+ghost use Rattle.std.specs.Prelude.{IfOk, IfSome, IfNone, OnOk};
 ghost use Rattle.std.specs.String.{string_bytes};
 ghost use Rattle.json.specs.Strict.{AreDistinct};
 ghost use Rattle.cbor_grammar.specs.declared.strings.StringKind.{StringKind};

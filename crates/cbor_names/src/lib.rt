@@ -22,6 +22,7 @@
 mod authenticator;
 mod decimal;
 mod define;
+mod expected;
 mod file;
 mod heads;
 mod known;
@@ -30,7 +31,6 @@ mod moment;
 mod note;
 mod pairs;
 mod part;
-mod place;
 mod scalar;
 mod shape;
 mod table;

@@ -7,10 +7,10 @@ ghost use Rattle.cbor_names.specs.Falling.{len_of};
 
 use crate::authenticator::{Item, parts_of};
 use crate::decimal::Scaled;
+use crate::expected::Expected;
 use crate::heads::after_leaf;
 use crate::moment::datetime_of_float;
 use crate::note::{Found, Notes};
-use crate::place::Place;
 use crate::scalar::{Scalar, float_at, scalar_at};
 use crate::shape::{EPOCH, Fit, SELF_DESCRIBED};
 use crate::table::{Inside, Names, PartRow, Type, WhatRow};
@@ -105,8 +105,13 @@ struct Pass<'a> {
 
 impl<'a> Pass<'a> {
     /// Notes the name of an item that has no parts, and the meaning of what is at the front.
-    fn note_leaf(&mut self, place: &Place<'a>, note: Found<'a>, bytes: &[u8]) -> Result<(), Stop> {
-        let note = match place.what {
+    fn note_leaf(
+        &mut self,
+        expected: &Expected<'a>,
+        note: Found<'a>,
+        bytes: &[u8],
+    ) -> Result<(), Stop> {
+        let note = match expected.what {
             WhatRow::Of(index) => self.meant(note, index, bytes),
             WhatRow::Date => {
                 let date = self.date_of(bytes)?;
@@ -197,14 +202,14 @@ impl<'a> Pass<'a> {
 
     /// The bytes after an item.
     #[cycle(item)]
-    fn item<'b>(&mut self, place: &Place<'a>, bytes: &'b [u8]) -> Result<&'b [u8], Stop>
-        requires total { length bytes.now + place.now.behind < 2 ^ 64 }
+    fn item<'b>(&mut self, expected: &Expected<'a>, bytes: &'b [u8]) -> Result<&'b [u8], Stop>
+        requires total { length bytes.now + expected.now.behind < 2 ^ 64 }
         ensures shorter { IfOk result (λ rest. length rest.now < length bytes.now) }
     {
-        if place.left == 0 {
+        if expected.left == 0 {
             return Err(Stop::NoItem);
         }
-        if place.says_nothing() {
+        if expected.says_nothing() {
             if let Some(rest) = after_leaf(bytes) {
                 return Ok(rest);
             }
@@ -212,32 +217,32 @@ impl<'a> Pass<'a> {
         let Ok((head, rest)) = read_head(bytes) else {
             return Err(Stop::NoItem);
         };
-        let at = bytes.len() + place.behind;
-        let note = Found::new(at, place.name);
+        let at = bytes.len() + expected.behind;
+        let note = Found::new(at, expected.name);
         let index = self.notes.len();
         let after = match head {
-            ItemHead::Tag(tag, _) => self.tagged(place, note, tag, rest)?,
+            ItemHead::Tag(tag, _) => self.tagged(expected, note, tag, rest)?,
             ItemHead::Array(count) => {
                 self.notes.push(note)?;
-                self.members(place, count, rest)?
+                self.members(expected, count, rest)?
             }
             ItemHead::Map(count) => {
                 self.notes.push(note)?;
-                self.pairs(place, count, rest)?
+                self.pairs(expected, count, rest)?
             }
             ItemHead::String(StringKind::Bytes, Argument::Number(len, _)) => {
-                self.bytes(place, note, len, rest)?
+                self.bytes(expected, note, len, rest)?
             }
             ItemHead::String(kind, count) => {
-                self.note_leaf(place, note, bytes)?;
+                self.note_leaf(expected, note, bytes)?;
                 after_string(kind, count, rest)?
             }
             _ => {
-                self.note_leaf(place, note, bytes)?;
+                self.note_leaf(expected, note, bytes)?;
                 rest
             }
         };
-        self.notes.end(index, at, after.len() + place.behind);
+        self.notes.end(index, at, after.len() + expected.behind);
         Ok(after)
     }
 
@@ -245,23 +250,23 @@ impl<'a> Pass<'a> {
     #[cycle(item)]
     fn tagged<'b>(
         &mut self,
-        place: &Place<'a>,
+        expected: &Expected<'a>,
         note: Found<'a>,
         tag: u64,
         bytes: &'b [u8],
     ) -> Result<&'b [u8], Stop>
-        requires left { 0 < place.now.left }
-        requires total { length bytes.now + place.now.behind < 2 ^ 64 }
+        requires left { 0 < expected.now.left }
+        requires total { length bytes.now + expected.now.behind < 2 ^ 64 }
         ensures shorter { IfOk result (λ rest. length rest.now < length bytes.now) }
     {
-        let (note, what) = self.names.below(tag, note, place.what, bytes);
+        let (note, what) = self.names.below(tag, note, expected.what, bytes);
         self.notes.push(note)?;
-        self.note_number(tag, place.behind, bytes)?;
-        let inside = Place {
+        self.note_number(tag, expected.behind, bytes)?;
+        let inside = Expected {
             what,
             tag: Some(tag),
-            around: place.tag,
-            ..place.unknown()
+            around: expected.tag,
+            ..expected.unknown()
         };
         self.item(&inside, bytes)
     }
@@ -270,23 +275,23 @@ impl<'a> Pass<'a> {
     #[cycle(item)]
     fn members<'b>(
         &mut self,
-        place: &Place<'a>,
+        expected: &Expected<'a>,
         count: Argument,
         bytes: &'b [u8],
     ) -> Result<&'b [u8], Stop>
-        requires left { 0 < place.now.left }
-        requires total { length bytes.now + place.now.behind < 2 ^ 64 }
+        requires left { 0 < expected.now.left }
+        requires total { length bytes.now + expected.now.behind < 2 ^ 64 }
         ensures shorter { IfOk result (λ rest. length rest.now ≤ length bytes.now) }
     {
         let names = self.names;
-        let inside = names.inside(place.what);
+        let inside = names.inside(expected.what);
         let mut index = 0;
         let mut rest = bytes;
         'members: loop {
             if let Some(after) = count.after_end(index, rest) {
                 return Ok(after);
             }
-            let member = place.member(names, inside, index);
+            let member = expected.member(names, inside, index);
             rest = self.item(&member, rest)?;
             index += 1;
         }
@@ -296,16 +301,16 @@ impl<'a> Pass<'a> {
     #[cycle(item)]
     fn pairs<'b>(
         &mut self,
-        place: &Place<'a>,
+        expected: &Expected<'a>,
         count: Argument,
         bytes: &'b [u8],
     ) -> Result<&'b [u8], Stop>
-        requires left { 0 < place.now.left }
-        requires total { length bytes.now + place.now.behind < 2 ^ 64 }
+        requires left { 0 < expected.now.left }
+        requires total { length bytes.now + expected.now.behind < 2 ^ 64 }
         ensures shorter { IfOk result (λ rest. length rest.now ≤ length bytes.now) }
     {
         let names = self.names;
-        let keys = names.keys(place.what, count, bytes);
+        let keys = names.keys(expected.what, count, bytes);
         let mut index = 0;
         let mut rest = bytes;
         'pairs: loop {
@@ -313,11 +318,11 @@ impl<'a> Pass<'a> {
                 return Ok(after);
             }
             let part = names.part_at(keys.parts, keys.chosen, rest);
-            let at = rest.len() + place.behind;
+            let at = rest.len() + expected.behind;
             let noted = self.notes.len();
-            let value = self.key(place, part, rest)?;
-            rest = self.item(&place.value(part, keys.each), value)?;
-            self.notes.end(noted, at, rest.len() + place.behind);
+            let value = self.key(expected, part, rest)?;
+            rest = self.item(&expected.value(part, keys.each), value)?;
+            self.notes.end(noted, at, rest.len() + expected.behind);
             index += 1;
         }
     }
@@ -326,12 +331,12 @@ impl<'a> Pass<'a> {
     #[cycle(item)]
     fn key<'b>(
         &mut self,
-        place: &Place<'a>,
+        expected: &Expected<'a>,
         part: Option<&PartRow>,
         bytes: &'b [u8],
     ) -> Result<&'b [u8], Stop>
-        requires left { 0 < place.now.left }
-        requires total { length bytes.now + place.now.behind < 2 ^ 64 }
+        requires left { 0 < expected.now.left }
+        requires total { length bytes.now + expected.now.behind < 2 ^ 64 }
         ensures shorter { IfOk result (λ rest. length rest.now < length bytes.now) }
     {
         let name = match part {
@@ -339,13 +344,13 @@ impl<'a> Pass<'a> {
             None => "",
         };
         if let Some(rest) = after_leaf(bytes) {
-            let at = bytes.len() + place.behind;
+            let at = bytes.len() + expected.behind;
             self.notes.push(Found::new(at, name))?;
             return Ok(rest);
         }
-        let key = Place {
+        let key = Expected {
             name,
-            ..place.unknown()
+            ..expected.unknown()
         };
         self.item(&key, bytes)
     }
@@ -354,29 +359,29 @@ impl<'a> Pass<'a> {
     #[cycle(item)]
     fn bytes<'b>(
         &mut self,
-        place: &Place<'a>,
+        expected: &Expected<'a>,
         note: Found<'a>,
         len: u64,
         bytes: &'b [u8],
     ) -> Result<&'b [u8], Stop>
-        requires left { 0 < place.now.left }
-        requires total { length bytes.now + place.now.behind < 2 ^ 64 }
+        requires left { 0 < expected.now.left }
+        requires total { length bytes.now + expected.now.behind < 2 ^ 64 }
         ensures shorter { IfOk result (λ rest. length rest.now ≤ length bytes.now) }
     {
         let Ok((content, rest)) = split_at(bytes, len) else {
             self.notes.push(note)?;
             return Err(Stop::NoItem);
         };
-        let Some(what) = self.names.held(place.what, place.around, content) else {
-            let behind = rest.len().saturating_add(place.behind);
-            self.note_bytes(place.what, note, content, behind)?;
+        let Some(what) = self.names.held(expected.what, expected.around, content) else {
+            let behind = rest.len().saturating_add(expected.behind);
+            self.note_bytes(expected.what, note, content, behind)?;
             return Ok(rest);
         };
         self.notes.push(note.encoded(true))?;
-        let inside = Place {
+        let inside = Expected {
             what,
-            behind: place.behind + rest.len(),
-            ..place.unknown()
+            behind: expected.behind + rest.len(),
+            ..expected.unknown()
         };
         match self.item(&inside, content) {
             Err(Stop::OutOfMemory) => Err(Stop::OutOfMemory),
@@ -432,7 +437,7 @@ pub fn notes<'a>(
         Some(outer) if names.fit_behind_tags(&outer, bytes) == Fit::Whole => names.text(outer.name),
         _ => "",
     };
-    let outermost = Place {
+    let outermost = Expected {
         left: DEEPEST,
         behind: 0,
         name,

@@ -1,5 +1,5 @@
-//! The text of the script of the page and its hash. `checks/page_files --write` makes this file from
-//! `page/script.js`.
+//! The text of the script of the page and its hash. `checks/page_files --write` makes this file
+//! from `page/script.js`.
 
 /// Its SHA-256 in base 64: the page allows no other.
 pub(crate) const SCRIPT_HASH: &str = "F4vYjmJJkb4SCaee45VWT8veruNRUuhESL/YyJ+MGYw=";

@@ -1,5 +1,5 @@
-//! The text of the style of the page and its hash. `checks/page_files --write` makes this file from
-//! `page/style.css`.
+//! The text of the style of the page and its hash. `checks/page_files --write` makes this file
+//! from `page/style.css`.
 
 /// Its SHA-256 in base 64: the page allows no other.
 pub(crate) const STYLE_HASH: &str = "1o3Eia9nU/m1fL4ZWXcUFl4g4zlmVWp+GB1Fex8Aq1o=";

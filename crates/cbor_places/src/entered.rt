@@ -81,8 +81,8 @@ impl Entered<'_> {
     }
 }
 
-/// Whether a byte string below this tag, if there is one, may hold an array, a map or a tagged item.
-/// It does not below the tags of big numbers, UUIDs, addresses and typed arrays.
+/// Whether a byte string below this tag, if there is one, may hold an array, a map or a tagged
+/// item. It does not below the tags of big numbers, UUIDs, addresses and typed arrays.
 fn may_hold(tag: Option<u64>, content: &[u8]) -> bool {
     match (tag, content.first()) {
         (Some(2 | 3 | 37 | 52 | 54 | 64..=87 | 260), _) | (_, None) => false,

@@ -43,8 +43,8 @@ struct Level {
     path_len: usize,
     /// The level of the items in it.
     level: u8,
-    /// Whether it is an array whose members have a meaning each by their index: a short one that has
-    /// a tag.
+    /// Whether it is an array whose members have a meaning each by their index: a short one that
+    /// has a tag.
     is_record: bool,
 }
 

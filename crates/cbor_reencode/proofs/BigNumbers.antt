@@ -203,7 +203,8 @@ module _ (rules : Rules) (level tag : ℕ) (w : IntegerWidth) (i : Item) (le : l
 
   -- an integer
   small_again : (content : List ℕ) → is_big rules tag ≡ true → content_of (reduced_item rules i) ≡ Some content
-      → ltb (big_endian 0 content) (2 ^ 64) ≡ true → Written rules level (tagged tag w i) (big_bytes rules tag w content)
+      → ltb (big_endian 0 content) (2 ^ 64) ≡ true → Written rules level (tagged tag w i)
+      (big_bytes rules tag w content)
   small_again content on e small =
       let n = big_endian 0 content in
       let u = eqb tag 3 in
@@ -272,7 +273,8 @@ module _ (rules : Rules) (level tag : ℕ) (w : IntegerWidth) (i : Item) (le : l
   tag_again y j spells same = by (big_content rules tag y) refl
     where
       of_content : (content : List ℕ) (t : Bool) → ltb (big_endian 0 content) (2 ^ 64) ≡ t
-          → big_content rules tag y ≡ Some content → Written rules level (tagged tag w i) (big_bytes rules tag w content)
+          → big_content rules tag y ≡ Some content → Written rules level (tagged tag w i)
+          (big_bytes rules tag w content)
       of_content content t size e =
           let c = content_is rules tag (level + 1) y content j spells e in
           let s = subst (λ (k : Item). Spells strict (level + 1) y k) c.is spells in

@@ -14,7 +14,8 @@ use Rattle.cbor_floats.specs.declared.float.EncodedFloat.TheVariants.{Half, Sing
 use Rattle.cbor_rules.specs.declared.rules.Rules.{Rules}
 use Rattle.cbor_rules.specs.declared.kind.ViolationKind.{ViolationKind}
 use Rattle.cbor_rules.specs.declared.kind.ViolationKind.TheVariants as kind
-use Rattle.cbor_rules.specs.FirstViolation.{integer_float, nan_violation, reduced_violation, violation_or_else, is_usual_nan}
+use Rattle.cbor_rules.specs.FirstViolation.{integer_float, nan_violation, reduced_violation, violation_or_else}
+use Rattle.cbor_rules.specs.FirstViolation.{is_usual_nan}
 use Rattle.cbor_rules.specs.Reduced.{integer_of, number_of, reduced}
 use Rattle.cbor_rules.specs.Same.{said}
 use Rattle.cbor_reencode.specs.declared.numbers.Reduced.{Reduced}

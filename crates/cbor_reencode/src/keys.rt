@@ -118,8 +118,8 @@ fn fixes_keys(rules: Rules) -> bool
 /// Checks that no two keys of a map are equal, where the rules leave that open.
 fn check_keys(alloc: Global, bytes: &[u8], rules: Rules) -> Result<(), ReencodeError>
     ensures distinct { IfOk result (λ x. FixesKeys rules ⊎ KeysOnce bytes.now) }
-    ensures lasts { (b : Violation) → first_violation (lasting rules) bytes.now ≡ Some b → IfErr result
-        (λ e. (e ≡ ReencodeError.Violation b) ⊎ (e ≡ ReencodeError.Memory)) }
+    ensures lasts { (b : Violation) → first_violation (lasting rules) bytes.now ≡ Some b
+        → IfErr result (λ e. (e ≡ ReencodeError.Violation b) ⊎ (e ≡ ReencodeError.Memory)) }
     ensures found { first_violation (lasting rules) bytes.now ≡ None
         → FixesKeys rules ⊎ KeysOnce bytes.now → IfErr result (λ e. e ≡ ReencodeError.Memory) }
 {

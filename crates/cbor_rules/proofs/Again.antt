@@ -139,7 +139,8 @@ module _ (rules : Rules) (total level left : ℕ) (sum : level + suc left ≡ 12
       let its_none = subst (λ k. head_violation rules k b h r ≡ None) here none in
       let then = λ (x : Kept (ItemHead × List ℕ)). kept_then x
       (λ h. kept_body rules total b (kept_item left rules total) (opened h.0) h.0 h.1) in
-      ap (λ q. then (kept_then (at total b q) (λ h. unless total b (head_violation rules (deepest - left) b h.0 h.1) h))) e
+      ap (λ q. then (kept_then (at total b q)
+      (λ h. unless total b (head_violation rules (deepest - left) b h.0 h.1) h))) e
       ∙ ap (λ k. then (unless total b k (h, r))) its_none
 
   -- ---- items without parts

@@ -23,8 +23,10 @@ use Rattle.cbor_grammar.proofs.bytes.Strict.{strict_any, strict_only}
 use Rattle.cbor_rules.specs.declared.rules.Rules.{Rules}
 use Rattle.cbor_rules.specs.declared.kind.ViolationKind.TheVariants as kind
 use Rattle.cbor_rules.specs.FirstViolation.{Kept, kept_then, KeyAt, Open, members, pairs, value, after_end, front}
-use Rattle.cbor_rules.specs.FirstViolation.{number_violation, tag_violation, violation_or_else, argument_violation, container_violation}
-use Rattle.cbor_rules.specs.FirstViolation.{compared, order_violation, twice_violation, key_violation, after_part, unless}
+use Rattle.cbor_rules.specs.FirstViolation.{number_violation, tag_violation, violation_or_else, argument_violation}
+use Rattle.cbor_rules.specs.FirstViolation.{container_violation}
+use Rattle.cbor_rules.specs.FirstViolation.{compared, order_violation, twice_violation, key_violation, after_part}
+use Rattle.cbor_rules.specs.FirstViolation.{unless}
 use Rattle.cbor_rules.specs.FirstViolation.{Places, no_places, with_key, key_at}
 use Rattle.cbor_rules.specs.FirstViolation.{ended_or, kept_parts, kept_item, violation_or, violation_from}
 use Rattle.cbor_rules.specs.FirstViolation.{first_violation}

@@ -16,6 +16,7 @@ exactly rules b result fits e =
 
 -- of a result, if there was memory for it
 pub exactly_ok : {E : Type 0} (rules : Rules) (b : List ℕ) (result : Result (Option Violation) E) → IsBytes b
-    → IfOk result (λ found. found ≡ first_violation rules b) → IfOk result (λ found. (found ≡ None) ↔ KeepsRules rules b)
+    → IfOk result (λ found. found ≡ first_violation rules b)
+    → IfOk result (λ found. (found ≡ None) ↔ KeepsRules rules b)
 exactly_ok rules b (Ok found) fits e = exactly rules b found fits e
 exactly_ok rules b (Err stop) fits e = tt

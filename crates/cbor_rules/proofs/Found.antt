@@ -231,7 +231,8 @@ module _ (rules : Rules) (total level left : ℕ) (b r rest : List ℕ) (sum : l
       let c = content_read (read_content kind n w r) rest k.0 in
       let is = content_width kind n w r rest c.0 c.1 in
       let short : number_violation rules (length c.0.bytes) c.0.width ≡ None = rw (is.0, is.1) violation in
-      let text = text_found rules kind c.0.bytes (subst (λ (y : List ℕ). text_violation rules kind y ≡ None) is.2 k.1) in
+      let text = text_found rules kind c.0.bytes
+      (subst (λ (y : List ℕ). text_violation rules kind y ≡ None) is.2 k.1) in
       made (string kind c.0)
       (by_head left b r (item_head.String kind (Number n w)) head
       ∙ ap (λ q. ◌>>=◌ q (λ c. Ok (atom (string kind c.0), c.1))) c.1)

@@ -188,10 +188,12 @@ module _ (rules : Rules) (total level : ℕ) (read : List ℕ → Kept (List ℕ
     );
     keeps = (f.keeps, v.found.keeps, v.more.keeps);
     keys = keys_more last b r f v.found.item v.more.pairs
-        (both_none (order_violation rules last (front b r)) (twice_violation rules seen (front b r)) none).0 v.more.keys;
+        (both_none (order_violation rules last (front b r)) (twice_violation rules seen
+        (front b r)) none).0 v.more.keys;
     fresh = fresh_more rules seen (key_at total b r) f.item v.found.item v.more.pairs
         (front_is f.front r b f.parts ∙ strict_only level f.front f.item f.spells)
-        (both_none (order_violation rules last (front b r)) (twice_violation rules seen (front b r)) none).1 v.more.fresh;
+        (both_none (order_violation rules last (front b r)) (twice_violation rules seen
+        (front b r)) none).1 v.more.fresh;
     rest_bytes = v.more.rest_bytes;
   }
 

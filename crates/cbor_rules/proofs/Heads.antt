@@ -107,7 +107,8 @@ pub number_found : (rules : Rules) (n : ℕ) (w : IntegerWidth) → FitsStated w
 number_found rules n w fits e =
     long_test rules.shortest_heads w n fits (test_none (rules.shortest_heads && is_long w n) (kind.LongHead n w) e)
 
-pub number_again : (rules : Rules) (n : ℕ) (w : IntegerWidth) → KeepsNumber rules n w → number_violation rules n w ≡ None
+pub number_again : (rules : Rules) (n : ℕ) (w : IntegerWidth) → KeepsNumber rules n w →
+    number_violation rules n w ≡ None
 number_again rules n w keeps =
     test_kept (rules.shortest_heads && is_long w n) (kind.LongHead n w)
     (short_test rules.shortest_heads w n keeps)

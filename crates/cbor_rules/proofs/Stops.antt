@@ -13,7 +13,8 @@ use Rattle.cbor_rules.specs.declared.check.Stop.{Stop}
 use Rattle.cbor_rules.specs.declared.check.Stop.TheVariants as stop
 use Rattle.cbor_rules.specs.FirstViolation.{Kept, kept_then, at, unless, number_violation, chunk_content, kept_content}
 use Rattle.cbor_rules.specs.declared.kind.ViolationKind.{ViolationKind}
-use Rattle.cbor_rules.specs.FirstViolation.{kept_chunk, KeyAt, Places, Open, pairs, value, violation_at, place_of, front}
+use Rattle.cbor_rules.specs.FirstViolation.{kept_chunk, KeyAt, Places, Open, pairs, value, violation_at, place_of}
+use Rattle.cbor_rules.specs.FirstViolation.{front}
 use Rattle.cbor_rules.specs.FirstViolation.{after_part}
 use Rattle.cbor_rules.specs.FirstViolation.{key_violation, with_key, kept_atom}
 use Rattle.cbor_grammar.specs.declared.argument.Argument.{Argument}

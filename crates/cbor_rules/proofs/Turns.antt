@@ -101,7 +101,8 @@ items_turn (suc m) rules total (first ∷ b) whole read lt le all e =
 pub items_stop : (n : ℕ) (rules : Rules) (total : ℕ) (b : List ℕ) (whole : Option Violation) (violation : Violation)
     → 0 < length b → length b ≤ n → violation_from n rules total b ≡ whole
     → kept_item deepest rules total b ≡ Err violation → whole ≡ Some violation
-items_stop n rules total b whole violation lt le all e = sym (items_turn n rules total b whole (Err violation) lt le all e).2
+items_stop n rules total b whole violation lt le all e = sym
+    (items_turn n rules total b whole (Err violation) lt le all e).2
 
 pub items_go : (n : ℕ) (rules : Rules) (total : ℕ) (b : List ℕ) (whole : Option Violation) (rest : List ℕ)
     → 0 < length b → length b ≤ n → violation_from n rules total b ≡ whole

@@ -1,7 +1,7 @@
 //! Writes EDN without the indicators that state widths, such as `_1`. The marks of indefinite
 //! lengths (`_`) stay.
-ghost use Rattle.std.specs.Prelude.{◌≡◌, ◌⊎◌, ℕ, ◌+◌, ◌≤◌, ◌<◌, ◌++◌, List, length, take, drop, codes};
-ghost use Rattle.std.specs.Prelude.{OnOk, IfOk, IsTrue};
+ghost use Rattle.std.specs.Prelude.{◌≡◌, ◌⊎◌, ℕ, ◌+◌, ◌≤◌, ◌<◌, ◌++◌, List, length, take, drop};
+ghost use Rattle.std.specs.Prelude.{OnOk, IfOk, IsTrue, codes};
 ghost use Rattle.cbor_screen.specs.Widthless.{IsIndicator, IsWidthless, IsWidthlessToken};
 
 use crate::color::line_end;

@@ -86,8 +86,8 @@ impl Stats {
 
     /// Appends a line for each path, the one that takes most bytes first: how many bytes its values
     /// take, their share in a hundred, how many there are, the path, and the kinds of the values
-    /// with their bounds. The first line says how many items there are; the last one is of the heads
-    /// of containers and the keys.
+    /// with their bounds. The first line says how many items there are; the last one is of the
+    /// heads of containers and the keys.
     pub fn push_text(&self, out: &mut String) -> Result<(), AllocError> {
         let items = if self.items == 1 { "item" } else { "items" };
         write!(out, "{} {items}, {} bytes\n", self.items, self.bytes)?;

@@ -1,7 +1,7 @@
 //! Tests that are the examples of `cbor_edit`'s doc comments; `checks/examples` checks that the
 //! lines are the same. Also tests its calls at places that no path leads to.
 
-use cbor_edit::{Edit, EditError, Place, edited, replaced, with_more, without};
+use cbor_edit::{Edit, EditError, EnclosedSpan, edited, replaced, with_more, without};
 use cbor_paths::{Picture, Step};
 use cbor_trace::Span;
 use std::alloc::{AllocError, Global};
@@ -31,7 +31,7 @@ fn is_refused(found: Result<Option<Vec<u8>>, AllocError>) -> bool {
 
 /// What stands in place of a span in these byte strings.
 fn replaced_in(alloc: Global, around: &[usize], span: Span) -> Result<Option<Vec<u8>>, AllocError> {
-    let place = Place {
+    let place = EnclosedSpan {
         around: Vec::from_slice(alloc, around)?,
         span,
     };

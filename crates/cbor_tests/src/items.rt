@@ -1,5 +1,5 @@
-//! Tests items built in memory. No input gives most of these items. The tests check whether they are
-//! well-formed, and how they are written if their widths are left open.
+//! Tests items built in memory. No input gives most of these items. The tests check whether they
+//! are well-formed, and how they are written if their widths are left open.
 
 use cbor_diag::{ByteString, DataItem, FloatWidth, IntegerWidth, Result, Tag, TextString};
 use std::alloc::Global;

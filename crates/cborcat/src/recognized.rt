@@ -15,7 +15,8 @@ pub struct Data {
     pub form: Input,
     /// The bytes that it stands for.
     pub bytes: Vec<u8>,
-    /// Whether it was taken for hex, and its bytes are no items: it may have been meant as notation.
+    /// Whether it was taken for hex, and its bytes are no items: it may have been meant as
+    /// notation.
     pub may_be_notation: bool,
 }
 

@@ -1,5 +1,5 @@
--- What `strict.rt` tests: bytes that spell an item spell it strictly if no two of them that follow each other are a
--- simple value below 24.
+-- Bytes that encode an item have no simple value below 24 in two bytes (`f8 00`), if no byte below 24 follows 0xf8 in
+-- them. So `strict.rt` searches for 0xf8.
 use Rattle.std.proofs.Common.{◌≡◌, ℕ, zero, suc, ◌+◌, ◌≤◌, true, List, [], ◌∷◌, ◌++◌, length, drop}
 use Rattle.std.proofs.Common.{◌∙◌, get_or, Option, Some, None, inl, inr, refl, sym, ap, subst, arith}
 use Rattle.std.proofs.lemmas.Bool.{cases_lt, eq-eqb}

@@ -1,4 +1,5 @@
--- Skipping over an item piece by piece: what every byte adds.
+-- For `skip/progress.rt`: what a scan waits for before the first byte and after each byte more, and that a place where
+-- it stops is within the bytes.
 use Rattle.std.proofs.Common.{◌≡◌, ℕ, ◌+◌, ◌-◌, ◌<◌, ◌≤◌, List, [], ◌∷◌, ◌++◌, length, get_or, take, drop}
 use Rattle.std.proofs.Common.{Some, refl, sym, ap, subst, ◌∙◌}
 use Rattle.std.proofs.Common.{append_assoc, arith}

@@ -9,7 +9,7 @@ use Rattle.cbor_grammar.specs.declared.width.FloatWidth.TheVariants as float_wid
 use Rattle.cbor_grammar.specs.declared.strings.StringContent.{StringContent}
 use Rattle.cbor_grammar.specs.declared.strings.StringKind.{StringKind}
 use Rattle.cbor_grammar.specs.StringKind.{major_of}
-use Rattle.cbor_dump.specs.declared.width.Place.{Place}
+use Rattle.cbor_dump.specs.declared.width.DumpPlace.{DumpPlace}
 use Rattle.cbor_grammar.specs.declared.head.ItemHead.{ItemHead}
 use Rattle.cbor_grammar.specs.declared.argument.Argument.{Argument}
 use Rattle.cbor_grammar.specs.declared.argument.Argument.TheVariants.{Number, Indefinite}
@@ -160,7 +160,7 @@ head_low b rest h fits e =
 max_assoc : (a b c d e : ℕ) → d ≡ max a b → e ≡ max d c → e ≡ max a (max b c)
 max_assoc a b c d e p q = omega arith
 
-pub front_measured : (p : Place) (b rest after : List ℕ) (h : ItemHead) (old counted new : ℕ) → IsBytes b
+pub front_measured : (p : DumpPlace) (b rest after : List ℕ) (h : ItemHead) (old counted new : ℕ) → IsBytes b
     → p.level ≤ 128 → read_head b ≡ Ok (h, rest)
     → counted ≡ max old (head_reach p.depth (shown_length h (length b - length rest)))
     → MeasuredBehind p h rest after counted new → Measured (width_there p) (read_at p.level b) after old new
@@ -182,7 +182,7 @@ no_more : (a : ℕ) → a ≡ max a 0
 no_more a = omega arith
 
 -- an item that is its head
-pub alone_measured : (p : Place) (h : ItemHead) (b : List ℕ) (n : ℕ)
+pub alone_measured : (p : DumpPlace) (h : ItemHead) (b : List ℕ) (n : ℕ)
     → ((k : StringKind) (a : Argument) → h ≡ item_head.String k a → ⊥)
     → ((a : Argument) → h ≡ item_head.Array a → ⊥) → ((a : Argument) → h ≡ item_head.Map a → ⊥)
     → ((t : ℕ) (w : IntegerWidth) → h ≡ item_head.Tag t w → ⊥) → MeasuredBehind p h b b n n
@@ -199,7 +199,7 @@ alone_measured p (item_head.Float bits w) b n no_string no_array no_map no_tag =
 alone_measured p (item_head.Simple m) b n no_string no_array no_map no_tag = (atom (simple m), refl, refl, no_more n)
 
 -- a tag, and the value right below it
-pub tag_measured : (p below : Place) (t : ℕ) (w : IntegerWidth) (b after : List ℕ) (old new : ℕ)
+pub tag_measured : (p below : DumpPlace) (t : ℕ) (w : IntegerWidth) (b after : List ℕ) (old new : ℕ)
     → below.level ≡ p.level + 1 → below.depth ≡ p.depth + 1 → tag_number below.tag ≡ Some t
     → Measured (width_there below) (read_at below.level b) after old new
     → MeasuredBehind p (item_head.Tag t w) b after old new
@@ -257,7 +257,7 @@ pub pair_counted : (each : Item → ℕ) (ps : Pairs) (k v : Item) (old now key 
 pair_counted each ps k v old now key new p q r = let more = pairs_more each ps k v in omega arith
 
 -- what is in a container is one deeper
-module _ (p inner : Place) (level : inner.level ≡ p.level + 1) (depth : inner.depth ≡ p.depth + 1)
+module _ (p inner : DumpPlace) (level : inner.level ≡ p.level + 1) (depth : inner.depth ≡ p.depth + 1)
     (tag : tag_number inner.tag ≡ None) where
   each_inside : width_there inner ≡ width_at (levels_left (p.level + 1)) (p.depth + 1) None
   each_inside = ap (λ n. width_at (levels_left n) inner.depth (tag_number inner.tag)) level
@@ -294,7 +294,8 @@ module _ (p inner : Place) (level : inner.level ≡ p.level + 1) (depth : inner.
 
 -- ---- strings
 
-pub string_measured : (p : Place) (kind : StringKind) (n : ℕ) (w : IntegerWidth) (s : StringContent) (b after : List ℕ)
+pub string_measured : (p : DumpPlace) (kind : StringKind) (n : ℕ) (w : IntegerWidth) (s : StringContent)
+    (b after : List ℕ)
     (old new found : ℕ) → kind_of s ≡ kind → read_content kind n w b ≡ Ok (borrowed_chunk w s, after)
     → found ≡ longest_piece (kind_of s) (tag_number p.tag) (bytes_of s)
     → new ≡ max old (piece_reach (p.depth + 1) found)
@@ -355,7 +356,7 @@ chunk_counted kind depth cs w s b after old now new fits same read before counte
     max_assoc old (chunks_width kind depth cs) (string_width kind depth None c) now new before here
     ∙ ap (max old) (sym (chunks_more kind depth cs c))
 
-pub chunks_measured : (p : Place) (kind : StringKind) (b after : List ℕ) (cs : List Chunk) (old now new : ℕ)
+pub chunks_measured : (p : DumpPlace) (kind : StringKind) (b after : List ℕ) (cs : List Chunk) (old now new : ℕ)
     → read_behind p.level (item_head.String kind Indefinite) b ≡ Ok (atom (chunked_string kind cs), after)
     → now ≡ max old (chunks_width kind (p.depth + 1) cs) → new ≡ max now (head_reach (p.depth + 1) 1)
     → MeasuredBehind p (item_head.String kind Indefinite) b after old new

@@ -3,7 +3,7 @@ use Rattle.std.specs.Prelude.{◌≡◌, ℕ, zero, suc, ◌+◌, ◌*◌, ◌%�
 use Rattle.std.specs.Prelude.{nat_lt, Option, Some, None, Ok, if◌then◌else◌}
 use Rattle.cbor_notes.specs.Element.{element_size}
 use Rattle.cbor_grammar.specs.declared.width.IntegerWidth.{IntegerWidth}
-use Rattle.cbor_dump.specs.declared.width.Place.{Place}
+use Rattle.cbor_dump.specs.declared.width.DumpPlace.{DumpPlace}
 use Rattle.cbor_grammar.specs.declared.argument.Argument.TheVariants.{Number, Indefinite}
 use Rattle.cbor_grammar.specs.Item as spec
 use Rattle.cbor_grammar.specs.Item.{Chunk, Atom, integer, negative, string, chunked_string, float, simple, Item, atom}
@@ -119,13 +119,13 @@ width_at (suc left) depth tag i =
 -- ---- places
 
 -- an item is less deep than its level, which is at most one past the deepest
-abbrev pub IsPlace : Place → Type 0
+abbrev pub IsPlace : DumpPlace → Type 0
 IsPlace p = (p.depth < p.level) × (p.level ≤ deepest + 1)
 
-abbrev pub width_there : Place → Item → ℕ
+abbrev pub width_there : DumpPlace → Item → ℕ
 width_there p i = width_at (levels_left p.level) p.depth (tag_number p.tag) i
 
-abbrev pub inner_there : Place → Item → ℕ
+abbrev pub inner_there : DumpPlace → Item → ℕ
 inner_there p i = inner_width (width_at (levels_left (p.level + 1))) p.depth (tag_number p.tag) i
 
 -- ---- what was measured
@@ -147,7 +147,7 @@ HasHead (item_head.Float bits w) i = i ≡ atom (float bits w)
 HasHead (item_head.Simple n) i = i ≡ atom (simple n)
 
 -- the same after a head, which was counted
-abbrev pub MeasuredBehind : Place → ItemHead → List ℕ → List ℕ → ℕ → ℕ → Type 0
+abbrev pub MeasuredBehind : DumpPlace → ItemHead → List ℕ → List ℕ → ℕ → ℕ → Type 0
 MeasuredBehind p h b rest old new =
     (i : Item) × (read_behind p.level h b ≡ Ok (i, rest)) × HasHead h i × (new ≡ max old (inner_there p i))
 

@@ -223,7 +223,8 @@ split style (i ∷ is) text (first, more, whole, written, later) =
     }
 
 pub items_back : (style : EdnStyle) (is : List Item) (text : List ℕ) → AllByRecursion (WellFormed 1) is
-    → AllByRecursion NoneReserved is → AreEdnLines style is text → bytes_of_edn text ≡ Some (encoded_items (items_of is))
+    → AllByRecursion NoneReserved is → AreEdnLines style is text → bytes_of_edn text
+    ≡ Some (encoded_items (items_of is))
 items_back style is text well free written =
     let parts = split style is text written in
     ap bytes_of_edn parts.whole ∙ lines_back (items_of is) parts.texts (all_well is well) (all_free is free)

@@ -35,7 +35,8 @@ use Rattle.cbor_notation_writer.specs.Dialect.{listed, ItemTexts, PairTexts, Chu
 use Rattle.cbor_notation_writer.specs.Dialect.{OneText, EmbeddedText, SequenceText, ContentText, ChunksText, AtomText}
 use Rattle.cbor_notation_writer.specs.Dialect.{TagText, TextWith, TextsOf, Writer, embedding, count_of, style_at}
 use Rattle.cbor_edn_writer.specs.Breaks.{Nothing}
-use Rattle.cbor_edn_writer.specs.EdnLeaves.{edn_leaves, EdnLeaf, style_on, longer, marked, spaced, count_mark, with_gap, gap}
+use Rattle.cbor_edn_writer.specs.EdnLeaves.{edn_leaves, EdnLeaf, style_on, longer, marked, spaced, count_mark, with_gap}
+use Rattle.cbor_edn_writer.specs.EdnLeaves.{gap}
 use Rattle.cbor_edn_writer.specs.EdnLeaves.{edn_opening, edn_closing, embedded_mark, Noted, quoted_string}
 use Rattle.cbor_edn_writer.specs.declared.print.line.Line.{Line}
 use Rattle.cbor_edn_writer.specs.declared.print.place.EdnPlace.{EdnPlace}

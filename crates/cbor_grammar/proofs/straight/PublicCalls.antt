@@ -1,4 +1,5 @@
--- By the definitions, from what reading gives to the clauses of the calls that print from bytes.
+-- From what reading bytes gives to the clauses of the calls that print straight from bytes: the text of the one item
+-- that the bytes begin with, or the one error that they have.
 use Rattle.std.proofs.Common.{◌≡◌, ◌≢◌, ℕ, ◌-◌, List, ◌++◌, length, Some, Result}
 use Rattle.std.proofs.Common.{Ok, Err, IfOk, refl, sym, subst, ◌∙◌, arith, inl, inr}
 use Rattle.std.specs.Prelude.{MatchResult}

@@ -1,4 +1,5 @@
--- The function reads what the grammar of notation has: the pieces of strings, and each notation of bytes.
+-- The function that reads notation reads each piece of a string that the grammar has, such as `'..'`, `h'..'` and
+-- `<<..>>`, goes on where another piece begins, and stops where none does.
 use Rattle.std.proofs.Common.{◌≡◌, ◌≢◌, ℕ, zero, suc, ◌<◌, Bool, true, false, not, List, [], ◌∷◌, ◌++◌, length, codes}
 use Rattle.std.proofs.Common.{Option, Some, Ok, refl, sym, ap, ◌∙◌, subst, inl, inr, arith}
 use Rattle.std.proofs.lemmas.Bool.{not-true}

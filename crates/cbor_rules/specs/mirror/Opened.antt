@@ -1,5 +1,5 @@
--- Finding a violation: what the code keeps of the keys of an open map, as the definitions have it; and what reading gives
--- where memory may run out.
+-- Finding a violation: what the code keeps of the keys of an open map, as the definitions have it; and what reading
+-- gives where memory may run out.
 use Rattle.std.specs.Prelude.{◌≡◌, ◌≢◌, ◌≤◌, ℕ, List, Bool, false, Option, Some, None, is_some, if◌then◌else◌}
 use Rattle.std.specs.Prelude.{Result, Ok, Err}
 use Rattle.std.specs.BTreeMap.{BTreeMap, get_by}
@@ -14,7 +14,8 @@ use Rattle.cbor_rules.specs.declared.keys.Key.{Key}
 use Rattle.cbor_rules.specs.declared.keys.Keys.{Keys}
 use Rattle.cbor_rules.specs.declared.container.Parts.{Parts}
 use Rattle.cbor_rules.specs.declared.container.Parts.TheVariants as code
-use Rattle.cbor_rules.specs.FirstViolation.{KeyAt, Kept, Places, no_places, key_violation, with_key, violation_at, Open, members}
+use Rattle.cbor_rules.specs.FirstViolation.{KeyAt, Kept, Places, no_places, key_violation, with_key, violation_at, Open}
+use Rattle.cbor_rules.specs.FirstViolation.{members}
 use Rattle.cbor_rules.specs.FirstViolation.{pairs}
 use Rattle.cbor_rules.specs.declared.rules.Rules.{Rules}
 use Rattle.cbor_rules.specs.declared.kind.ViolationKind.{ViolationKind}

@@ -66,8 +66,8 @@ impl Page {
 }
 
 impl Conversion<'_> {
-    /// Adds some items, or the parts of them that the path leads to, to the page, which shows at most
-    /// this many bytes. Tells what follows them.
+    /// Adds some items, or the parts of them that the path leads to, to the page, which shows at
+    /// most this many bytes. Tells what follows them.
     pub(super) fn page_items(&mut self, most: usize, one: bool) -> End {
         let Ok(show) = show_of(self.rt.alloc(), self.job, self.tables) else {
             return End::Memory;

@@ -183,8 +183,8 @@ impl Conversion<'_> {
         Ok(self.screen.write(self.target, text.as_bytes(), language)?)
     }
 
-    /// What is shown of the item at the front of the bytes that are left, which is not whole; `None`
-    /// if it is nothing.
+    /// What is shown of the item at the front of the bytes that are left, which is not whole;
+    /// `None` if it is nothing.
     fn partial_text(&self, said: &str) -> Result<Option<String>, Error> {
         let style = self.job.show.style;
         let bytes = self.stream.rest();

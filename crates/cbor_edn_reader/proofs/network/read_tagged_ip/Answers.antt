@@ -9,7 +9,8 @@ returns-clause-reads c =
     let d = c.in_ok-string.ensures in
     let rest = c.rest-rest.result.now in (
       d.0,
-      quoted_read (tagged_ip (129 - c.args.inner)) c.args.text.now rest c.new.result c.in-Some.end d.0 c.rest-rest.ensures
+      quoted_read (tagged_ip (129 - c.args.inner))
+          c.args.text.now rest c.new.result c.in-Some.end d.0 c.rest-rest.ensures
           c.in-Some.ensures.at d.1 (c.new.ensures ∙ take_rest rest (c.in-Some.end + 1)),
       d.2,
       d.3,

@@ -16,7 +16,8 @@ pub returns-in_err-ip_item : goal.returns-in_err-ip_item
 returns-in_err-ip_item c =
     let p = err_from_is_err_and c.from_residual-in_err-ip_item.result c.from_residual-in_err-ip_item.ensures.1 in
     let is = tagged_ip_left (129 - c.args.inner) (129 - (c.args.inner + 1)) c.args.content.now (omega arith) in
-    rw (p.1, p.2, is) (refused_step c.in_err-ip_item.field-0.0 _ (λ i. Some (tagged (ip_tag c.args.content.now) Unknown i))
+    rw (p.1, p.2, is) (refused_step c.in_err-ip_item.field-0.0 _
+    (λ i. Some (tagged (ip_tag c.args.content.now) Unknown i))
     c.in_err-ip_item.ensures)
 
 pub returns : goal.returns

@@ -61,7 +61,8 @@ pieces::read_pieces-pieces-preserved t c =
 pub read_items-returns-then-take_close-clause-reads : goal.read_items-returns-then-take_close-clause-reads
 read_items-returns-then-take_close-clause-reads t c = (
   [],
-  members_closed (item_turn (read_item (129 - c.args.level)) c.args.close) c.args.close c.args.text.now c.skip_blank.new.self [] refl c.skip_blank.ensures.rest
+  members_closed (item_turn (read_item (129 - c.args.level)) c.args.close) c.args.close
+      c.args.text.now c.skip_blank.new.self [] refl c.skip_blank.ensures.rest
       (rw c.if-take_close.true at c.take_close.ensures.takes),
   sym (append-nil c.args.out.now.items),
   refl,
@@ -70,7 +71,8 @@ read_items-returns-then-take_close-clause-reads t c = (
 pub read_items-items-init : goal.read_items-items-init
 read_items-items-init t c =
     let none = rw c.if-take_close.false at c.take_close.ensures.takes in
-    let begun = members_begin (item_turn (read_item (129 - c.args.level)) c.args.close) c.args.close c.args.text.now c.take_close.new.text [] refl
+    let begun = members_begin (item_turn (read_item (129 - c.args.level)) c.args.close) c.args.close
+    c.args.text.now c.take_close.new.text [] refl
     (none.1 ∙ c.skip_blank.ensures.rest) (ap (after_close c.args.close) none.1 ∙ none.0) in
     record {
       front = [];
@@ -117,7 +119,8 @@ read_items-items-preserved t c =
 pub read_pairs-returns-then-take_close-clause-reads : goal.read_pairs-returns-then-take_close-clause-reads
 read_pairs-returns-then-take_close-clause-reads t c = (
   [],
-  members_closed (pair_turn (read_item (129 - c.args.level))) Brace c.args.text.now c.skip_blank.new.self [] refl c.skip_blank.ensures.rest
+  members_closed (pair_turn (read_item (129 - c.args.level))) Brace
+      c.args.text.now c.skip_blank.new.self [] refl c.skip_blank.ensures.rest
       (rw c.if-take_close.true at c.take_close.ensures.takes),
   sym (append-nil c.args.out.now.items),
   refl,
@@ -126,7 +129,8 @@ read_pairs-returns-then-take_close-clause-reads t c = (
 pub read_pairs-pairs-init : goal.read_pairs-pairs-init
 read_pairs-pairs-init t c =
     let none = rw c.if-take_close.false at c.take_close.ensures.takes in
-    let begun = members_begin (pair_turn (read_item (129 - c.args.level))) Brace c.args.text.now c.take_close.new.text [] refl
+    let begun = members_begin (pair_turn (read_item (129 - c.args.level))) Brace
+    c.args.text.now c.take_close.new.text [] refl
     (none.1 ∙ c.skip_blank.ensures.rest) (ap (after_close Brace) none.1 ∙ none.0) in
     record {
       front = [];
@@ -173,7 +177,8 @@ read_pairs-pairs-preserved t c =
 pub read_chunk_list-returns-then-take_close-clause-reads : goal.read_chunk_list-returns-then-take_close-clause-reads
 read_chunk_list-returns-then-take_close-clause-reads t c = (
   [],
-  members_closed (chunk_turn (read_item (129 - c.args.inner)) c.args.kind) Parenthesis c.args.text.now c.skip_blank.new.self [] refl c.skip_blank.ensures.rest
+  members_closed (chunk_turn (read_item (129 - c.args.inner)) c.args.kind) Parenthesis
+      c.args.text.now c.skip_blank.new.self [] refl c.skip_blank.ensures.rest
       (rw c.if-take_close.true at c.take_close.ensures.takes),
   sym (append-nil c.args.out.now.items),
   refl,
@@ -182,7 +187,8 @@ read_chunk_list-returns-then-take_close-clause-reads t c = (
 pub read_chunk_list-chunks-init : goal.read_chunk_list-chunks-init
 read_chunk_list-chunks-init t c =
     let none = rw c.if-take_close.false at c.take_close.ensures.takes in
-    let begun = members_begin (chunk_turn (read_item (129 - c.args.inner)) c.args.kind) Parenthesis c.args.text.now c.take_close.new.text [] refl
+    let begun = members_begin (chunk_turn (read_item (129 - c.args.inner)) c.args.kind) Parenthesis
+    c.args.text.now c.take_close.new.text [] refl
     (none.1 ∙ c.skip_blank.ensures.rest) (ap (after_close Parenthesis) none.1 ∙ none.0) in
     record {
       front = [];
@@ -206,7 +212,8 @@ read_chunk_list-returns-then-not-more-clause-reads t c =
     let turn = rw c.if-not-more.true at c.in_ok-more.ensures.adds in (
       i.front ++ turn.0 ∷ [],
       turn_last _ _ _ _ _ i.enough i.so_far turn.1,
-      member_added (chunks_bytes c.args.kind) (chunks_join c.args.kind) c.args.out.now.items c.chunks.out.items _ i.front turn.0 i.written turn.2,
+      member_added (chunks_bytes c.args.kind)
+          (chunks_join c.args.kind) c.args.out.now.items c.chunks.out.items _ i.front turn.0 i.written turn.2,
       counted_more c.chunks.count _ i.front turn.0 i.counted c.in_ok-count.ensures.more,
     )
 
@@ -220,7 +227,8 @@ read_chunk_list-chunks-preserved t c =
       bound = next.0;
       enough = next.1;
       so_far = next.2;
-      written = member_added (chunks_bytes c.args.kind) (chunks_join c.args.kind) c.args.out.now.items c.chunks.out.items _ i.front turn.0 i.written
+      written = member_added (chunks_bytes c.args.kind)
+          (chunks_join c.args.kind) c.args.out.now.items c.chunks.out.items _ i.front turn.0 i.written
           turn.2;
       counted = counted_more c.chunks.count _ i.front turn.0 i.counted c.in_ok-count.ensures.more;
       room = omega (arith, c.in_ok-more.ensures.shorter, i.room);

@@ -29,8 +29,12 @@ lines-preserved c =
 
 pub returns-clause-elided : goal.returns-clause-elided
 returns-clause-elided c =
-    let before = c.lines.invariant.elided in
-    (before.0, before.1, shown_whole (IsElidedToken c.args.most) c.args.text.now c.lines.at before.0 (omega arith) before.2)
+    let before = c.lines.invariant.elided in (
+      before.0,
+      before.1,
+      shown_whole (IsElidedToken c.args.most) c.args.text.now c.lines.at before.0
+          (omega arith) before.2,
+    )
 
 pub returns-clause-short : goal.returns-clause-short
 returns-clause-short c = λ short.

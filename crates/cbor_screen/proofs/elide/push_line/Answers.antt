@@ -29,5 +29,9 @@ tokens-preserved c =
 
 pub returns : goal.returns
 returns c =
-    let before = c.tokens.invariant.elided in
-    (before.0, before.1, shown_whole (IsElidedToken c.args.most) c.args.line.now c.tokens.at before.0 (omega arith) before.2)
+    let before = c.tokens.invariant.elided in (
+      before.0,
+      before.1,
+      shown_whole (IsElidedToken c.args.most) c.args.line.now c.tokens.at before.0
+          (omega arith) before.2,
+    )

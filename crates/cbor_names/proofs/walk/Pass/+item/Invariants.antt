@@ -3,22 +3,22 @@ use Rattle.std.proofs.Common.{◌≤◌, ◌+◌, ◌*◌, length}
 use Rattle.cbor_names.proofs.walk.Pass.+item.Given as goal
 
 abbrev pub decreases-item : goal.decreases-item
-decreases-item l = 3 * l.place.now.left + 2
+decreases-item l = 3 * l.expected.now.left + 2
 
 abbrev pub decreases-tagged : goal.decreases-tagged
-decreases-tagged l = 3 * l.place.now.left + 1
+decreases-tagged l = 3 * l.expected.now.left + 1
 
 abbrev pub decreases-bytes : goal.decreases-bytes
-decreases-bytes l = 3 * l.place.now.left + 1
+decreases-bytes l = 3 * l.expected.now.left + 1
 
 abbrev pub decreases-members : goal.decreases-members
-decreases-members l = 3 * l.place.now.left + 1
+decreases-members l = 3 * l.expected.now.left + 1
 
 abbrev pub decreases-pairs : goal.decreases-pairs
-decreases-pairs l = 3 * l.place.now.left + 1
+decreases-pairs l = 3 * l.expected.now.left + 1
 
 abbrev pub decreases-key : goal.decreases-key
-decreases-key l = 3 * l.place.now.left
+decreases-key l = 3 * l.expected.now.left
 
 abbrev pub invariant-members-members : goal.invariant-members-members
 invariant-members-members l = l.index + length l.rest ≤ length l.bytes

@@ -4,5 +4,8 @@ use Rattle.cbor_page.proofs.source.Source.push_bytes.Goals as goal
 
 pub returns-clause-written : goal.returns-clause-written
 returns-clause-written c =
-    writes_bytes c.args.self.now c.args.done _ _ _ (c.requires.0, omega (arith, c.max-end.ensures, c.min.ensures, c.requires.1))
+    writes_bytes c.args.self.now c.args.done _ _ _ (
+      c.requires.0,
+      omega (arith, c.max-end.ensures, c.min.ensures, c.requires.1),
+    )
     (omega (arith, c.max-end.ensures)) refl c.in_ok-push_spaced.ensures

@@ -7,7 +7,8 @@ use Rattle.cbor_grammar.specs.declared.head.ItemHead.TheVariants as item_head
 use Rattle.cbor_grammar.proofs.bytes.Heads.{head_takes}
 use Rattle.cbor_reencode.specs.declared.pairs.Pair.{Pair}
 use Rattle.cbor_reencode.specs.mirror.Rewritten.{Rewritten}
-use Rattle.cbor_reencode.proofs.Around.{no_parts, head_read, array_at, array_fits, array_written, counted, map_at, map_fits}
+use Rattle.cbor_reencode.proofs.Around.{no_parts, head_read, array_at, array_fits, array_written, counted, map_at}
+use Rattle.cbor_reencode.proofs.Around.{map_fits}
 use Rattle.cbor_reencode.proofs.Around.{map_written, tag_written}
 use Rattle.cbor_reencode.proofs.Containers.{atom_done, items_start, items_step, pairs_start, pairs_step}
 use Rattle.cbor_reencode.proofs.encoder.Encoder.+item.Goals as goal
@@ -56,7 +57,8 @@ push_item-push_array-requires t c = (
   search rules,
   (
     omega arith,
-    head_read c.args.bytes.now c.in-Ok.read.0 (item_head.Array c.in-Array.count) c.in-Ok.read.1.now c.in-Ok.ensures.gives c.in-Array.is,
+    head_read c.args.bytes.now c.in-Ok.read.0
+        (item_head.Array c.in-Array.count) c.in-Ok.read.1.now c.in-Ok.ensures.gives c.in-Array.is,
   ),
 )
 
@@ -65,7 +67,8 @@ push_item-push_map-requires t c = (
   search rules,
   (
     omega arith,
-    head_read c.args.bytes.now c.in-Ok.read.0 (item_head.Map c.in-Map.count) c.in-Ok.read.1.now c.in-Ok.ensures.gives c.in-Map.is,
+    head_read c.args.bytes.now c.in-Ok.read.0
+        (item_head.Map c.in-Map.count) c.in-Ok.read.1.now c.in-Ok.ensures.gives c.in-Map.is,
   ),
 )
 
@@ -74,7 +77,8 @@ push_item-push_tagged-requires t c = (
   search rules,
   (
     omega arith,
-    head_read c.args.bytes.now c.in-Ok.read.0 (item_head.Tag c.in-Tag.tag c.in-Tag.width) c.in-Ok.read.1.now c.in-Ok.ensures.gives c.in-Tag.is,
+    head_read c.args.bytes.now c.in-Ok.read.0
+        (item_head.Tag c.in-Tag.tag c.in-Tag.width) c.in-Ok.read.1.now c.in-Ok.ensures.gives c.in-Tag.is,
   ),
 )
 

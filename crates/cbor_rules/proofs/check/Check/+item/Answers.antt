@@ -4,7 +4,8 @@ use Rattle.cbor_grammar.specs.WellFormed.{deepest}
 use Rattle.cbor_rules.specs.declared.kind.ViolationKind.TheVariants as kind
 use Rattle.cbor_grammar.specs.Reading.{one_less}
 use Rattle.cbor_rules.specs.FirstViolation as spec
-use Rattle.cbor_rules.specs.FirstViolation.{KeyAt, no_places, violation_at, kept_head, kept_parts, kept_item, members, pairs}
+use Rattle.cbor_rules.specs.FirstViolation.{KeyAt, no_places, violation_at, kept_head, kept_parts, kept_item, members}
+use Rattle.cbor_rules.specs.FirstViolation.{pairs}
 use Rattle.cbor_rules.specs.mirror.Opened.{key_of, places_of, parts_of, kept_key}
 use Rattle.cbor_rules.proofs.Stops.{stops, gives_as, key_stops, key_goes}
 use Rattle.cbor_rules.proofs.Turns.{item_too_deep, item_stop, item_body, parts_end, parts_stop, parts_refuse, parts_go}

@@ -1,6 +1,6 @@
-//! `Place`: what is known of an item before it is read: its name, its type, the tag around it and
-//! the levels left. `Keys`: what is known of the keys of a map. Makes the `Place` of a member or of
-//! the value of a key, and finds the type of the item in a byte string.
+//! `Expected`: what is known of an item before it is read: its name, its type, the tag around it
+//! and the levels left. `Keys`: what is known of the keys of a map. Makes the `Expected` of a
+//! member or of the value of a key, and finds the type of the item in a byte string.
 
 ghost use Rattle.std.specs.Prelude.{◌≡◌, ◌+◌, ◌<◌};
 
@@ -11,7 +11,7 @@ use cbor_grammar::argument::Argument;
 
 /// What is known of an item before it is read.
 #[derive(Clone, Copy)]
-pub(crate) struct Place<'a> {
+pub(crate) struct Expected<'a> {
     /// How many levels are left for it and the items in it.
     pub left: u8,
     /// How many bytes follow those that are read, up to the end of the outermost item's.
@@ -89,7 +89,7 @@ impl Names {
     }
 }
 
-impl<'a> Place<'a> {
+impl<'a> Expected<'a> {
     /// Whether an item without parts has no note there.
     #[inline(always)]
     pub(crate) fn says_nothing(&self) -> bool {
@@ -97,12 +97,12 @@ impl<'a> Place<'a> {
     }
 
     /// That of an item in this one, if nothing is known about it.
-    pub(crate) fn unknown(&self) -> Place<'a>
+    pub(crate) fn unknown(&self) -> Expected<'a>
         requires { 0 < self.now.left }
         ensures left { result.left + 1 ≡ self.now.left }
         ensures behind { result.behind ≡ self.now.behind }
     {
-        Place {
+        Expected {
             left: self.left - 1,
             behind: self.behind,
             name: "",
@@ -113,7 +113,7 @@ impl<'a> Place<'a> {
     }
 
     /// That of the member at this index.
-    pub(crate) fn member(&self, names: &'a Names, inside: Inside<'_>, index: usize) -> Place<'a>
+    pub(crate) fn member(&self, names: &'a Names, inside: Inside<'_>, index: usize) -> Expected<'a>
         requires { 0 < self.now.left }
         ensures left { result.left + 1 ≡ self.now.left }
         ensures behind { result.behind ≡ self.now.behind }
@@ -126,7 +126,7 @@ impl<'a> Place<'a> {
             Inside::Each(index) => ("", WhatRow::Of(index)),
             _ => ("", WhatRow::Any),
         };
-        Place {
+        Expected {
             name,
             what,
             around: self.around,
@@ -135,7 +135,7 @@ impl<'a> Place<'a> {
     }
 
     /// That of the value of a key; without a part, this is known about it.
-    pub(crate) fn value(&self, part: Option<&PartRow>, otherwise: WhatRow) -> Place<'a>
+    pub(crate) fn value(&self, part: Option<&PartRow>, otherwise: WhatRow) -> Expected<'a>
         requires { 0 < self.now.left }
         ensures left { result.left + 1 ≡ self.now.left }
         ensures behind { result.behind ≡ self.now.behind }
@@ -144,7 +144,7 @@ impl<'a> Place<'a> {
             Some(part) => part.what,
             None => otherwise,
         };
-        Place {
+        Expected {
             what,
             ..self.unknown()
         }
