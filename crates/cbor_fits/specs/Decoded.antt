@@ -62,8 +62,12 @@ float_atom (Double bits) = item.float bits float_width.SixtyFour
 abbrev pub core_float : EncodedFloat → Atom
 core_float float = float_atom (preferred_or float (shorter float))
 
+-- a string of definite length, whose length has no stated width
+abbrev pub unstated : List ℕ → Chunk
+unstated content = record { bytes = content; width = Unknown }
+
 abbrev pub core_string : StringKind → List ℕ → Atom
-core_string kind content = item.string kind (record { bytes = content; width = Unknown })
+core_string kind content = item.string kind (unstated content)
 
 -- the item as the core deterministic encoding has it (RFC 8949, section 4.2.1)
 abbrev pub core_atom : Atom → Atom

@@ -289,7 +289,7 @@ step r m = record {
   takes = λ n rest. takes_node r m n (r.node n) rest;
 }
 
--- what fits, and what is taken, within so many levels
+-- what fits and what is taken, if types and groups are nested at most `levels` deep
 unfoldable pub matcher : Rules → ℕ → Matcher
 matcher r zero = record { fits = λ n x. None; takes = λ n rest. None }
 matcher r (suc levels) = step r (matcher r levels)
@@ -298,6 +298,6 @@ matcher r (suc levels) = step r (matcher r levels)
 abbrev pub Fits : Rules → ℕ → Value → Type 0
 Fits r n x = (levels : ℕ) × ((matcher r levels).fits n x ≡ Some true)
 
--- whether bytes encode an item that fits the type at index n, within so many levels
+-- whether bytes encode an item that fits the type at index n, by such levels; `None` if that takes more of them
 abbrev pub accepts : Rules → ℕ → ℕ → List ℕ → Option Bool
 accepts r levels n b = is_fit ((matcher r levels).fits n) (r.decoded b)

@@ -31,6 +31,7 @@ fn bytes_needed(number: u64, most: u8) -> u64
 
 impl Tables<'_> {
     /// `.size`: the length of a string fits, or a size that is enough for an integer.
+    #[inline(never)]
     #[cycle(fits)]
     pub(crate) fn fits_size(
         &self,
@@ -56,6 +57,7 @@ impl Tables<'_> {
     }
 
     /// Whether a number fits that is at least the first one, and at most 64 more.
+    #[inline(never)]
     #[cycle(fits)]
     fn fits_one_from(
         &self,
@@ -80,6 +82,7 @@ impl Tables<'_> {
     }
 
     /// `.bits`: the number of each bit that is set fits.
+    #[inline(never)]
     #[cycle(fits)]
     pub(crate) fn fits_bits(
         &self,
@@ -109,6 +112,7 @@ impl Tables<'_> {
     }
 
     /// Whether the number of each bit that is set fits, of bytes.
+    #[inline(never)]
     #[cycle(fits)]
     fn fits_bits_of_bytes(
         &self,
@@ -142,6 +146,7 @@ impl Tables<'_> {
     }
 
     /// Whether the number of each bit that is set fits.
+    #[inline(never)]
     #[cycle(fits)]
     fn fits_set_bits(
         &self,
@@ -171,6 +176,7 @@ impl Tables<'_> {
     }
 
     /// `.cbor`: the bytes encode an item that fits.
+    #[inline(never)]
     #[cycle(fits)]
     pub(crate) fn fits_inside(
         &self,
@@ -200,6 +206,7 @@ impl Tables<'_> {
     }
 
     /// `.cborseq`: the bytes encode items, and the array of these items fits.
+    #[inline(never)]
     #[cycle(fits)]
     pub(crate) fn fits_sequence(
         &self,
@@ -229,6 +236,7 @@ impl Tables<'_> {
     }
 
     /// `.regexp`, `.pcre`: the text matches the pattern.
+    #[inline(never)]
     pub(crate) fn fits_pattern(&self, index: usize, datum: &Datum) -> Result<bool, Stop>
         ensures { IfOk result (λ b. b ≡ has_match ((rules_of self.now).is_match index)
             (view datum.now)) }

@@ -19,6 +19,7 @@ use cbor_cddl::{List, Node, Occurrence};
 
 impl Tables<'_> {
     /// What the group at an index does with what is left.
+    #[inline(never)]
     #[cycle(fits)]
     pub(crate) fn takes<'a>(
         &self,
@@ -88,6 +89,7 @@ impl Tables<'_> {
     }
 
     /// Takes the next member if it fits a type.
+    #[inline(never)]
     #[cycle(fits)]
     fn take_member<'a>(
         &self,
@@ -116,6 +118,7 @@ impl Tables<'_> {
     }
 
     /// What the parts of a group do, one after the other.
+    #[inline(never)]
     #[cycle(fits)]
     fn take_in_turn<'a>(
         &self,
@@ -142,6 +145,7 @@ impl Tables<'_> {
     }
 
     /// What the first alternative does that takes. A cut ends its alternative.
+    #[inline(never)]
     #[cycle(fits)]
     fn take_first_of<'a>(
         &self,
@@ -173,6 +177,7 @@ impl Tables<'_> {
     }
 
     /// What a group does, as often as it takes something, within an occurrence.
+    #[inline(never)]
     #[cycle(fits)]
     fn take_repeated<'a>(
         &self,
@@ -242,6 +247,7 @@ impl Tables<'_> {
     }
 
     /// What an entry does with pairs: it takes those whose key and value fit.
+    #[inline(never)]
     #[cycle(fits)]
     fn take_pairs<'a>(
         &self,

@@ -17,6 +17,7 @@ use datum::Reader;
 use std::alloc::Global;
 
 /// The item that the bytes encode, if they encode one in which no map has a key twice.
+#[inline(never)]
 pub(crate) fn read_item(alloc: Global, bytes: &[u8]) -> Result<Option<Datum>, Stop>
     ensures { IfOk result (λ o. option_map view o ≡ decoded bytes.now) }
 {
@@ -78,6 +79,7 @@ fn read_items<'b>(
 
 /// The array of the items that the bytes encode one after the other, if no map in them has a key
 /// twice.
+#[inline(never)]
 pub(crate) fn read_sequence(alloc: Global, bytes: &[u8]) -> Result<Option<Datum>, Stop>
     ensures { IfOk result (λ o. option_map view o ≡ decoded_sequence bytes.now) }
 {

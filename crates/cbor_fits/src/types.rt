@@ -36,6 +36,7 @@ fn target_of(node: Node) -> Option<usize>
 
 impl Tables<'_> {
     /// Whether an item fits the type at an index.
+    #[inline(never)]
     #[cycle(fits)]
     pub(crate) fn fits<'a>(
         &self,
@@ -148,6 +149,7 @@ impl Tables<'_> {
     }
 
     /// Whether an item fits one of several types.
+    #[inline(never)]
     #[cycle(fits)]
     fn fits_one_of<'a>(
         &self,
@@ -171,6 +173,7 @@ impl Tables<'_> {
     }
 
     /// Whether an item is an array, and a group takes all of its members.
+    #[inline(never)]
     #[cycle(fits)]
     fn fits_array<'a>(
         &self,
@@ -193,6 +196,7 @@ impl Tables<'_> {
     }
 
     /// Whether an item is a map, and a group takes all of its pairs.
+    #[inline(never)]
     #[cycle(fits)]
     fn fits_map<'a>(
         &self,
@@ -215,6 +219,7 @@ impl Tables<'_> {
     }
 
     /// Whether an item has this tag, and what is below it fits.
+    #[inline(never)]
     #[cycle(fits)]
     fn fits_tag<'a>(
         &self,
@@ -243,6 +248,7 @@ impl Tables<'_> {
     }
 
     /// Whether an item has a tag whose number fits, and what is below it fits.
+    #[inline(never)]
     #[cycle(fits)]
     fn fits_any_tag<'a>(
         &self,
@@ -274,6 +280,7 @@ impl Tables<'_> {
     }
 
     /// Whether an item is a simple value whose number fits.
+    #[inline(never)]
     #[cycle(fits)]
     fn fits_simple(
         &self,
@@ -295,6 +302,7 @@ impl Tables<'_> {
     }
 
     /// Whether an integer fits.
+    #[inline(never)]
     #[cycle(fits)]
     pub(crate) fn fits_number(
         &self,
@@ -316,6 +324,7 @@ impl Tables<'_> {
     }
 
     /// Whether an item does not fit.
+    #[inline(never)]
     #[cycle(fits)]
     fn fits_not<'a>(
         &self,

@@ -118,6 +118,7 @@ impl<'a> Work<'a> {
 
     /// The answer to a question, if the slot has it. An answer stays the same with more levels. To
     /// compare two items takes steps, but no more than the answer took.
+    #[inline(never)]
     pub(crate) fn answer(&mut self, slot: usize, question: Question) -> Option<bool>
         ensures right { IfSome result (λ b. (r : Rules) → Holds r self.old
             → IsRight r question.entry b) }
@@ -155,6 +156,7 @@ impl<'a> Work<'a> {
     }
 
     /// Keeps an answer in a slot, if it took enough steps.
+    #[inline(never)]
     pub(crate) fn keep(&mut self, slot: usize, known: Known<'a>) -> Result<(), Stop>
         ensures { OnOk result ((r : Rules) → Holds r self.old
             → IsRight r known.entry.question known.entry.fits → Holds r self.new) }
