@@ -2032,6 +2032,57 @@ static void check_schemas_in_a_thread(const char *arrays, size_t length)
     }
 }
 
+/* Writes 1 in this many byte strings, each the content of the next, and returns how many bytes that takes. */
+static size_t push_byte_strings(unsigned char *out, size_t strings)
+{
+    size_t length = 1;
+    out[0] = 1;
+    for (size_t i = 0; i < strings; i++) {
+        unsigned char head[3] = {0x59, (unsigned char)(length >> 8), (unsigned char)length};
+        memmove(out + sizeof head, out, length);
+        memcpy(out, head, sizeof head);
+        length += sizeof head;
+    }
+    return length;
+}
+
+/* Each way from a rule into a part of an item that has to fit the rule again, and items that are nested so deeply that
+ * the item fits, or that it is an error. */
+static void check_deep_schemas_in_a_thread(void)
+{
+    static const struct {
+        const char *cddl, *head;
+    } ways[] = {
+        {"a = [a] / uint", "\x81"},
+        {"a = [* a] / uint", "\x81"},
+        {"a = [b // a] / uint b = tstr", "\x81"},
+        {"a = [g] / uint g = (h) h = (? a)", "\x81"},
+        {"a = {1: a} / uint", "\xa1\x01"},
+        {"a = {* uint => a} / uint", "\xa1\x01"},
+        {"a = #6.1(a) / uint", "\xc1"},
+        {"a = #6.<n>(a) / uint n = uint", "\xc1"},
+        {"a = bstr .cbor a / uint", NULL},
+        {"a = bstr .cborseq [a] / uint", NULL},
+        {"a = (bstr .and b) / uint b = bstr .cbor a", NULL},
+    };
+    unsigned char schema[4096], item[1024];
+    for (size_t i = 0; i < sizeof ways / sizeof *ways; i++) {
+        int64_t size = cbor_diag_schema_load(ways[i].cddl, strlen(ways[i].cddl), NULL, 0, schema, sizeof schema);
+        check(size > 0, "%s: came %lld", ways[i].cddl, (long long)size);
+        for (size_t depth = 10; depth < 128 || (!ways[i].head && depth < 300); depth++) {
+            size_t length = ways[i].head ? 0 : push_byte_strings(item, depth);
+            for (size_t level = 0; ways[i].head && level < depth; level++) {
+                memcpy(item + length, ways[i].head, strlen(ways[i].head));
+                length += strlen(ways[i].head);
+            }
+            item[ways[i].head ? length++ : length - 1] = 1;
+            int64_t answer = cbor_diag_schema_misfit(schema, (size_t)size, item, length, NULL, NULL, 0);
+            check(answer == 0 || (depth > 90 && answer == -CBOR_DIAG_ERROR_TOO_MUCH_WORK), "%s, %zu deep: came %lld",
+                  ways[i].cddl, depth, (long long)answer);
+        }
+    }
+}
+
 /* All pairs of forms over and over, and items at the deepest level, which take the most stack. */
 static void *converting(void *unused)
 {
@@ -2042,6 +2093,7 @@ static void *converting(void *unused)
     memset(deepest, '<', 2 * 127);
     deepest[2 * 127] = '1';
     memset(deepest + 2 * 127 + 1, '>', 2 * 127);
+    check_deep_schemas_in_a_thread();
     for (long round = 0; round < rounds_of_threads; round++) {
         unsigned char output[400];
         int from = (int)(round % FORMS), to = (int)(round / FORMS % FORMS);

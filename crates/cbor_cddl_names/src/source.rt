@@ -1,4 +1,5 @@
-//! `Source`: a loaded schema, with what names need of it.
+//! `Source`: a loaded schema, and look-ups in it: the name of a rule, the label of a node, whether
+//! a node is a group, and the key that a node is.
 
 use cbor_cddl::{Node, Schema};
 use cbor_names::Key;

@@ -1,4 +1,5 @@
--- The numbers of forms, as C gives them.
+-- The number of a form (`form_number`) is not one that no form has (`IsNoForm`), and no plain form but bytes has the
+-- number 0. If an input in the form 0 is refused, the number of the error is not that of memory (1).
 use Rattle.std.proofs.Common.{◌≡◌, ◌≢◌, ℕ, List, true, false, refl, arith}
 use Rattle.cbor_grammar.specs.declared.error.Error.{Error}
 use Rattle.cbor_grammar.specs.declared.error.Error.TheVariants as refusal

@@ -1,4 +1,5 @@
--- Results for C: where all of the bytes are one item, the text that is shown of them is that of the item.
+-- For `item_lines`: if all bytes are one item and a page shows them whole, in EDN over several lines with notes and
+-- without names, its lines of HTML are those of the item (`IsHtmlLines`).
 use Rattle.std.proofs.Common.{◌≡◌, ℕ, ◌+◌, Bool, true, false, List, [], ◌∷◌, ◌++◌, length, Option, None, refl, sym, ap}
 use Rattle.std.proofs.Common.{subst, ◌∙◌, arith, append-nil, length-append, drop, take}
 use Rattle.std.proofs.lemmas.List.{drop_all, take_all}

@@ -1,4 +1,5 @@
--- Results for C: what is read from bytes is written as it is.
+-- Results for C: an item that was read has all its widths stated, so its EDN, its JSON and its lines of HTML are those
+-- of the item with widths resolved (`resolve`).
 use Rattle.std.proofs.Common.{ℕ, List, Result, Ok, Err, IfOk, subst, sym}
 use Rattle.cbor_grammar.specs.declared.error.Error.{Error}
 use Rattle.cbor_grammar.specs.Item.{Item}

@@ -1,4 +1,5 @@
--- Results for C: why there is no name of the part at a path.
+-- For `name_of`: each error for which a part has no name (`HasNoName`) is one that C may get (`IsNoNamed`): out of
+-- memory, the input is no item, or it has no such part.
 use Rattle.std.proofs.Common.{ℕ, List, refl, inl, inr}
 use Rattle.cbor_grammar.specs.declared.error.Error.TheVariants as refusal
 use Rattle.cbor_inspect.specs.Named.{HasNoName}

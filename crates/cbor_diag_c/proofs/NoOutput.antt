@@ -1,4 +1,6 @@
--- Results for C: if an item has no text, the input has no output for the same reason.
+-- If the bytes of an item have no text in a form (`IsNoText`), their input has no output for the same error
+-- (`IsNoOutput`). This holds for inputs in bytes, hex, diagnostic notation and EDN, out of memory aside. A reason for
+-- which there is no JSON is such an error (`of_json`).
 use Rattle.std.proofs.Common.{◌≡◌, ◌≢◌, ℕ, List, Bool, Ok, refl, inr, IsUtf8}
 use Rattle.hex.specs.Hex.{decode_of}
 use Rattle.cbor_tokens.specs.Uncommented.{uncommented}

@@ -1,4 +1,5 @@
--- The error of an input that has no form says that it may be in none, if it is not memory.
+-- For `cbor_diag_recognize`: an error that C gets says that memory ran out or that the input may be in no form
+-- (`IsNotRecognized`), if each refusal but that of memory means that the input may be in no form.
 use Rattle.std.proofs.Common.{◌≢◌, ℕ, List, ℤ, pos, negsuc, inl, inr}
 use Rattle.cbor_inputs.specs.declared.decode.Input.{Input}
 use Rattle.cbor_inputs.specs.declared.decode.Refusal.{Refusal}

@@ -1,4 +1,6 @@
--- Results for C: an error of an input is one that refuses it.
+-- The error of a fault of bytes is one for which they are no item (`IsNoItem`), and an error of the bytes that hex
+-- stands for is one for which the hex is refused (`IsHexRefused`). If the first `end` bytes have a fault and fewer
+-- bytes are truncated, the place of the fault is `end - 1`.
 use Rattle.std.proofs.Common.{◌≡◌, ◌+◌, ◌-◌, ◌<◌, ◌≤◌, ℕ, List, take, Ok, subst, sym, arith}
 use Rattle.hex.specs.Hex.{decode_of}
 use Rattle.cbor_tokens.specs.Uncommented.{uncommented}

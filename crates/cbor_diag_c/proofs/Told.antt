@@ -1,4 +1,7 @@
--- Results for C: the first violation.
+-- What C gets of a violation is right: the number is 0 if and only if the input keeps the rules (`KeepsBy`); otherwise
+-- number, place and detail are those of the first violation (`IsFoundBy`). What C gets of an error of `reencoded` says
+-- why there is no encoding (`IsToldWhyNot`), and its number is not 0. Rules without NFC and distinct keys stay as they
+-- are `without_memory`.
 use Rattle.std.proofs.Common.{◌≡◌, ◌≢◌, ◌↔◌, ◌⊎◌, ℕ, List, Bool, true, false, Option, Some, None, inl, inr, refl, sym}
 use Rattle.std.proofs.Common.{subst, ◌∙◌, arith, ℤ, pos, negsuc}
 use Rattle.cbor_diag_c.specs.Answers.{IfLength}

@@ -1,5 +1,6 @@
--- Bytes have at most one core deterministic encoding, and bytes that have one are valid items: they keep the grammar,
--- and no two keys of a map are one.
+-- Bytes that are the same (`AreSame`) have the same core deterministic encoding if both have one. Bytes that have one
+-- are valid: they keep the rules `VALID`, and no map has two equal keys (`KeepsWithKeys`). Bytes that have none are the
+-- same only as themselves.
 use Rattle.std.proofs.Common.{◌≡◌, ◌≢◌, ℕ, ◌+◌, ◌-◌, ◌^◌, ◌<◌, ◌≤◌, Bool, true, false, cond, ltb, eqb, List, [], ◌∷◌}
 use Rattle.std.proofs.Common.{◌++◌, length, Option, Some, None, ◌⊎◌, inl, inr, refl, sym, ap, subst, ◌∙◌, arith}
 use Rattle.std.specs.List.{AllByRecursion}

@@ -1,4 +1,7 @@
--- Parts in place of others, in what is around them.
+-- For `Patch::within` and `Patch::in_string`: if a part of bytes is replaced, the bytes around it are `Edited`, too,
+-- with bytes on both sides or in a byte string whose head gets the new length. Further changes (`changed`, `between`)
+-- extend the output. For `without` and `with_more`: a container with a new head is `IsWithout` some members or `IsWith`
+-- one more.
 use Rattle.std.proofs.Common.{◌≡◌, ℕ, ◌+◌, ◌-◌, ◌≤◌, List, ◌∷◌, ◌++◌, length, take, drop, refl, sym, ap, subst, ◌∙◌}
 use Rattle.std.proofs.Common.{arith}
 use Rattle.std.proofs.Common.{append_assoc, length-drop}

@@ -1,4 +1,6 @@
--- Heads that were read, and heads that are written.
+-- If a head of an array, a map or a byte string of definite length was read at a place (`IsHeadAt`), its bytes are
+-- there (`HasHead`), and the bytes from there to a later place are the head and what follows it. `encoded_head` with a
+-- stated width that fits is the `head` of that width.
 use Rattle.std.proofs.Common.{◌≡◌, ℕ, ◌+◌, ◌-◌, ◌≤◌, List, [], ◌∷◌, ◌++◌, length, take, drop, refl, sym, ap, subst, ◌∙◌}
 use Rattle.std.proofs.Common.{arith, length-append, length-drop}
 use Rattle.std.proofs.lemmas.List.{drop-drop, drop_at, take_at}

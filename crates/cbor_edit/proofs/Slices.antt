@@ -1,4 +1,5 @@
--- The bytes between two places, in parts.
+-- The bytes from one place to another are those up to a place between them, and those from it on (`split`). The bytes
+-- from 0 to the length are all bytes.
 use Rattle.std.proofs.Common.{◌≡◌, ℕ, ◌+◌, ◌-◌, ◌≤◌, List, ◌++◌, length, take, drop, sym, ap, ◌∙◌, arith}
 use Rattle.std.proofs.lemmas.List.{take-append-drop, take-take, drop-take, drop-drop, take_all}
 

@@ -1,4 +1,6 @@
--- By the definitions of EDN, the digits of a string, by the first apostrophe after them.
+-- In the definitions of EDN, `read_digits` returns the bytes that the text before the first apostrophe encodes
+-- (`decoded_front`), and the text after the apostrophe. It returns nothing if there is no apostrophe or the text before
+-- it encodes no bytes.
 use Rattle.std.proofs.Common.{◌≡◌, ℕ, ◌+◌, ◌==◌, List, drop, position, Some, None, sym, ap, subst, ◌∙◌}
 use Rattle.cbor_edn_grammar.specs.declared.error.Stop.{Stop}
 use Rattle.cbor_edn_grammar.specs.declared.opening.Base.{Base}

@@ -1,5 +1,6 @@
--- By the definitions of EDN, digits, perhaps after a minus and before a width: the number that they are, which is no
--- float.
+-- The definitions of EDN read back the decimal digits and the width that `number` writes: `unsigned` returns the
+-- number, and `negated` one less, if what they return fits the width and 64 bits. Digits are no float (`is_float`),
+-- with or without a minus before them and a width after them.
 use Rattle.std.proofs.Common.{◌≡◌, ℕ, ◌+◌, ◌-◌, ◌^◌, ◌<◌, ◌≤◌, ◌==◌, ◌&&◌, ◌||◌, not, Bool, true, false, List, []}
 use Rattle.std.proofs.Common.{◌∷◌, ◌++◌, length, position, Some, refl, sym, ap, ap₂, subst, ◌∙◌, arith, append-nil}
 use Rattle.std.proofs.Common.{append_assoc, nat_lt, nat_eq, is_some, add-one, None, codes, if◌then◌else◌}

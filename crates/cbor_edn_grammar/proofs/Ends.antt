@@ -1,4 +1,6 @@
--- By the definitions of EDN, what an item begins with, and what may follow it.
+-- Definitions of where an EDN item begins and ends, without lemmas. `IsBegun` says that a text begins with the first
+-- byte of an item. `Follows` says that a text does not go on with the last word or number of the item before it, and
+-- that no `+` joins a string to that item.
 use Rattle.std.proofs.Common.{◌≡◌, ℕ, List, [], ◌∷◌, Bool, true, false, ◌==◌, ◌||◌}
 use Rattle.cbor_edn_grammar.specs.Strings.{joined}
 use Rattle.cbor_edn_grammar.specs.Word.{is_digit, is_letter}

@@ -1,4 +1,6 @@
--- By the definitions of EDN, the number of a text, and its bits in a width, are what `cbor_floats` finds.
+-- The definitions of floats in EDN agree with `cbor_floats`: `number_of` returns the same number of a text, `half_of`,
+-- `single_of`, `double_of` and `shortest_of` the same bits of a number, and `single_in` the same 32-bit float of a
+-- text. `number_of` and `single_in` return nothing for a text that `cbor_floats` refuses.
 use Rattle.std.proofs.Common.{T, ◌≡◌, ◌⊎◌, inl, inr, ℕ, ◌^◌, ◌<◌, ◌%◌, ◌/◌, ◌∷◌, Bool, true, false, List, [], length}
 use Rattle.std.proofs.Common.{codes, Option, Some, None, MatchOption, IsTrue, IsFalse, if◌then◌else◌, ◌&&◌, ◌||◌, ◌==◌}
 use Rattle.std.proofs.Common.{nat_lt, nat_le, option_map, refl, sym, ap, ap₂, ◌∙◌, subst, arith, lit<}

@@ -1,4 +1,5 @@
--- By the definitions of EDN, which bytes hex digits are, up to the apostrophe after them.
+-- In the definitions of EDN, the lower-case hex digits of some bytes, with an apostrophe after them, are read as these
+-- bytes (`hex_read`). None of the digits is an apostrophe or begins a blank, so `digits_of` returns all of them.
 use Rattle.std.proofs.Common.{◌≡◌, ℕ, ◌/◌, ◌%◌, ◌<◌, ◌==◌, List, [], ◌∷◌, ◌++◌, length}
 use Rattle.std.proofs.Common.{codes, Some, None, true, false, refl, sym, ap, ◌∙◌, arith, slice_index}
 use Rattle.std.proofs.Math.Seq.{take-append_seam, drop-append-add}

@@ -1,5 +1,6 @@
--- By the definitions of EDN, an item that is well formed at a level is so at each level above that; and what is read
--- with this many levels left.
+-- An item that is well formed at a level is well formed at each level with a smaller number, further out. In the
+-- definitions of EDN, `read_item` returns nothing if no level is left; otherwise it is `read_string` for a text that
+-- begins a string, and `other_item` for another text.
 use Rattle.std.proofs.Common.{◌≡◌, ℕ, zero, suc, true, false, if◌then◌else◌, ◌+◌, ◌≤◌, List, None}
 use Rattle.std.proofs.Common.{refl, ap, ◌∙◌, arith}
 use Rattle.cbor_grammar.specs.Item as spec

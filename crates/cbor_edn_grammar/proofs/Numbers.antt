@@ -1,5 +1,6 @@
--- By the definitions of EDN, words that are numbers: their parts, and numbers past 2 ^ 64, which code counts as one
--- more than that.
+-- In the definitions of EDN, `parted` splits a word that is a number at its `_`, into the digits and the width. The
+-- code holds each number past 2 ^ 64 as 2 ^ 64 + 1 (`capped_magnitude`); this changes no result of `unsigned` and
+-- `negated`. Digits with more behind them are no number by themselves (`whole`).
 use Rattle.std.proofs.Common.{◌≡◌, ℕ, zero, suc, ◌-◌, ◌^◌, ◌<◌, ◌==◌, List, [], ◌∷◌, length, take, drop}
 use Rattle.std.proofs.Common.{position, Option, Some, None, refl, sym, ap, ◌∙◌, arith, min}
 use Rattle.std.proofs.lemmas.Bool.Decides.{nat_tests}

@@ -1,4 +1,6 @@
--- By the definitions of EDN, a text that is read turn after turn, piece by piece.
+-- In the definitions of EDN, turns take a text whole, whatever follows the text (`Taken`): this holds for the empty
+-- text, for a text that one turn takes, and for two such texts joined. If a last turn comes after such a text,
+-- `repeated` returns the values of the text and then those of the last turn.
 use Rattle.std.proofs.Common.{◌≡◌, ℕ, zero, suc, ◌<◌, List, [], ◌++◌, length, Option, Some, None, Bool, true}
 use Rattle.std.proofs.Common.{false, refl, sym, ap, ◌∙◌, append_assoc, length-append, arith}
 use Rattle.cbor_edn_grammar.specs.Reading.{Read, ◌>>=◌, with_later, turns, repeated}

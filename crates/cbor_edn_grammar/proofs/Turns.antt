@@ -1,4 +1,6 @@
--- By the definitions of EDN, reading turn after turn: what the turns before gave, and what the later ones give.
+-- In the definitions of EDN, reading with `repeated`, one turn at a time: after each turn that goes on, the values read
+-- so far, followed by those of the turns still to come, are the whole result. If a turn fails, the whole fails; a last
+-- turn ends with the values read so far and its own.
 use Rattle.std.proofs.Common.{◌≡◌, ℕ, zero, suc, ◌<◌, List, [], ◌++◌, length, Option, Some, None, Bool, true}
 use Rattle.std.proofs.Common.{false}
 use Rattle.std.proofs.Common.{refl, sym, ap, subst, ◌∙◌, append_assoc, arith}

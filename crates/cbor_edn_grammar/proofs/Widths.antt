@@ -1,4 +1,5 @@
--- By the definitions of EDN, the width that is read beside a number: the number fits it.
+-- In the definitions of EDN, `read_width` is the width that is read back: `Unknown` for a written `Zero`, and otherwise
+-- the width that was written. If a number below 2 ^ 64 fits the width that was written, it fits the width that is read.
 use Rattle.std.proofs.Common.{◌≡◌, ℕ, ◌^◌, ◌<◌, true}
 use Rattle.std.proofs.lemmas.Bool.{lt-ltb}
 use Rattle.cbor_grammar.specs.declared.width.IntegerWidth.{IntegerWidth}

@@ -1,4 +1,6 @@
--- By the definitions of EDN, a word is read whole where the text after it does not go on with a word or a number.
+-- In the definitions of EDN, `word_of` and `after_word` split a text right after a word (`IsWord`) if no letter, digit,
+-- `_`, `.` or sign follows the word. Also: `position` finds the first byte of a kind, and `skip_blank` leaves a text as
+-- it is if no blank begins it.
 use Rattle.std.proofs.Common.{◌≡◌, ℕ, suc, ◌+◌, ◌<◌, ◌==◌, ◌&&◌, ◌||◌, not, if◌then◌else◌, Bool, true, false, List}
 use Rattle.std.proofs.Common.{[], ◌∷◌, ◌++◌, length, position, Some, None, refl, sym, ap, ◌∙◌, arith, append-nil}
 use Rattle.std.proofs.Common.{length-append}

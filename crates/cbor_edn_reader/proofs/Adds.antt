@@ -1,4 +1,6 @@
--- Reading EDN straight to bytes: what was appended before, and what is appended then.
+-- Reading EDN straight to bytes: if the parts of an array, a map, a tagged item or a string in chunks were appended in
+-- turn, the encoding of the whole was appended. The head of an array or a map is put where a byte was left for it.
+-- `read_array`, `read_map`, `read_chunks` and `read_tagged` return the item if they read its parts.
 use Rattle.std.proofs.Common.{◌≡◌, ℕ, ◌+◌, List, [], ◌∷◌, ◌++◌, length, take, drop, true, false}
 use Rattle.std.proofs.Common.{Option, Some, None, suc, refl, sym, ap, ap₂, ◌∙◌, append_assoc}
 use Rattle.std.proofs.Common.{arith, append-nil, ◌^◌, ◌==◌, position, is_some}

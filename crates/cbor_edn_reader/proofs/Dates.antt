@@ -1,4 +1,5 @@
--- In EDN, dates: whether their content is a text, and the levels that they take.
+-- Dates in EDN: `utf8_text` returns the content if it is UTF-8, and otherwise nothing. `tagged_date` returns nothing if
+-- no level is left, and otherwise the item of the date (`date_item`), with one level less, in tag 1.
 use Rattle.std.proofs.Common.{◌≡◌, ℕ, zero, suc, List, Some, None, inl, inr, refl, ap, arith, true, false}
 use Rattle.std.specs.Str.{is_utf8, IsUtf8}
 use Rattle.std.proofs.lemmas.Bool.{cases_Bool}

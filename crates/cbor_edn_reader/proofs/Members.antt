@@ -1,4 +1,5 @@
--- Items that are read in EDN: the members of a list, one that is closed at once, and before the first member.
+-- Reading a list in EDN, before its first member: if the list is closed at once, `read_members` returns no members and
+-- the text after the list. Otherwise the loop of turns begins with no members read so far.
 use Rattle.std.proofs.Common.{◌≡◌, ℕ, ◌<◌, List, [], length, Option, Some, None, Bool, sym, ap, ◌∙◌}
 use Rattle.cbor_edn_grammar.specs.declared.close.Close.{Close}
 use Rattle.cbor_edn_grammar.specs.Reading.{turns}

@@ -1,4 +1,5 @@
--- Reading EDN straight to bytes: strings of no chunks, and content without escapes.
+-- For `end_empty`: if no byte comes after `place`, the definition `no_chunks` reads a string without chunks, and the
+-- encoding of this string is what was written. If a byte comes after `place`, `no_chunks` returns nothing.
 use Rattle.std.proofs.Common.{◌≡◌, ℕ, ◌+◌, ◌<◌, ◌≤◌, List, [], ◌∷◌, ◌++◌, length, take, drop, Some, None}
 use Rattle.std.proofs.Common.{refl, ap, ◌∙◌, append_assoc, arith}
 use Rattle.std.proofs.Math.ListN.{drop_of_length-le}

@@ -1,4 +1,5 @@
--- Reading EDN straight to bytes: content between quotes that has no escapes.
+-- For `plain_quoted`: if the closing quote comes right after the content before the first quote or backslash, `quoted`
+-- returns this content and the text after the quote.
 use Rattle.std.proofs.Common.{◌≡◌, ℕ, ◌==◌, List, [], ◌∷◌, ◌++◌, take, drop, Some, None, false, inl, inr}
 use Rattle.std.proofs.Common.{refl, sym, ap, ◌∙◌, append-nil}
 use Rattle.std.proofs.lemmas.Bool.{cases_Bool}

@@ -1,4 +1,7 @@
--- In tokens of EDN, the bytes of addresses are those of std's parser, and a prefix is cut off a zero at a time.
+-- The definitions of addresses in EDN agree with std: `ipv4_bytes` and `ipv6_bytes` return the bytes of a text that is
+-- an address in std's grammar, and nothing for another text. `ip_item` reads an address with a prefix length if a level
+-- is left, and `tagged_ip` takes a level for its tag. `used_so_far` counts for the loop of `used`, which finds the last
+-- byte that is not 0.
 use Rattle.std.proofs.Common.{◌≡◌, ℕ, zero, suc, List, [], ◌∷◌, ◌++◌, length, Some, None, refl, sym, ap, subst}
 use Rattle.std.proofs.Common.{◌+◌, ◌<◌, ◌==◌, if◌then◌else◌, take, drop, position}
 use Rattle.std.proofs.Common.{◌∙◌, append-nil, lit≤, ne_eqb, arith}

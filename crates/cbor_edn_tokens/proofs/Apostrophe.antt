@@ -1,4 +1,5 @@
--- In tokens of EDN, the first apostrophe, as a search for many bytes at once finds it.
+-- For `find_apostrophe`: the index that a search with `memchr` finds (`IsFirstByte`) is the index of the first
+-- apostrophe (`position`). If the search finds none, the text has no apostrophe.
 use Rattle.std.proofs.Common.{◌≡◌, ℕ, ◌<◌, ◌==◌, Bool, true, false, List, length, get_or, position, Option, Some, None}
 use Rattle.std.proofs.Common.{refl, sym, ap, ◌∙◌, arith}
 use Rattle.std.specs.List.{position_or_len}

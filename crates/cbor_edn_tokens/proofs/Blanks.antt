@@ -1,4 +1,5 @@
--- In tokens of EDN, a blank, passed one space or comment after the other.
+-- For the loop of `after_blank`, which passes one space or comment in each turn: `after_spaces` returns the same text
+-- after a turn as before. If no space or comment is next, this text is what is left.
 use Rattle.std.proofs.Common.{◌≡◌, ℕ, zero, suc, ◌<◌, ◌≤◌, List, length, Some, None, Bool, ap, ◌∙◌, arith}
 use Rattle.cbor_edn_grammar.specs.Blank.{after_space, or_here, after_spaces}
 

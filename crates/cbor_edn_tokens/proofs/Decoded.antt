@@ -1,4 +1,5 @@
--- In tokens of EDN, digits that are decoded are decoded as the definition does.
+-- For `decode_base32`, `decode_base32hex` and `decode_base64`: if the bytes that a decoder finds encode to the digits,
+-- and it finds none only if no bytes do, its answer is that of the definitions `base32_of` and `base64_of`.
 use Rattle.std.proofs.Common.{◌≡◌, ◌≢◌, ℕ, ◌⊎◌, List, Option, Some, None, Result, Ok, Err, Vec, Global, refl}
 use Rattle.std.proofs.Common.{IfOk}
 use Rattle.std.specs.Option.{ok_or, IfSome, IfNone, option_map}

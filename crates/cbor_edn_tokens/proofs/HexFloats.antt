@@ -1,4 +1,6 @@
--- In tokens of EDN, numbers in base 16: their digits one by one, and their sign.
+-- For `hex_float.rt`: if the digits, the exponent and the signs are those of a text, the number that is made of them is
+-- what `hex_number` returns. Rounding the magnitude and then setting the sign gives what `rounded` returns. A word that
+-- is a hexadecimal float is not empty.
 use Rattle.std.proofs.Common.{◌≡◌, ℕ, ◌+◌, ◌-◌, ◌*◌, ◌^◌, ◌<◌, Bool, true, false, List, [], ◌∷◌, length, take, drop}
 use Rattle.std.proofs.Common.{position, Some}
 use Rattle.std.proofs.Math.Seq.{take-length}

@@ -1,4 +1,6 @@
--- In tokens of EDN, rounding by the digits at the front of a number.
+-- For `hex_float/nearest.rt`: the float nearest to a number follows from the digits at its front (below 2 ^ 60) and
+-- from whether any digit behind them is not zero. The bits of the float follow from how many units of the least
+-- positive float it is. Zeros added behind a short front change nothing.
 use Rattle.std.proofs.Common.{◌≡◌, ◌⊎◌, inl, inr, ℕ, zero, suc, ◌+◌, ◌-◌, ◌*◌, ◌/◌, ◌%◌, ◌^◌, ◌<◌, ◌≤◌, min}
 use Rattle.std.proofs.Common.{true≢false, Bool, true, false, cond, T, ltb, refl, sym, ap, ap₂, ◌∙◌, subst, arith}
 use Rattle.std.proofs.Common.{lit<, lit≤, mul_assoc, mul_right_comm, mul-one, mul-pos}

@@ -1,4 +1,5 @@
--- In tokens of EDN, hex digits with no blanks between them.
+-- For `hex_front`: hex digits that decode in place (`base16_of`), without blanks between them, give the same bytes as
+-- if they are gathered first (`digits_of`).
 use Rattle.std.proofs.Common.{◌≡◌, ℕ, List, [], ◌∷◌, Some, true, ap, ◌∙◌, arith}
 use Rattle.std.specs.List.{AllByRecursion, list_all}
 use Rattle.std.proofs.lemmas.Bool.{and_parts}

@@ -1,4 +1,5 @@
--- In tokens of EDN, content up to the first quote or backslash, which turns take byte by byte.
+-- For `read_quoted`, which adds the content before the first quote or backslash at once: turns of `content_turn` take
+-- the same bytes one by one, and the later turns give the same whole result.
 use Rattle.std.proofs.Common.{◌≡◌, ℕ, ◌<◌, ◌==◌, Bool, true, false, List, [], ◌∷◌, ◌++◌, length, take, drop}
 use Rattle.std.proofs.Common.{Some, None, suc, refl, sym, ap, subst, ◌∙◌, append_assoc, arith}
 use Rattle.std.proofs.lemmas.List.{take-append-drop}

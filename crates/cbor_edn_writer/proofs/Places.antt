@@ -1,4 +1,5 @@
--- The place of an item, for which a note was looked up, and whose line is known.
+-- If an `EdnPlace` gets what is known of its line, and perhaps a note (`LaidOut`), its level and its layout stay the
+-- same.
 use Rattle.std.proofs.Common.{◌≡◌, ap, inl, inr}
 use Rattle.cbor_edn_writer.specs.declared.print.place.EdnPlace.{EdnPlace}
 use Rattle.cbor_edn_writer.specs.EdnLeaves.{LaidOut}

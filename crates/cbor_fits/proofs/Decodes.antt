@@ -1,4 +1,6 @@
--- What reading bytes gives, from the clauses of the functions that read them.
+-- For `read.rt`: what parsing returns decides `decoded`, the value of the bytes, and `front_of`, the item at their
+-- front. The loop of `read_items` adds an item per turn until none is at the front; `decoded_sequence` is the array of
+-- all values if nothing is left and no map in them has a key twice, and otherwise `None`.
 use Rattle.std.proofs.Common.{◌≡◌, ℕ, zero, suc, ◌<◌, List, [], ◌∷◌, ◌++◌, length, drop, Option, Some}
 use Rattle.std.proofs.Common.{None}
 use Rattle.std.proofs.Common.{Ok, Err, Bool, true, false, ◌||◌, if◌then◌else◌, ◌==◌, ◌+◌, ◌-◌, slice_index}

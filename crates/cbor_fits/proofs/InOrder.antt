@@ -1,4 +1,6 @@
--- Values of items, level by level, and the order of pairs.
+-- For `Reader::datum_of`: the values of members and the entries of pairs, taken one at a time, are those of the whole
+-- item (`values_of_items`, `entries`). What is inserted into a map of stored entries is inserted into the entries they
+-- stand for (`with_entry`), and a flag says whether a key was known before (`a_key_stands_twice`).
 use Rattle.std.proofs.Common.{◌≡◌, ℕ, suc, ◌+◌, ◌<◌, Bool, true, false, ◌||◌, length, get_or, cond, Vec, Global}
 use Rattle.std.proofs.Common.{List, [], ◌∷◌}
 use Rattle.std.proofs.Common.{◌++◌, map, take, drop, Option, Some, is_some, Ordering, Less, Equal, Greater, refl}

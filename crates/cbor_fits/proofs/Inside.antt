@@ -1,4 +1,6 @@
--- What is inside a value, step by step.
+-- For `Tables`: the inside of a value decides whether an array, a map or a byte string with an item fits (`in_array`,
+-- `in_map`, `has_inside`). One turn of `any_from`, `repeated` or `all_bits` gives the answer of the loop, or leaves it
+-- to the next turn.
 use Rattle.std.proofs.Common.{◌≡◌, ◌≢◌, ℕ, zero, suc, ◌<◌, ◌+◌, ◌-◌, ◌/◌, ◌%◌, inl, inr, Bool, true, false, Option}
 use Rattle.std.proofs.Common.{Some, List}
 use Rattle.std.proofs.Common.{option_map, if◌then◌else◌, ◌==◌, ap, sym, ◌∙◌, arith}

@@ -1,4 +1,5 @@
--- Answers that are kept stay right, whatever else of a `Work` changes.
+-- The kept answers of a `Work` (whether an item fits a type): they stay right (`Holds`) if a right one is put in or
+-- empty slots are added; one that is taken out is right, also for a question on the same value with more levels.
 use Rattle.std.proofs.Common.{◌≡◌, ℕ, ◌<◌, ◌≤◌, [], ◌++◌, length, get_or, take, replicate, Bool, Option, Some, None}
 use Rattle.std.proofs.Common.{sym, subst}
 use Rattle.std.specs.List.{All}

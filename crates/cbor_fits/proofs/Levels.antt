@@ -1,4 +1,6 @@
--- What fits and what is taken within some levels, by one level fewer.
+-- `matcher` with some levels answers by `step` with one level fewer (`fits_at`, `takes_at`). If a node has a control,
+-- its `target` is asked first: a value that does not fit the target does not fit, and otherwise `fits_itself` decides.
+-- Without a control, `fits_itself` decides alone.
 use Rattle.std.proofs.Common.{◌≡◌, ℕ, zero, suc, ◌<◌, ◌-◌, true, false, Option, Some, None, ap, sym, ◌∙◌, arith}
 use Rattle.cbor_cddl.specs.declared.schema.Node.{Node}
 use Rattle.cbor_fits.specs.Value.{Value}

@@ -1,4 +1,5 @@
--- The first pattern of a node decides.
+-- For `Tables::is_match`: if the first of the patterns that are left is one of the node, `is_match_of` says whether the
+-- text matches this pattern, whatever patterns follow.
 use Rattle.std.proofs.Common.{◌≡◌, ℕ, ◌+◌, ◌<◌, List, ◌∷◌, length, get_or, drop, cond, is_some, sym, ap, ◌∙◌, eq-eqb}
 use Rattle.std.proofs.lemmas.List.{at_drop_more}
 use Rattle.regex.specs.Patterns.{find_str}

@@ -1,4 +1,5 @@
--- More levels change no answer.
+-- If `matcher` has an answer with some number of levels, it gives the same answer with more levels (`fits_on`,
+-- `takes_on`). So all numbers of levels that give an answer agree, and a value that fits (`Fits`) is never refused.
 use Rattle.std.proofs.Common.{◌≡◌, ℕ, zero, suc, ◌+◌, ◌≤◌, ◌==◌, Bool, true, false, Some, pos, arith}
 use Rattle.cbor_cddl.specs.declared.schema.Node.{Node}
 use Rattle.cbor_cddl.specs.declared.schema.Node.TheVariants as node

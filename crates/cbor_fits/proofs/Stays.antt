@@ -1,4 +1,6 @@
--- Answers that stay where more is answered, through each part of the definition of fitting.
+-- `Stays p q`: if `p` has an answer, `q` has the same. Each part of the definition of fitting (`in_turn`, `occurs`,
+-- `in_map`, `has_size` and the others) keeps this: if the answers that it asks for stay, its own answer stays.
+-- `MoreLevels` needs this for one level.
 use Rattle.std.proofs.Common.{◌≡◌, ℕ, zero, suc, ◌+◌, ◌-◌, ◌/◌, ◌%◌, ◌==◌, List, [], ◌∷◌, Bool, true, false}
 use Rattle.std.proofs.Common.{Option, Some, None, if◌then◌else◌, pos, refl, ap, ◌∙◌}
 use Rattle.cbor_cddl.specs.declared.schema.Occurrence.{Occurrence}

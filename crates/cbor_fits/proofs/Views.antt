@@ -1,4 +1,6 @@
--- A `Datum`, variant by variant, beside the value that it is.
+-- The `view` of a `Datum` that is an array or a map is made of the views of its members or pairs, and that of a byte
+-- string or an unsigned integer is the value with the same content. A list turned into `Values` or `Pairs` and back is
+-- the same list, with as many members.
 use Rattle.std.proofs.Common.{◌≡◌, ℕ, suc, map, List, [], ◌∷◌, Vec, Global, pos, length}
 use Rattle.std.proofs.Common.{refl, ap, rules}
 use Rattle.cbor_fits.specs.declared.value.Datum.{Datum, Unsigned, Bytes}

@@ -1,4 +1,5 @@
--- What a `Work` keeps: answers that are right.
+-- The answers that a `Work` keeps (whether an item fits a type): `Holds` says that each of them is right by `matcher`,
+-- and `IsRight` that one is.
 use Rattle.std.specs.Prelude.{◌≡◌, Bool, Option, Some, None}
 use Rattle.std.specs.List.{All}
 use Rattle.cbor_fits.specs.View.{view}

@@ -1,4 +1,5 @@
--- Types without parts, and numbers: RFC 8610, sections 2.2 and 3.6, and the prelude, appendix D.
+-- Which values fit types without parts, such as `uint`, literals and ranges (RFC 8610, section 2.2 and appendix D), and
+-- how numbers are compared, as by `.lt` (section 3.8.6).
 use Rattle.std.specs.Prelude.{ℕ, ◌^◌, List, length, Bool, true, false, ◌&&◌, ◌||◌, ◌==◌, if◌then◌else◌}
 use Rattle.std.specs.Prelude.{◌-◌, min, ℤ, pos, negsuc, int_lt, int_le, Float, is_nan, bytes_eq, suc}
 use Rattle.std.specs.Float.{round_to_format}

@@ -1,4 +1,4 @@
--- What a `Rest` and an `Outcome` stand for in the definitions.
+-- What a `Rest` (what is left for a group to take) and an `Outcome` (what a group does) stand for in `Fits.antt`.
 use Rattle.std.specs.Prelude.{map}
 use Rattle.std.specs.Borrow.{Bor}
 use Rattle.cbor_fits.specs.Value.{Value}

@@ -1,4 +1,4 @@
--- What a `Split` stands for in the definitions.
+-- What a `Split` (the pairs that an entry of a map takes and leaves) stands for in `Fits.antt`.
 use Rattle.std.specs.Prelude.{map}
 use Rattle.cbor_fits.specs.Fits as spec
 use Rattle.cbor_fits.specs.Rests.{pair_view_of}

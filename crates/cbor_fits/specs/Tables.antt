@@ -1,4 +1,5 @@
--- The rules that the tables of a loaded schema stand for.
+-- What the indices of a loaded schema lead to: nodes, lists, rules, literals and patterns, as `Rules` of `Rules.antt`
+-- has them.
 use Rattle.std.specs.Prelude.{ℕ, zero, suc, List, [], ◌∷◌, length, get_or, slice_range, Bool, true, false, nat_le}
 use Rattle.std.specs.Prelude.{is_some}
 use Rattle.std.specs.Prelude.{◌+◌, ◌&&◌, ◌==◌, if◌then◌else◌}

@@ -1,4 +1,6 @@
--- What is written for a finite number is a decimal text of it.
+-- For `decimal.rt`: laid out digits (`IsLaidOutNumber`) that parse back as a finite number are a text of it
+-- (`IsTextOf`), and `NaN`, `Infinity` and `-Infinity` are texts of the others. A text is at most one number
+-- (`IsNumber`). The bits of the nearest single encode the number that this single has.
 use lib.Ieee.{binary32, fits, to_bits}
 use Rattle.std.proofs.Common.{T, ◌≡◌, ◌⊎◌, inl, inr, ℕ, ◌+◌, ◌<◌, ◌||◌, Bool, true, false, cond, List, [], ◌∷◌, ◌++◌}
 use Rattle.std.proofs.Common.{length, drop, Some, IsTrue, codes, Result, Ok, Err, is_ok, OnOk, refl, sym, ap, ap₂, ◌∙◌}

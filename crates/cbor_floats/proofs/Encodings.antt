@@ -1,4 +1,6 @@
--- Which floats are an encoding of a number.
+-- The bits that `to_bits` gives for a number encode it as a double or a single (`IsEncodingOf`), if that width has the
+-- number. A number has at most one encoding in each width. If a single encodes a number, rounding to a single
+-- (`round_to_format`) does not change the number.
 use Rattle.std.proofs.Common.{◌≡◌, ℕ, ◌*◌, ◌<◌, Bool, false, not, T, inl, inr, refl, sym, ap, ◌∙◌, subst}
 use lib.Ieee.{Float, Format, nan, binary32, binary64, fits, is_nan, of_bits, to_bits, top}
 use lib.Ieee.Bits.{of_bits-to_bits, of_bits-fits, to_bits-lt, to_bits-of_bits}

@@ -1,4 +1,5 @@
--- The number of a float of 16 bits, and the float of 16 bits of a number.
+-- For `half.rt`: the number of a half (`half_value`) is NaN, an infinity, or `half_units` times 2 ^ -24, by its sign,
+-- exponent and fraction. The code computes this number as a double without rounding, and its shift loses no bit.
 use Rattle.std.proofs.Common.{◌≡◌, ◌⊎◌, inl, inr, ℕ, ◌+◌, ◌-◌, ◌*◌, ◌/◌, ◌%◌, ◌^◌, ◌<◌, Bool, true, false, cond, pos}
 use Rattle.std.proofs.Common.{zero, suc, refl, sym, ap, ◌∙◌, subst, arith, true≢false, nat_le, eqb, eqb-true, ne_eqb}
 use Rattle.std.proofs.Common.{lit<, lit≤, mul_assoc, mul_comm, mul-pos, lt_of_lt_of_le, pow-add, pow_mono, shl_lt}

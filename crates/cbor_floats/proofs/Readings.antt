@@ -1,4 +1,5 @@
--- A text is one float in a width, and a number has one shortest encoding.
+-- A number has at most one shortest encoding (`IsShortest`), and a text is read as at most one float in each width
+-- (`IsReadAs`). In the width of an encoding of a number, a text of the number is read as this encoding.
 use Rattle.std.proofs.Common.{◌≡◌, ℕ, ◌<◌, List, inl, inr, refl, sym, ◌∙◌, subst, lit<}
 use Rattle.std.specs.Float.Ieee.{Float}
 use Rattle.cbor_floats.specs.Decimal.{IsNumber, IsNoSingle, IsReadAs}

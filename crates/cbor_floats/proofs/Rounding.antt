@@ -1,4 +1,6 @@
--- Rounding a float to 16 bits: it depends on the fraction alone, and what becomes of its digits.
+-- For `nearest.rt`: the half that the code computes from the bits of a double is its `nearest_half`. The bits
+-- (`half_bits_of_units`) depend only on the value of the fraction, not on how it is written. If a half encodes a
+-- number, it is the `nearest_half` of the number; if that half is not the number, no half is.
 use Rattle.std.proofs.Common.{◌≡◌, ◌⊎◌, inl, inr, ℕ, ℤ, zero, suc, ◌+◌, ◌-◌, ◌*◌, ◌/◌, ◌%◌, ◌^◌, ◌<◌, ◌≤◌, min, max}
 use Rattle.std.proofs.Common.{Bool, true, false, not, cond, T, ltb, refl, sym, ap, ap₂, ◌∙◌, subst, arith, true≢false}
 use Rattle.std.proofs.Common.{lit<, lit≤, mul_assoc, mul_right_comm, mul-one, one-mul, mul-pos, mul-le-mul_right}

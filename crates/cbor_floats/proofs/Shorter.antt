@@ -1,4 +1,6 @@
--- The half and the single that can be a double, and so the width that is preferred for a float.
+-- The function `shorter`, which `EncodedFloat::shorter` computes, returns a float in its preferred width if that is
+-- shorter (`IsPreferredOf`), and None if and only if no shorter width has the float (`IsPreferred`). Two preferred
+-- floats that are the same double (`widened`) are equal, if their bits fit their widths.
 use Rattle.std.proofs.Common.{◌≡◌, ◌≢◌, ℕ, ◌*◌, ◌/◌, ◌%◌, ◌^◌, ◌<◌, ◌≤◌, Bool, true, false, cond, not, T, Option}
 use Rattle.std.proofs.Common.{Some, None, MatchOption, inl, inr, refl, sym, ap, ◌∙◌, subst, arith, true≢false, nat_le}
 use Rattle.std.proofs.Common.{eqb, eqb-true, eq-eqb, leb-true, leb-false, lit<}

@@ -1,4 +1,6 @@
--- Whether the bits of a float are those that its number is encoded as, and whether in the shortest width.
+-- For `is_usual` and `is_shortest` in `float.rt`: bits that are not those of the usual NaN encode their number
+-- (`IsEncodingOf`) if and only if it is not NaN. A single or a double that encodes its number is the shortest encoding
+-- (`IsShortest`) if and only if no half, and for a double no single, encodes the number.
 use Rattle.std.proofs.Common.{◌≡◌, ◌^◌, ◌<◌, ℕ, Bool, true, false, not, Option, Some, None, MatchOption, is_none}
 use Rattle.std.proofs.Common.{is_some, IsTrue, refl, sym, ap, ◌∙◌, subst, arith, lit<, true≢false}
 use lib.Ieee.{Float, nan, is_nan}

@@ -1,4 +1,6 @@
--- A number has one float in a format, and one pattern of bits.
+-- Two floats that a format holds (`fits`) are equal if they have the same number (`HasValue`) or the same bits
+-- (`to_bits`). Rounding to the format (`round_to_format`) does not change a float that it holds. The digits and the
+-- exponent of such a float are within `Bounds`.
 use Rattle.std.proofs.Common.{◌≡◌, ℕ, ℤ, ◌+◌, ◌-◌, ◌*◌, ◌/◌, ◌%◌, ◌^◌, ◌<◌, ◌≤◌, Bool, cond, T, ltb→lt, leb→le, pos}
 use Rattle.std.proofs.Common.{negsuc, zero, suc, refl, sym, ap, ◌∙◌, subst, arith, eqb, ltb, leb, ◌&&◌, eqb→eq, lit<}
 use Rattle.std.proofs.Common.{le_trans, le_of_eq, le_of_suc-le-suc, lt_of_not-le, zero-mul, mul-pos}

@@ -13,7 +13,6 @@ pub mod CutShort
 pub mod Faults
 pub mod ExactlyOne
 pub mod Strict
-pub mod Higher
 pub mod Resolved
 pub mod Sizes
 pub mod Laws

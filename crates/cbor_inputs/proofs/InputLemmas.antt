@@ -1,4 +1,6 @@
--- What an input may be that no form of text reads.
+-- For `recognize`: an input that is neither hex nor diagnostic notation nor base64 may be in no form (`MayBe`), if it
+-- is a text or if its bytes are not items. If each of two refusals says why the input lacks some form (`IsWhy`), a
+-- refusal that is one of the two says so, too.
 use Rattle.std.proofs.Common.{◌≡◌, ◌⊎◌, ℕ, List, inl, inr, refl, sym, subst}
 use Rattle.cbor_inputs.specs.declared.decode.Input.{Input}
 use Rattle.cbor_inputs.specs.declared.decode.Input.TheVariants as input

@@ -1,4 +1,6 @@
--- In hex as people paste it, what is kept of a text, one character on.
+-- For `kept` of `loose.rt`: `loose` of a text from a place on is the character there, if its turn keeps it (`turn_of`),
+-- and then `loose` of the text after it. So if the character is appended or skipped as its turn says, the digits so far
+-- and `loose` of the rest are still `loose` of the whole text.
 use Rattle.std.proofs.Common.{◌≡◌, ℕ, ◌+◌, ◌<◌, Bool, true, false, List, [], ◌∷◌, ◌++◌, length, drop, get_or, refl, sym}
 use Rattle.std.proofs.Common.{ap}
 use Rattle.std.proofs.Common.{◌∙◌, append_assoc, add-zero}

@@ -1,4 +1,6 @@
--- For viewers, what is written of items in EDN, one after the other, is read back as their bytes.
+-- If whole items at the front of the input are shown in EDN, `bytes_of_edn` reads the output back as the encodings of
+-- these items, if none has a reserved simple value (`NoneReserved`). These are the bytes of the input if no simple
+-- value below 24 takes two bytes there (`IsStrictSequence`).
 use Rattle.std.proofs.Common.{◌≡◌, ℕ, ◌≤◌, List, [], ◌∷◌, ◌++◌, length, Option, Some, refl, sym, ap, subst}
 use Rattle.std.proofs.Common.{◌∙◌, append_assoc, append-nil, length-append, arith}
 use Rattle.std.specs.List.{AllByRecursion}

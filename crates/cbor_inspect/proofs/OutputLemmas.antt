@@ -1,4 +1,6 @@
--- For viewers, what is written of an item at the front, and of a part of it.
+-- Without steps, viewers append the output of the whole item at the front; with steps, they append that of its parts.
+-- In both cases it is what is shown of the first item (`IsShownOfFirst`). Bytes that are an item without an overlong
+-- simple value are its `encoded` bytes, and `slice_rotate_right` moves the end of a list to its front.
 use Rattle.std.proofs.Common.{◌≡◌, ℕ, ◌-◌, ◌⊎◌, List, [], ◌∷◌, ◌++◌, length, take, drop, refl, sym, ap, subst}
 use Rattle.std.proofs.Common.{◌∙◌, arith, Result, Ok, Err, IfOk, length-append, append-nil}
 use Rattle.std.proofs.Math.Seq.{take-length}

@@ -1,5 +1,6 @@
--- Bytes in which no byte below 32 follows 0xf8 have no simple value that RFC 8949 forbids. So a viewer finds the items
--- that RFC 8949 allows by searching for 0xf8.
+-- An item whose bytes have no byte below 32 after 0xf8 (`NoPair`) is one by RFC 8949 (`Is8949`), so a search for 0xf8
+-- is enough. Such items one after the other (`ItemsThen8949`): they stay so if one more is passed or more bytes come,
+-- and the rest of a sequence of them is a sequence of them.
 use Rattle.std.proofs.Common.{◌≡◌, ℕ, zero, suc, ◌+◌, ◌<◌, ◌≤◌, List, [], ◌∷◌, ◌++◌, length, take, drop}
 use Rattle.std.proofs.Common.{Option, Some, None, inl, inr, refl, sym, ap, append-nil, subst, ◌∙◌, arith}
 use Rattle.std.proofs.Common.{length-append, take-append-drop, append_assoc, Result, Ok, Err, OnOk, get_or, true}

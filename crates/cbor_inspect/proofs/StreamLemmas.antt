@@ -1,4 +1,6 @@
--- The bytes that a stream keeps of items as they arrive, and those that were scanned.
+-- For `Stream`: if more bytes come, those that were scanned stay scanned (`IsScanned`), and items and output of the
+-- bytes before stay the same. If an item is passed, the rest is a sequence if all bytes are one, and it begins with an
+-- item if it is not empty. For `how_begun`: the clauses of `extent` give `IsExtent`.
 use Rattle.std.proofs.Common.{◌≡◌, ℕ, ◌≤◌, Bool, true, false, List, [], ◌∷◌, ◌++◌, length, take, drop, sym}
 use Rattle.std.proofs.Common.{subst, arith}
 use Rattle.std.proofs.Common.{Result, Ok, Err, OnOk, if◌then◌else◌, length-append}

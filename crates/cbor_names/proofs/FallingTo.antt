@@ -1,4 +1,5 @@
--- Notes with names, in the order of their places; one more may come.
+-- Notes that are in order down to `low` remaining bytes (`FallsTo`) are in order (`Falls`). If a note at fewer than
+-- `low` remaining bytes is appended, they are in order down to that note.
 use Rattle.std.proofs.Common.{ℕ, ◌<◌, List, [], ◌∷◌, ◌++◌, arith}
 use Rattle.cbor_names.specs.declared.note.Note.{Note}
 use Rattle.cbor_names.specs.Falling.{Falls, FallsTo}

@@ -1,4 +1,6 @@
--- Markup, piece by piece, and one after the other.
+-- Pieces of markup one after the other are markup of their joined text and bytes (`IsMarkup`). For `Source`: each piece
+-- that is written keeps `Writes`, and once all is written, the output is markup of all text and all bytes. For lines of
+-- items: `ShowsTo` goes on item by item, up to all bytes.
 use Rattle.std.specs.Prelude.{flat_map}
 use Rattle.std.proofs.Common.{◌≡◌, ◌-◌, ◌+◌, ◌≤◌, ℕ, List, [], ◌∷◌, ◌++◌, length, take, drop, refl, sym, ap, ◌∙◌, subst}
 use Rattle.std.proofs.Common.{arith}

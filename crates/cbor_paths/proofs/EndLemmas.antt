@@ -1,4 +1,6 @@
--- For viewers, ends of calls, and how many items they passed.
+-- An `End` that is right by `StopsSo` is right by `EndsSo`, too, and is not `Full`. If bytes begin with an item,
+-- dropping that item passes one item (`OneThen`) and leaves fewer bytes; a call that passed no item before passes at
+-- most one (`OneAtMost`).
 use Rattle.std.proofs.Common.{◌≡◌, ℕ, ◌<◌, List, length, take, drop, inl, inr, refl, sym, ap, subst}
 use Rattle.std.proofs.Common.{arith, length-append, take-append-drop}
 use Rattle.cbor_grammar.specs.Item.{Item}

@@ -1,4 +1,6 @@
--- For viewers, bytes that are items one after the other begin with an item.
+-- An item has at least one byte. A sequence of items that is not empty begins with an item, and a sequence follows
+-- (`front_of`); after some items of the bytes, the rest is a sequence if and only if the bytes are one. Two items at
+-- the front of the same bytes end at the same place (`same_rest`).
 use Rattle.std.proofs.Common.{◌≡◌, ℕ, ◌+◌, ◌≤◌, List, [], ◌∷◌, ◌++◌, length, take, drop, Option, Some, None, inl, inr}
 use Rattle.std.proofs.Common.{◌<◌, refl, sym, ap, ◌∙◌, subst, arith, length-append}
 use Rattle.std.proofs.lemmas.List.{drop-drop, length-drop}

@@ -1,4 +1,3 @@
 pub mod Sequences
-pub mod Parts
 pub mod Fronts
 pub mod EndLemmas

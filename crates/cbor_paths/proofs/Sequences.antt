@@ -1,4 +1,5 @@
--- For viewers, what is written of items one after the other.
+-- If some items are followed by more items, all of them are one sequence (`ItemsThen`), and their outputs, one after
+-- the other, are the output of all (`IsShownOfFirst`). Bytes that come later change neither the items nor the output.
 use Rattle.std.proofs.Common.{ℕ, List, [], ◌∷◌, ◌++◌, take, drop, refl, sym, ap, subst, ◌∙◌}
 use Rattle.std.proofs.Common.{append-nil, append_assoc, take-append-drop}
 use Rattle.cbor_grammar.specs.Item.{Item}

@@ -1,4 +1,6 @@
--- Encoding again: from the parts of an item whose head was read to the item around them.
+-- For `Encoder::push_array`, `push_map` and `push_tagged`: if a head was read and its members, pairs or item are
+-- re-encoded, the bytes with a new head re-encode the whole container (`Rewritten`), at an allowed level and with fewer
+-- than 2 ^ 64 members. The count fits the width that was read (`FitsHeld`). Other heads open no container.
 use Rattle.std.proofs.Common.{◌≡◌, ◌≢◌, ℕ, ◌+◌, ◌^◌, ◌<◌, ◌≤◌, List, [], ◌++◌, length, Option, Some, None, Ok, refl}
 use Rattle.std.proofs.Common.{sym, ap, subst, ◌∙◌}
 use Rattle.std.specs.List.Sorted.{IsPermutation}

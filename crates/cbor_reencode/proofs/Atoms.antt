@@ -1,4 +1,6 @@
--- What is written for an item that holds no item is the same item.
+-- If an integer, a simple value, a float or a string is written with the widths that the rules choose, it is the same
+-- item (`RewrittenAtom`). A float may become another form of the same number (`IsNumber`); a simple value must not be
+-- below 32 in two bytes. Chunks are written one by one, if the rules allow that, or joined to one string.
 use Rattle.std.proofs.Common.{◌≡◌, ℕ, Bool, true, false, List, [], ◌∷◌, ◌++◌, length, take}
 use Rattle.std.proofs.Common.{drop, None, refl, sym, ap, subst, ◌∙◌, append_assoc, arith}
 use Rattle.std.proofs.lemmas.List.{append-nil, take-append-drop}

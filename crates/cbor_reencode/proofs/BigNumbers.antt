@@ -1,4 +1,6 @@
--- What is written for a tag and its item is the same item, and the same number where it is a big one.
+-- If a tag fits its width, its level is allowed and its item was written as the same item, `tagged_bytes` are the same
+-- tag and item. A big number stays the same number: it becomes an integer if it fits, and otherwise loses its leading
+-- zero bytes. `big_endian` is no smaller than the number that it starts with.
 use Rattle.std.proofs.Common.{◌≡◌, ℕ, ◌+◌, ◌*◌, ◌^◌, ◌<◌, ◌≤◌, Bool, true, false, cond, ltb, eqb, List, [], ◌∷◌, ◌++◌}
 use Rattle.std.proofs.Common.{length, Option, Some, None, Ok, inl, inr, refl, sym, ap, subst, ◌∙◌, arith}
 use Rattle.std.proofs.lemmas.Bool.{ltb-true, eqb-true}

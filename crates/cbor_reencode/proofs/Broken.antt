@@ -1,4 +1,6 @@
--- The violation is nothing if and only if the rules are kept, also where keys are compared by value.
+-- For `violation_of`: its result is `None` if and only if the bytes keep the rules with keys compared by value
+-- (`KeepsWithKeys`). This covers three of its returns: `violation_in` found a violation, the rules do not ask for
+-- distinct keys, or two keys of a map are equal.
 use Rattle.std.proofs.Common.{◌≡◌, ◌↔◌, ℕ, true, false, List, Option, Some, None, refl, sym, ◌∙◌}
 use Rattle.cbor_rules.specs.declared.rules.Rules.{Rules}
 use Rattle.cbor_rules.specs.declared.kind.Violation.{Violation}

@@ -1,4 +1,6 @@
--- The width that is chosen fits the number.
+-- A number that fits a stated width is below 2 ^ 64, and such a number fits the width `shortest`. `chosen_width` fits
+-- the number of a head if the width that was read does. If a stated width fits, `encoded_head` is the `head` of that
+-- width.
 use Rattle.std.proofs.Common.{◌≡◌, ℕ, ◌^◌, ◌<◌, Bool, true, false, cond, ap, arith}
 use Rattle.cbor_grammar.specs.declared.width.IntegerWidth.{IntegerWidth}
 use Rattle.cbor_grammar.specs.declared.width.IntegerWidth.TheVariants.{Unknown, Zero, Eight, Sixteen, ThirtyTwo}

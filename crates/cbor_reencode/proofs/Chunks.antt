@@ -1,4 +1,6 @@
--- Encoding again: the next chunk of a string, or its break, is what is read by its length.
+-- For `read_chunk`: if `read_chunk_length` finds a break, the bytes begin with the break byte. If it finds a length,
+-- and a content of this length follows that the kind of string allows, the bytes begin with the chunk of that content
+-- (`ChunkAt`).
 use Rattle.std.proofs.Common.{◌≡◌, ℕ, List, ◌∷◌, ◌++◌, length, Some, None, Ok, sym, ap, subst, ◌∙◌}
 use Rattle.cbor_grammar.specs.declared.width.IntegerWidth.{IntegerWidth}
 use Rattle.cbor_grammar.specs.declared.strings.StringKind.{StringKind}

@@ -1,4 +1,6 @@
--- What is written for an item at its level is the same item.
+-- If each member or pair is re-encoded as the same item, so are all of a container (`ItemsMore`, `PairsMore`) and of a
+-- sequence (`Sequence`). At an allowed level and with fewer than 2 ^ 64 members, a head and an end around them make the
+-- same array, map or tag (`array_done`, `map_done`, `tag_done`); the pairs may be in another order.
 use Rattle.std.proofs.Common.{◌≡◌, ℕ, zero, suc, ◌+◌, ◌-◌, ◌^◌, ◌<◌, ◌≤◌, Bool, true, false, List, [], ◌∷◌, ◌++◌}
 use Rattle.std.proofs.Common.{length, cond, Option, Some, None, refl, sym, ap, subst, ◌∙◌, append_assoc, arith}
 use Rattle.std.proofs.Common.{add-zero, zero-add}

@@ -1,4 +1,4 @@
--- Items that are the same as one item are the same.
+-- Two items are the same (`IsSame`) if both are the same as a third item, or if a third item is the same as both.
 use Rattle.std.proofs.Common.{◌≡◌, ◌⊎◌, Bool, inl, inr, refl, sym, ap, subst, ◌∙◌}
 use Rattle.cbor_grammar.specs.Item as spec
 use Rattle.cbor_grammar.specs.Item.{Item, atom, array, tagged, Items, no_items, item, Pairs, no_pairs, pair}

@@ -1,4 +1,6 @@
--- Encoding again: items that keep rules keep rules that ask for less, and are the same as themselves.
+-- Items that keep rules keep rules that ask for less (`AsksLess`), such as `lasting` and `without_memory`, and each
+-- item is the same as itself (`IsSame`). Bytes that keep the rules are a re-encoding (`IsReencoded`) of themselves. The
+-- bytes that were written for a sequence (`Sequence`) are a re-encoding of it if they keep the rules.
 use Rattle.std.proofs.Common.{◌≡◌, ℕ, ◌+◌, Bool, true, false, List, [], ◌∷◌, Option, Some, None, refl}
 use Rattle.std.proofs.Common.{sym, subst, ◌≤◌, ◌⊎◌, inl, inr}
 use Rattle.std.specs.Prelude.{IsTrue}

@@ -1,4 +1,5 @@
--- Items that have a core deterministic encoding have no map in which two keys are one.
+-- For `keys_twice`: if bytes have a re-encoding by core deterministic encoding (`IsReencoded CORE`), no map in them has
+-- two equal keys (`KeysOnce`).
 use Rattle.std.proofs.Common.{◌≢◌, ℕ, ◌+◌, true, List, [], inl, inr, refl, sym, ap, subst}
 use Rattle.cbor_grammar.specs.declared.width.IntegerWidth.{IntegerWidth}
 use Rattle.cbor_grammar.specs.Item as spec

@@ -1,4 +1,6 @@
--- What the rules leave of a float is the same number.
+-- For `Encoder::reduced`: a float is written as the same number by the rules (`IsNumber`), whether in a chosen width
+-- or, with `reduced_floats`, as the integer that it is or as f97e00 for a NaN. If `reduced_violation` finds an integer,
+-- the float is that integer; if it finds anything else, the float is a NaN.
 use Rattle.std.proofs.Common.{◌≡◌, ◌≢◌, ℕ, ◌-◌, Bool, true, false, cond, ltb, not, ◌&&◌, Option, Some, None}
 use Rattle.std.proofs.Common.{refl, sym, ap, ◌∙◌, arith}
 use lib.Ieee.{is_nan, of_bits}

@@ -1,4 +1,5 @@
--- The pairs of a map in another order are the same pairs.
+-- If the pairs of a map are re-encoded (`PairsAre`) and then put in another order (`IsPermutation`), their bytes are
+-- the pairs of the same map (`Ordered`). `reduced_pairs` of two joined lists of pairs joins the reduced pairs of both.
 use Rattle.std.proofs.Common.{◌≡◌, ℕ, suc, List, [], ◌∷◌, ◌++◌, length, refl, sym, ap, subst, ◌∙◌, append_assoc}
 use Rattle.std.specs.List.Sorted.{IsPermutation}
 use Rattle.cbor_grammar.specs.Item.{Item, Pairs, no_pairs, pair, pair_count}

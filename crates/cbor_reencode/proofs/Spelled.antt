@@ -1,4 +1,4 @@
--- Bytes are only one sequence of items.
+-- Bytes are at most one sequence of items: two lists of items that the same bytes spell (`SpellsItems`) are equal.
 use Rattle.std.proofs.Common.{◌≡◌, ℕ, List, [], ◌++◌, length, refl, sym, ap, ◌∙◌, length-append, arith}
 use Rattle.cbor_grammar.specs.Item.{Item, Items, no_items, item}
 use Rattle.cbor_grammar.specs.Bytes.{strict, Spells, SpellsItems}

@@ -1,4 +1,5 @@
--- Where no two keys of a map are one, none become the same bytes by core deterministic encoding.
+-- For `have_key_twice`: if the bytes that are written by `CORE` keep the rules `unordered false` but not
+-- `unordered true`, which ask for distinct keys as well, two keys of a map in the input are equal (not `KeysOnce`).
 use Rattle.std.proofs.Common.{◌≡◌, ◌≢◌, ℕ, ◌+◌, ◌-◌, ◌^◌, ◌⊎◌, Bool, true, false, cond, ltb, List, [], ◌++◌, Option}
 use Rattle.std.proofs.Common.{Some, None, inl, inr, refl, sym, ap, subst, ◌∙◌, arith}
 use Rattle.cbor_grammar.specs.declared.width.IntegerWidth.{IntegerWidth}

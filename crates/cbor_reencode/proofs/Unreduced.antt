@@ -1,5 +1,6 @@
--- Items that keep the rules of core deterministic encoding have their numbers in the one form that these leave: what is
--- the same as their reduced form is the same as they are.
+-- If an item keeps `CORE` without its order of keys (`loose`), its numbers are reduced already: each item that is the
+-- same as its reduced form (`reduced_item`) is the same as the item itself. A tag stays as it is if its item is no
+-- content of a big number (`content_of`).
 use Rattle.std.proofs.Common.{◌≡◌, ◌≢◌, ℕ, ◌+◌, ◌*◌, ◌^◌, ◌<◌, ◌≤◌, ◌⊎◌, Bool, true, false, cond, ltb, eqb, List, []}
 use Rattle.std.proofs.Common.{◌∷◌}
 use Rattle.std.proofs.Common.{length, get_or, Option, Some, None, inl, inr, refl, sym, ap, subst, ◌∙◌, arith}

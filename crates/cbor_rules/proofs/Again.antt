@@ -1,4 +1,5 @@
--- Bytes that are items that keep the rules are read without a violation.
+-- Numbers, floats, simple values and strings, also in chunks: if such an item keeps the rules (`KeepsAtom`),
+-- `kept_item` reads its bytes without a violation, whatever follows them.
 use Rattle.std.proofs.Common.{◌≡◌, ℕ, zero, suc, ◌+◌, ◌-◌, ◌<◌, ◌≤◌, Bool, true, cond}
 use Rattle.std.proofs.Common.{List, [], ◌∷◌, ◌++◌, length, take, Option, Some, None, Ok, inl, inr, refl, sym, ap, subst}
 use Rattle.std.proofs.Common.{◌∙◌, append_assoc, arith}

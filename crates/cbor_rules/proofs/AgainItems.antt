@@ -1,4 +1,5 @@
--- Containers that keep the rules are read without a violation, and so are items one after the other.
+-- Any item, with all items in it: if it keeps the rules (`Keeps`), `kept_item` reads its bytes without a violation,
+-- whatever follows them. If bytes are items that keep the rules (`KeepsRules`), `first_violation` of them is `None`.
 use Rattle.std.proofs.Common.{◌≡◌, ℕ, zero, suc, ◌+◌, ◌<◌, ◌≤◌, Bool, true, false, cond, ltb, List, []}
 use Rattle.std.proofs.Common.{◌∷◌, ◌++◌, length, Option, Some, None, Ok, refl, sym, ap, subst, ◌∙◌}
 use Rattle.std.proofs.Common.{append_assoc, arith}

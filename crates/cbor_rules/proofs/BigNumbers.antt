@@ -1,4 +1,6 @@
--- A tag before an item violates no rule of big numbers if and only if the item keeps it.
+-- `tag_violation` of the bytes after a tag is `None` if and only if the item that they begin with keeps the rule for
+-- big numbers (`KeepsTag`). A function of a head that is `None` at each head but that of a byte string of definite
+-- length is `None` at every other item.
 use Rattle.std.proofs.Common.{◌≡◌, ◌≢◌, ℕ, ◌+◌, ◌<◌, ◌⊎◌, Bool, true, false, cond, ◌&&◌, ◌||◌, ltb, eqb, List, []}
 use Rattle.std.proofs.Common.{◌∷◌, ◌++◌, length, get_or, Option, Some, None, Ok, inl, inr, refl, sym, ap, subst, ◌∙◌}
 use Rattle.std.proofs.Common.{arith}

@@ -1,4 +1,6 @@
--- Where the rules of an encoding leave no choice, bytes of the same items are the same bytes.
+-- If the rules ask for the shortest heads, definite lengths and an order of keys (`IsDeterministic`), two inputs that
+-- keep them are the same bytes if their items are the same (`SameItems`) but for widths, kinds of length and the order
+-- of pairs. The widths of floats may differ only if the rules ask for the shortest floats.
 use Rattle.std.proofs.Common.{◌≡◌, ◌≢◌, ℕ, ◌+◌, Bool, true, false, List, [], ◌++◌, Option, Some, None}
 use Rattle.std.proofs.Common.{length, refl, sym, ap, subst, ◌∙◌}
 use Rattle.cbor_grammar.specs.declared.width.IntegerWidth.{IntegerWidth}

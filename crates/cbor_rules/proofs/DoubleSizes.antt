@@ -1,4 +1,5 @@
--- For the rules of dCBOR, which integer a double is, by its bits.
+-- For `reduced.rt`: the integer that a double is (`integer_of`) is given by its sign bit and the size of its other bits
+-- (`size_of_bits`). For each range of exponents, this size is the number that the code computes, or there is none.
 use Rattle.std.proofs.Common.{◌≡◌, ℕ, zero, suc, ◌+◌, ◌-◌, ◌*◌, ◌/◌, ◌%◌, ◌^◌, ◌<◌, ◌≤◌, Bool, true, false, cond, ◌&&◌}
 use Rattle.std.proofs.Common.{ltb, leb, eqb, Some, None, inl, inr, refl, sym, ap, subst, ◌∙◌, arith}
 use Rattle.std.proofs.lemmas.Bool.{lt-ltb, le-ltb, eq-eqb, ne_eqb, ltb-false, leb-true, cases_eq}

@@ -1,4 +1,5 @@
--- There is no first violation if and only if the rules are kept.
+-- For `violation` and `violation_in`: a result that is the `first_violation` of the bytes is `None` if and only if the
+-- bytes are items that keep the rules (`KeepsRules`).
 use Rattle.std.proofs.Common.{◌≡◌, List, ℕ, Option, None, Result, Ok, Err, sym, ◌∙◌}
 use Rattle.std.specs.Prelude.{IfOk, ◌↔◌}
 use Rattle.cbor_grammar.proofs.bytes.Heads.{IsBytes}

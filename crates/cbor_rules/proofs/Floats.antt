@@ -1,4 +1,5 @@
--- A float violates no rule if and only if it keeps it, and its bits fit its width.
+-- `float_violation` is `None` if and only if the float keeps the rules (`KeepsFloat`). If a head that was read is a
+-- float, its bits fit its width.
 use Rattle.std.proofs.Common.{◌≡◌, ℕ, Bool, true, false, cond, not, ◌&&◌, List, Option, Some, None, Ok, refl, ap, ◌∙◌}
 use Rattle.std.proofs.lemmas.Bool.{eqb-true}
 use Rattle.std.specs.Prelude.{is_nan}

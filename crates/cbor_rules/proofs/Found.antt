@@ -1,4 +1,5 @@
--- Bytes that were read without a violation are an item that keeps the rules.
+-- Numbers, floats, simple values and strings, also in chunks: if `kept_atom` reads such an item without a violation
+-- after a head without one, the bytes begin with an item that keeps the rules (`Found`).
 use Rattle.std.proofs.Common.{◌≡◌, ℕ, zero, suc, ◌+◌, ◌/◌, ◌%◌, ◌≤◌, Bool, true, cond, ltb, List}
 use Rattle.std.proofs.Common.{[], ◌∷◌, ◌++◌, length, take, drop, Option, Some, None, Ok, Err, inl, inr, refl, sym, ap}
 use Rattle.std.proofs.Common.{subst, ◌∙◌, arith}

@@ -1,4 +1,5 @@
--- Items that were read without a violation keep the rules.
+-- Any item, with all items in it: if `kept_item` reads it without a violation, the bytes begin with an item that keeps
+-- the rules (`Found`). If `first_violation` is `None`, the bytes are items that keep the rules (`KeepsRules`).
 use Rattle.std.proofs.Common.{◌≡◌, ℕ, zero, suc, ◌+◌, ◌-◌, ◌≤◌, Bool, true, false, cond, ltb, List, [], ◌∷◌, ◌++◌}
 use Rattle.std.proofs.Common.{length, Option, Some, None, Ok, Err, refl, sym, ap, subst, ◌∙◌, append_assoc, arith}
 use Rattle.std.proofs.lemmas.Bool.{ltb-false}

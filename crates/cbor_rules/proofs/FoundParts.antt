@@ -1,4 +1,6 @@
--- Members and pairs that were read without a violation keep the rules.
+-- The parts of a container: if `kept_parts` reads members or pairs without a violation, the bytes begin with as many
+-- members or pairs as the count asks for, or with those up to the break, and they keep the rules, also those for keys.
+-- This holds for each function that reads items, if each item that it reads keeps the rules (`FindsAll`).
 use Rattle.std.proofs.Common.{◌≡◌, ℕ, zero, suc, ◌-◌, List, [], ◌∷◌, ◌++◌, length, take, Option, Some}
 use Rattle.std.proofs.Common.{None, Ok, inl, inr, refl, sym, ap, subst, ◌∙◌, append_assoc, arith}
 use Rattle.std.proofs.lemmas.List.{length-append}

@@ -1,4 +1,6 @@
--- A head violates no rule if and only if what it says keeps the rules.
+-- `number_violation` is `None` if and only if a number that fits its width keeps the rules (`KeepsNumber`), and
+-- `simple_violation` if and only if a simple value keeps them (`KeepsSimple`) and is not below 32 in two bytes. A chain
+-- of steps (`kept_then`, `unless`, `at`) passes only if each step passes.
 use Rattle.std.proofs.Common.{◌≡◌, ℕ, ◌<◌, ◌≤◌, ◌⊎◌, Bool, true, false, cond, ◌&&◌, ◌||◌, ltb, leb, List, ◌∷◌, ◌++◌}
 use Rattle.std.proofs.Common.{Option, Some, None, Result, Ok, Err, inl, inr, refl, ap, ◌∙◌, arith}
 use Rattle.std.proofs.lemmas.Bool.{le-ltb, ltb-false, le-leb, leb-true}

@@ -1,4 +1,6 @@
--- Finding a violation: no key is there again if and only if the keys differ.
+-- If the rules ask for distinct keys, `twice_violation` finds no key again if and only if the keys of the map differ
+-- (`KeysDiffer`). Shown one key at a time: the keys to come are `KeysFresh` if and only if the first of them has no
+-- violation and, once it is seen, the others are `KeysFresh`.
 use Rattle.std.proofs.Common.{◌≡◌, ◌≢◌, ℕ, Bool, true, false, cond, List, Option, Some, None, refl, sym, ap, subst, ◌∙◌}
 use Rattle.std.proofs.Common.{true≢false}
 use Rattle.std.proofs.lemmas.Bool.{false_from_ne_true}

@@ -1,4 +1,5 @@
--- Finding a violation: the head of a container whose bytes are known.
+-- If bytes spell a container by the grammar (`MembersThen`), they begin with its head, and its members follow up to its
+-- end (`opens`). `head_of` makes the head of an array, a map or a tag of the major types 4, 5 and 6.
 use Rattle.std.proofs.Common.{◌≡◌, ℕ, List, ◌++◌, Option, Some, None, Ok, refl, ap}
 use Rattle.cbor_grammar.specs.declared.width.IntegerWidth.{IntegerWidth}
 use Rattle.cbor_grammar.specs.declared.argument.Argument.{Argument}

@@ -1,4 +1,5 @@
--- By the rules, two maps with the same pairs, whose keys are in order, are one.
+-- If the rules order keys (`KeyOrder` is not `Any`), keys in that order differ (`KeysDiffer`), and two maps with the
+-- same pairs in that order are equal (`same_set`).
 use Rattle.std.proofs.Common.{◌≡◌, ◌≢◌, ℕ, List, length, refl, sym, ap, subst, ◌∙◌}
 use Rattle.std.specs.declared.cmp.Ordering.TheVariants.{Less, Equal}
 use Rattle.std.specs.Cmp.{IsTotalOrder}

@@ -1,4 +1,6 @@
--- Finding a violation: what stops the reading of a part stops the whole.
+-- For `Check`: if a content or a key has a violation, the reading around it (`kept_chunk`, `kept_atom`, `after_part`)
+-- has the same violation; after a key without one comes its value. The violation that `Stop::found` returns is that of
+-- the whole, and its place is within the bytes.
 use Rattle.std.proofs.Common.{◌≡◌, ◌≤◌, ℕ, List, Option, Some, None, Result, Ok, Err, sym, ap, subst, ◌∙◌}
 use Rattle.std.specs.Prelude.{IfOk, IfSome}
 use Rattle.std.specs.declared.alloc.Global.{Global}

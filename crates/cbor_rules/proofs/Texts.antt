@@ -1,4 +1,6 @@
--- A content violates no rule if and only if it keeps it.
+-- `text_violation` finds nothing in the content of a string if and only if the content keeps the rules
+-- (`KeepsContent`): a text is in NFC if the rules ask for that. If `kept_content` reads a content, the content has no
+-- violation, and `skip_content` ends at the same place.
 use Rattle.std.proofs.Common.{◌≡◌, ℕ, Bool, true, false, cond, List, take, Some, None, Ok, refl, ap, ◌∙◌}
 use Rattle.std.specs.Cmp.Lexicographic.{bytes_decides}
 use Rattle.std.specs.Prelude.{chars}

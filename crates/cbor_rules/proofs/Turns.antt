@@ -1,5 +1,6 @@
--- Finding a violation: one turn of reading chunks, the parts of a container, or items ends with what all turns give, or
--- goes on.
+-- One turn of `kept_chunks`, `kept_parts` or `violation_from`: if it ends the reading, its result is that of all turns;
+-- otherwise, if it read a byte, the turns that are left give the result of all. One level of `kept_item`: it has the
+-- violation of the head, or else the result of `kept_body`; with no level left, the item is too deep.
 use Rattle.std.proofs.Common.{◌≡◌, ◌-◌, ◌<◌, ◌≤◌, ℕ, zero, suc, List, [], ◌∷◌, length, Option, Some, None, Ok, Err}
 use Rattle.std.proofs.Common.{refl, sym, ap, subst, ◌∙◌, arith}
 use Rattle.cbor_grammar.specs.WellFormed.{deepest}

@@ -1,4 +1,6 @@
--- Texts in colours, and texts with tokens that are shown in another way, one after the other.
+-- Output that is appended piece by piece is the whole text in colours (`IsColored`), or with each token shown in its
+-- way (`InTokens`). Without the colours it is the text again (`without_sgr`) if that has no ESC. A long token may be
+-- cut (`IsElidedToken`; not in a text of at most `most` bytes) or lose its encoding indicator (`IsWidthlessToken`).
 use Rattle.std.proofs.Common.{◌≡◌, ◌≢◌, ◌⊎◌, ℕ, ◌+◌, ◌<◌, ◌≤◌, List, [], ◌∷◌, ◌++◌, length, take, drop, get_or, false}
 use Rattle.std.proofs.Common.{refl, sym, ap, ◌∙◌, subst, inl, inr, append_assoc, length-append, arith}
 use Rattle.std.proofs.Common.{eqb, suc, zero, codes}

@@ -1,4 +1,6 @@
--- What holds of the outermost item holds of those on the way to a byte.
+-- If a byte is in the outermost item, and this item is whole, each item on the way to the byte is whole and contains
+-- the byte. If the place of the byte is past all bytes, and the outermost item is cut or has a fault, each item on the
+-- way is cut or has that fault (`IsCarried`).
 use Rattle.std.proofs.Common.{◌≡◌, ℕ, ◌+◌, ◌<◌, ◌≤◌, List, ◌++◌, length, take, drop, sym, ap, subst, ◌∙◌}
 use Rattle.std.proofs.Common.{append_assoc, arith}
 use Rattle.std.proofs.lemmas.List.{length-append, length-drop, take-append-drop, drop_at}

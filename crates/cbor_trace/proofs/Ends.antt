@@ -1,4 +1,6 @@
--- Where an item ends.
+-- For `end_at` and `after_within`: an item at a spot ends where the rest that `read_item` leaves begins, and nowhere if
+-- `read_item` fails (`EndsAt`). An item that is read in some first bytes is also read in all bytes, and an item that
+-- ends within some first bytes is read in these alone.
 use Rattle.std.proofs.Common.{◌≡◌, ℕ, ◌+◌, ◌-◌, ◌≤◌, List, ◌++◌, length, take, drop, Ok, Err, sym, ap, ◌∙◌}
 use Rattle.std.proofs.Common.{append_assoc, arith}
 use Rattle.std.proofs.Math.Seq.{take-append-add}

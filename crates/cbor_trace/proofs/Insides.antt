@@ -1,5 +1,6 @@
--- A container before one of its parts, by the grammar: its head, whole parts, and the rest. So the item is cut if that
--- part is, and has the fault that the part has.
+-- A container that was read up to one of its parts (`IsBefore`) is, by the grammar, a head, whole parts, and the rest
+-- (`Within`). If the container is whole, so is the part. If the container is cut or has a fault, and no whole item is
+-- in the place of the part, the part is cut or has that fault.
 use Rattle.std.proofs.Common.{◌≡◌, ℕ, zero, suc, ◌+◌, ◌-◌, ◌*◌, ◌≤◌, List, [], ◌∷◌, ◌++◌, refl, sym, ap, subst}
 use Rattle.std.proofs.Common.{Ok, ◌∙◌, append_assoc, append-nil, arith}
 use Rattle.cbor_grammar.specs.declared.argument.Argument.TheVariants.{Number, Indefinite}

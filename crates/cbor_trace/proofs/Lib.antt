@@ -4,4 +4,3 @@ pub mod Ways
 pub mod Insides
 pub mod Carried
 pub mod Ends
-pub mod Members

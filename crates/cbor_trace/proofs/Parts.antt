@@ -1,4 +1,5 @@
--- The parts of a container in order: each byte is in one of them, or in none.
+-- The part of a container that a byte is in (`IsPartOf`): there is at most one, and the loop over the parts in
+-- `part_from` finds it or shows that there is none.
 use Rattle.std.proofs.Common.{◌≡◌, ℕ, suc, ◌+◌, ◌*◌, ◌<◌, ◌≤◌, List, ◌∷◌, length, Some, None, Ok, Err, refl}
 use Rattle.std.proofs.Common.{sym, ap, subst, ◌∙◌, inl, inr, arith}
 use Rattle.cbor_grammar.specs.declared.argument.Argument.{Argument}

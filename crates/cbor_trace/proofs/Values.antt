@@ -1,4 +1,6 @@
--- Where parts begin and end: values that are read in sequence, and a byte that is in one of them at most.
+-- For values that a `read` gives in sequence (`After`), if each takes at least one byte: the same number of values
+-- always leaves the same bytes, and a byte is in at most one of the values. After values that end before a byte, the
+-- value that ends behind this byte comes next, or another one is read first.
 use Rattle.std.proofs.Common.{◌≡◌, ℕ, zero, suc, ◌+◌, ◌<◌, ◌≤◌, List, length, Ok, Err, sym, ap, subst, ◌⊎◌, inl, inr}
 use Rattle.std.proofs.Common.{◌∙◌, arith}
 use Rattle.std.proofs.lemmas.Bool.{cases_lt}

@@ -1,4 +1,6 @@
--- Ways from item to item, down to a byte.
+-- For the walk from the outermost item down to a byte (`IsWay`): a step into a part that has the byte keeps `IsOnWay`,
+-- if no other part has the byte. If no part of an item has the byte, the walk ends at this item, and each way from the
+-- outermost item ends there.
 use Rattle.std.proofs.Common.{◌≡◌, ℕ, ◌≤◌, List, [], ◌∷◌, Some, None, refl, subst, arith}
 use Rattle.cbor_trace.specs.declared.part.Part.{Part}
 use Rattle.cbor_trace.specs.declared.part.Spot.{Spot}

@@ -1,4 +1,5 @@
--- Bytes are a sequence of items in one way, so a run of the filter has one output.
+-- Bytes are a sequence of items in one way, so a run of the filter has one output: that of all items (`IsOutputOfAll`),
+-- or that before one error (`IsOutputBefore`), but not both. The output of some first items is a beginning of it.
 use Rattle.std.proofs.Common.{◌≡◌, ℕ, List, [], ◌∷◌, ◌++◌, Ok, Err, inl, inr, refl, sym, ap, ◌∙◌, subst}
 use Rattle.std.proofs.Common.{append-nil, arith}
 use Rattle.std.specs.List.{flat_map}

@@ -1,4 +1,6 @@
--- What a run of the filter writes for a sequence of items.
+-- For `run_seq.rt`: if items are written and then more items, the output is that of all of them (`IsOutputOfFirst`,
+-- `Writes`). If a run ends with an error, what was written is the output of the items so far, or a beginning of it if a
+-- write failed. `?` returns an error unchanged.
 use Rattle.std.proofs.Common.{◌≡◌, ℕ, ◌+◌, List, [], ◌∷◌, ◌++◌, Option, Some, None, IfSome, Result, Ok, Err}
 use Rattle.std.proofs.Common.{inl, inr, length, take, drop, refl, sym, ap, subst, ◌∙◌, arith, append-nil}
 use Rattle.std.proofs.Common.{length-append, take-append-drop}

@@ -1,4 +1,7 @@
--- Which bytes a character has in UTF-8, and which bytes begin one.
+-- For `utf8.rt`: if bytes begin with no whole character, the ranges of RFC 3629 (`BeginsLonger`, `MayFollow`,
+-- `Continues`) decide how many of the first three bytes begin one (`BeginsText`); four never do. In bytes that are not
+-- UTF-8, the place of the fault (`IsUtf8Fault`) is after their longest front that is UTF-8 and the bytes that begin a
+-- character there.
 use Rattle.std.proofs.Common.{◌≡◌, ℕ, ◌+◌, ◌-◌, ◌*◌, ◌/◌, ◌%◌, ◌<◌, ◌≤◌, ◌⊎◌, inl, inr, List, [], ◌∷◌, ◌++◌}
 use Rattle.std.proofs.Common.{length, take, drop, get_or, refl, sym, ap, subst, ◌∙◌, arith, append_assoc}
 use Rattle.std.proofs.Common.{lt-ltb, le-ltb}

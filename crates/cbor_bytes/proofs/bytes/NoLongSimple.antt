@@ -1,5 +1,6 @@
--- Bytes that encode an item have no simple value below 24 in two bytes (`f8 00`), if no byte below 24 follows 0xf8 in
--- them. So `strict.rt` searches for 0xf8.
+-- For `holds_long_simple` in `strict.rt`: bytes that spell an item spell it strictly if nowhere in them, at a head or
+-- not, a byte below 24 follows 0xf8 (`NoLongSimple`). If a search from one 0xf8 to the next finds no such pair, they
+-- have none.
 use Rattle.std.proofs.Common.{◌≡◌, ℕ, zero, suc, ◌+◌, ◌≤◌, true, List, [], ◌∷◌, ◌++◌, length, drop}
 use Rattle.std.proofs.Common.{◌∙◌, get_or, Option, Some, None, inl, inr, refl, sym, ap, subst, arith}
 use Rattle.std.proofs.lemmas.Bool.{cases_lt, eq-eqb}

@@ -1,4 +1,5 @@
--- For all who read bytes: what is still to come of a container after one more part.
+-- For all readers of bytes: after one more member or pair of a container, what is still to come (`left_of`) is
+-- `one_less` of what was to come before.
 use Rattle.std.proofs.Common.{◌≡◌, ℕ, zero, suc, ◌+◌, ◌-◌, List, [], ◌∷◌, ◌++◌, length, refl, sym, ap, ◌∙◌, arith}
 use Rattle.std.proofs.lemmas.List.{length-append}
 use Rattle.cbor_grammar.specs.declared.width.IntegerWidth.{IntegerWidth}

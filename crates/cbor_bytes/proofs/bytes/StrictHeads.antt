@@ -1,4 +1,7 @@
--- What `strict.rt` tests: bytes that spell an item spell it strictly if no head in them takes a byte too many.
+-- For `strict.rt`, which goes from head to head: bytes that spell an item spell it strictly, and are its encoding, if
+-- no head in them is a simple value below 24 in two bytes (`StrictHeads`). Bytes have `StrictHeads` if they begin with
+-- a break or a head that is no such value, and the bytes after that, and after the content of a string, have
+-- `StrictHeads`.
 use Rattle.std.proofs.Common.{◌≡◌, ◌≢◌, ℕ, zero, suc, ◌+◌, ◌-◌, ◌/◌, ◌%◌, ◌^◌, ◌<◌, ◌≤◌, ◌⊎◌, Bool, false, cond, ltb}
 use Rattle.std.proofs.Common.{List, [], ◌∷◌, ◌++◌}
 use Rattle.std.proofs.Common.{length, take, drop, Option}

@@ -1,4 +1,4 @@
--- For all who read bytes: items that are spelled are well formed.
+-- If bytes spell items one after the other (`SpellsItems`), each of these items is well formed.
 use Rattle.std.proofs.Common.{ℕ, List, ◌++◌}
 use Rattle.std.proofs.Common.{subst}
 use Rattle.cbor_grammar.specs.Item.{Items, no_items, item}

@@ -1,4 +1,6 @@
--- In hex with comments, what a search by `memchr` says, in the words of the definitions of lines.
+-- For `cut_line` and `after_line` in `hex_text.rt`: `memchr` finds the place that `position_or_len` gives, which is the
+-- length of the text if nothing is found. `memchr2` finds the first `#` or line feed: neither is before the place
+-- found, or anywhere if none is found.
 use Rattle.std.proofs.Common.{◌≡◌, ◌≢◌, ℕ, ◌<◌, List, length, get_or, Bool, true, ◌||◌, ◌==◌, Some, None, arith, inl}
 use Rattle.std.proofs.Common.{inr}
 use Rattle.std.specs.List.{position_or_len}

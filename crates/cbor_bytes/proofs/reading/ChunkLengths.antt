@@ -1,4 +1,5 @@
--- For all who read bytes: a chunk, read in two steps, its length and then its content.
+-- `read_chunk` gives the same result as two steps: `read_chunk_length`, and then `read_content` of that length, or no
+-- content after the break.
 use Rattle.std.proofs.Common.{◌≡◌, ◌==◌, ℕ, ◌/◌, ◌%◌, Bool, true, false, cond, List, [], ◌∷◌}
 use Rattle.std.proofs.Common.{Option, Some, None, Ok, Err, refl}
 use Rattle.cbor_grammar.specs.declared.error.Error.TheVariants as refusal

@@ -1,4 +1,6 @@
--- For all who read bytes: what a loop over the chunks of a string has read.
+-- The invariant of a loop over the chunks of an indefinite string (`ChunksRead`): `read_chunks` of all the bytes gives
+-- the chunks so far and then those of the rest. It holds before the first chunk and after each chunk. At the break,
+-- `read_chunks` returns the chunks so far; if `read_chunk` fails, `read_chunks` fails with the same error.
 use Rattle.std.proofs.Common.{◌≡◌, ℕ, ◌+◌, ◌<◌, ◌≤◌, List, [], ◌∷◌, ◌++◌, length, Some, None, Ok, ap, ◌∙◌, arith}
 use Rattle.cbor_grammar.specs.declared.error.Error.{Error}
 use Rattle.cbor_grammar.specs.Item.{Chunk}

@@ -1,4 +1,5 @@
--- For all who read bytes: what reading gives at a level, by what it gives after a head.
+-- What `read_item` returns at a level (`read_at`): up to level 128 it is what reading behind the head returns
+-- (`read_behind`), or the error of the head. At a deeper level it is always the error `no_level_left`.
 use Rattle.std.proofs.Common.{◌≡◌, ℕ, ◌+◌, ◌<◌, ◌≤◌, List, Ok, Err, sym, ap, subst, ◌∙◌, arith, inl, inr}
 use Rattle.std.proofs.lemmas.Bool.{cases_lt}
 use Rattle.cbor_grammar.specs.declared.error.Error.{Error}

@@ -1,4 +1,5 @@
--- For all who read bytes: what reading gives after a head, and of containers part by part, its turns left aside.
+-- Lemmas for each reader of bytes. What `read_item` returns once its head is read, and how reading a container goes on
+-- from one part to the next (`parts_read`) or fails with the error of a part. The count of turns is dropped.
 use Rattle.std.proofs.Common.{◌≡◌, ◌≢◌, ℕ, suc, ◌+◌, ◌-◌, ◌≤◌, List, [], Some, None, Result, Ok, Err, refl, sym, ap}
 use Rattle.std.proofs.Common.{subst, ◌∙◌, arith}
 use Rattle.cbor_grammar.specs.declared.width.IntegerWidth.{IntegerWidth}

@@ -1,4 +1,6 @@
--- The clauses of `extent`, from the result of skipping over an item.
+-- For `extent`: if `skip_item` succeeds, finds a cut or finds a fault, the bytes begin with an item of that length, are
+-- cut, or have that fault (`IsExtent`). This answer is the only one, and an item or a fault stays if more bytes come.
+-- At any level, `read_item` reads an item or fails as `skip_item` does.
 use Rattle.std.proofs.Common.{◌≡◌, ℕ, ◌+◌, ◌-◌, ◌<◌, ◌≤◌, List, [], ◌∷◌, ◌++◌, length, take, drop, Ok, Err, ◌↔◌, refl}
 use Rattle.std.proofs.Common.{sym}
 use Rattle.std.proofs.Common.{ap, subst, ◌∙◌, append_assoc, arith}

@@ -1,4 +1,5 @@
--- For a `Scanner`: the open containers, in an array of kinds and an array of numbers.
+-- For `skip/packed.rt`: the two arrays of `Packed`, of kinds and of numbers, are a stack of open containers
+-- (`with_counts`). The length, a push (if fewer than 128 are open) and a pop of the arrays are those of the stack.
 use Rattle.std.proofs.Common.{◌≡◌, ℕ, ◌+◌, ◌<◌, ◌≤◌, List, [], ◌∷◌, ◌++◌, length, get_or, take, refl, sym, ap, ◌∙◌}
 use Rattle.std.proofs.Common.{arith}
 use Rattle.std.proofs.Math.ListN.{set}

@@ -1,5 +1,6 @@
--- For `skip/progress.rt`: what a scan waits for before the first byte and after each byte more, and that a place where
--- it stops is within the bytes.
+-- For `skip/progress.rt`: before the first byte, a scan waits for one whole item. If the held bytes and the next byte
+-- (or, if none is held, the rest of the bytes) end the item, have a fault or leave the scan waiting, the same is true
+-- of all bytes so far. An end or a fault is within the bytes.
 use Rattle.std.proofs.Common.{◌≡◌, ℕ, ◌+◌, ◌-◌, ◌<◌, ◌≤◌, List, [], ◌∷◌, ◌++◌, length, get_or, take, drop}
 use Rattle.std.proofs.Common.{Some, refl, sym, ap, subst, ◌∙◌}
 use Rattle.std.proofs.Common.{append_assoc, arith}

@@ -1,4 +1,5 @@
--- The clauses of `Scanner::feed`, from what is still to be skipped.
+-- For the clauses of `Scanner::feed`: the answer of a scanner is the `Extent` of all bytes fed to it, there is only
+-- one, and an item or a fault stays if more bytes come.
 use Rattle.std.proofs.Common.{◌≡◌, ◌≢◌, ℕ, ◌+◌, ◌-◌, ◌<◌, ◌≤◌, List, ◌++◌, length, get_or, take, Result, Ok, Err, inl}
 use Rattle.std.proofs.Common.{inr}
 use Rattle.std.proofs.Common.{refl, sym, ap, subst, ◌∙◌, arith}

@@ -1,4 +1,6 @@
--- For a `Scanner`: what is still to come in open containers, where the bytes come in pieces.
+-- For `Containers::after_part` in `skip/containers.rt`: if a string in an open container pauses (it is incomplete or
+-- has a fault), skipping over all that is open (`skip_open`) pauses there, with one part less to come after the string.
+-- If the head of the next part is cut, skipping waits for the head. Also, steps and faults stay if more bytes follow.
 use Rattle.std.proofs.Common.{◌≡◌, ℕ, ◌+◌, ◌-◌, ◌<◌, ◌≤◌, List, ◌∷◌, ◌++◌, length, None, Ok, Err, refl, ap, ◌∙◌}
 use Rattle.std.proofs.Common.{append_assoc, arith}
 use Rattle.std.proofs.lemmas.List.{length-append}

@@ -1,4 +1,6 @@
--- Contents of strings that come in pieces, and what is due after some of their bytes.
+-- For `skip/due.rt`: if the bytes end within the content of a string, skipping waits for the rest of the content
+-- (`Due::Content`) and holds back at most 8 bytes. In a text that is already not UTF-8, skipping waits for the end of
+-- the content (`Due::BadText`), where the fault shows. A head that is cut has at most 8 bytes.
 use Rattle.std.proofs.Common.{◌≡◌, ℕ, zero, suc, ◌+◌, ◌-◌, ◌^◌, ◌<◌, ◌≤◌, Bool, true, false, if◌then◌else◌, ◌%◌}
 use Rattle.std.proofs.Common.{List, [], ◌∷◌, ◌++◌, length, get_or, take, drop, Ok, Err, ◌⊎◌, inl, inr, refl}
 use Rattle.std.proofs.Common.{sym, ap, subst, ◌∙◌, arith, ltb}

@@ -1,4 +1,6 @@
--- For `extent`: what is still to come in containers, one part after the other.
+-- For `skip.rt` and `skip/containers.rt`: how skipping over the open containers (`skip_open`) goes on if the innermost
+-- one ends, or if its next part is whole, opens a container, is cut or has a fault. Only how much is still to come
+-- matters, not what was read before.
 use Rattle.std.proofs.Common.{◌≡◌, ℕ, zero, suc, ◌-◌, ◌<◌, List, [], ◌∷◌, ◌++◌, length, Some, None, Ok, Err, refl, sym}
 use Rattle.std.proofs.Common.{ap, subst, ◌∙◌, append_assoc, inl, inr, arith}
 use Rattle.std.specs.Prelude.{option_map, replicate}

@@ -1,4 +1,6 @@
--- Steps of skipping, and what they skip: contents, chunks and heads.
+-- For `skip.rt`: skipping the content of a string, the length of a chunk or the head of an item goes on with what
+-- follows (`Goes`), or stops because the bytes are cut or show a fault (`StopsSo`). If a first step goes on, the result
+-- of the next step is that of both.
 use Rattle.std.proofs.Common.{◌≡◌, ◌≢◌, ℕ, zero, suc, ◌-◌, ◌/◌, ◌%◌, ◌<◌, ◌≤◌, List, [], ◌∷◌, ◌++◌, length}
 use Rattle.std.proofs.Common.{take, drop, Option, Some, None, Ok, Err, ◌⊎◌, inl, inr, refl, sym, ap, subst, ◌∙◌}
 use Rattle.std.proofs.Common.{append_assoc, arith}

@@ -1,4 +1,6 @@
--- Reading bytes into a `DataItem`: what the readers promise, from what the front or the whole of an input is.
+-- For `read_front` and `read_whole`: if the front of an input is an item, is truncated or is malformed, the result that
+-- says this satisfies `FrontAnswer`. If the whole input is an item or is refused, the result that says this satisfies
+-- `WholeAnswer`. The error for running out of memory satisfies both.
 use Rattle.std.proofs.Common.{◌≡◌, ◌≢◌, ℕ, ◌≤◌, List, [], length, take, drop, Some, None, Ok, Err}
 use Rattle.std.proofs.Common.{sym, ap, ◌∙◌, arith, inl, inr}
 use Rattle.std.proofs.lemmas.List.{length-append, length-take, length-drop, take-append-drop, take-append-le}

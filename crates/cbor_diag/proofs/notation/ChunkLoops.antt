@@ -1,4 +1,5 @@
--- Reading notation part by part, by loops: what was read before, and what is read after it.
+-- Reading notation part by part: if one step fails, the whole fails with the same error. This holds for steps joined by
+-- `>>=`, and for `onto`, which puts the values that were read before in front of those that are read later.
 use Rattle.std.proofs.Common.{◌≡◌, Result, Ok, ap, subst}
 use Rattle.cbor_grammar.specs.declared.error.Error.{Error}
 use Rattle.cbor_grammar.specs.declared.error.Error.TheVariants as refusal

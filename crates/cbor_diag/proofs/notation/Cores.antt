@@ -1,4 +1,6 @@
--- Reading notation part by part: what an item, a string or a piece gives, by what is at the front of the text.
+-- Reading notation part by part: what `read_core`, `read_chunk`, `read_chunks`, `read_pair` and `read_item` return,
+-- given what their parts return. The loop `read_pieces` is shown one piece at a time. An array or a map that states no
+-- width is well formed if its members are, one level deeper.
 use Rattle.std.proofs.Common.{◌≡◌, ℕ, zero, suc, ◌+◌, ◌-◌, ◌<◌, ◌≤◌, ◌^◌, ◌⊎◌, inl, inr, Bool, true, false, List}
 use Rattle.std.proofs.Common.{[], ◌∷◌, ◌++◌, length, Option, Some, None, Result, Ok, Err, Vec, Global, refl, sym, ap}
 use Rattle.std.proofs.Common.{subst, ◌∙◌, append_assoc, arith}

@@ -1,4 +1,5 @@
--- Reading notation part by part: what a reader returns after an error of a callee, or after what a callee returned.
+-- Reading notation part by part: if reading fails with the error that a `?` passes on, passing on this error is right.
+-- If a list of values gets one longer, the list of what the values stand for gets one longer too.
 use Rattle.std.proofs.Common.{◌≡◌, List, map, ◌++◌, ◌∷◌, [], Result, Ok, Err, sym, subst}
 use Rattle.std.proofs.lemmas.List.{map_push}
 use Rattle.std.specs.Prelude.{IsErrAnd}

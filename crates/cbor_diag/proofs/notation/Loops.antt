@@ -1,4 +1,6 @@
--- Reading notation part by part, as a loop does: the members of a list and the pieces of a string, in order.
+-- Reading the members of a list in notation, one turn of the loop at a time: a turn fails with the error of its member
+-- or of a missing comma, ends at the closing byte, or goes on after the comma with one member more. Before the first
+-- member, `read_members` ends at once or begins the loop.
 use Rattle.std.proofs.Common.{◌≡◌, ℕ, zero, suc, ◌<◌, ◌≤◌, List, [], ◌∷◌, ◌++◌, length, Some, None, Ok, Err, refl, sym}
 use Rattle.std.proofs.Common.{ap, subst, ◌∙◌, append_assoc, arith}
 use Rattle.std.proofs.lemmas.List.{append-nil}

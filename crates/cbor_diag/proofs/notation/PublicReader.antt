@@ -1,4 +1,6 @@
--- Reading notation into a `DataItem`: from what the reader gives to what its callers read.
+-- For `parse_diag` and `diag_fault`: if a result is what `notation_of` gives, an item in the result is the only one
+-- that the text denotes, with any limit of levels. With `deepest` levels, an error other than out of memory means that
+-- the text is no notation; if an item is read with more levels, the error is `TooDeep`.
 use Rattle.std.proofs.Common.{◌≡◌, ◌≢◌, ℕ, List, Result, Ok, Err, IfOk, ◌⊎◌, inl, inr, refl, sym, subst, ◌∙◌}
 use Rattle.cbor_grammar.specs.declared.error.Error.{Error}
 use Rattle.cbor_grammar.specs.declared.error.Error.TheVariants as refusal

@@ -1,5 +1,6 @@
--- Reading notation part by part: what a loop holds of a list, or of a string's pieces, and what it is still to read
--- are the whole.
+-- The loops that read a list (`ListSoFar`) and the pieces of a string (`PiecesSoFar`) in notation: what a loop holds,
+-- followed by what reading gives for the text that is left, is what reading gives for the whole text. This holds at the
+-- start and after each turn, and gives the result when the loop ends or fails.
 use Rattle.std.proofs.Common.{◌≡◌, ℕ, suc, ◌<◌, ◌≤◌, List, [], ◌∷◌, ◌++◌, length, true, false, Some, None, Ok, Err}
 use Rattle.std.proofs.Common.{sym, ap, subst, ◌∙◌, arith}
 use Rattle.cbor_grammar.specs.declared.error.Error.{Error}

@@ -1,4 +1,5 @@
--- A container of a `DataItem` is well formed a level below its members.
+-- An array or a map of a `DataItem` is well formed at a level up to 128 if its members are well formed at the level
+-- after that and its count fits the width that it states (`FitsCount`).
 use Rattle.std.proofs.Common.{◌≡◌, ℕ, ◌+◌, ◌-◌, ◌≤◌, Option, Vec, Global, sym, subst, arith}
 use Rattle.cbor_grammar.specs.declared.width.IntegerWidth.{IntegerWidth}
 use Rattle.cbor_grammar.specs.Item.{item_count, pair_count}

@@ -1,4 +1,5 @@
--- A `DataItem`, level by level, beside the item that it is.
+-- What `view` returns for each variant of `DataItem` except `Tag`. The view of a list of members has as many members as
+-- the list, and stays well formed if a well-formed member is added at the end.
 use Rattle.std.proofs.Common.{◌≡◌, ℕ, suc, map, List, [], ◌∷◌, ◌++◌, Option, Vec, Global, length, refl, ap, rules}
 use Rattle.cbor_grammar.specs.declared.width.IntegerWidth.{IntegerWidth}
 use Rattle.cbor_grammar.specs.declared.width.FloatWidth.{FloatWidth}

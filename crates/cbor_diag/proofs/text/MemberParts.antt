@@ -1,4 +1,5 @@
--- Writing a `DataItem`: the texts of the members of a container, from one on.
+-- Writing a `DataItem`: the texts of the members of a container from index `i` on are the text of the member at `i`,
+-- followed by the texts of the members from `i + 1` on. `items_rest` is for arrays, `pairs_rest` for maps.
 use Rattle.std.proofs.Common.{◌≡◌, ℕ, ◌+◌, ◌<◌, List, ◌∷◌, ◌++◌, length, drop, get_or}
 use Rattle.std.proofs.Common.{ap}
 use Rattle.cbor_diag.specs.declared.syntax.DataItem.{DataItem}

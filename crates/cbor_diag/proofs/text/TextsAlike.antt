@@ -1,4 +1,4 @@
--- Compact texts of two `DataItem`s are equal if and only if the normal forms of the items are.
+-- The compact texts (`diag_of`) of two well-formed items are equal if and only if their normal forms (`normal_of`) are.
 use Rattle.std.proofs.Common.{◌≡◌, ◌↔◌, List, ℕ, None, refl, sym, ap, subst, ◌∙◌, arith}
 use Rattle.cbor_grammar.specs.declared.encoding.Encoding.TheVariants.{Base16}
 use Rattle.cbor_grammar.specs.declared.layout.Layout.TheVariants.{Compact}

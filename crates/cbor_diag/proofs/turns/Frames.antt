@@ -1,4 +1,5 @@
--- Reading bytes into a `DataItem`: what an open container is with one more part.
+-- For `Frame::put`, which adds a part to an open container: the view of the items of an array, or of the pairs of a
+-- map, with one more at the end is the old view joined with the new member (`joined`, `joined_pairs`).
 use Rattle.std.proofs.Common.{◌≡◌, List, [], ◌∷◌, ◌++◌, refl, ap}
 use Rattle.cbor_diag.specs.declared.syntax.DataItem.{DataItem}
 use Rattle.cbor_grammar.specs.Item.{no_items, item, no_pairs, pair}

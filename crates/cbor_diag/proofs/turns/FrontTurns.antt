@@ -1,4 +1,6 @@
--- Reading bytes into a `DataItem`: from what counted reading gives to the turns of the front of an input.
+-- Reading bytes into a `DataItem`: if the result and the count of turns are those of `counted_item`, the result without
+-- the count is that of `read_item`, and the count is right (`FrontTurns`). The count rises by exactly the turns of the
+-- item, the truncated input or the fault at the front, and by no more than those if memory runs out.
 use Rattle.std.proofs.Common.{◌≡◌, ◌≢◌, ℕ, ◌+◌, ◌≤◌, List, take, drop, Some, None, Ok, Err}
 use Rattle.std.proofs.Common.{refl, sym, ap, ◌∙◌, arith}
 use Rattle.std.proofs.lemmas.List.{length-take, take-append-drop}

@@ -1,4 +1,5 @@
--- Reading bytes into a `DataItem`: the stack in a vector, its innermost element at the end.
+-- For `Stack::put` and `Stack::after_end`: a stack is a vector whose last element is the innermost. Reversed, the
+-- vector begins with that element, also after it was replaced. If there is no last element, the vector is empty.
 use Rattle.std.proofs.Common.{◌≡◌, ℕ, ◌+◌, ◌-◌, ◌<◌, List, [], ◌∷◌, ◌++◌, length, set, get_or, take, Some, None, refl}
 use Rattle.std.proofs.Common.{sym}
 use Rattle.std.proofs.Common.{ap, ◌∙◌, arith}

@@ -1,7 +1,7 @@
 //! Writes a `DataItem` as bytes (RFC 7049 section 2). Each part is appended to one vector.
 //!
 //! The functions for strings and containers are not inlined into the `match` on the kind of item:
-//! they keep values across calls, and each integer would need space for these, too.
+//! if they were, the call for an integer would need their stack space, too.
 #![tactic(auto, using(cbor_tokens::proofs::texts::Appending::appending_steps))]
 
 ghost use Rattle.std.specs.Prelude.{◌≡◌, ◌++◌, if◌then◌else◌, ℕ, List, ◌↔◌, length, map, OnOk};

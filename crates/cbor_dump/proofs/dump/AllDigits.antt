@@ -1,4 +1,5 @@
--- Without comments and blanks the lines of a dump are the encoding of the item, in hex.
+-- The digits of the lines of a dump (`lines_at`), without blanks, are the encoding of the item in hex, if the item is
+-- well formed at its level.
 use Rattle.std.proofs.Common.{◌≡◌, ℕ, zero, suc, ◌+◌, ◌%◌, ◌==◌, ◌≤◌, unwrap_or, not, List, []}
 use Rattle.std.proofs.Common.{◌∷◌, ◌++◌, map, length, take, drop, codes, Option, Some, None, inl, inr, refl, sym, ap}
 use Rattle.std.proofs.Common.{subst, ◌∙◌, append-nil, arith}

@@ -1,4 +1,6 @@
--- No comment of a dump has a line feed, and no digits have a line feed or a `#`.
+-- In a dump, the comments on heads (such as `tag_comment`) and on pieces of strings (`bytes_comment`, `text_comment`)
+-- have no line feed. The digits of a head (`head_hex`) lack each character above 0 that is neither a hex digit nor a
+-- blank, such as `#`.
 use Rattle.std.proofs.Common.{◌≢◌, ℕ, ◌+◌, ◌==◌, ◌&&◌, true, false, nat_le, List, ◌++◌, length, take, drop, codes}
 use Rattle.std.proofs.Common.{decimal, Option, Some, None, refl}
 use Rattle.hex.specs.Hex.{encode_lower, lower_digits}

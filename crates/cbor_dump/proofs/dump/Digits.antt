@@ -1,4 +1,5 @@
--- In a dump, the digits of a head.
+-- `head_hex` shows a head of one byte as two digits, and a longer one with a blank after the first byte. So its length
+-- is twice the number of bytes, and 1 more if there are several bytes.
 use Rattle.std.proofs.Common.{◌≡◌, ℕ, ◌+◌, ◌*◌, ◌≤◌, ◌<◌, List, ◌++◌, length, take, drop, codes, sym, arith}
 use Rattle.std.proofs.Common.{length-append, length-drop, length-take-le}
 use Rattle.std.proofs.lemmas.Bool.Decides.{nat_tests}

@@ -1,4 +1,5 @@
--- In the notes of a dump, the elements of typed arrays: how long they are.
+-- If a tag is that of a typed array, its elements have 1 to 16 bytes (`element_size`). If the size of an element is at
+-- least 1, `element_cut` takes at least one byte off any bytes that are left.
 use Rattle.std.proofs.Common.{ℕ, ◌≤◌, true, false, cond, min, List, length, Option, Some, None, arith}
 use Rattle.cbor_notes.specs.Element.{element_size, is_typed_array, size}
 use Rattle.cbor_notes.proofs.texts.ElementLemmas.{size_small}

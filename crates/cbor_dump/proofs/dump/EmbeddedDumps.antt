@@ -1,4 +1,6 @@
--- The note of an embedded item, and the dumps of a sequence of items.
+-- For `embedded_sequence`: after each item, its note is written and the notes on the rest of the bytes are left
+-- (`SequenceLeft`); if no bytes are left, or the rest begins with no item and its error is noted, all notes are
+-- written. For `embedded_item`: `whole_note` has the dump of an item that is all of the bytes, or the error of reading.
 use Rattle.std.proofs.Common.{◌≡◌, ℕ, zero, suc, ◌<◌, ◌≤◌, List, [], ◌∷◌, ◌++◌, length}
 use Rattle.std.proofs.Common.{codes, Ok, Err, refl, ap, subst, ◌∙◌, arith}
 use Rattle.std.specs.List.{flat_map}

@@ -1,4 +1,6 @@
--- The lines of a dump can be laid out: they are not too deep, and their digits not too long.
+-- The lines of numbers, strings, breaks and heads in a dump are good (`IsGood`): they can be laid out, their digits
+-- have no `#` and no line feed, and their comments have no line feed. This holds if the depth of the item is below its
+-- level, and its level is at most 128.
 use Rattle.std.proofs.Common.{◌≢◌, ℕ, zero, suc, ◌+◌, ◌%◌, ◌==◌, ◌<◌, ◌≤◌, true, false, cond, unwrap_or, List}
 use Rattle.std.proofs.Common.{[], ◌∷◌, ◌++◌, map, length, take, drop, slice_index, nat_le, inl, inr, codes, Option}
 use Rattle.std.proofs.Common.{Some, None, refl, sym, subst, arith}

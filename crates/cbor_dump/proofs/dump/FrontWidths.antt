@@ -1,4 +1,6 @@
--- What is measured of a dump, part by part as the bytes of an item are read.
+-- For `Reach` in `width.rt`, which measures the width of a dump as it reads bytes: if the parts of an item (head, value
+-- of a tag, members, chunks) are counted one by one, the result is the width of the item that was read (`Measured`,
+-- `MeasuredBehind`). A head is shown in at most 9 bytes.
 use Rattle.std.proofs.Common.{◌≡◌, ℕ, ◌+◌, ◌-◌, ◌≤◌, max, List, [], ◌∷◌, ◌++◌, length, Some, None, Ok}
 use Rattle.std.proofs.Common.{inl, inr, refl, sym, ap, subst, ◌∙◌, arith, length-append}
 use Rattle.std.proofs.lemmas.Bool.Decides.{nat_tests}

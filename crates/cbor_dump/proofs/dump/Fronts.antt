@@ -1,4 +1,6 @@
--- What the walk over bytes has dumped, by what its parts have.
+-- For `walk.rt`: an item was read and its lines are written (`Dumped`, `DumpedBehind`) if this holds of its parts:
+-- head, members, chunks, content, value of a tag. The same for the notes on a value, a whole dump and an embedded one.
+-- Also that `definite_bytes` finds `bytes_in` of the item.
 use Rattle.std.proofs.Common.{◌≡◌, ◌≢◌, ℕ, ◌+◌, ◌*◌, ◌≤◌, map, List, [], ◌∷◌, ◌++◌, length, codes, Option, Some, None}
 use Rattle.std.proofs.Common.{Result, Ok, Err, IfOk, OnOk}
 use Rattle.std.proofs.Common.{refl, sym}

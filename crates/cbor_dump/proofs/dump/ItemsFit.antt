@@ -1,4 +1,5 @@
--- The lines of the dump of an item can be laid out.
+-- All lines of an item in a dump, those of its members and notes included, are good (`IsGood`), if the item is well
+-- formed and its depth is below its level.
 use Rattle.std.proofs.Common.{◌≡◌, ℕ, zero, suc, ◌+◌, ◌<◌, List, ◌++◌, codes, refl, arith}
 use Rattle.std.specs.List.{AllByRecursion}
 use Rattle.cbor_notes.specs.Layout.{DumpLine}

@@ -1,4 +1,6 @@
--- What the walk that dumps does with an item, its notes, a container and its members.
+-- For `walk.rt`: the lines of an item (`lines_at_level`) are its parts and then the notes on it, which it has only
+-- right below a tag. In a loop over members, one item or pair more is written and its shared values are counted; at the
+-- end, the members are as many as the head announced.
 use Rattle.std.proofs.Common.{◌≡◌, ℕ, suc, ◌+◌, ◌-◌, ◌==◌, ◌≤◌, true, false, cond, List, ◌++◌, Option, Some}
 use Rattle.std.proofs.Common.{None, refl, sym, ap, subst, append-nil, append_assoc, inl, inr, ◌∙◌, arith}
 use Rattle.std.proofs.lemmas.Bool.{cases_lt}

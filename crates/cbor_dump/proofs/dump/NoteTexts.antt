@@ -1,4 +1,5 @@
--- The notes of a dump: what the functions of a note meet, and that no text of a note has a line feed.
+-- No text of a `value_note` has a line feed (`FreeNote`). For `src/notes`: the parts of a note on a UUID, a reference
+-- or an address prefix make the note of the definitions, and the days and seconds of the calendar fit in 64 bits.
 use Rattle.std.proofs.Common.{◌≡◌, ◌<◌, ◌≤◌, ℕ, ℤ, ◌≤ℤ◌, neg_ℤ, ◌+◌, ◌/◌, ◌-◌, ◌%◌, ◌==◌, Bool, true, false, cond}
 use Rattle.std.proofs.Common.{nat_lt, nat_eq, pos, negsuc, List, [], ◌∷◌, ◌++◌, length, map, take, drop, replicate}
 use Rattle.std.proofs.Common.{codes, decimal, if◌then◌else◌, Option, Some, None, IfSome, unwrap_or, FitsSigned, w64}

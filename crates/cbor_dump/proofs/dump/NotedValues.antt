@@ -1,4 +1,6 @@
--- What notes see of a value: what is read of it, and that the notes on it are those on the item.
+-- For `notes/value.rt`, which reads only the part of a value that notes show (of an array, at most three members): this
+-- part agrees with the item that is read there (`Sees`, `IsNextMember`), and `value_note` of the part is `value_note`
+-- of the item.
 use Rattle.std.proofs.Common.{◌≡◌, ℕ, zero, suc, false, ◌+◌, List, Option, Some, None, Ok, Err, IsSome}
 use Rattle.std.proofs.Common.{refl, sym, ap, subst, ◌∙◌}
 use Rattle.std.specs.Option.{is_some, option_map}

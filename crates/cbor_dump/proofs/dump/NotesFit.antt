@@ -1,4 +1,5 @@
--- The lines of notes can be laid out, and no text of an embedded dump has a line feed.
+-- All lines of the notes on a well-formed item (`notes_lines`) are good (`IsGood`), if the dumps of well-formed
+-- embedded items are and the depth is below 139. A plain line of an embedded dump, as a text (`row`), has no line feed.
 use Rattle.std.proofs.Common.{◌≡◌, ℕ, suc, ◌+◌, ◌-◌, ◌*◌, ◌==◌, ◌<◌, true, false, cond, IfSome, Ok, Err, List, [], ◌∷◌}
 use Rattle.std.proofs.Common.{◌++◌, map, length, codes, Option, Some, None, refl, ap, arith}
 use Rattle.std.specs.List.{AllByRecursion, flat_map}

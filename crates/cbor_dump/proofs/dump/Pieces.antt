@@ -1,4 +1,6 @@
--- In a dump, where a string is cut into pieces, and what the pieces are.
+-- For strings that are not empty: if each cut takes at least one byte (`Cuts`), as `byte_cut` and `text_cut` do, the
+-- pieces of a string are the first one and those of the rest. `text_cut` of a UTF-8 text is its last character boundary
+-- within 16 bytes, and a text of at most 24 bytes is one piece.
 use lib.Utf8.{encodes}
 use Rattle.std.proofs.Common.{◌≡◌, ℕ, zero, suc, ◌+◌, ◌<◌, ◌≤◌, ◌==◌, true, false, min, List, [], ◌∷◌, length, take}
 use Rattle.std.proofs.Common.{drop, slice_index, nat_le, inl, inr, refl, sym, ap, ◌∙◌, arith, length-drop}

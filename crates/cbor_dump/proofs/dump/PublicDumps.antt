@@ -1,4 +1,6 @@
--- From what reading gives to the clauses of the calls that dump bytes, and the laws of a whole dump.
+-- The dump of a well-formed item has the laws that `bytes_to_hex` and `DataItem::to_hex` state: no comment has a line
+-- feed, all comments are in one column, the digits are the encoding, and the dump is read back as the item with its
+-- widths resolved. A text that is the dump of the item that some bytes encode (`IsDumpOf`) has them, too.
 use Rattle.std.proofs.Common.{◌≡◌, ℕ, ◌+◌, List, Result, ap, sym}
 use Rattle.std.proofs.Common.{subst, ◌∙◌, arith}
 use Rattle.std.specs.List.{AllByRecursion}

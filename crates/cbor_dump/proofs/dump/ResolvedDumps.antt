@@ -1,4 +1,6 @@
--- A dump says nothing of unstated widths: that of an item is that of the item with these widths resolved.
+-- The lines of a dump are the same for an item and for the item with its widths resolved (`resolve`). So a well-formed
+-- item has the same dump as the item that its encoding is read back as, and reading the encoding fails only if memory
+-- runs out.
 use Rattle.std.proofs.Common.{◌≡◌, ℕ, zero, suc, ◌+◌, List, [], ◌∷◌, ◌++◌, map, length, codes, Option, Some, None, Ok}
 use Rattle.std.proofs.Common.{refl, sym, ap, ◌∙◌, append-nil}
 use Rattle.std.specs.List.{flat_map}

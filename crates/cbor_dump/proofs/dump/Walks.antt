@@ -1,4 +1,6 @@
--- What the writer of a dump does with one line after the other, with the pieces of a string, and with its chunks.
+-- Rules for `Wrote` and `Left` (which lines of a dump a `Writer` has written, and which of all lines are left): after
+-- some lines, or a piece of a string, those behind are left, and if none are left, all are written. The lines of an
+-- embedded dump are lines of a note (`row`).
 use Rattle.std.proofs.Common.{◌≡◌, ℕ, ◌<◌, ◌≤◌, List, [], ◌∷◌, ◌++◌, map, length, take, drop, refl, sym, ap, ◌∙◌}
 use Rattle.std.proofs.Common.{◌*◌, codes, append_assoc, append-nil, arith}
 use Rattle.std.specs.List.{flat_map}

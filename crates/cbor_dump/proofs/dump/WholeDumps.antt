@@ -1,4 +1,5 @@
--- The lines of a whole dump keep to themselves.
+-- All lines of the dump of a well-formed item, at any level, are plain (`IsPlain`): their digits have no `#` and no
+-- line feed, and their comments have no line feed.
 use Rattle.std.proofs.Common.{ℕ, ◌≤◌, List, arith}
 use Rattle.std.specs.List.{AllByRecursion}
 use Rattle.cbor_notes.specs.Columns.{IsPlain}

@@ -1,4 +1,6 @@
--- How far the lines of a dump reach: found from the lengths of heads and pieces.
+-- The width of the lines of an item in a dump (`lines_at`) is `width_at`, which counts only the lengths of heads and
+-- pieces, as notes have no digits. The longest piece of a long text is its first or one of those left, and none has
+-- more than 16 bytes.
 use Rattle.std.proofs.Common.{◌≡◌, ℕ, zero, suc, ◌+◌, ◌-◌, ◌%◌, ◌==◌, ◌<◌, ◌≤◌, true, false, cond, max, min, unwrap_or}
 use Rattle.std.proofs.Common.{List, [], ◌∷◌, ◌++◌, map, length, take, drop, codes, Option, Some, None, inl, inr, refl}
 use Rattle.std.proofs.Common.{ap, ◌∙◌, arith, length-drop, length-take-le}

@@ -1,4 +1,6 @@
--- In EDN, blanks that are written: spaces, line ends and notes are passed when the text is read.
+-- Spaces, line ends and notes that EDN is written with are passed by `skip_blank` when the text is read, and a note may
+-- come before what follows an item (`Follows`). A text with the notes of its place around it is read back
+-- (`ReadsNoted`) if the text without them is.
 use Rattle.std.proofs.Common.{◌≡◌, ◌⊎◌, inl, inr, ℕ, zero, suc, ◌≤◌, List, [], ◌∷◌, ◌++◌, length, codes, replicate}
 use Rattle.std.proofs.Common.{Bool, true, false, Option, Some, None, ◌==◌, ◌&&◌, ◌||◌, if◌then◌else◌, not}
 use Rattle.std.proofs.Common.{refl, sym, ap, subst, ◌∙◌, append_assoc, append-nil, arith}

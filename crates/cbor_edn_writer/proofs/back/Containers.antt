@@ -1,4 +1,4 @@
--- In EDN, arrays, maps and strings in chunks are read back, where what is in them is.
+-- In EDN, arrays, maps and strings in chunks are read back as the same bytes, if their members are.
 use Rattle.std.proofs.Common.{◌≡◌, inl, inr, ℕ, suc, List, [], ◌∷◌, ◌++◌, length, codes, Option, Some, None}
 use Rattle.std.proofs.Common.{true, if◌then◌else◌, refl, sym, ap, subst, ◌∙◌, append_assoc}
 use Rattle.std.proofs.Common.{append-nil}

@@ -1,5 +1,6 @@
--- In EDN that is written, the bytes of a decimal number: digits, points and signs. They are one word, and mark no
--- width.
+-- In EDN, a decimal number that was laid out (`IsLaidOutNumber`) begins with a digit or a minus, is read as one word,
+-- and has no `_` or `f` in it. `name_and_width` and `digits_and_width` split the number from a width after it that
+-- begins with `_`.
 use Rattle.std.proofs.Common.{◌≡◌, ℕ, ◌+◌, ◌<◌, ◌==◌, ◌||◌, ◌&&◌, Bool, true, false, if◌then◌else◌}
 use Rattle.std.proofs.Common.{List, [], ◌∷◌, ◌++◌, length, position}
 use Rattle.std.proofs.Common.{refl, sym, ap, ap₂, subst, ◌∙◌, arith}

@@ -1,4 +1,5 @@
--- In EDN, items between `<<` and `>>` are read back as the bytes that they are shown for.
+-- In EDN, a byte string that is shown as items between `<<` and `>>` is read back with the same encoding, if the items
+-- are read back and their encodings are the bytes of the string. There may be several items, one or none.
 use Rattle.std.proofs.Common.{◌≡◌, inl, ℕ, suc, List, [], ◌∷◌, ◌++◌, length, codes, Some}
 use Rattle.std.proofs.Common.{refl, sym, ap, subst, ◌∙◌, append-nil}
 use Rattle.cbor_grammar.specs.declared.layout.ContainerStyle.{ContainerStyle}

@@ -1,5 +1,5 @@
--- In EDN, floats that are read back: decimal numbers, the words for what is no finite number, and bits between
--- apostrophes.
+-- In EDN, a float whose bits fit its width is read back with the same encoding (`float_reads`), in each form that it is
+-- written in: a decimal number, a word such as `NaN` or `Infinity`, or bits between apostrophes.
 use Rattle.std.proofs.Common.{◌≡◌, inl, inr, ℕ, suc, ◌<◌, ◌==◌, Bool, true, false, if◌then◌else◌}
 use Rattle.std.proofs.Common.{List, [], ◌∷◌, ◌++◌, length, codes, Option, Some, None, is_some}
 use Rattle.std.proofs.Common.{refl, sym, ap, ap₂, subst, ◌∙◌, arith, true≢false, append_assoc, length-append, bytes_eq}

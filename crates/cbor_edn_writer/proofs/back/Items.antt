@@ -1,5 +1,5 @@
--- The law of EDN: a text that is written for an item is read back as an item of the same encoding, if no simple value
--- from 24 to 31 is in it.
+-- The law of EDN (`edn_back`): a text that is written for a well-formed item is read back as the encoding of that item,
+-- if no simple value from 24 to 31 is in the item.
 use Rattle.std.proofs.Common.{◌≡◌, inl, inr, ℕ, zero, suc, ◌+◌, List, [], ◌∷◌, ◌++◌, length, codes, Option, Some, None}
 use Rattle.std.proofs.Common.{Bool, true, false, ◌==◌, ◌&&◌, ◌||◌, if◌then◌else◌, not, refl, sym, ap, subst, ◌∙◌}
 use Rattle.std.proofs.Common.{append-nil}

@@ -1,4 +1,5 @@
--- In EDN, the texts of items, each with a line feed after it, are read back as these items, one after the other.
+-- In EDN, the texts of several items, each with a line feed after it, are read back as the encodings of these items in
+-- order (`items_back`), if each item is well formed and has no simple value from 24 to 31 in it.
 use Rattle.std.proofs.Common.{◌≡◌, inl, inr, ℕ, zero, suc, ◌-◌, ◌<◌, ◌≤◌, List, [], ◌∷◌, ◌++◌, length, take, Option}
 use Rattle.std.proofs.Common.{Some, None, Bool, true, false, ◌&&◌, ◌||◌, if◌then◌else◌, not, nat_eq}
 use Rattle.std.proofs.Common.{refl, sym, ap, subst, ◌∙◌, append_assoc, length-append, arith}

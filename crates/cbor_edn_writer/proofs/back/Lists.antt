@@ -1,4 +1,6 @@
--- In EDN, members that are written one after the other are read back, one after the other.
+-- In EDN, the members of a list are read back in order, up to what closes the list (`members_read`), if a turn takes
+-- the text of each (`Takes`). The width of the count, or the `_`, after the opening is read back too (`width_read`,
+-- `open_read`).
 use Rattle.std.proofs.Common.{◌≡◌, ◌⊎◌, inl, inr, ℕ, zero, suc, ◌+◌, ◌<◌, ◌≤◌, List, [], ◌∷◌, ◌++◌, length, codes}
 use Rattle.std.proofs.Common.{Bool, true, false, Option, Some, None, ◌==◌, ◌||◌, if◌then◌else◌, not, nat_eq, nat_lt}
 use Rattle.std.proofs.Common.{drop}

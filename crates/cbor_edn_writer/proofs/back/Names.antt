@@ -1,5 +1,5 @@
--- In EDN, a name that is written is read back: a word that begins with a letter, or a prefix where an apostrophe or a
--- parenthesis follows.
+-- In EDN, `read_item` reads a text that begins with a letter other than `b` and `h` as a name (`read_word`). If the
+-- text after the name ends an item, and the name is not `simple`, the item is the one that `name_item` finds.
 use Rattle.std.proofs.Common.{◌≡◌, ℕ, suc, ◌<◌, ◌==◌, ◌&&◌, ◌||◌, not, Bool, true, false, List, [], ◌∷◌, ◌++◌, codes}
 use Rattle.std.proofs.Common.{Some, refl, sym, ap, ap₂, ◌∙◌, arith, bytes_eq}
 use Rattle.std.proofs.lemmas.Bool.{cond-false, agree_below, agree_below_at, not-true}

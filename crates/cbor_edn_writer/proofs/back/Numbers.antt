@@ -1,4 +1,6 @@
--- In EDN, what is written of integers, simple values and the numbers of tags is read back.
+-- In EDN, integers and simple values are read back with the same encoding, if they are well formed and no simple value
+-- is from 24 to 31. Floats are read back too, if `float_reads` holds, which is assumed here (`leaf_reads`). The number
+-- of a tag, with the parenthesis after it, is read back too (`tag_reads`).
 use Rattle.std.proofs.Common.{◌≡◌, ◌⊎◌, inl, inr, ℕ, suc, ◌+◌, ◌^◌, ◌<◌, ◌≤◌, ◌==◌, not, Bool, true, false, List, []}
 use Rattle.std.proofs.Common.{◌∷◌, ◌++◌, length, codes, Some, refl, sym, ap, ap₂, subst, ◌∙◌, arith, append-nil}
 use Rattle.std.proofs.Common.{append_assoc, length-append, nat_lt, is_none, Option, None, bytes_eq}

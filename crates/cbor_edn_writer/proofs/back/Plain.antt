@@ -1,5 +1,6 @@
--- In EDN, bytes that are heads, but none of a simple value below 32 in two bytes: an item that they encode has no
--- simple value from 24 to 31.
+-- If bytes are heads with the content of strings, and breaks, and no head is a simple value below 32 in two bytes
+-- (`PlainHeads`), then an item that they encode has no simple value from 24 to 31 in it. Such bytes also satisfy
+-- `StrictHeads`.
 use Rattle.std.proofs.Common.{◌≡◌, ◌⊎◌, ℕ, ◌+◌, ◌<◌, ◌≤◌, List, [], ◌∷◌, ◌++◌, length, drop, Option, Some, None, Ok}
 use Rattle.std.proofs.Common.{inl, inr, refl, sym, ap, subst, ◌∙◌, append_assoc, append-nil, arith}
 use Rattle.std.proofs.lemmas.List.{drop_at}

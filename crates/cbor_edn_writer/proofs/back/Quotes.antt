@@ -1,4 +1,5 @@
--- In EDN, a text between quotes is read back: its content, by the escape or the bytes of each character.
+-- In EDN, a UTF-8 text that is escaped and put between double quotes is read back as the same text (`quoted_read`):
+-- each character is read from its escape, or from its own bytes.
 use Rattle.std.proofs.Common.{◌≡◌, inl, inr, ℕ, ◌+◌, ◌*◌, ◌/◌, ◌%◌, ◌<◌, ◌≤◌, List, [], ◌∷◌, ◌++◌, codes}
 use Rattle.std.proofs.Common.{Some, None, Bool, true, false, ◌==◌, ◌&&◌, if◌then◌else◌, refl, sym, ap, subst, ◌∙◌}
 use Rattle.std.proofs.Common.{arith, slice_index}

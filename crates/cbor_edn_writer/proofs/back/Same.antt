@@ -1,4 +1,6 @@
--- In EDN, bytes that are shown as the items in them are the encodings of those items, and these are read back.
+-- For a byte string that EDN shows as the items in it: if the bytes pass `is_strict`, they are the encoding of the item
+-- in them (`item_same`). If they also pass `is_sequence`, they are the encodings of the items in them, in order
+-- (`sequence_same`). None of these items has a simple value from 24 to 31 in it.
 use Rattle.std.proofs.Common.{◌≡◌, ℕ, zero, suc, ◌+◌, ◌/◌, ◌%◌, ◌≤◌, Bool, true, false, ◌==◌, ◌&&◌, if◌then◌else◌}
 use Rattle.std.proofs.Common.{nat_lt, List, [], ◌∷◌, ◌++◌, length, take, drop, Some, None, Ok, Err, refl, sym}
 use Rattle.std.proofs.Common.{ap, subst, ◌∙◌, ◌<◌, arith}

@@ -1,4 +1,5 @@
--- In EDN, a string is read back: its content, and the width of its length.
+-- In EDN, a string is read back with the same encoding: its content, and the width of its length if that is longer than
+-- needed (`string_reads`). A chunk is read back too (`part_reads`), and so is a string of no chunks (`no_parts_reads`).
 use Rattle.std.proofs.Common.{◌≡◌, inl, inr, ℕ, suc, ◌^◌, ◌==◌, ◌&&◌, List, [], ◌∷◌, ◌++◌, length, codes, not}
 use Rattle.std.proofs.Common.{Option, Some, None, is_some, Bool, true, false, if◌then◌else◌, refl, sym, ap, ◌∙◌}
 use Rattle.std.proofs.Common.{append_assoc, append-nil, arith}

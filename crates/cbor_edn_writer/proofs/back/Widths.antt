@@ -1,5 +1,5 @@
--- In EDN, the width that is written beside a number, and what is read of it: the number fits it, and its head is the
--- same.
+-- If a number fits the width that it has in an item, it also fits the width that EDN writes beside it (`marked`), and
+-- the width that is read back (`read_width`) gives the same head.
 use Rattle.std.proofs.Common.{◌≡◌, ℕ, ◌^◌, if◌then◌else◌, Bool, true, false, refl, ap, ◌∙◌, arith, nat_lt}
 use Rattle.std.proofs.lemmas.Bool.{lt-ltb, le-ltb, ltb-false}
 use Rattle.cbor_grammar.specs.declared.width.IntegerWidth.{IntegerWidth}

@@ -1,4 +1,6 @@
--- What calls that write EDN append, one after the other.
+-- If calls that append EDN run one after the other, all that they append is one text of the dialect: a part with a note
+-- after it (`Noted`), with a note before it (`After`), with both (`Beside`) or without notes, or a float with its width
+-- (`FloatText`). After an error, the text begins with the old one.
 use Rattle.std.proofs.Common.{◌≡◌, ◌≢◌, List, ◌++◌, ℕ, Bool, Result, Ok, Err, ap, subst, refl, ◌∙◌, inl}
 use Rattle.std.proofs.Common.{inr, append_assoc}
 use Rattle.std.specs.Float.Ieee.{Float}

@@ -1,4 +1,5 @@
--- From what reading gives to the clauses of the calls that write EDN.
+-- For `push_bytes_to_edn_noted_partial`: if `read_item` returned an item whose text was appended, or an error other
+-- than `CutShort`, the result fulfils `GaveNoted`. The reason is that bytes have only one outcome (`OneOutcome`).
 use Rattle.std.proofs.Common.{◌≡◌, ◌≢◌, ℕ, ◌-◌, List, length, Some, Ok, Err, refl}
 use Rattle.cbor_grammar.specs.declared.error.Error.{Error}
 use Rattle.cbor_grammar.specs.declared.error.Error.TheVariants as refusal

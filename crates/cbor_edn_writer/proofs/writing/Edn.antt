@@ -1,4 +1,6 @@
--- What the dialect EDN writes is EDN of the item, and the same bytes are read back.
+-- A text that `edn_leaves` has for an item that was read is an `IsNotedText`: no character in it is hidden, line feeds
+-- are outside of quotes and comments, and it is read back as the bytes of the item, if no simple value from 24 to 31 is
+-- in the item. The text of an item by RFC 8949 is read back as the input of `bytes_to_edn`.
 use Rattle.std.proofs.Common.{◌≡◌, ℕ, suc, List, [], ◌∷◌, ◌++◌, true, false, Bool, Result, Ok, Err, IfOk, MatchResult}
 use Rattle.std.proofs.Common.{Some, Global, refl, sym, ap, subst, ◌∙◌}
 use Rattle.std.specs.String.{string_bytes}

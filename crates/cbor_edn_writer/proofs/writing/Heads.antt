@@ -1,4 +1,6 @@
--- Writing EDN: heads one after the other, and items one after the other, as the loops pass them.
+-- For `print/same.rt`: `after_head` returns `None` for no bytes, the bytes after a break, and otherwise what
+-- `after_read` makes of the head. The loop over heads in `is_strict` returns what `are_heads` returns, and the loop
+-- over items in `is_sequence` what the definition `is_sequence` returns.
 use Rattle.std.proofs.Common.{◌≡◌, ℕ, zero, suc, ◌<◌, ◌≤◌, List, [], ◌∷◌, length, Option, Some, None, Bool, true, false}
 use Rattle.std.proofs.Common.{Err, refl, sym, ap, ◌∙◌, arith}
 use Rattle.std.proofs.Common.{◌≢◌, ◌+◌, ◌-◌, ◌==◌, ◌&&◌, take, drop, slice_index, nat_le, if◌then◌else◌}

@@ -1,4 +1,6 @@
--- In EDN that is written, texts in which no character is hidden, and line feeds are outside of quotes and comments.
+-- The definition `Runs`: a text leads from one state to another (in quotes, in a comment or in neither), no character
+-- in it is hidden, and its line feeds are outside of quotes and comments. The empty text, two such texts in a row,
+-- printable ASCII (`scan`, `steady`) and a line end are such texts.
 use Rattle.std.proofs.Common.{◌≡◌, inl, inr, ℕ, zero, suc, ◌≤◌, List, [], ◌∷◌, ◌++◌}
 use Rattle.std.proofs.Common.{Bool, true, false, Option, Some, None, ◌==◌, ◌&&◌, ◌||◌, if◌then◌else◌, nat_le, not}
 use Rattle.std.proofs.Common.{refl, sym, ap, subst, ◌∙◌, arith, replicate}

@@ -1,4 +1,6 @@
--- In EDN, no character of what is written is hidden, and line feeds are outside of quotes and comments.
+-- The parts of an EDN text that hold no item: strings, floats, simple values and notes are `Runs` from outside of
+-- quotes and comments to outside of them. Numbers and hex digits are `Steady`: printable ASCII without quotes, slashes
+-- and backslashes.
 use Rattle.std.proofs.Common.{◌≡◌, inl, inr, ℕ, ◌/◌, ◌%◌, ◌^◌, ◌<◌, ◌≤◌, List, [], ◌∷◌, ◌++◌, length}
 use Rattle.std.proofs.Common.{Bool, true, false, Option, Some, None, ◌==◌, ◌||◌, if◌then◌else◌, codes}
 use Rattle.std.proofs.Common.{refl, sym, ap, subst, ◌∙◌, arith, slice_index}

@@ -1,4 +1,6 @@
--- In EDN that is written of an item, no character is hidden, and line feeds are outside of quotes and comments.
+-- Whole items in EDN: in each text that `edn_leaves` has for a well-formed item, no character is hidden, and line feeds
+-- are outside of quotes and comments (`Apart`). In a `Compact` layout there are no line feeds. A number that fits its
+-- width is below 2 ^ 64.
 use Rattle.std.proofs.Common.{◌≡◌, ℕ, zero, suc, ◌+◌, ◌<◌, ◌≤◌, List, [], ◌∷◌, ◌++◌, length, codes}
 use Rattle.std.proofs.Common.{Bool, true, false, Option, Some, None, if◌then◌else◌, refl, sym, subst, arith, ◌^◌}
 use Rattle.cbor_grammar.specs.NotationText.{line}

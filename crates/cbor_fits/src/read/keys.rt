@@ -2,19 +2,19 @@
 //! that are arrays, maps or tags stay as they are.
 #![tactic(auto, using(cbor_tokens::proofs::texts::Appending::appending_steps))]
 
-ghost use Rattle.std.specs.Prelude.{◌≡◌, IfOk};
+ghost use Rattle.std.specs.Prelude.{◌≡◌, ◌++◌, IfOk, true, false};
 ghost use Rattle.cbor_tokens.specs.Appends.{Appends};
-ghost use Rattle.cbor_grammar.specs.Written.{encoded_atom, encoded_chunk};
+ghost use Rattle.cbor_grammar.specs.Written.{encoded, encoded_atom, encoded_chunk};
 ghost use Rattle.cbor_grammar.specs.mirror.MajorNumber.{major_number};
 ghost use Rattle.cbor_diag.specs.View.{view};
-ghost use Rattle.cbor_fits.specs.Decoded.{core_float, key_bytes, unstated};
+ghost use Rattle.cbor_fits.specs.Decoded.{core_float, core_key, key_bytes, unstated};
 
 use super::datum::{content_of, float_of};
 use cbor_bytes::write::{push_float, push_head, push_simple};
 use cbor_diag::DataItem;
 use cbor_floats::EncodedFloat;
 use cbor_grammar::major::Major;
-use cbor_grammar::{Error, FloatWidth, IntegerWidth, Result};
+use cbor_grammar::{Error, FloatWidth, IntegerWidth};
 use std::alloc::{AllocError, Global};
 
 /// Appends a float in the shortest width that has it.
@@ -39,7 +39,7 @@ fn push_string(out: &mut Vec<u8>, major: Major, content: &[u8]) -> Result<(), Al
 }
 
 /// The bytes that encode a key as it is. A key that was read is well formed.
-fn key_as_it_is(alloc: Global, key: &DataItem) -> Result<Vec<u8>>
+fn key_as_it_is(alloc: Global, key: &DataItem) -> cbor_grammar::Result<Vec<u8>>
     ensures { IfOk result (λ v. v.items ≡ encoded (view key.now)) }
 {
     if key.is_well_formed() {
@@ -51,10 +51,11 @@ fn key_as_it_is(alloc: Global, key: &DataItem) -> Result<Vec<u8>>
 
 /// Appends the bytes that a number, a string or a simple value is compared by as a key; `false` if
 /// the key is none of these.
-fn push_leaf_key(out: &mut Vec<u8>, alloc: Global, key: &DataItem) -> Result<bool>
-    ensures { IfOk result (λ is_leaf. out.new.items
-        ≡ out.old.items ++ (if is_leaf then key_bytes (view key.now) else [])) }
-    ensures { IfOk result (λ is_leaf. is_leaf ≡ false → core_key (view key.now) ≡ view key.now) }
+fn push_leaf_key(out: &mut Vec<u8>, alloc: Global, key: &DataItem) -> cbor_grammar::Result<bool>
+    ensures leaf { IfOk result (λ is_leaf. is_leaf ≡ true
+        → out.new.items ≡ out.old.items ++ key_bytes (view key.now)) }
+    ensures other { IfOk result (λ is_leaf. is_leaf ≡ false
+        → core_key (view key.now) ≡ view key.now) }
 {
     let width = IntegerWidth::Unknown;
     match *key {
@@ -78,7 +79,7 @@ fn push_leaf_key(out: &mut Vec<u8>, alloc: Global, key: &DataItem) -> Result<boo
 }
 
 /// The bytes that a key is compared by.
-pub(super) fn key_bytes(alloc: Global, key: &DataItem) -> Result<Vec<u8>>
+pub(super) fn key_bytes(alloc: Global, key: &DataItem) -> cbor_grammar::Result<Vec<u8>>
     ensures { IfOk result (λ v. v.items ≡ key_bytes (view key.now)) }
 {
     let mut bytes = Vec::new(alloc);

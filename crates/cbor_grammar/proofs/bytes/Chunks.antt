@@ -1,5 +1,6 @@
--- By the definitions, a content, a chunk or chunks of a string that were read are what the bytes begin with, and the
--- other way round.
+-- For strings: if `read_content`, `read_chunk` or `read_chunks` returns a value and a rest, the bytes are those of this
+-- value and then the rest (`ContentIs`, `ChunkThen`, `SpellsChunks`). A content, a chunk or chunks with their break are
+-- read again from their bytes, whatever bytes follow.
 use Rattle.std.proofs.Common.{◌≡◌, ℕ, zero, suc, ◌+◌, ◌*◌, ◌/◌, ◌%◌, ◌<◌, ◌≤◌, ◌≢◌, false, ltb, List, [], ◌∷◌, ◌++◌}
 use Rattle.std.proofs.Common.{length, take, drop, Option, Some, None, Ok, Err, ◌⊎◌, inl, inr, refl, sym, ap, subst, ◌∙◌}
 use Rattle.std.proofs.Common.{append_assoc, arith}

@@ -1,4 +1,5 @@
--- Reading returns `CutShort` if and only if the input is cut.
+-- The reader `read_item` returns the error `CutShort` if and only if the bytes are truncated (`Cut`). No `Fault` has
+-- this error.
 use Rattle.std.proofs.Common.{◌≡◌, ℕ, ◌+◌, List, Err, refl, ap}
 use Rattle.cbor_grammar.specs.declared.error.Error.{Error}
 use Rattle.cbor_grammar.specs.declared.error.Error.TheVariants as refusal

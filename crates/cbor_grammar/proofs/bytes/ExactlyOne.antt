@@ -1,4 +1,6 @@
--- Of any bytes exactly one holds: they begin with one item, or they are cut, or they have one fault.
+-- At a level up to 129, bytes have exactly one `Outcome`: they begin with an item, or they are truncated, or they have
+-- one fault. What `read_item` returns is this outcome. If the bytes of an item lose some at the end, they are
+-- truncated.
 use Rattle.std.proofs.Common.{◌≡◌, ℕ, ◌+◌, ◌≤◌, List, [], ◌++◌, length, take, drop, Ok, Err, refl, sym, ap, ◌∙◌}
 use Rattle.std.proofs.Common.{append_assoc, arith}
 use Rattle.std.proofs.lemmas.List.{append-nil, length-append, length-drop, nil_from_length, take_at, take-append-drop}

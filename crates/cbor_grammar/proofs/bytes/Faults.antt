@@ -1,4 +1,5 @@
--- Reading answers with an error if and only if there is one, and it stays whatever bytes follow.
+-- The reader `read_item` returns an error other than `CutShort` if and only if the bytes have a `Fault` with this
+-- error. A fault stays if more bytes follow. The level of a fault is at most 129.
 use Rattle.std.proofs.Common.{◌≡◌, ℕ, ◌+◌, ◌≢◌, List, [], ◌∷◌, ◌++◌, Err, refl, ap, ◌-◌, ◌≤◌, ◌∙◌, append_assoc, arith}
 use Rattle.cbor_grammar.specs.declared.error.Error.{Error}
 use Rattle.cbor_grammar.specs.declared.error.Error.TheVariants as refusal

@@ -1,4 +1,5 @@
--- An item that was read is spelled by the bytes before the rest.
+-- If `read_item` returns an item and a rest, the bytes before the rest encode this item (`Spells`). Bytes that encode
+-- members (`SpellsItems`, `SpellsPairs`) still do if more bytes follow.
 use Rattle.std.proofs.Common.{◌≡◌, ℕ, zero, suc, ◌+◌, ◌≤◌, List, [], ◌∷◌, ◌++◌, length, Option, Some, None, Ok, ◌⊎◌}
 use Rattle.std.proofs.Common.{inl, inr, refl, sym, ap, subst, ◌∙◌, append_assoc, arith}
 use Rattle.std.specs.Int.{w16, w32, w64, to_be_bytes}

@@ -1,4 +1,5 @@
--- An item that bytes spell is read again, in its turns, whatever follows them.
+-- If bytes encode an item (`Spells`), `read_item` returns this item from them, whatever bytes follow, and
+-- `counted_item` counts its `item_turns`. The first byte of an item is no break.
 use Rattle.std.proofs.Common.{◌≡◌, ◌≢◌, ℕ, zero, suc, ◌+◌, ◌%◌, ◌<◌, ◌≤◌, List, [], ◌∷◌, ◌++◌, length, Option, Some}
 use Rattle.std.proofs.Common.{None, Ok, inl, inr, refl, sym, ap, subst, ◌∙◌, append_assoc, arith}
 use Rattle.std.specs.Int.{w16, w32, w64, to_be_bytes}

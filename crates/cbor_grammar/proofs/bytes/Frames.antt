@@ -1,5 +1,6 @@
--- By the definitions, what was read of an open container is what the bytes before its next part spell, and is read
--- again from them.
+-- Reading the parts of an open container (`parts_from`) stops where the container ends or its next part is refused
+-- (`Halted`). The bytes up to there encode the parts that were read (`Held`), if each part is read from bytes that
+-- encode it (`Finds`) and leaves fewer bytes (`Shortens`).
 use Rattle.std.proofs.Common.{◌≡◌, ℕ, zero, suc, ◌+◌, ◌<◌, List, [], ◌++◌, length, Option, Some, None, Ok, Err, ◌⊎◌}
 use Rattle.std.proofs.Common.{inl, inr, refl, sym, ap, subst, ◌∙◌, append_assoc, append-nil, arith}
 use Rattle.cbor_grammar.specs.declared.argument.Argument.{Argument}

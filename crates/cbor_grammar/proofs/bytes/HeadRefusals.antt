@@ -1,4 +1,6 @@
--- By the definitions, where a head is refused: its bytes are truncated, or no item can have it.
+-- If `read_head` returns an error, the bytes are truncated in the head and the error is `CutShort`, or no item can have
+-- the head and the error is `Head`. For `CutHead` and `BadHead` it always returns this error. The errors of
+-- `read_argument` are those of `InfoRefusal`, and no others.
 use Rattle.std.proofs.Common.{◌≡◌, ℕ, ◌+◌, ◌/◌, ◌%◌, ◌^◌, ◌<◌, ◌≤◌, ltb, eqb, List, [], ◌∷◌, length, Result}
 use Rattle.std.proofs.Common.{Ok, Err, ◌⊎◌, inl, inr, refl, sym, ap, subst, ◌∙◌, arith}
 use Rattle.std.specs.Int.{Width, byte_len, from_be_bytes}

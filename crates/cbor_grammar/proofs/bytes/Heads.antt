@@ -1,4 +1,6 @@
--- By the definitions, a head that was read is what the bytes begin with, and what begins with a head is read so.
+-- If `read_head` returns a head and a rest, the bytes are this head and then the rest (`HeadIs`), and a head that an
+-- item can have is read again from its bytes, whatever bytes follow. The same holds for an argument (`read_argument`).
+-- A chain of steps (`>>=`) has the value of its last step or the error of one step.
 use Rattle.std.proofs.Common.{◌≡◌, ℕ, zero, suc, ◌+◌, ◌*◌, ◌/◌, ◌%◌, ◌^◌, ◌<◌, ◌≤◌, ◌≢◌, Bool, true, false, cond, ltb}
 use Rattle.std.proofs.Common.{List, [], ◌∷◌, ◌++◌, length, get_or, take, drop, Result, Ok, Err, ◌⊎◌, inl, inr, refl}
 use Rattle.std.proofs.Common.{sym, ap, subst, ◌∙◌, append_assoc, arith}

@@ -1,4 +1,5 @@
--- By the definitions, the encoding of a well formed item is made of bytes.
+-- The encoding of a well formed item (`encoded`), and of well formed items in sequence (`encoded_items`), consists of
+-- numbers below 256 (`AllBytes`).
 use Rattle.std.proofs.Common.{◌≡◌, ℕ, ◌+◌, ◌<◌, ◌≤◌, true, false, nat_lt, inl, inr, List, [], ◌∷◌, ◌++◌, length}
 use Rattle.std.proofs.Common.{zero, suc, Option, Some, None, arith, lit<}
 use Rattle.std.specs.List.{AllByRecursion, flat_map}

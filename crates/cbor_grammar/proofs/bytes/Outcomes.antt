@@ -1,4 +1,6 @@
--- By the definitions, from what reading bytes gives to what an input is.
+-- For calls that read an input: if `read_item` returns an item, this is the `Outcome` of the input, and an error other
+-- than `CutShort` is its fault, unless memory ran out. An input that is not one whole item has only one error
+-- (`IsRefused`), and an input that is one has none. If a head holds content, memory may be needed (`MayWantMemory`).
 use Rattle.std.proofs.Common.{◌≡◌, ◌≢◌, ℕ, ◌+◌, ◌-◌, ◌*◌, ◌/◌, ◌%◌, ◌<◌, ◌≤◌, List, [], ◌∷◌, length, take, Ok}
 use Rattle.std.proofs.Common.{refl}
 use Rattle.std.proofs.Common.{ap}

@@ -1,4 +1,5 @@
--- What reading refuses is cut or has a fault.
+-- If `read_item` returns an error, either the bytes are cut (`Cut`) and the error is `CutShort`, or the bytes have this
+-- error as a fault (`Fault`). `RefusedAgain` shows the converse.
 use Rattle.std.proofs.Common.{◌≡◌, ℕ, zero, suc, ◌+◌, ◌*◌, ◌≤◌, List, [], ◌∷◌, ◌++◌, Option, Some, None, Ok, Err}
 use Rattle.std.proofs.Common.{length, inl, inr, refl, sym, ap, subst, ◌∙◌, append_assoc, append-nil, arith}
 use Rattle.cbor_grammar.specs.declared.width.IntegerWidth.{IntegerWidth}

@@ -1,4 +1,5 @@
--- What is cut or has a fault is refused, in the turns of what is whole of it and one for the part that fails.
+-- If bytes are cut (`Cut`), `counted_item` returns `CutShort`; if they have a fault (`Fault`), it returns the error of
+-- the fault. Its turns are those of what is whole (`cut_spent`, `fault_spent`) and one for the part that fails.
 use Rattle.std.proofs.Common.{◌≡◌, ℕ, zero, suc, ◌+◌, ◌*◌, ◌<◌, List, [], ◌∷◌, ◌++◌, length, Some, None, Ok, Err, inr}
 use Rattle.std.proofs.Common.{refl, sym, ap, ◌∙◌, append_assoc, arith}
 use Rattle.cbor_grammar.specs.declared.width.IntegerWidth.{IntegerWidth}

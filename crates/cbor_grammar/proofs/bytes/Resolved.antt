@@ -1,5 +1,6 @@
--- An item that bytes spell has no unstated width and is well formed. Bytes that are the encoding of what
--- they spell spell it strictly, and items are written alike just where they are read as one item.
+-- An item that bytes spell is well formed and has all its widths stated (`resolve` does not change it), and bytes that
+-- equal its encoding spell it strictly. `read_item` reads the encoding of a well-formed item as `resolve` of the item.
+-- Two well-formed items have the same encoding if and only if `resolve` makes the same item of both.
 use Rattle.std.proofs.Common.{◌≡◌, ℕ, suc, ◌+◌, ◌<◌, List, [], ◌∷◌, ◌++◌, length, map, Option, Some, None, Ok, inl, inr}
 use Rattle.std.proofs.Common.{refl, sym, ap, subst, ◌∙◌, arith}
 use Rattle.std.specs.List.{AllByRecursion}

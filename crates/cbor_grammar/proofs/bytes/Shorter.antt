@@ -1,4 +1,5 @@
--- By the definitions, what is left after an item that was read is shorter than the bytes that it was read from.
+-- If `read_item` reads an item, fewer bytes are left than before; the same holds if `read_chunk` reads a chunk or a
+-- break. If an open container ends (`after_end`), no more bytes are left than before.
 use Rattle.std.proofs.Common.{◌≡◌, ℕ, zero, suc, ◌/◌, ◌%◌, ◌<◌, ◌≤◌, cond, ltb, eqb, List, [], ◌∷◌, length, take, drop}
 use Rattle.std.proofs.Common.{Option, Some, None, Result, Ok, Err, refl, ap, subst, arith}
 use Rattle.std.specs.Int.{Width, byte_len, from_be_bytes}

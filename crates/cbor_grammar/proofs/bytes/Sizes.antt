@@ -1,4 +1,5 @@
--- An item has at least one byte for each item in it, itself and the chunks of strings counted.
+-- Bytes that encode an item are at least as many as `size` counts: the item, each item in it, and each chunk of a
+-- string of indefinite length.
 use Rattle.std.proofs.Common.{ℕ, ◌+◌, ◌≤◌, List, [], ◌∷◌, ◌++◌, length, Option, Some, None, ap, arith}
 use Rattle.std.proofs.lemmas.List.{length-append}
 use Rattle.cbor_grammar.specs.declared.width.IntegerWidth.{IntegerWidth}

@@ -1,4 +1,6 @@
--- By the definitions of turns, counted steps in sequence, and the parts of an open container.
+-- Laws of counted steps: `later` and `>>-` add up turns, and steps may be grouped in any way. If each part takes at
+-- least one byte, as an item does, `read_parts` reads the next part of an open container and goes on, or closes the
+-- container in one turn. The bound of `parts_from` then makes no difference, if it is more than the number of bytes.
 use Rattle.std.proofs.Common.{◌≡◌, ℕ, zero, suc, ◌+◌, ◌<◌, ◌≤◌, List, length, Option, Some, None, Ok, Err, refl, sym}
 use Rattle.std.proofs.Common.{ap, ◌∙◌, arith}
 use Rattle.cbor_grammar.specs.Item.{Item}

@@ -1,5 +1,6 @@
--- The preferred encoding of an item (`Spells strict`) is the one that a writer gives. What a writer gives for an item
--- is the preferred encoding of what it reads as.
+-- The only bytes that spell an item strictly (`Spells strict`) are its encoding (`encoded`), and they also spell the
+-- item under the rule `any`. The encoding of a well-formed item strictly spells `resolve` of the item, and `resolve`
+-- does not change the encoding.
 use Rattle.std.proofs.Common.{◌≡◌, ℕ, suc, ◌+◌, ◌^◌, ◌<◌, List, [], ◌∷◌, ◌++◌, length, map, Option, Some, None, inl}
 use Rattle.std.proofs.Common.{inr, refl, sym, ap, ◌∙◌, append_assoc, ◌≤◌, nat_lt}
 use Rattle.std.specs.List.{AllByRecursion, flat_map}

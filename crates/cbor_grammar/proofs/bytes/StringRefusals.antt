@@ -1,4 +1,7 @@
--- By the definitions, where a string is refused: in its content, or in a chunk of it.
+-- For strings, as `HeadRefusals` for heads: `read_content` and `read_chunk` return an error if and only if the content
+-- or the chunk is cut, is text that is not UTF-8, or, for a chunk, has a head that no chunk can have. If its bound is
+-- at least the number of bytes, `read_chunks` returns an error if and only if such a chunk follows whole chunks, and
+-- takes one turn for each of these and one for the error.
 use Rattle.std.proofs.Common.{Result, ◌≡◌, ℕ, zero, suc, ◌+◌, ◌*◌, ◌/◌, ◌%◌, ◌<◌, ◌≤◌, ◌≢◌, false, ltb, List, [], ◌∷◌}
 use Rattle.std.proofs.Common.{◌++◌, length, take, drop, Option, Some, None, Ok, Err, ◌⊎◌, inl, inr, refl, sym, ap}
 use Rattle.std.proofs.Common.{subst, ◌∙◌, arith}

@@ -1,5 +1,6 @@
--- By the definitions of hex with comments, why digits are not decoded, and what that says of the text that they are
--- from.
+-- If decoding the digits of hex with comments (`uncommented`) fails, the text has no other error (`IsHexRefused`),
+-- unless memory ran out. If the digits decode to bytes (`decode_of`), decoding fails only if memory runs out, and each
+-- error of the text is one of these bytes.
 use Rattle.std.proofs.Common.{◌≡◌, ℕ, ◌%◌, List, length, Result, Ok, ◌⊎◌, inl, inr, arith, subst}
 use Rattle.std.specs.List.{AllPass}
 use Rattle.hex.specs.Hex.{decode_of, is_hex_digit}

@@ -1,4 +1,7 @@
--- By the definitions of hex with comments, which bytes of a text are kept, in order, and their places.
+-- For `src/hex_text/place.rt` of `cbor_bytes`: a walk over hex with comments finds the bytes that `uncommented` keeps,
+-- in order and each at its place (`Keeps`, `Walked`, `IsKeptAt`). If the number of kept bytes is even, the fault of the
+-- text (`IsHexFault`) is at the first that is no digit; if it is odd and all of them are digits, the fault is at the
+-- last.
 use Rattle.std.proofs.Common.{◌≡◌, ◌≢◌, ℕ, zero, suc, ◌+◌, ◌-◌, ◌%◌, ◌<◌, ◌≤◌, inl, inr, List, [], ◌∷◌, ◌++◌, length}
 use Rattle.std.proofs.Common.{take, drop, get_or, Bool, true, false, refl, sym, ap, subst, ◌∙◌, ◌==◌, ◌||◌, not, arith}
 use Rattle.std.proofs.Common.{append_assoc, cond}

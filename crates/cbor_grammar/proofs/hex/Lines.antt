@@ -1,5 +1,6 @@
--- By the definitions of hex with comments, what is kept of lines: a space, another byte, a line without `#`, and one
--- with it.
+-- `uncommented` cuts a text at its first `#` or line feed: it keeps the bytes before that without spaces, and without a
+-- carriage return right before the line feed, and then what it keeps of the lines that follow. Within a line,
+-- `unspaced` drops one space or eight, and keeps a front that has none.
 use Rattle.std.proofs.Common.{◌≡◌, ◌≢◌, ℕ, suc, ◌+◌, ◌-◌, ◌<◌, ◌≤◌, List, [], ◌∷◌, ◌++◌, length, take, drop, get_or}
 use Rattle.std.proofs.Common.{false, refl, sym, ap, ◌∙◌, ◌==◌, arith, append-nil, inl, inr, take-take, drop-drop}
 use Rattle.std.proofs.Common.{get_or-take, length-drop, get_or-drop, nat_eq, not, true, codes}

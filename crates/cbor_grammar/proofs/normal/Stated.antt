@@ -1,5 +1,6 @@
--- Items whose widths are stated, as those that are spelled: the widths of lengths are in no compact text
--- and in no normal form.
+-- In an item that bytes spell, integers, tags and floats have stated widths (`Stated`), and in its normal form they
+-- have, too. `resolve` does not change the compact text (`text_at`) of a `Stated` item, nor its normal form
+-- (`normal_at`) if the item is also well formed: neither contains the widths of lengths.
 use Rattle.std.proofs.Common.{◌≡◌, ℕ, zero, suc, ◌+◌, List, [], ◌∷◌, ◌++◌, map, codes, Option, Some, None}
 use Rattle.std.proofs.Common.{refl, ap, arith}
 use Rattle.cbor_grammar.specs.declared.width.IntegerWidth.{IntegerWidth}

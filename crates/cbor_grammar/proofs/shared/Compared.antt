@@ -1,4 +1,5 @@
--- By the definitions of items, lists that are compared element by element.
+-- Two lists pass `pointwise` with a test if and only if a function gives the same list for both (`lists_compared`).
+-- This needs that the test holds of two elements if and only if the function gives the same value for both.
 use Rattle.std.proofs.Common.{◌≡◌, ◌↔◌, Bool, IsTrue, List, [], ◌∷◌, map, refl}
 use Rattle.std.specs.Cmp.Lexicographic.{pointwise}
 use Rattle.std.proofs.lemmas.Bool.{false≢true, and_parts, and_from}

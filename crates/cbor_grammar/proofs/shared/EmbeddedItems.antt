@@ -1,4 +1,6 @@
--- Embedded items: what a reader answers is what `embedded` and `sequence` say.
+-- `embedded` returns an item if and only if the bytes encode this item, and `sequence` returns the longest sequence of
+-- items at the front of the bytes, with the rest (`EmbedsExactly`). `read_item` returns `CutShort` for bytes that are
+-- cut, the error of bytes that have a fault, and otherwise the item at their front (`RejectsExactly`).
 use Rattle.std.proofs.Common.{◌≡◌, ℕ, zero, suc, ◌+◌, ◌-◌, ◌≤◌, List, [], ◌∷◌, ◌++◌, length, Some}
 use Rattle.std.proofs.Common.{Ok, Err, refl, sym, ap, subst, ◌∙◌, arith}
 use Rattle.std.proofs.lemmas.List.{append-nil, length-append, nil_from_length}

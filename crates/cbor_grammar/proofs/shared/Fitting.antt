@@ -1,4 +1,6 @@
--- By the definitions of items, a test of all elements of a list, beside the fact that it tests.
+-- The result of a test of all elements of a list is true if and only if each of them has the tested property
+-- (`AllByRecursion`). This needs that the test returns true only if all elements have the property, and false only if
+-- one lacks it.
 use Rattle.std.proofs.Common.{◌↔◌, ℕ, ◌<◌, Bool, true, false, IsTrue, MatchBool, List, [], ◌∷◌, length, map, refl}
 use Rattle.std.proofs.Common.{arith}
 use Rattle.std.specs.List.{AllByRecursion, AllWithin, HoldsAt}

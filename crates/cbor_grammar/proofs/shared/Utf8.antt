@@ -1,4 +1,4 @@
--- By the definitions of strings, the test of UTF-8, from what a reader of text says.
+-- `is_utf8` returns true for bytes that are UTF-8 (`IsUtf8`), and false for all other bytes.
 use Rattle.std.proofs.Common.{◌≡◌, ℕ, Bool, true, false, List, refl}
 use Rattle.std.specs.Str.{IsUtf8, is_utf8}
 use Rattle.std.proofs.lemmas.Str.{IsUtf8-from_is_utf8, is_utf8-from_IsUtf8}

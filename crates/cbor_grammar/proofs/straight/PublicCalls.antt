@@ -1,5 +1,7 @@
--- From what reading bytes gives to the clauses of the calls that print straight from bytes: the text of the one item
--- that the bytes begin with, or the one error that they have.
+-- For the contracts of calls that print straight from bytes, such as `push_bytes_to_json_partial`. If `read_item` reads
+-- an item, the bytes begin with this item, and its text is the right answer; if `read_item` returns an error other than
+-- out of memory, the bytes are cut or have this fault. Bytes have only one outcome, so the answer of a call is right
+-- for every item that they spell and every error that they have.
 use Rattle.std.proofs.Common.{◌≡◌, ◌≢◌, ℕ, ◌-◌, List, ◌++◌, length, Some, Result}
 use Rattle.std.proofs.Common.{Ok, Err, IfOk, refl, sym, subst, ◌∙◌, arith, inl, inr}
 use Rattle.std.specs.Prelude.{MatchResult}

@@ -1,4 +1,5 @@
--- How many digits a number has, for the estimate of pretty text.
+-- For the estimate of pretty text: a number from 10 ^ k up to 10 ^ (k + 1) - 1 has k + 1 digits in `decimal`, if it is
+-- below 2 ^ 64.
 use Rattle.std.proofs.Common.{◌≡◌, ℕ, zero, suc, ◌+◌, ◌*◌, ◌/◌, ◌%◌, ◌^◌, ◌<◌, ◌≤◌, ◌∷◌, [], length, ap, arith}
 use Rattle.std.proofs.Common.{length-append}
 use Rattle.std.specs.Fmt.{decimal}

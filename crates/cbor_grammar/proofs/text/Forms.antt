@@ -1,4 +1,6 @@
--- A container is on one line if and only if its estimate is below 60.
+-- In pretty text (`pretty`), the members of a container are on one line if its `estimated_length` is below 60, and
+-- otherwise each is on a line of its own. The same holds for the items of a sequence under tag 63, by its
+-- `sequence_size`. The container is at most at level 128, and the tag at most at level 127.
 use Rattle.std.proofs.Common.{◌≡◌, ℕ, ◌+◌, ◌<◌, ◌≤◌, ◌++◌, codes, refl, ap, ◌∙◌, arith}
 use Rattle.std.proofs.lemmas.Bool.{lt-ltb, le-ltb}
 use Rattle.cbor_grammar.specs.declared.width.IntegerWidth.{IntegerWidth}

@@ -1,4 +1,6 @@
--- By the definitions of notation, the text of an item, put together from its parts.
+-- At a level up to 128, the text of an item (`text_at_level`) is `text_with`, with the items in it written one level
+-- deeper. If code has appended the parts in order (members between brackets, or a tag and its item in parentheses), it
+-- has appended the text of the whole.
 use Rattle.std.specs.Prelude.{Result}
 use Rattle.std.proofs.Common.{◌≡◌, ℕ, suc, ◌+◌, ◌≤◌, List, ◌++◌, codes, Option, Some}
 use Rattle.std.proofs.Common.{None, sym, ap, subst, ◌∙◌, append_assoc, arith}

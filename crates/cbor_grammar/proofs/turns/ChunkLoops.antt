@@ -1,4 +1,6 @@
--- By the definitions of turns, the chunks of an indefinite string are counted in order, as a loop does.
+-- A loop that reads one chunk of an indefinite string in each turn gives the result and the turns of `read_chunks`:
+-- after one more chunk, at the break, and if a chunk fails or memory runs out (`FailsIn`). Also, if a counted step
+-- fails, the steps that begin with it fail with the same error.
 use Rattle.std.proofs.Common.{◌≡◌, ℕ, zero, suc, ◌+◌, ◌<◌, ◌≤◌, List, [], ◌∷◌, ◌++◌, length, Some, None, Ok, Err, refl}
 use Rattle.std.proofs.Common.{sym, ap, subst, ◌∙◌, append_assoc, arith}
 use Rattle.std.proofs.lemmas.List.{append-nil}

@@ -1,4 +1,5 @@
--- By the definitions of turns, all the containers that are open, and the turns of what is read in them.
+-- `deliver` and `resume`, which finish all open containers, never lower the count of turns: `resume` takes at least one
+-- turn, and `deliver` adds its turns to those that were taken before. `deliver` passes an error on unchanged.
 use Rattle.std.proofs.Common.{◌≡◌, ℕ, zero, suc, ◌-◌, ◌≤◌, List, [], ◌∷◌, length, Option, Some, None, Err, refl, ap}
 use Rattle.std.proofs.Common.{◌∙◌, arith}
 use Rattle.cbor_grammar.specs.declared.error.Error.{Error}

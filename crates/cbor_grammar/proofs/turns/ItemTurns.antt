@@ -1,4 +1,5 @@
--- The turns of an item are at most twice its bytes, and those of a cut or a fault are one number.
+-- An item takes at most twice as many turns (`item_turns`) as it has bytes. All proofs that the same bytes are cut
+-- (`Cut`) have the same `cut_spent`, and all proofs of the same fault (`Fault`) have the same `fault_spent`.
 use Rattle.std.proofs.Common.{◌≡◌, ℕ, ◌+◌, ◌*◌, ◌≤◌, List, [], ◌∷◌, ◌++◌, length, Option, Some, None, sym, ap, ◌∙◌}
 use Rattle.std.proofs.Common.{arith}
 use Rattle.std.proofs.lemmas.List.{length-append}

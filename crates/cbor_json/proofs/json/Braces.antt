@@ -1,4 +1,5 @@
--- What is round the members of a map that is no key and no part of one, and that each member begins with a key.
+-- A map in JSON that is neither a key nor in a key (`is_value`): its opening is `{`, its closing is `}`, and the first
+-- item in it is a key.
 use Rattle.std.proofs.Common.{◌≡◌, true, codes, refl}
 use Rattle.cbor_grammar.specs.declared.argument.Argument.{Argument}
 use Rattle.cbor_notation_writer.specs.declared.parts.Container.TheVariants.{Map}

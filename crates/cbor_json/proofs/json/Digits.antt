@@ -1,4 +1,5 @@
--- Digits, which stand for themselves in a JSON string.
+-- The digits that JSON shows for bytes (hex, base64 and base64url) and the texts of integers up to 2 ^ 64, big numbers
+-- and floats are `Calm`: printable ASCII without quotes and backslashes.
 use Rattle.std.proofs.Common.{◌≡◌, ℕ, ◌/◌, ◌%◌, ◌^◌, ◌<◌, ◌≤◌, List, [], ◌∷◌, ◌++◌, length, Bool, true, false}
 use Rattle.std.proofs.Common.{if◌then◌else◌, codes, refl, inl, inr, sym, ap, subst, ◌∙◌, arith, slice_index, replicate}
 use Rattle.std.proofs.Common.{zero, suc, Option}

@@ -1,4 +1,6 @@
--- Pieces of JSON strings: what may stand between the quotes.
+-- The definition `Fills`, a piece of a JSON string between its quotes: it is some characters, escaped by
+-- `escaped_char`, and a reader takes it whatever follows. Such pieces are the empty text, two pieces in a row, `Calm`
+-- texts (printable ASCII without quotes and backslashes), and each visible character that needs no escape.
 use Rattle.std.proofs.Common.{◌≡◌, ℕ, ◌≤◌, List, [], ◌∷◌, ◌++◌, Bool, true, false, Option, Some, None}
 use Rattle.std.proofs.Common.{◌==◌, ◌&&◌, ◌||◌, not, cond, nat_le, refl, inl, inr, sym, ap, subst, ◌∙◌, arith}
 use Rattle.std.proofs.Common.{append_assoc}

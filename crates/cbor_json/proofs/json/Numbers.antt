@@ -1,4 +1,5 @@
--- Numbers of items are numbers of JSON.
+-- The texts that JSON has for the integers of CBOR (`integer_text`, `negative_text`), finite floats and big numbers are
+-- numbers by the grammar of JSON (`IsNumber`).
 use Rattle.std.proofs.Common.{◌==◌, Bool, true, false, drop, slice_index, ◌≡◌, ℕ, suc}
 use Rattle.std.proofs.Common.{◌+◌, ◌^◌, ◌<◌, ◌≤◌, cond, List, [], ◌∷◌, ◌++◌, length}
 use Rattle.std.proofs.Common.{get_or, Some, option_and_then, refl, sym, ap, subst, ◌∙◌, arith, append-nil, inl, inr}

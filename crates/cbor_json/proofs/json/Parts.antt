@@ -1,4 +1,6 @@
--- What is written of numbers, strings and what is round members: pieces of strings in a key, and else JSON.
+-- The texts of items that hold no other item (numbers, simple values, strings and strings in chunks) are what their
+-- role asks for (`Part`): JSON for a value, a JSON string for a key, and a piece of a string for an item in a key. A
+-- list in a key is such a string or piece, if its members are pieces.
 use Rattle.std.proofs.Common.{◌≡◌, ℕ, ◌+◌, ◌^◌, ◌<◌, ◌≤◌, List, [], ◌∷◌, ◌++◌, Bool, true, false, codes}
 use Rattle.std.proofs.Common.{refl, inl, inr, sym, ap, subst, ◌∙◌, arith, append_assoc, ◌==◌, ◌&&◌, nat_le, length}
 use Rattle.std.specs.Float.{float_is_finite}

@@ -1,4 +1,6 @@
--- Texts with escapes, which stand for what was escaped, and JSON strings of such pieces.
+-- The escaped characters of a text (`escaped_text`) and an escaped quote are pieces of a JSON string (`Fills`). A piece
+-- between quotes is an `IsString`: the lexer reads it as one string, and two such strings with the same meaning are the
+-- same text.
 use Rattle.std.proofs.Common.{◌≡◌, ℕ, ◌/◌, ◌%◌, ◌+◌, ◌*◌, ◌<◌, ◌≤◌, List, [], ◌∷◌, ◌++◌, Bool, true, false, Some}
 use Rattle.std.proofs.Common.{◌==◌, if◌then◌else◌, codes, refl, inl, inr, sym, ap, ap₂, subst, ◌∙◌, arith}
 use Rattle.std.proofs.Common.{append_assoc, slice_index}

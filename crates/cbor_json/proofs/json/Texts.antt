@@ -1,4 +1,6 @@
--- The texts of an item are JSON, and of what is in a key pieces of a string.
+-- Whole items in JSON: each text that `json_leaves` has for a well-formed item is what its role asks for (`Part`): JSON
+-- for a value, a JSON string for a key, and a piece of a string for an item in a key. A value has no object with a key
+-- twice if this holds for the items in it and, for a map, its names differ (`unique_part`).
 use Rattle.std.proofs.Common.{◌≡◌, ℕ, zero, suc, ◌+◌, ◌<◌, ◌≤◌, ◌^◌, List, [], ◌∷◌, ◌++◌, Bool, true, false, Option}
 use Rattle.std.proofs.Common.{Some, None, IsTrue, ◌≢◌}
 use Rattle.std.proofs.Common.{◌&&◌, not, if◌then◌else◌, codes, refl, sym, ap, subst, ◌∙◌, arith, append-nil}

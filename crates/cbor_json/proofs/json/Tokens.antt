@@ -1,4 +1,6 @@
--- Texts of JSON values, and the tokens that they are read as.
+-- The definition `Reads`: a text without hidden characters is a JSON value, which is read as its tokens wherever a
+-- value may begin (`Takes`). JSON strings, numbers, `true`, `false` and `null` are such texts; members in brackets, and
+-- a key with its value, are read as their tokens. A text that `Reads` with up to 128 levels is a JSON `document`.
 use Rattle.std.proofs.Common.{◌≡◌, ◌≢◌, ℕ, suc, ◌≤◌, List, [], ◌∷◌, ◌++◌, Bool, true, false, Some, IsTrue}
 use Rattle.std.proofs.Common.{if◌then◌else◌, cond, codes, refl, sym, ap, ap₂, ◌∙◌, arith, append_assoc, append-nil}
 use Rattle.std.specs.List.{flat_map}

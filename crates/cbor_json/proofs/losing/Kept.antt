@@ -1,4 +1,7 @@
--- In JSON, what is kept of a container, by its parts, and where reading stops.
+-- For `loss.rt`: whether JSON keeps an item that was read (`IsKept`) is decided by its head, or by its parts if it is
+-- an array or a map. If reading stops in a member, a key or a value at something that JSON does not keep, this is the
+-- first loss of the whole container (`Stops`), which JSON does not keep either. If it stops at no item, no container is
+-- read.
 use Rattle.std.proofs.Common.{◌≡◌, ℕ, zero, suc, ◌+◌, ◌-◌, ◌≤◌, List, length, Bool, true, false, Option, Some, None}
 use Rattle.std.proofs.Common.{Result, Ok, Err, IfOk, IfErr, IsTrue, ◌<◌, ◌⊎◌}
 use Rattle.std.proofs.Common.{inl, inr, if◌then◌else◌, refl, sym, ap, subst, ◌∙◌, arith}

@@ -1,4 +1,6 @@
--- A map as it is written, pair by pair, and the names of its keys.
+-- For the loop of `push_object` in `walk.rt`: after each pair, the output is the old text, the map's opening and the
+-- pairs so far, and the names of their keys are known (`NamedWritten`). With the closing, it is a text of the map with
+-- these names (`NamedText`), if no two of them are equal.
 use Rattle.std.proofs.Common.{◌≡◌, ℕ, ◌+◌, List, [], ◌∷◌, ◌++◌, eqb, Bool, codes, refl, sym, ap, subst, ◌∙◌}
 use Rattle.std.proofs.Common.{arith, append_assoc, append-nil}
 use Rattle.std.proofs.Math.Dec.{eqb-suc-zero}

@@ -1,4 +1,6 @@
--- The names of an open object: where they are in its text, and that no two are equal.
+-- For `names.rt`: the names of an open object stay where they are in its text (`AreAt`) if a pair is added. No two of
+-- the names are equal if each comes after all names before it by `name_order` or differs from each of them (`Known`).
+-- The list that `are_distinct_sorted` sorts holds the names so far.
 use Rattle.std.proofs.Common.{◌≡◌, ◌≢◌, ℕ, zero, suc, ◌+◌, ◌<◌, ◌≤◌, List, [], ◌∷◌, ◌++◌, length, Bool, true, false}
 use Rattle.std.proofs.Common.{Ordering, Less, Equal, Greater, nat_cmp, is_lt, refl, sym, ap, subst, ◌∙◌, arith}
 use Rattle.std.proofs.Common.{get_or, take, drop, below_more, length-append, Some}

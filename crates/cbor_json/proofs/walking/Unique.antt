@@ -1,4 +1,6 @@
--- Texts that the walk writes: no object in them has a key twice.
+-- For `walk.rt`: what `push_item` writes is a text of the item in which no object has a key twice (`UniqueTexts`), if
+-- this holds for the items in it. There are lemmas for numbers, simple values and strings in chunks, for tags, other
+-- strings, byte strings that are shown as an item, arrays, and maps whose names differ.
 use Rattle.std.proofs.Common.{◌≡◌, ℕ, suc, ◌+◌, ◌<◌, ◌≤◌, List, [], ◌∷◌, ◌++◌, Bool, true, false, Some, Result, Ok}
 use Rattle.std.proofs.Common.{Bor, Option, None, not, if◌then◌else◌, Err, IfOk, length, refl, sym, ap, subst, ◌∙◌}
 use Rattle.std.proofs.Common.{arith, append-nil}

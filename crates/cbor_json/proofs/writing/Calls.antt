@@ -1,4 +1,6 @@
--- From what reading gives to the clauses of the call that writes JSON of the item at the front.
+-- For `push_bytes_to_json_partial`: if `read_item` returned an item, the only outcome of the bytes is that item with
+-- its number of bytes. If `read_item` returned an error other than `CutShort`, the result with this error fulfils
+-- `GaveJson`.
 use Rattle.std.proofs.Common.{◌≡◌, ◌≢◌, ℕ, ◌-◌, List, length, Ok, Err, refl}
 use Rattle.cbor_grammar.specs.declared.error.Error.{Error}
 use Rattle.cbor_grammar.specs.declared.error.Error.TheVariants as refusal

@@ -1,4 +1,7 @@
--- What the dialect writes is JSON of the item, and each call says so.
+-- A text that JSON has for an item that was read (`IsJsonOf`) is a JSON document without hidden characters. It is an
+-- `IsJsonText` if no object in it has a key twice, and otherwise the item `HasSameKeys`; in a strict style, only if
+-- JSON keeps all of the item. For `bytes_to_json`: what `judge` returned holds for every item or error that the bytes
+-- have.
 use Rattle.std.proofs.Common.{◌≡◌, ℕ, suc, List, [], ◌∷◌, ◌++◌, Bool, true, false, Some, Result, Ok, Err, IfOk, IsTrue}
 use Rattle.std.proofs.Common.{◌≢◌, ◌⊎◌, ◌↔◌, ◌∙◌, ap, inl, refl, sym, subst}
 use Rattle.std.specs.List.{AllByRecursion}

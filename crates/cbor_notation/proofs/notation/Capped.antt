@@ -1,4 +1,6 @@
--- A negative number of notation whose value was capped is the one that the definition reads.
+-- For the code of `read_negative_number`, which holds each number past 2 ^ 64 as 2 ^ 64 + 1 (`capped`): this changes no
+-- result, if the number after the `-` is not 0. One less than the number the code holds (`with_width`) gives the same
+-- value or error as the definition.
 use Rattle.std.proofs.Common.{◌≡◌, ℕ, suc, zero, ◌-◌, ◌≢◌, Option, Ok}
 use Rattle.std.proofs.Common.{List}
 use Rattle.std.proofs.Common.{ap, ◌∙◌, sym, arith}

@@ -1,4 +1,6 @@
--- The function reads what the grammar of notation has: indefinite strings, chunk by chunk.
+-- `read_chunks` reads each indefinite string `(_ ..)` that the grammar has (`ChunksOf`): its kind, its chunks and the
+-- rest of the text. This needs a `read` that reads the items in the chunks (`ReadsAgain`). A string without a chunk has
+-- to be a byte string (`ShowsKind`).
 use Rattle.std.proofs.Common.{◌≡◌, ℕ, List, [], ◌∷◌, ◌++◌, codes, Ok, refl, sym, ap, ◌∙◌, subst, inl, inr}
 use Rattle.std.proofs.lemmas.List.{append_assoc}
 use Rattle.cbor_grammar.specs.Item.{Chunk, Item, atom, chunked_string}

@@ -1,4 +1,5 @@
--- The function reads what the grammar of notation has: arrays and maps.
+-- `read_core` reads each array and each map that the grammar has (`Opens`, `Listed`), whether its length is definite or
+-- indefinite, if `read` reads the items in it (`ReadsAgain`).
 use Rattle.std.proofs.Common.{◌≡◌, ℕ, List, [], ◌∷◌, ◌++◌, codes, Option, Some, None, Ok, refl, sym, ap, ◌∙◌}
 use Rattle.std.proofs.lemmas.List.{append_assoc}
 use Rattle.cbor_grammar.specs.declared.width.IntegerWidth.{IntegerWidth}

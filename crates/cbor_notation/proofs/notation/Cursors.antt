@@ -1,4 +1,5 @@
--- Reading notation, as a function: what the first byte shows of a blank.
+-- For `Cursor::skip_blank` and `Cursor::take_comma`: `skip_blank` skips nothing if the next byte is above 32 (a space)
+-- and is not `/`. `after_space` finds nothing if the next byte is above 32.
 use Rattle.std.proofs.Common.{◌≡◌, ◌≢◌, ◌==◌, ℕ, ◌<◌, List, ◌∷◌, None, true, false, nat_le}
 use Rattle.std.proofs.Common.{suc, length, refl, arith}
 use Rattle.std.proofs.lemmas.Bool.Decides.{nat_tests}

@@ -1,4 +1,5 @@
--- Reading notation, as a function: bytes are decoded from the digits of their encodings.
+-- `base32_of` decodes what `encode` writes in either alphabet of base 32, and `base64_of` decodes what `url_safe` and
+-- `standard` write in base 64: they return the bytes that were encoded. `DigitsFound.antt` has the other direction.
 use Rattle.std.proofs.Common.{◌≡◌, ℕ, zero, suc, ◌+◌, ◌*◌, ◌/◌, ◌%◌, ◌<◌, true, false, ◌==◌, List, [], ◌∷◌, ◌++◌, map}
 use Rattle.std.proofs.Common.{length, take, replicate, slice_index, codes, Option, Some, None, refl, ap, ◌∙◌, arith}
 use Rattle.std.specs.List.{list_any, position_or_len}

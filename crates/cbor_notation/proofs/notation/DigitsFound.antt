@@ -1,4 +1,6 @@
--- Reading notation, as a function: digits that are read as bytes are the encoding of these bytes.
+-- If `base32_of` or `base64_of` returns bytes, the digits are an encoding of these bytes (`Decoded.antt` has the other
+-- direction). So code that finds bytes with these digits, or finds that there are none, returns the same as the
+-- definitions (`base32_answer`, `base64_answer`).
 use Rattle.std.proofs.Common.{◌≡◌, ◌≢◌, ℕ, ◌-◌, ◌*◌, ◌/◌, ◌^◌, ◌<◌, ◌==◌, ◌||◌, ◌⊎◌, inl, inr, Bool, true, false}
 use Rattle.std.proofs.Common.{if◌then◌else◌, List, [], ◌∷◌, length, map, take, zero, suc, position, unwrap_or, bytes_eq}
 use Rattle.std.proofs.Common.{codes, Vec, Global, Option, Some, None, refl, sym, ap, subst, ◌∙◌, arith, lit<}

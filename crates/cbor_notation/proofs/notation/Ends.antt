@@ -1,4 +1,6 @@
--- Reading notation, as a function: what may be after an item, and what it begins with, by tests of one byte.
+-- If a text begins with a byte that may follow an item (`item_ends`) or that begins a core (`core_starts`),
+-- `skip_blank` passes a blank before the text and stops there. A number ends before a byte that is no digit, letter or
+-- `_` (`ends_number`), and `after_byte` finds nothing if its byte is none of those that may be first.
 use Rattle.std.proofs.Common.{◌≡◌, ℕ, Bool, true, not, ◌==◌, ◌||◌, ◌&&◌, nat_le, List, [], ◌∷◌, ◌++◌, codes, None, refl}
 use Rattle.std.proofs.Common.{sym, ap, ◌∙◌, subst, inl, inr, IsTrue}
 use Rattle.std.specs.List.{list_any, list_all}

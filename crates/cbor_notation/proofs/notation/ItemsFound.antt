@@ -1,4 +1,5 @@
--- An item that the grammar of notation reads, the function finds, whatever may follow it.
+-- `read_item` reads each item that the grammar has (`Reads`) and leaves the rest of the text, if this rest may follow
+-- an item (`Follows`). `notation_of` returns the item if the whole text is one.
 use Rattle.std.proofs.Common.{◌≡◌, ℕ, zero, suc, List, [], ◌∷◌, ◌++◌, codes, Option, Some, None, Ok, refl, sym, ap, ◌∙◌}
 use Rattle.std.proofs.Common.{subst, inl, inr}
 use Rattle.std.proofs.lemmas.List.{append-nil}

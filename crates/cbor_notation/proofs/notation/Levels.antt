@@ -1,4 +1,4 @@
--- With more levels left, reading notation answers the same, unless it was TooDeep.
+-- With more levels left, `read_item` returns the same, unless it returns `TooDeep` with fewer levels left (`Grows`).
 use Rattle.std.proofs.Common.{◌≡◌, ℕ, zero, suc, ◌+◌, Bool, true, false, List, [], ◌∷◌, length, Option, Some}
 use Rattle.std.proofs.Common.{None, Result, Ok, Err, ◌⊎◌, inl, inr, refl, sym, ap, ◌∙◌, subst, arith}
 use Rattle.std.proofs.lemmas.Bool.{cases_Bool}

@@ -1,4 +1,5 @@
--- The function reads what the grammar of notation has: members that commas separate, up to what closes them.
+-- For lists of any members: `read_members` reads each list that the grammar has (`Members`), with commas between the
+-- members, up to what closes the list, if `read` reads each member (`ReadsAgain`).
 use Rattle.std.proofs.Common.{◌≡◌, ℕ, zero, suc, ◌<◌, ◌≤◌, Bool, true, false, not, ◌==◌, nat_lt, cond, List, [], ◌∷◌}
 use Rattle.std.proofs.Common.{◌++◌, length, codes, Option, Some, None, Ok, refl, sym, ap, ◌∙◌, subst, inl, inr, arith}
 use Rattle.std.proofs.Common.{IsTrue}

@@ -1,4 +1,6 @@
--- The function reads what the grammar of notation has: integers and tags.
+-- `read_core` reads each integer, negative integer and tag that the grammar has (`NumberOf`, `NegativeOf`), with its
+-- width. After an integer, a byte that may follow a core has to come, or the end (`core_ends`); `read` has to read the
+-- item in a tag (`ReadsAgain`).
 use Rattle.std.proofs.Common.{◌≡◌, ℕ, ◌+◌, ◌^◌, ◌<◌, true, ◌==◌, ◌&&◌, nat_le, List, [], ◌∷◌, ◌++◌, codes, Option, Some}
 use Rattle.std.proofs.Common.{None, Ok, refl, sym, ap, ◌∙◌, subst, inl, inr, arith}
 use Rattle.std.specs.List.{AllByRecursion}

@@ -1,4 +1,6 @@
--- Reading notation, as a function: strings of one piece, and what the rules of pieces give of them.
+-- If a string is one piece and what ends a string follows (`ends_string`), `read_string_item` returns the content of
+-- this piece (`one_string`): for a text in quotes and for `h'..'`. If the first quote or backslash of a text is the
+-- quote, the bytes before this quote are the content (`unquoted`).
 use Rattle.std.proofs.Common.{◌≡◌, ◌⊎◌, inl, inr, ℕ, suc, Bool, true, false, List, [], ◌∷◌, ◌++◌, ◌==◌, nat_eq, length}
 use Rattle.std.proofs.Common.{take, drop, position, codes, Option, Some, None, Result, Ok, Err, refl, sym, ap, ◌∙◌}
 use Rattle.std.proofs.Common.{rules, tests}

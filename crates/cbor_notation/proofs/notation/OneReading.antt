@@ -1,5 +1,6 @@
--- Reading notation, as a function: what the limits on levels change. A text is at most one item, and what one limit
--- reads is read under any other, or is TooDeep there.
+-- A text is at most one item, under any limits on levels. `notation_of` returns an item only if the text is this item
+-- (`Reads`), and an error only if the text is no item under its limit. If the text is an item under another limit,
+-- `notation_of` returns this item or `TooDeep`.
 use Rattle.std.proofs.Common.{◌≡◌, ℕ, ◌-◌, ◌≤◌, List, [], Ok, Err, ◌⊎◌, inl, inr, refl, sym, ap, ◌∙◌, subst, arith}
 use Rattle.std.proofs.lemmas.Bool.{cases_lt}
 use Rattle.cbor_grammar.specs.declared.error.Error.TheVariants as refusal

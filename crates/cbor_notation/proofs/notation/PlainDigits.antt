@@ -1,4 +1,5 @@
--- Reading notation, as a function: hex digits with no blanks between them.
+-- For `read_base16`, if there are no blanks between the hex digits: if the bytes before an apostrophe decode as hex
+-- (`base16_of`), `read_decoded` returns what they decode to, and the text after the apostrophe.
 use Rattle.std.proofs.Common.{◌≡◌, ℕ, ◌+◌, ◌<◌, true, List, [], ◌∷◌, ◌++◌, length, get_or, take, drop, IsTrue}
 use Rattle.std.proofs.Common.{Ok, inl, inr, refl, sym, ap, ◌∙◌, arith, Some, ◌-◌}
 use Rattle.std.specs.List.{list_all}

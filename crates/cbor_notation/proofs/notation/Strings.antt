@@ -1,4 +1,6 @@
--- The function reads what the grammar of notation has: strings of definite length.
+-- `read_string` reads each string of definite length that the grammar has (`StringOf`), if the rest of the text may
+-- follow an item (`Follows`). No such string begins with `''_` or `""_`, which are indefinite strings without chunks
+-- (`no_chunks`).
 use Rattle.std.proofs.Common.{◌≡◌, ◌≢◌, ℕ, suc, ◌<◌, true, false, not, ◌==◌, ◌||◌, nat_eq, List, [], ◌∷◌, ◌++◌, length}
 use Rattle.std.proofs.Common.{drop, codes, Some, None, Ok, refl, sym, ap, ◌∙◌, subst, inl, inr, arith, ◌⊎◌}
 use Rattle.std.specs.List.{list_all, starts_with}

@@ -1,4 +1,6 @@
--- Reading notation, as a function: what the calls of `cbor_tokens` return, beside what it gives.
+-- What `cbor_tokens` finds in a text decides what the definitions return: `read_number` for a number, `after_space` for
+-- whitespace, and `digits_of` for digits up to an apostrophe. Hex digits that are read one by one (`hex_after`) are
+-- their `numeral`, and sixteen of them fit 64 bits.
 use Rattle.std.proofs.Common.{◌≡◌, ℕ, ◌≤◌, List, [], ◌∷◌, ◌++◌, ◌+◌, ◌-◌, ◌*◌, ◌^◌, ◌<◌, ◌≢◌, Bool, false, not, nat_lt}
 use Rattle.std.proofs.Common.{◌==◌, if◌then◌else◌, true, option_and_then, length, take, drop, position, Option, Some}
 use Rattle.std.proofs.Common.{None, Ok, Err, refl, sym, ap, ◌∙◌, arith}

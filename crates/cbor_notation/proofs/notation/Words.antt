@@ -1,4 +1,4 @@
--- The function reads what the grammar of notation has: simple values and floats.
+-- `read_core` reads each simple value and each float that the grammar has (`SimpleOf`, `FloatOf`), whatever follows it.
 use Rattle.std.proofs.Common.{◌≡◌, ℕ, ◌+◌, ◌-◌, ◌<◌, true, false, ◌==◌, nat_lt, List, [], ◌∷◌, ◌++◌, length, take, drop}
 use Rattle.std.proofs.Common.{codes, Option, Some, None, Ok, refl, sym, ap, ◌∙◌, inl, inr, arith}
 use Rattle.std.specs.List.{list_any, list_all, position}

@@ -1,4 +1,6 @@
--- For notation that is read back: heads and numbers of normal forms fit their widths, and are no longer.
+-- In a normal form, a number or a float that fits its width still fits it (`normal_width`, `resolve_float`), and the
+-- head of a number has the same bytes. If a length gets no greater and its width becomes unstated, its head has no more
+-- bytes than before.
 use Rattle.std.proofs.Common.{◌≡◌, ℕ, ◌^◌, ◌<◌, ◌≤◌, length, inl, inr, refl, arith, nat_lt}
 use Rattle.std.proofs.lemmas.Bool.{cond_both, cases_lt, lt-ltb, le-ltb}
 use Rattle.cbor_grammar.specs.declared.width.IntegerWidth.{IntegerWidth}

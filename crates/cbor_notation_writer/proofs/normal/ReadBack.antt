@@ -1,4 +1,6 @@
--- The text of an item, compact or pretty, is read as its normal form.
+-- The text of a well-formed item (`text_at`), in each layout and with each encoding of bytes, is notation of its normal
+-- form (`normal_at`) by the grammar (`Reads`). The context has to show bytes as the tag right above the item asks
+-- (`content_of`).
 use Rattle.std.proofs.Common.{◌≡◌, ℕ, zero, suc, ◌+◌, List, [], ◌∷◌, ◌++◌, length, map, codes, Option, Some, None, inl}
 use Rattle.std.proofs.Common.{inr, refl, sym, ap, subst, ◌∙◌, append_assoc, arith}
 use Rattle.std.specs.List.{AllByRecursion}

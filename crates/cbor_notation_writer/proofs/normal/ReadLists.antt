@@ -1,4 +1,5 @@
--- What is written in notation of members between brackets is read back as a list of them.
+-- Members that are written between brackets (`bracketed`), in each style, are a list of these members by the grammar
+-- (`Listed`), if the text of each member is this member, with any blank before it (`Each`).
 use Rattle.std.proofs.Common.{◌≡◌, ℕ, ◌+◌, List, [], ◌∷◌, ◌++◌, codes, Option, Some, None, inl, inr, refl, sym}
 use Rattle.std.proofs.Common.{subst, ◌∙◌, append_assoc, arith}
 use Rattle.std.specs.List.{flat_map}

@@ -1,4 +1,6 @@
--- What is written in notation of numbers, strings, floats and simple values is read back as these.
+-- What is written of a number, a string, a float or a simple value (`number`, `string_text`, `float_text`,
+-- `simple_text`) is notation of the same value by the grammar, if the value fits its width. Its width is that of the
+-- normal form.
 use Rattle.std.proofs.Common.{◌≡◌, ℕ, zero, suc, ◌+◌, ◌*◌, ◌/◌, ◌%◌, ◌^◌, ◌<◌, ◌≤◌, ◌==◌, Bool, true, false, cond}
 use Rattle.std.proofs.Common.{List, [], ◌∷◌, ◌++◌, length, replicate, slice_index, codes, Option, Some, None, ◌⊎◌, inl}
 use Rattle.std.proofs.Common.{IsTrue, inr, refl, sym, ap, subst, ◌∙◌, arith}

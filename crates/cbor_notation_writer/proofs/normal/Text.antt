@@ -1,5 +1,5 @@
--- For notation that is read back: the text of an item is that of its normal form, and the normal form of a normal form
--- is itself.
+-- The normal form of a well-formed item has the same compact text as the item (`normal_text`), and is its own normal
+-- form (`normal_twice`).
 use Rattle.std.proofs.Common.{◌≡◌, ℕ, zero, suc, ◌+◌, ◌≤◌, List, [], ◌∷◌, ◌++◌, length, codes, Option, Some, None, ◌⊎◌}
 use Rattle.std.proofs.Common.{inl, inr, refl, sym, ap, ◌∙◌, arith, nat_lt}
 use Rattle.std.proofs.lemmas.Bool.{cond_both, cases_lt, lt-ltb, le-ltb}

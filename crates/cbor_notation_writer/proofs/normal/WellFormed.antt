@@ -1,4 +1,5 @@
--- For notation that is read back: the normal form of a well-formed item is well formed, and its encoding is no longer.
+-- The normal form of a well-formed item is well formed, and its encoding has no more bytes than that of the item
+-- (`normal_serves`). The encoding of an item has no more bytes than any bytes that spell the item (`spelled_len`).
 use Rattle.std.proofs.Common.{◌≡◌, ℕ, zero, suc, ◌+◌, ◌≤◌, List, [], ◌∷◌, ◌++◌, length, map, Option, Some, None, ◌⊎◌}
 use Rattle.std.proofs.Common.{inl, inr, eqb, false, refl, ap, arith, nat_lt}
 use Rattle.std.specs.List.{AllByRecursion, flat_map}

@@ -1,4 +1,6 @@
--- A look at bytes that are still to be read finds how long what reading gives is.
+-- For `item_ahead`, `items_ahead` and `pairs_ahead`: they take from the budget the estimated length of the item that
+-- reading gives, or find that the item takes the whole budget (`Estimates`). Each turn of the loops over items and
+-- pairs keeps `ItemsSoFar` or `PairsSoFar`.
 use Rattle.std.proofs.Common.{◌≡◌, ℕ, zero, suc, ◌+◌, ◌-◌, ◌<◌, ◌≤◌, List, Option, Some, None}
 use Rattle.std.proofs.Common.{Ok, IfSome, ◌⊎◌, inl, inr, refl, sym, ap, subst, ◌∙◌, arith}
 use Rattle.cbor_grammar.specs.declared.width.IntegerWidth.{IntegerWidth}

@@ -1,4 +1,6 @@
--- Notation, written straight from bytes: an indefinite string, chunk by chunk.
+-- For `push_parts_front` and `push_joined_front`: if an indefinite string is written chunk by chunk as it is read, what
+-- was written is one of its texts (`TextsHere`). The same holds if its chunks are joined to one byte string. Each chunk
+-- keeps `ChunksWritten`.
 use Rattle.std.proofs.Common.{◌≡◌, ℕ, zero, suc, ◌+◌, true, false, List, [], ◌∷◌, ◌++◌, length, refl, sym, ap}
 use Rattle.std.proofs.Common.{subst, ◌∙◌, append_assoc, arith}
 use Rattle.std.proofs.lemmas.List.{append-nil, length-append}

@@ -1,4 +1,6 @@
--- The texts of the dialect that `cbor_view` writes are the one text that the definitions give.
+-- Each text that the dialect `diag_leaves` of `cbor_view` allows for an item (`TextsOf`) or for the content of a byte
+-- string (`ContentText`) is the one that the definitions give (`text_at`, `content_text`). So what was written is this
+-- text (`printed_so`, `content_appended`).
 use Rattle.std.proofs.Common.{◌≡◌, ℕ, zero, suc, ◌+◌, List, [], ◌∷◌, ◌++◌, map, codes}
 use Rattle.std.proofs.Common.{Option, Some, None, Result, Ok, Err, IfOk, refl, ap, subst, ◌∙◌, append_assoc}
 use Rattle.std.specs.List.{flat_map}

@@ -1,4 +1,6 @@
--- The item at the front of the bytes, from what holds of it behind its head.
+-- What is read and written after the head of an item (`read_behind`, `TextsHere`) is what is read and written of the
+-- whole item (`read_at`, `TextsAt`), and an error there is an error of the item. An error in a part of a container is
+-- one of the container, and an error that a `?` passes on stays the same.
 use Rattle.std.proofs.Common.{◌≡◌, ℕ, suc, ◌+◌, ◌≤◌, List, ◌++◌, None, Result, Ok, Err, IfOk, IfErr, sym, ap, subst}
 use Rattle.std.proofs.Common.{◌∙◌, arith}
 use Rattle.std.specs.Prelude.{IsErrAnd}

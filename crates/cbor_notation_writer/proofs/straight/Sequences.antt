@@ -1,4 +1,6 @@
--- Notation, written straight from bytes: a sequence of items that is embedded in a byte string.
+-- For `push_sequence` and `push_embedded`: if a byte string is written as the items in it, or as the one item that it
+-- is, what was written is one of its texts (`ContentThere`). Items that are read one by one are those of `sequence_at`
+-- (`SoFar`), and reading the first of them decides `embedded_at`.
 use Rattle.std.proofs.Common.{◌≡◌, ◌≢◌, ℕ, zero, suc, ◌+◌, ◌<◌, ◌≤◌, List, [], ◌∷◌, ◌++◌, length, Option, Some}
 use Rattle.std.proofs.Common.{None, Result, Ok, Err, refl, sym, ap, subst, ◌∙◌, append_assoc, arith}
 use Rattle.std.specs.Io.{StartsWith}

@@ -1,4 +1,5 @@
--- A look ahead at a sequence finds the length of the items that can be read.
+-- For the loop of `left_after_sequence`: it takes from the budget the estimated length of all items that can be read
+-- from the front of the bytes (`sequence_at`), one item in each turn (`SequenceSoFar`).
 use Rattle.std.proofs.Common.{◌≡◌, ℕ, zero, suc, ◌+◌, ◌-◌, ◌≤◌, List, length, Some, None, Ok, Err, refl, ap, arith}
 use Rattle.cbor_grammar.specs.declared.error.Error.{Error}
 use Rattle.cbor_notation_writer.specs.declared.ahead.Ahead.{Ahead}

@@ -1,4 +1,6 @@
--- A look at a string finds how long it is, its content read or not.
+-- For `string_ahead`, `content_ahead` and `chunks_ahead`: they take from the budget the estimated length of the string
+-- that reading gives, or find that the string takes the whole budget (`Estimates`). The content is the bytes that were
+-- split off, if it can be read. Each turn of the loop over chunks keeps `ChunksSoFar`.
 use Rattle.std.proofs.Common.{◌≡◌, ℕ, zero, suc, ◌+◌, ◌-◌, ◌≤◌, List, [], ◌∷◌, length, Option, Some, None}
 use Rattle.std.proofs.Common.{Ok, Err, refl, sym, ap, subst, ◌∙◌, arith}
 use Rattle.std.specs.Str.{is_utf8}

@@ -1,4 +1,5 @@
--- The style of a container in the notation that `cbor_view` writes, by its estimated length.
+-- With the limit of `cbor_view` (`one_line_limit`), the style that `style_within` gives a container by its estimated
+-- length is that of the definition (`container_style`).
 use Rattle.std.proofs.Common.{◌≡◌, ℕ, refl}
 use Rattle.cbor_grammar.specs.declared.layout.Layout.{Layout}
 use Rattle.cbor_grammar.specs.declared.layout.Layout.TheVariants.{Compact, Pretty}

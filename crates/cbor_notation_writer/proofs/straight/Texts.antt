@@ -1,4 +1,6 @@
--- Notation, written straight from bytes: texts that are written as their parts are read.
+-- For arrays, maps, strings and tags that are written as their parts are read: what was written is one of the texts of
+-- the item (`TextsHere`), if what was written of each part is one of its texts. Each item and each pair keeps
+-- `ItemsWritten` and `PairsWritten`.
 use Rattle.std.proofs.Common.{◌≡◌, ℕ, zero, suc, ◌+◌, ◌-◌, ◌≤◌, Bool, true, false, eqb, List, [], ◌∷◌, ◌++◌}
 use Rattle.std.proofs.Common.{Some, None, refl, sym, ap, subst, ◌∙◌, append_assoc, arith}
 use Rattle.std.specs.List.{flat_map}

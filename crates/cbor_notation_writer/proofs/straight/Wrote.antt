@@ -1,4 +1,6 @@
--- Notation, written straight from bytes: what several calls in a row have written together.
+-- Rules for `Wrote`, which says that a call appended one of some texts, or failed and left the old text in front.
+-- `Wrote` follows from `Appends`, holds for any wider choice of texts, and joins what calls in a row wrote, such as the
+-- opening of an indefinite string and what is before its first chunk (`BeforeChunk`).
 use Rattle.std.proofs.Common.{◌≡◌, ℕ, true, List, ◌++◌, Result, Ok, Err, refl, ap, subst, sym, ◌∙◌, append_assoc}
 use Rattle.std.specs.Io.{StartsWith}
 use Rattle.cbor_grammar.specs.declared.layout.ContainerStyle.{ContainerStyle}

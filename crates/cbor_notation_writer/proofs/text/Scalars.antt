@@ -1,4 +1,6 @@
--- Notation that is written piece by piece: escaped text, and members.
+-- For loops that write notation piece by piece: after one more byte the escaped text so far is right (`in_quotes`), and
+-- after one more member the text so far and `members_left` still make the same text. A text without bytes to escape is
+-- written as it is, and chunks, if there are any, are between `(` and `)`.
 use Rattle.std.proofs.Common.{◌≡◌, ℕ, ◌+◌, ◌<◌, ◌≤◌, Bool, true, false, eqb, List, [], ◌∷◌, ◌++◌, length, map, codes}
 use Rattle.std.proofs.Common.{None, get_or, take, drop, refl, sym, ap, ◌∙◌, append_assoc, arith}
 use Rattle.std.specs.List.{flat_map, list_any}

@@ -1,4 +1,6 @@
--- Digits that do not begin with zero are those of their number in base 58.
+-- Digits in base 58 that do not begin with zero are the ones that `digits_of` finds for their number. So the text of
+-- `base58_of` is a `1` for each leading zero byte, and then the characters of any such digits of the number that the
+-- bytes encode.
 use Rattle.std.proofs.Common.{◌≡◌, ℕ, ◌+◌, ◌*◌, ◌/◌, ◌%◌, ◌<◌, List, [], ◌∷◌, ◌++◌, map, replicate, slice_index, refl}
 use Rattle.std.proofs.Common.{sym, ap, ◌∙◌, arith}
 use Rattle.std.specs.Int.Digits.{AllBelowBase, digits_of, number_from_digits, number_from_digits_after}

@@ -1,4 +1,6 @@
--- The digits of a number in base 58, in order.
+-- For `push_digits` and `push_base58`: the base 58 digits of a number above 0 are those of the number divided by 58,
+-- and then the remainder. Sixteen bytes, read as a `u128`, are the number that `number_from_digits` finds, and all base
+-- 58 characters are ASCII.
 use Rattle.std.proofs.Common.{◌≡◌, ℕ, ◌<◌, ◌/◌, ◌%◌, List, [], ◌∷◌, ◌++◌, map, slice_index, length, subst, refl, ap}
 use Rattle.std.proofs.Common.{◌∙◌, sym, arith}
 use Rattle.std.proofs.lemmas.Int.Digits.{digits_of_step}

@@ -1,4 +1,6 @@
--- The lines of decoded bytes, in order, in comments.
+-- For `decoded_line` in `decoded.rt`: filling up with blanks, one at a time, makes the line of a piece. For
+-- `decoded_lines`: after each piece of up to sixteen bytes, the lines so far are those of the pieces so far
+-- (`AreShown`), and if no bytes are left, they are all lines.
 use Rattle.std.proofs.Common.{◌≡◌, ℕ, ◌+◌, ◌-◌, ◌*◌, ◌<◌, ◌≤◌, min, List, [], ◌∷◌, ◌++◌, map, length, take}
 use Rattle.std.proofs.Common.{drop, replicate, codes, refl, sym, ap, ◌∙◌, arith}
 use Rattle.std.specs.Int.{div_ceil}

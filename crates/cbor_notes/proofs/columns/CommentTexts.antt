@@ -1,4 +1,5 @@
--- No text of a comment has a line feed: addresses, identifiers, elements and decoded lines.
+-- The texts of comments on addresses, UUIDs, elements of typed arrays and decoded bytes have no line feed: `ipv4_text`,
+-- `ipv6_text`, `mac_text`, `uuid_lines`, `base58_of`, `element_text`, `decoded_lines` and `base64_lines`.
 use Rattle.std.proofs.Common.{◌≡◌, ◌≢◌, ℕ, zero, suc, ◌+◌, ◌-◌, ◌*◌, ◌^◌, ◌==◌, Bool, true, false, not, cond, List, []}
 use Rattle.std.proofs.Common.{◌∷◌, ◌++◌, map, length, take, drop, if◌then◌else◌, replicate, slice_index, codes, decimal}
 use Rattle.std.proofs.Common.{Option, Some, None, unwrap_or, option_map, nat_lt, refl, arith}

@@ -1,4 +1,5 @@
--- The texts of dates and moments have no line feed.
+-- The texts that `date_of_epoch`, `datetime_of_epoch`, `epoch_of_date` and `epoch_of_datetime` return have no line
+-- feed.
 use Rattle.std.proofs.Common.{◌≡◌, ℕ, zero, suc, ◌/◌, ◌%◌, ◌==◌, true, false, ℤ, pos, negsuc, Option, Some, None}
 use Rattle.std.proofs.Common.{IfSome, unwrap_or, List, [], ◌∷◌, ◌++◌, take, replicate, codes, decimal, refl, sym, subst}
 use Rattle.std.proofs.Common.{arith}

@@ -1,4 +1,6 @@
--- The lines of a layout, read in order, in the columns of a dump.
+-- If all lines of a layout are plain (`IsPlain`), the text without comments and blanks (`uncommented`) is the digits of
+-- the lines. If the digits also reach no farther than the width of the left column, the first `#` of each line of the
+-- text is at the same place (`IsColumn`).
 use Rattle.std.proofs.Common.{◌≡◌, ◌≢◌, ℕ, suc, ◌+◌, ◌-◌, ◌*◌, ◌==◌, ◌≤◌, ◌<◌, Bool, true, false, not, cond, List, []}
 use Rattle.std.proofs.Common.{◌∷◌, ◌++◌, length, take, get_or, refl, sym, ap, ◌∙◌, arith, append_assoc}
 use Rattle.std.proofs.Common.{append-nil, zero, length-append, Some, subst}

@@ -1,4 +1,5 @@
--- Characters that the texts of comments don't have.
+-- A text lacks a character (`Free`) if its parts lack it. Hex, base 64, numbers, `quoted_bytes`, `escaped_text` and the
+-- names of tags (`tag_name`) have no line feed.
 use lib.Utf8.{encode}
 use Rattle.std.proofs.Common.{◌≡◌, ◌≢◌, ℕ, zero, suc, ◌+◌, ◌*◌, ◌/◌, ◌%◌, ◌==◌, ◌<◌, ◌||◌, ◌&&◌, Bool, true, false, not}
 use Rattle.std.proofs.Common.{cond, nat_le, ltb, List, [], ◌∷◌, ◌++◌, length, get_or, replicate, codes, decimal, Option}

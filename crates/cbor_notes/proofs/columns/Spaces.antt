@@ -1,4 +1,5 @@
--- In the columns of a dump, a number of spaces.
+-- For `blanks`, `push_blanks` and `short_gap` in `line.rt`: a text of blanks can be cut at any place, and its parts are
+-- blanks. A slice of `gap 44 44` is `gap before after`, if `before` and `after` are at most 44.
 use Rattle.std.proofs.Common.{◌≡◌, ℕ, ◌+◌, ◌-◌, ◌<◌, ◌≤◌, List, ◌++◌, length, slice_index, slice_range, replicate, take}
 use Rattle.std.proofs.Common.{ap, ◌∙◌, append_assoc, arith, refl, sym, codes}
 use Rattle.std.proofs.lemmas.List.{length-append, take_at, drop_at}

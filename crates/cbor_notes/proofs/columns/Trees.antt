@@ -1,4 +1,6 @@
--- The lines of trees, in order, in the columns of a dump.
+-- For `Line` in `line.rt`: the lines of a tree (`tree_lines`) are its first line and the lines of its sublines, one
+-- deeper. In a loop over trees (`forest_lines`), whether all lines fit, their width and their text are found from the
+-- tree at hand and the others. Lines that fit (`IsFit`) have a width of at most 484.
 use Rattle.std.proofs.Common.{◌≡◌, ℕ, ◌+◌, ◌≤◌, ◌<◌, List, [], ◌∷◌, ◌++◌, map, max, length, drop, get_or, refl, sym, ap}
 use Rattle.std.proofs.Common.{◌∙◌, arith, subst, append_assoc, ◌↔◌}
 use Rattle.std.proofs.lemmas.Bool.Decides.{nat_tests}

@@ -1,4 +1,5 @@
--- The days of the calendar, in order, are the dates of `jiff`.
+-- The first `day_count` days of `calendar_day` are exactly the dates of `jiff`, with the same numbers (`day_number`):
+-- each day is a date, and each date is one of the days.
 use Rattle.std.proofs.Common.{◌≡◌, ℕ, zero, suc, ◌+◌, ◌<◌, ◌≤◌, ℤ, pos, neg_ℤ, ◌+ℤ◌, ◌-ℤ◌, ◌<ℤ◌, unsigned_abs, nat_lt}
 use Rattle.std.proofs.Common.{refl, sym, ap, ◌∙◌, arith, rules}
 use Rattle.std.proofs.lemmas.Bool.{cond_both, ltb-true, ltb-false}

@@ -1,4 +1,5 @@
--- The texts of dates as functions: what they find, and when they find it.
+-- The definitions `date_of_epoch`, `epoch_of_date` and `datetime_of_epoch`: what they return is right, and for which
+-- days, texts and seconds they return something.
 use Rattle.std.proofs.Common.{◌≡◌, ℕ, ℤ, pos, ◌<ℤ◌, ◌≤ℤ◌, int_le, int_lt, Option, Some, None, option_map, IfSome}
 use Rattle.std.proofs.Common.{IsSome, ◌++◌, codes, unsigned_abs, List, refl, sym, ap, ◌∙◌, arith}
 use Rattle.std.proofs.lemmas.Bool.{cond-false, false_from_ne_true, true_from_ne_false}

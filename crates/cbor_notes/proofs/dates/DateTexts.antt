@@ -1,4 +1,6 @@
--- What is at each place of the texts of dates and times.
+-- The texts of dates (from the year 0 on), times of day and offsets from UTC: which digits and separators they have at
+-- which place, and that a text with these is one of them. A year has a minus if and only if it is before 0, and dates
+-- with the same `epoch_day` have the same text.
 use Rattle.std.proofs.Common.{◌⊎◌, inl, inr, neg_ℤ, ◌*◌, ap, ◌∙◌, Option, Some, None, false, IsSome, IsSomeAnd, nat_abs}
 use Rattle.std.proofs.Common.{to_z, of_z, w8, append_assoc, ◌<ℤ◌, Result, Ok, Err, IfOk, IfSome, ◌≡◌, ℕ, ◌+◌, ◌/◌, ◌%◌}
 use Rattle.std.proofs.Common.{◌<◌, ◌≤◌, ℤ, pos, negsuc, ◌≤ℤ◌, unsigned_abs, List, [], ◌∷◌, ◌++◌, length, get_or, refl}

@@ -1,4 +1,5 @@
--- The seconds of a moment as a function of its text: what it finds, and when it finds it.
+-- The definition `epoch_of_datetime`: it returns something for exactly the texts of moments (`IsDateTimeText`), and
+-- what it returns is the number of seconds from 1970-01-01T00:00:00Z to the moment, with the fraction in the text.
 use Rattle.std.proofs.Common.{◌≡◌, ◌⊎◌, inl, inr, ℕ, ◌+◌, ◌*◌, ◌<◌, ◌≤◌, ◌==◌, ◌||◌, ℤ, pos, neg_ℤ, ◌-ℤ◌, ◌≤ℤ◌, true}
 use Rattle.std.proofs.Common.{cond, Option, Some, None, IfSome, IsSome, List, [], ◌∷◌, ◌++◌, length, take, drop, get_or}
 use Rattle.std.proofs.Common.{codes, refl, subst, sym, ap, ◌∙◌, append_assoc, ne_eqb, arith}

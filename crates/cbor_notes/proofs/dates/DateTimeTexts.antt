@@ -1,4 +1,6 @@
--- What is read of the texts of fractions, offsets and zones.
+-- For `datetime.rt`: the date, the time of day, the fraction and the zone are each at one place in the text of a moment
+-- (`Pieces`), and the fraction ends with its last digit, as no zone begins with a digit or a dot. `fraction_text` has
+-- those of the `nine_digits` that are `shown`, or nothing if none are.
 use Rattle.std.proofs.Common.{FitsSigned, append_assoc, ◌≤ℤ◌, ne_eqb, ◌==◌, Bool, false, cond, append-nil, ◌-◌, min}
 use Rattle.std.proofs.Common.{replicate, ◌⊎◌, inl, inr, neg_ℤ, ap, sym, ◌∙◌, to_z, of_z, w32, ◌-ℤ◌, ◌≡◌, ◌≢◌, ℕ, ◌+◌}
 use Rattle.std.proofs.Common.{◌^◌, ◌<◌, ◌≤◌, ℤ, pos, List, [], ◌∷◌, ◌++◌, length, take, drop, get_or, true, refl, arith}

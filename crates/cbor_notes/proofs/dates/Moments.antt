@@ -1,4 +1,5 @@
--- Seconds as a day and a time of day.
+-- A number of seconds is a number of days of 86,400 seconds and a time below 86,400 seconds, in only one way. So the
+-- text of a moment (`IsMomentText`) is `moment_text` of its date and the seconds since midnight, and no other.
 use Rattle.std.proofs.Common.{append_assoc, ◌≡◌, ℕ, ◌+◌, ◌*◌, ◌/◌, ◌%◌, ◌<◌, ℤ, pos, negsuc, ◌+ℤ◌, ◌*ℤ◌, nat_abs, List}
 use Rattle.std.proofs.Common.{◌++◌, codes, FitsSigned, w64, refl, sym, ap, ◌∙◌, arith}
 use Rattle.std.specs.Int.{int_div_euclid, int_rem_euclid}

@@ -1,4 +1,5 @@
--- In the texts of dates, what holds of the first thing found, and when anything is found.
+-- For the searches `first_found` and `first_minute`, and for the steps of a search (a test, `option_or`): if everything
+-- that may be found has a property, what is found has it; and something is found if one of the tries finds something.
 use Rattle.std.proofs.Common.{◌≡◌, ℕ, zero, suc, ◌<◌, ◌⊎◌, inl, inr, Bool, true, cond, Option, Some, None, IfSome}
 use Rattle.std.proofs.Common.{IsSome, refl, arith}
 use Rattle.std.specs.Option.{option_or}

@@ -1,4 +1,6 @@
--- What std writes of an address is its text.
+-- The text that std writes for an IPv4 or IPv6 address is that of the definitions `ipv4_text` and `ipv6_text`. In an
+-- IPv6 text, `::` is in place of the first longest run of zero groups, if the run has at least two groups and the
+-- address does not map an IPv4 address.
 use Rattle.std.proofs.Common.{◌≡◌, ℕ, zero, suc, ◌+◌, ◌*◌, ◌/◌, ◌%◌, ◌^◌, ◌<◌, ◌≤◌, Bool, true, false, cond, eqb, leb}
 use Rattle.std.proofs.Common.{List, [], ◌∷◌, ◌++◌, length, get_or, take, drop, map, max, codes, refl, sym, ap, ◌∙◌}
 use Rattle.std.proofs.Common.{subst, inl, inr, arith, append_assoc, append-nil, le-leb, eq-eqb, ne_eqb}

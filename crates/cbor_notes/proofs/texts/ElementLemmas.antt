@@ -1,4 +1,5 @@
--- Elements of typed arrays: numbers of bytes, and halves of their range.
+-- For `element.rt`: the number that up to sixteen bytes encode fits in 128 bits, and `signed_text` shows a number in
+-- the lower half of its range as it is, and one in the upper half as negative. An element has 1 to 16 bytes (`size`).
 use Rattle.std.proofs.Common.{Bool, Option, Some, None, lit<, ◌/◌, zero, [], ◌∷◌, get_or, ◌≡◌, ℕ, suc, ◌+◌, ◌-◌, ◌*◌}
 use Rattle.std.proofs.Common.{◌%◌, ◌^◌, ◌<◌, ◌≤◌, true, false, List, length, take, refl, sym, ap, ◌∙◌, arith}
 use Rattle.std.proofs.Math.Nat.{pow-le-pow_right, pow-suc, two-pow-succ}

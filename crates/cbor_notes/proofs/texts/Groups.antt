@@ -1,4 +1,5 @@
--- In comments, digits with commas are groups of three, but for the first, which may have fewer.
+-- The digits of `in_groups`, if there is one, are in groups of three with commas between them; only the first group may
+-- be shorter (`IsGrouped`). So `grouped` has the digits of a number below 2 ^ 128 in such groups.
 use Rattle.std.proofs.Common.{◌≡◌, ◌≢◌, ℕ, ◌+◌, ◌*◌, ◌%◌, ◌^◌, ◌<◌, Bool, List, [], ◌∷◌, ◌++◌, length, refl, ap, ◌∙◌}
 use Rattle.std.proofs.Common.{arith, inl, inr, eq-eqb, decimal}
 use Rattle.std.specs.List.{AllByRecursion, concat}

@@ -1,4 +1,6 @@
--- In comments, a text in which no byte begins an escape is written as it is.
+-- For `push_escaped_text`: a UTF-8 text is its own `escaped_text` if none of its bytes begins an escape
+-- (`begins_escape`). For `write_quoted_bytes`: after each piece of escaped bytes, the text so far and the escaped rest
+-- still make the whole.
 use Rattle.std.proofs.Common.{◌≡◌, ℕ, ◌+◌, ◌/◌, ◌<◌, ◌≤◌, true, false, List, [], ◌∷◌, refl, sym, ap, ◌∙◌}
 use Rattle.std.proofs.Common.{inl, inr, arith}
 use Rattle.std.proofs.Math.Utf8.{encode, encodes}

@@ -1,4 +1,5 @@
--- In base 32, which character has which value.
+-- The digits of the base 32 alphabet `standard` are A to Z and then 2 to 7, those of `extended_hex` are 0 to 9 and then
+-- A to V, and the place of a digit is its value. No two values have the same digit, and `=` is no digit.
 use Rattle.std.proofs.Common.{◌≡◌, ◌≢◌, ℕ, ◌+◌, ◌-◌, ◌<◌, ◌≤◌, ◌++◌, length, slice_index, ◌∙◌, ◌⊎◌, inl, inr, arith}
 use Rattle.std.specs.List.{range_with_len}
 use Rattle.std.proofs.lemmas.List.{get_or_append_left, get_or-append_right}

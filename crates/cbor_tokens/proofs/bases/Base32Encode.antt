@@ -1,4 +1,6 @@
--- In base 32, the encoding of bytes, group by group.
+-- In base 32, `encode` goes group by group: each group of five bytes, and a shorter last one, becomes eight characters.
+-- For the loop of `decode` in `base32.rt`: the digits so far encode the bytes so far, and each list of bytes that all
+-- digits encode begins with these bytes (`IsDecoded`).
 use Rattle.std.proofs.Common.{◌≡◌, ℕ, zero, suc, ◌+◌, ◌-◌, ◌*◌, ◌%◌, ◌^◌, ◌<◌, ◌≤◌, List, [], ◌∷◌, ◌++◌, map, length}
 use Rattle.std.proofs.Common.{take, drop, replicate, slice_index, Some, refl, sym, ap, ◌∙◌, arith, lit<}
 use Rattle.std.proofs.lemmas.List.{length-append, length-map, length-take-le, length-replicate, length-drop}

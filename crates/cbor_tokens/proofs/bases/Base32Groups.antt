@@ -1,4 +1,6 @@
--- In base 32, what holds of the digits of one group.
+-- For `whole_group` and `last_group` in `base32.rt`: eight characters encode a group of bytes (`encode_group`) if and
+-- only if they are an allowed number of digits (`IsDigitCount`) that write its bits (`Writes`) and then only `=`, and
+-- the bits that no byte uses are 0. The shift in `last_group` gives the `forty_bits` of the group.
 use Rattle.std.proofs.Common.{◌≡◌, ℕ, ◌+◌, ◌-◌, ◌*◌, ◌/◌, ◌%◌, ◌^◌, ◌<◌, ◌≤◌, List, [], ◌∷◌, ◌++◌, map, length, take}
 use Rattle.std.proofs.Common.{drop, replicate, slice_index, refl, sym, ap, ◌∙◌, inl, inr, arith, lit<}
 use Rattle.std.proofs.lemmas.List.{length-map, length-take-le, take_at, drop_at, get_or-take, get_or-drop}

@@ -1,4 +1,5 @@
--- What holds of a number that digits write in base 32.
+-- Digits in base 32 write only one number (`Writes`); it is below 32 to the power of their count, and each digit has a
+-- value below 32. One digit more makes the number 32 times as large, plus the value of this digit.
 use Rattle.std.proofs.Common.{◌≡◌, ℕ, zero, suc, ◌+◌, ◌*◌, ◌^◌, ◌<◌, List, [], ◌∷◌, ◌++◌, map, length, get_or}
 use Rattle.std.proofs.Common.{slice_index, refl, sym, ap, ◌∙◌, arith}
 use Rattle.std.proofs.lemmas.List.{map_push, length-map, get_or-map}

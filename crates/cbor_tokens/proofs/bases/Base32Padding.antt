@@ -1,4 +1,6 @@
--- In base 32, how many digits a group may have before its padding.
+-- For `unpadded_len` in `base32.rt`: in base 32, a group has 2, 4, 5, 7 or 8 digits before its padding
+-- (`IsDigitCount`). If `ends_with` finds no such padding at the end of eight characters, their last characters are not
+-- this padding.
 use Rattle.std.proofs.Common.{◌≡◌, ℕ, zero, suc, ◌-◌, ◌<◌, ◌≤◌, ◌⊎◌, nat_eq, true, false, List, drop, length, ◌∙◌, inl}
 use Rattle.std.proofs.Common.{inr, arith}
 use Rattle.std.specs.List.{ends_with}

@@ -1,4 +1,6 @@
--- Where the two encodings in base 64 agree.
+-- For `base64_text.rt`: in each of its two encodings, digits decode to bytes (`decoded`) if and only if they are the
+-- `encoding` of these bytes. Digits with `+`, `/` or `=` are decoded as `standard` and all others as `url_safe`; this
+-- finds the bytes of both encodings.
 use Rattle.std.proofs.Common.{◌≡◌, ℕ, zero, suc, ◌+◌, ◌*◌, ◌/◌, ◌%◌, ◌<◌, ◌||◌, Bool, true, false, not, List, [], ◌∷◌}
 use Rattle.std.proofs.Common.{◌++◌, length, replicate, slice_index, codes, Option, Some, None, Result, Ok, Err, IfOk}
 use Rattle.std.proofs.Common.{IfSome, IfNone, IsSomeAnd, refl, sym, ap, ◌∙◌, ◌⊎◌, inl, inr, arith, lit<}

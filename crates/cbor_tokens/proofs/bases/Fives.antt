@@ -1,4 +1,5 @@
--- Base 32 as the values of its digits: the encoding shows them, and then padding.
+-- In base 32, `base32` and `base32hex` write the same values (`fives`), each as a character of their alphabet, and then
+-- `padding` times `=`. The values of a group are below 32 and give its bytes back.
 use Rattle.std.proofs.Common.{◌≡◌, ℕ, ◌+◌, ◌-◌, ◌*◌, ◌/◌, ◌^◌, ◌<◌, ◌≤◌, List, [], ◌∷◌, ◌++◌, map, length, take}
 use Rattle.std.proofs.Common.{replicate, slice_index, codes, refl, sym, ap, ◌∙◌, arith, lit<}
 use Rattle.std.proofs.lemmas.Nat.{div_below, pow-add}

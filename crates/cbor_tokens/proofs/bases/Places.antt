@@ -1,4 +1,5 @@
--- For base 32 and 64, a fixed number of digits of a number.
+-- The function `places` returns the lowest digits of a number in a base: as many as asked for, each below the base, and
+-- they make the number again if it fits. Digits below the base are the `places` of the number that they make.
 use Rattle.std.proofs.Common.{◌≡◌, ℕ, zero, suc, ◌+◌, ◌*◌, ◌/◌, ◌%◌, ◌^◌, ◌<◌, List, [], ◌∷◌, ◌++◌, length, take, refl}
 use Rattle.std.proofs.Common.{sym, ap, ◌∙◌, arith}
 use Rattle.std.proofs.lemmas.List.{length-append, take-append-le, take_all}

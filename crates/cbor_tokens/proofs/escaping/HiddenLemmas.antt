@@ -1,4 +1,6 @@
--- Bytes that begin no hidden character.
+-- For the loops in `escapes/hidden.rt`, which test a text from left to right: if no byte so far can begin a hidden
+-- character, and the next byte cannot, `HidesNone` holds for one byte more. If no hidden character begins before a
+-- place, nor between it and a later place, none begins before the later place (`ShownAt`).
 use Rattle.std.proofs.Common.{◌≡◌, ℕ, ◌+◌, ◌<◌, inl, inr, Bool, true, false, ◌&&◌, IsTrue, List, subst, refl, arith}
 use Rattle.std.proofs.Common.{slice_index}
 use Rattle.std.proofs.lemmas.Bool.{cases_lt, false≢true}

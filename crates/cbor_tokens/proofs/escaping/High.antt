@@ -1,4 +1,4 @@
--- Each byte of a character past U+007F is past U+007F.
+-- In UTF-8, each byte of a character past U+007F is 128 or more (`High`).
 use Rattle.std.proofs.Common.{ℕ, ◌≤◌, List, inl, inr, arith}
 use Rattle.std.proofs.Math.Utf8.{encode}
 use Rattle.std.proofs.lemmas.Bool.{cases_lt, lt-ltb, le-ltb}

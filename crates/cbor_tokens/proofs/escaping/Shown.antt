@@ -1,4 +1,5 @@
--- A text whose characters are not hidden has no hidden character at any place.
+-- If none of the characters of a text is hidden (`is_hidden`), no hidden character begins at any byte of the text
+-- (`IsShown`). If `lines` is set, the text may have line feeds.
 use Rattle.std.proofs.Common.{◌≡◌, ◌⊎◌, inl, inr, ℕ, zero, suc, ◌+◌, ◌/◌, ◌%◌, ◌<◌, ◌≤◌, List, [], ◌∷◌, ◌++◌, length}
 use Rattle.std.proofs.Common.{Bool, true, false, refl, sym, ap, subst, ◌∙◌, arith, slice_index}
 use Rattle.std.proofs.Math.Utf8.{encode, encodes, next}

@@ -1,4 +1,5 @@
--- In JSON and EDN, a text in which no byte begins an escape is written as it is.
+-- In JSON and EDN, a text is written as it is (`escaped_text`) if none of its bytes can begin a character that is
+-- escaped (`begins_escape`).
 use Rattle.std.proofs.Common.{◌≡◌, ℕ, ◌+◌, ◌/◌, ◌<◌, ◌≤◌, true, false, List, [], ◌∷◌, refl, sym, ap, ◌∙◌}
 use Rattle.std.proofs.Common.{inl, inr, arith}
 use Rattle.std.proofs.Math.Utf8.{encode, encodes}

@@ -1,4 +1,6 @@
--- For clauses on items that are written: what is in memory after calls that append.
+-- For code that appends to a text in several calls: if the last call appends its part (`Appends`), the calls together
+-- append all parts. The new text begins with the old one (`StartsWith`), also after an error, and can be cut back to
+-- it.
 use Rattle.std.specs.Prelude.{Result, Ok, Err, is_ok, if◌then◌else◌}
 use Rattle.std.specs.Io.{StartsWith}
 use Rattle.std.specs.String.{string_bytes, string_len}

@@ -1,4 +1,5 @@
--- For all crates: texts that begin with an earlier text, and may be cut back to it.
+-- For all crates: a text that begins with an old text may be cut where the old text ends (`IsSplitPoint`). After an
+-- error of a call that appends (`AppendsText`), the new text may be cut there.
 use Rattle.std.proofs.Common.{◌≡◌, ℕ, List, ◌++◌, length, Result, Ok, Err, OnErr, subst, sym, arith}
 use Rattle.std.proofs.Transfers.{starts_with_length, starts_with_of_append, starts_with_trans}
 use Rattle.std.proofs.lemmas.Str.{IsCharBoundary-from_take, IsUtf8-string_bytes}

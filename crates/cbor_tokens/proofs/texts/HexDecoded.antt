@@ -1,4 +1,5 @@
--- Which hex digits have bytes.
+-- If hex digits have bytes (`base16_of`), the crate `hex` decodes them (`decode_of`) to these bytes. If an even number
+-- of digits has no bytes, one of them is no hex digit.
 use Rattle.std.proofs.Common.{◌≡◌, ℕ, ◌%◌, List, length, Some, None, Result, Ok, Err, ap}
 use Rattle.std.specs.List.{AllPass}
 use Rattle.hex.specs.Hex.{decode_of, is_hex_digit}

@@ -1,4 +1,5 @@
--- The hex digits of bytes.
+-- The hex digits of bytes (`encode_lower`) are ASCII, two for each byte. Digits that are appended byte by byte or piece
+-- by piece are the digits of all the bytes. Bytes that are all below 128 are ASCII.
 use Rattle.std.proofs.Common.{◌≡◌, ℕ, ◌/◌, ◌%◌, slice_index, true, ltb, eqb, eqb-true, List, [], ◌∷◌, ◌++◌, length}
 use Rattle.std.proofs.Common.{get_or, refl, sym, ap, ◌∙◌, append_assoc, arith}
 use Rattle.std.proofs.lemmas.Bool.Decides.{nat_tests}

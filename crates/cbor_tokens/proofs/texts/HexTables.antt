@@ -1,4 +1,6 @@
--- The tables of hex digits, and what they say of two digits.
+-- The tables in `hex_digits.rt` are right: `PAIRS` has the two digits of each byte, and the entries in `FIRST_VALUES`
+-- and `SECOND_VALUES` add up to the value of two digits (`digits_value`). In the loop of `read_hex`, the bytes so far
+-- are those of the digits so far, or the digits have no bytes (`HasRead`).
 use Rattle.std.proofs.Common.{◌≡◌, ℕ, ◌+◌, ◌*◌, ◌/◌, ◌%◌, ◌<◌, ◌≤◌, ◌==◌, ◌&&◌, inl, inr, Bool, eqb-true}
 use Rattle.std.proofs.Common.{List, length, take, drop, slice_index, slice_set, Option, Some, None, Ok, Err, refl, sym}
 use Rattle.std.proofs.Common.{ap, ◌∙◌, arith}

@@ -1,4 +1,6 @@
--- Blanks: reading leaves what follows the longest one.
+-- The function `after_blank` returns the text that follows the longest blank at the front (`IsLongest`), with comments
+-- or without. For the steps in `token.rt`: a comment ends at the next `/`, and a `/` with no other one after it opens
+-- no comment.
 use Rattle.std.proofs.Common.{◌≡◌, ◌≢◌, ℕ, suc, ◌+◌, ◌<◌, ◌≤◌, Bool, true, false, ◌==◌, ◌&&◌, ◌||◌, List, [], ◌∷◌, ◌++◌}
 use Rattle.std.proofs.Common.{length, drop, slice_range, Option, Some, None, refl, sym, ap, ◌∙◌, subst, inl, inr, arith}
 use Rattle.std.proofs.Common.{IsTrue}

@@ -1,4 +1,6 @@
--- Content of quotes, and the rest of the text after it.
+-- The function `with_front` puts bytes before the content that a reader returned. Putting two lists there one by one
+-- gives the same as putting them there joined. The result is content and a rest only if the reader returned content and
+-- the same rest.
 use Rattle.std.proofs.Common.{◌≡◌, ℕ, List, [], ◌++◌, Option, Some, None, refl, sym, ap}
 use Rattle.std.proofs.lemmas.List.{append_assoc}
 use Rattle.cbor_tokens.specs.TokenReading.{with_front}

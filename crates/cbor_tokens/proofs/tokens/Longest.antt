@@ -1,4 +1,5 @@
--- Tokens of notation, fronts of a text, and the longest of them.
+-- A text has at most one longest front of a kind (`IsLongest`). Two fronts of one text that have the same length are
+-- equal.
 use Rattle.std.proofs.Common.{◌≡◌, ℕ, List, ◌++◌, length, take, refl, sym, ap, ◌∙◌, arith}
 use Rattle.std.proofs.lemmas.List.{append_cancel_left, take_at}
 use Rattle.cbor_tokens.specs.Token.{IsLongest}

@@ -1,4 +1,4 @@
--- What numbers begin with, and decimal digits as numbers.
+-- A number (`IsNumber`) begins with a decimal digit. Decimal digits alone are a number without an indicator.
 use Rattle.std.proofs.Common.{◌≡◌, ℕ, true, List, [], ◌∷◌, ◌++◌, Option, None, refl, sym, ap, ◌∙◌, arith}
 use Rattle.std.specs.Char.{digit_value}
 use Rattle.std.proofs.lemmas.List.{append-nil}

@@ -1,4 +1,5 @@
--- What numbers are made of, for who reads them.
+-- A number (`IsNumber`) with an indicator has a `_`. A number that consists of decimal digits alone has the value that
+-- they write in base 10.
 use Rattle.std.proofs.Common.{◌≡◌, ℕ, List, [], ◌∷◌, ◌++◌, Option, Some, None, ap, subst, sym, ◌∙◌, append-nil}
 use Rattle.std.proofs.Common.{append_assoc, arith}
 use Rattle.std.specs.Str.Parse.{AllDigits}

@@ -1,4 +1,6 @@
--- The number at the front of a text and at a place in it, as its digits are read there.
+-- For `number_front` and `number_at`: `number_of` returns the number whose digits follow the prefix, with its
+-- indicator, and None if no digit follows. A number that is read at a place is the longest there (`IsReadAt`); after
+-- None, no number begins there. A text of at most two bytes, or without `0` in front, is decimal.
 use Rattle.std.proofs.Common.{◌≡◌, ℕ, ◌+◌, ◌<◌, List, ◌++◌, length, drop, slice_range, Option, Some, None, refl}
 use Rattle.std.proofs.Common.{sym, ap, ◌∙◌, inl, inr, subst, arith}
 use Rattle.std.proofs.Common.{◌≢◌, ◌≤◌, false, not, ◌==◌, ◌&&◌, [], ◌∷◌}

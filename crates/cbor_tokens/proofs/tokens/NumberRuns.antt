@@ -1,4 +1,6 @@
--- Tokens of notation: digits that are read in sequence, and indicators.
+-- The function `digit_run` reads the digits of a base up to the first byte that is no digit, and returns their value.
+-- `small_run` reads decimal digits as long as their value is at most 3. `indicator_of` reads `_` and such digits, and
+-- returns None if no such digit follows the `_`.
 use Rattle.std.proofs.Common.{◌≡◌, ℕ, ◌+◌, ◌*◌, ◌<◌, ◌≤◌, true, false, ◌==◌, ◌&&◌, nat_lt, nat_le, List, []}
 use Rattle.std.proofs.Common.{◌∷◌, ◌++◌, length, drop, Option, Some, None, refl, sym, ap, ◌∙◌, inl, inr, subst}
 use Rattle.std.proofs.Common.{arith}

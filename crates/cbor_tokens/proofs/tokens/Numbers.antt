@@ -1,4 +1,5 @@
--- Numbers: reading finds the longest one.
+-- The function `number_of` returns the longest number at the front of a text (`IsNumber`, `IsLongest`), if a number is
+-- there. A text is a number with only one value and one indicator.
 use Rattle.std.proofs.Common.{◌≡◌, ◌≢◌, ◌⊎◌, ℕ, ◌<◌, ◌≤◌, true, false, not, ◌==◌, ◌&&◌, nat_lt, List, [], ◌∷◌, ◌++◌}
 use Rattle.std.proofs.Common.{length, drop, Option, Some, None, refl, sym, ap, ◌∙◌, inl, inr, subst, arith}
 use Rattle.std.specs.Char.{digit_value}

@@ -1,4 +1,6 @@
--- Content between quotes, with escapes.
+-- For any quote but the backslash, `unquoted` returns content and a rest if and only if the text is this content as it
+-- is written between quotes (`in_quotes`), then the quote, then the rest. For the loop of `quoted_front`: each byte
+-- before the next quote or backslash is itself content.
 use Rattle.std.proofs.Common.{◌≡◌, ◌≢◌, ◌⊎◌, ℕ, ◌-◌, ◌<◌, ◌≤◌, Bool, true, false, ◌==◌, List, [], ◌∷◌, ◌++◌, length}
 use Rattle.std.proofs.Common.{get_or, take, drop, Option, Some, None, refl, sym, ap, ◌∙◌, inl, inr, eq-eqb}
 use Rattle.std.proofs.Common.{arith}

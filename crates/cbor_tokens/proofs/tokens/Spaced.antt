@@ -1,4 +1,6 @@
--- Digits with blanks before, between and after them, up to the quote.
+-- The function `digits_in` returns digits and a rest if and only if the text is these digits with blanks before,
+-- between or after them (`Spaced`), then `'`, then the rest. `digits_of` does the same, but returns None for blanks
+-- without a digit (`DigitsBetween`). For the loop of `digits_front`: a blank before digits is left out.
 use Rattle.std.proofs.Common.{◌≡◌, ◌≢◌, ◌⊎◌, ℕ, ◌+◌, ◌-◌, ◌<◌, Bool, true, false, not, ◌==◌, ◌&&◌, ◌||◌, List, [], ◌∷◌}
 use Rattle.std.proofs.Common.{◌++◌, length, get_or, take, drop, Option, Some, None, refl, sym, ap, ◌∙◌, inl, inr}
 use Rattle.std.proofs.Common.{subst, arith, IsTrue, nat_lt}

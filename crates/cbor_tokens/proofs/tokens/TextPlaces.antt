@@ -1,4 +1,6 @@
--- Tokens of notation, parts of a text by their places.
+-- Parts of a text by their places: the text from one place on is the part up to a later place (`slice_range`) and the
+-- text from there on. The length of a rest gives its place. `position_or_len` is the place that `position` finds, or
+-- else the length.
 use Rattle.std.proofs.Common.{◌≡◌, ℕ, ◌+◌, ◌-◌, ◌<◌, ◌≤◌, Bool, not, nat_lt, List, [], ◌∷◌, ◌++◌, length, take, drop}
 use Rattle.std.proofs.Common.{slice_range, get_or, unwrap_or, Option, Some, None, refl, sym, ap, ◌∙◌, inl, inr, arith}
 use Rattle.std.specs.List.{position_or_len, position}

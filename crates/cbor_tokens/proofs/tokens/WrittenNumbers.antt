@@ -1,4 +1,5 @@
--- Tokens of notation, decimal digits as they are written, and then an indicator: they are a number.
+-- The decimal digits of a value up to 2 ^ 64 (`decimal`), with an indicator or nothing after them, are a number with
+-- this value and this indicator (`IsNumber`).
 use Rattle.std.proofs.Common.{ℕ, ◌^◌, ◌≤◌, List, ◌++◌, Option, refl, sym, arith}
 use Rattle.std.proofs.lemmas.Fmt.{decimal_is_IsNumeral_wide}
 use Rattle.std.specs.Fmt.{decimal}

@@ -1,5 +1,5 @@
--- `cbor_diag_scanner_feed` lends the scanner at its pointer to `CountedScanner::feed`, and hands `end` on to it: a walk
--- of its MIR by hand.
+-- `cbor_diag_scanner_feed` keeps its contract: it lends the scanner at its pointer to `CountedScanner::feed` and passes
+-- `end` on to it. The proof goes through its MIR by hand.
 use Rattle.std.proofs.Common.{◌≢◌, ℕ, ℤ, ◌^◌, ◌<◌, List, [], ◌∷◌, length, refl, w64, MutBor}
 use Rattle.std.proofs.raw_atomic.Walks.{proved}
 use base.Fraction.{full_share}

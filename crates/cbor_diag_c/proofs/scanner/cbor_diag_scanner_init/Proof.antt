@@ -1,4 +1,5 @@
--- `cbor_diag_scanner_init` writes a new scanner into the room at its pointer: a walk of its MIR by hand.
+-- `cbor_diag_scanner_init` keeps its contract: it writes a new scanner into the room at its pointer. The proof goes
+-- through its MIR by hand.
 use Rattle.std.proofs.Common.{[], ◌∷◌, refl}
 use Rattle.std.proofs.raw_atomic.Walks.{proved}
 use base.Fraction.{full_share}

@@ -1,4 +1,6 @@
--- Items of notation: what is read of a text is what the grammar says it is, and a refusal says what is true of it.
+-- If `read_item` or `notation_of` returns an item, the text that was read is this item by the grammar (`Reads`). If it
+-- returns an error, the text has what this error needs (`MayRefuse`), such as enough openings for `TooDeep`. The same
+-- is shown of an item without the blanks before it (`read_core`).
 use Rattle.std.proofs.Common.{◌≡◌, ℕ, zero, suc, ◌<◌, true, List, [], ◌∷◌, ◌++◌, length, Option, Some, None, Ok}
 use Rattle.std.proofs.Common.{Err, refl, sym, ap, subst, ◌∙◌, append_assoc, append-nil, length-append, inl, inr, arith}
 use Rattle.cbor_tokens.specs.Token.{Blank, nothing, whitespace, comment}

@@ -1,4 +1,6 @@
--- What the function reads of notation is in the grammar: members, up to what closes them.
+-- For lists of any members: if `read_members` returns members, the text that was read is a list of them by the grammar
+-- (`Members`), and an error is one that the text allows (`Sound`). The reader of one member has to be `Sound`, and each
+-- member has to stay one with a blank before it.
 use Rattle.std.proofs.Common.{◌≡◌, ℕ, zero, suc, ◌+◌, ◌<◌, Bool, true, false, not, nat_lt, List, [], ◌∷◌, ◌++◌, length}
 use Rattle.std.proofs.Common.{take, drop, Option, Some, None, Ok, refl, sym, ap, ◌∙◌, append_assoc, take-append-drop}
 use Rattle.std.proofs.Common.{inl, inr, arith}

@@ -1,4 +1,6 @@
--- What the function reads of notation is in the grammar: strings of one piece or more, and chunks of them.
+-- If `read_string` or `read_chunk` returns a string, the text that was read is this string by the grammar (`StringOf`),
+-- of one piece or more, with blanks after it or round a chunk. An error is one that the text allows (`Sound`). The same
+-- is shown of one piece (`piece_of`), such as the items in `<<..>>` (`read_embedded`).
 use Rattle.std.proofs.Common.{◌≡◌, ℕ, zero, suc, Bool, true, false, cond, ◌==◌, ◌&&◌, nat_le, List, [], ◌∷◌, ◌++◌}
 use Rattle.std.proofs.Common.{length, Ok, Err, refl, sym, ap, subst, ◌∙◌, append_assoc, append-nil, ◌⊎◌, inl, inr}
 use Rattle.std.proofs.Common.{arith}

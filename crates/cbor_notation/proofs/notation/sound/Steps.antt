@@ -1,5 +1,6 @@
--- What a reader of notation answers holds of the text: what it read is in front of the rest, and a
--- refusal says what is true. Such readers one after the other do so, too.
+-- `Sound` says of a reader: what it returns is what the grammar says of the front of the text, and its error is one
+-- that the text allows (`MayRefuse`). A reader stays `Sound` if bytes are taken before it (`moved`), if another `Sound`
+-- reader follows (`sound_then`), or if its result is tested (`sound_check`).
 use Rattle.std.proofs.Common.{◌≡◌, ℕ, suc, ◌+◌, ◌≤◌, Bool, true, false, cond, ◌==◌, List, [], ◌∷◌, ◌++◌, length, take}
 use Rattle.std.proofs.Common.{drop, Option, Some, None, Ok, Err, Result, ◌⊎◌, inl, inr, refl, sym, ap, ◌∙◌}
 use Rattle.std.proofs.Common.{append_assoc, arith, take-append-drop}

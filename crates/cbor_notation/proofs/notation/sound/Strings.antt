@@ -1,4 +1,6 @@
--- What the function reads of notation is in the grammar: notations of bytes, pieces, chunks.
+-- If `h_notation` or `b_notation` returns bytes, the text that was read after the `h` or `b` is digits of these bytes
+-- by the grammar (`Notation`), in base 16, 32 or 64, and an error is one that the text allows (`Sound`). If more bytes
+-- follow the close of a list, it is a list with this longer close (`members_more`).
 use Rattle.std.proofs.Common.{◌≡◌, ℕ, Bool, true, false, List, [], ◌∷◌, ◌++◌, codes, Option, Some, None}
 use Rattle.std.proofs.Common.{Ok, refl, sym, ap, ◌∙◌, append_assoc, inl, inr}
 use Rattle.cbor_tokens.specs.Base32 as base32

@@ -1,4 +1,6 @@
--- What the function reads of notation is in the grammar: numbers, tags, simple values and floats.
+-- If `read_integer`, `read_negative` or `read_word` returns an item, the text that was read is this item by the grammar
+-- (`Core`): an integer or a tag, a negative integer (after its `-`), a simple value or a float. An error is one that
+-- the text allows (`Sound`).
 use Rattle.std.proofs.Common.{◌≡◌, ℕ, zero, suc, ◌+◌, ◌-◌, ◌<◌, ◌^◌, true, ◌==◌, ◌&&◌, cond, nat_lt, List, [], ◌∷◌}
 use Rattle.std.proofs.Common.{◌++◌, codes, length, take, drop, Option, Some, None, Result, Ok, Err, refl, sym, ap}
 use Rattle.std.proofs.Common.{Bool, get_or, subst, ◌∙◌, append_assoc, append-nil, length-append, ◌⊎◌, inl, inr, arith}
