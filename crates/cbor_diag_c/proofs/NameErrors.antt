@@ -1,5 +1,5 @@
--- For `name_of`: each error for which a part has no name (`HasNoName`) is one that C may get (`IsNoNamed`): out of
--- memory, the input is no item, or it has no such part.
+-- For `name_of`: each error that the call returns instead of a name (`HasNoName`) is one that the call for C may return
+-- (`IsNoNamed`): out of memory, the input is no item, or it has no such part.
 use Rattle.std.proofs.Common.{ℕ, List, refl, inl, inr}
 use Rattle.cbor_grammar.specs.declared.error.Error.TheVariants as refusal
 use Rattle.cbor_inspect.specs.Named.{HasNoName}

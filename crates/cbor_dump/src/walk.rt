@@ -1,7 +1,8 @@
 //! Writes the dump of an item straight from its bytes: a line for each part as soon as it is read,
 //! and the notes on the values of tags, with the dumps of embedded items. No item is built.
 //!
-//! Each function takes the remaining bytes and returns those after what it wrote.
+//! A function that dumps an item or a part of one takes the remaining bytes and returns those after
+//! it. A function that writes notes returns none.
 ghost use Rattle.std.specs.Prelude.{◌≡◌, ◌≤◌, ◌+◌, ℕ, List, Ok, IfOk, IfErr, OnOk, option_copied};
 ghost use Rattle.std.specs.String.{string_bytes};
 ghost use Rattle.cbor_notes.specs.Layout.{width_of};

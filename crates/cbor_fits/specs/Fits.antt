@@ -1,5 +1,5 @@
--- Which values fit loaded CDDL (RFC 8610). `step` says when a value fits a type, and what a group takes, by what fits
--- and takes one level further in. `matcher` repeats it.
+-- Which values fit loaded CDDL (RFC 8610). `step` says when a value fits a type and what a group takes, given the
+-- answers for the types and groups one level further in (a `Matcher`). `matcher` applies `step` once for each level.
 use Rattle.std.specs.Prelude.{◌≡◌, ℕ, zero, suc, ◌+◌, ◌-◌, ◌/◌, ◌%◌, List, [], ◌∷◌, ◌++◌, length, Bool, true}
 use Rattle.std.specs.Prelude.{false}
 use Rattle.std.specs.Prelude.{Option, Some, None, not, ◌==◌, if◌then◌else◌, pos, ◌&&◌}

@@ -1,4 +1,6 @@
--- What holds for every layout of plain lines: all comments are in one column, and without them only digits are left.
+-- The words of the laws on columns. A plain line has no `#` or line feed in its digits and no line feed in its comment
+-- (`IsPlain`). The comments of a text begin in one column (`IsColumn`). `digits_of` are the digits of lines, without
+-- spaces.
 use Rattle.std.specs.Prelude.{◌≡◌, ℕ, ◌==◌, List, flat_map, Some}
 use Rattle.std.specs.List.{AllByRecursion, position}
 use Rattle.std.specs.Str.Lines.{lines}

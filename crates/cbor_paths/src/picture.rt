@@ -1,4 +1,4 @@
-//! `Picture`: what is shown of an item beside its bytes: names, and byte strings as the item in
+//! `Picture`: what is shown of an item besides its bytes: names, and byte strings as the item in
 //! them. A step of a path may be such a name. `Mark`: a name or such a byte string, with its place.
 
 /// Something of an item that is shown.

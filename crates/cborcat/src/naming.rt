@@ -1,6 +1,7 @@
-//! `Tables`: the names that the program uses, from `cbor_names` and from the file of `--names`,
-//! which is TOML or CDDL. It finds the byte strings that hold an item by their names, and the names
-//! of keys for JSON.
+//! Loads the names that the program uses: those of `cbor_names`, and those of the file of
+//! `--names`, which is TOML or CDDL. `Tables`: these names, with the type that `--as` gives, if
+//! any. `encoded_in` finds the byte strings that hold an item, if the names say so. `key_names`
+//! finds the names of keys, for JSON.
 
 use crate::cddl::with_cddl;
 use crate::messages::{label, say};

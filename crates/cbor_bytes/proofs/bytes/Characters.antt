@@ -1,7 +1,6 @@
 -- For `utf8.rt`: if bytes begin with no whole character, the ranges of RFC 3629 (`BeginsLonger`, `MayFollow`,
--- `Continues`) decide how many of the first three bytes begin one (`BeginsText`); four never do. In bytes that are not
--- UTF-8, the place of the fault (`IsUtf8Fault`) is after their longest front that is UTF-8 and the bytes that begin a
--- character there.
+-- `Continues`) decide how many of them, 0 to 3, are the beginning of one (`BeginsText`). The place of a fault in UTF-8
+-- (`IsUtf8Fault`) is after two things: the longest front that is UTF-8, and then those bytes.
 use Rattle.std.proofs.Common.{◌≡◌, ℕ, ◌+◌, ◌-◌, ◌*◌, ◌/◌, ◌%◌, ◌<◌, ◌≤◌, ◌⊎◌, inl, inr, List, [], ◌∷◌, ◌++◌}
 use Rattle.std.proofs.Common.{length, take, drop, get_or, refl, sym, ap, subst, ◌∙◌, arith, append_assoc}
 use Rattle.std.proofs.Common.{lt-ltb, le-ltb}

@@ -1,5 +1,6 @@
--- What is still to be skipped after the bytes so far, as the code of `skip/progress.rt` keeps it. No public clause
--- names it.
+-- For a `Progress` of `skip/progress.rt`: what is still to be skipped (`skip_rest`), why the bytes so far are no
+-- complete item (`StopsAt`, `StopsAfter`), and which `Extent` is the answer (`answer_of`). No public clause names these
+-- definitions.
 use Rattle.std.specs.Prelude.{◌≡◌, ℕ, ◌-◌, List, [], length, Option, Some, None, Result, Ok, Err}
 use Rattle.cbor_bytes.specs.declared.skip.answer.Extent.{Extent}
 use Rattle.cbor_bytes.specs.declared.skip.answer.Extent.TheVariants as extent

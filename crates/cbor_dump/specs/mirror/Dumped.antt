@@ -1,4 +1,5 @@
--- What is dumped from bytes in one walk, while they are read. No public clause names it.
+-- For `walk.rt`: an item was read and its lines were written (`Dumped`; `DumpedBehind`, after its head; `Wrote`, for
+-- the lines alone), and which lines these are. No public clause names these definitions.
 use Rattle.std.specs.Prelude.{◌≡◌, ℕ, ◌+◌, ◌<◌, ◌≤◌, List, [], ◌∷◌, ◌++◌, Option, Some, None, Ok, codes}
 use Rattle.std.specs.List.{flat_map}
 use Rattle.std.specs.Option.{option_to_list}

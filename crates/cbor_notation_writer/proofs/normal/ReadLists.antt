@@ -1,5 +1,5 @@
--- Members that are written between brackets (`bracketed`), in each style, are a list of these members by the grammar
--- (`Listed`), if the text of each member is this member, with any blank before it (`Each`).
+-- Texts that are put between brackets (`bracketed`), in any style, are by the grammar a list of members (`Listed`), if
+-- the grammar reads each of these texts, with any blank in front, as its member (`Each`).
 use Rattle.std.proofs.Common.{◌≡◌, ℕ, ◌+◌, List, [], ◌∷◌, ◌++◌, codes, Option, Some, None, inl, inr, refl, sym}
 use Rattle.std.proofs.Common.{subst, ◌∙◌, append_assoc, arith}
 use Rattle.std.specs.List.{flat_map}

@@ -1,6 +1,6 @@
--- If `h_notation` or `b_notation` returns bytes, the text that was read after the `h` or `b` is digits of these bytes
--- by the grammar (`Notation`), in base 16, 32 or 64, and an error is one that the text allows (`Sound`). If more bytes
--- follow the close of a list, it is a list with this longer close (`members_more`).
+-- `h_notation` and `b_notation` are `Sound`: the bytes that they return are encoded by the digits that were read, in
+-- base 16, 32 or 64 (`Notation`), and an error that they return is one that the text allows. Also, a list stays a list
+-- if its text and its closing text are both extended by the same bytes (`members_more`).
 use Rattle.std.proofs.Common.{◌≡◌, ℕ, Bool, true, false, List, [], ◌∷◌, ◌++◌, codes, Option, Some, None}
 use Rattle.std.proofs.Common.{Ok, refl, sym, ap, ◌∙◌, append_assoc, inl, inr}
 use Rattle.cbor_tokens.specs.Base32 as base32
