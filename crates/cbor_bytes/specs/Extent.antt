@@ -1,4 +1,6 @@
--- How bytes begin, in the words of the clauses of `extent`.
+-- `IsExtent`: an answer of `extent` is true of bytes. They begin with an item of that length, are truncated, or are
+-- malformed within that number of first bytes. `IfItem` and `IfFault` state a fact of the length or of the fault, if
+-- the answer has one.
 use Rattle.std.specs.Prelude.{ℕ, ◌<◌, ◌≤◌, List, length, take}
 use Rattle.cbor_grammar.specs.declared.error.Error.{Error}
 use Rattle.cbor_bytes.specs.declared.skip.answer.Extent.{Extent}

@@ -1,4 +1,6 @@
--- Where bytes stop being UTF-8 (RFC 3629).
+-- `IsUtf8Fault`: the place where bytes stop being UTF-8 (RFC 3629). This is the first byte that cannot follow the bytes
+-- before it, or the end of the bytes if the last character is truncated. `BeginsText`: some UTF-8 begins with these
+-- bytes.
 use Rattle.std.specs.Prelude.{◌≡◌, ℕ, ◌+◌, ◌<◌, ◌≤◌, List, ◌++◌, length, take, IsUtf8}
 
 -- some UTF-8 begins with these bytes

@@ -2,9 +2,9 @@
 //! item and allocates nothing. `after_front` returns the bytes after the item at the front.
 //!
 //! Both loop over heads with a stack of the open containers. For each container they keep how many
-//! parts are still to come. They skip the content of strings, but test that texts are UTF-8. Each
-//! private function takes the remaining bytes. It returns the bytes after what it skips, or why it
-//! stops.
+//! parts are still to come. They skip the content of strings, but test that texts are UTF-8. Most
+//! private functions take the remaining bytes. They return the bytes after what they skip, or why
+//! they stop.
 mod answer;
 mod containers;
 mod due;

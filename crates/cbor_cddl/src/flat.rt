@@ -1,5 +1,6 @@
-//! A [`Schema`] as bytes, which hold no pointers: they can be kept, copied and read back. Bytes
-//! that are no schema are an error.
+//! Writes a [`Schema`] as bytes, without its labels (`to_flat`), and reads it back (`from_flat`).
+//! The bytes hold no pointers, so they can be kept and copied. Bytes that are no schema are an
+//! error.
 
 mod reader;
 mod writer;

@@ -1,4 +1,5 @@
-//! Checks that a CDDL text has no group where a type is needed, also as the root.
+//! Checks that a CDDL text has no group in a place that needs a type. The root has to be a type,
+//! too.
 
 use crate::fault::{Fault, FaultKind};
 use crate::load::Loader;

@@ -9,7 +9,8 @@
 //! assert!(rt; schema.source.as_str().starts_with("event"));
 //! ```
 //!
-//! A [`Fault`] says what is wrong with a text, and where.
+//! A [`Fault`] says what is wrong with a text, and where. `Schema::to_flat` writes a schema as
+//! bytes, and `Schema::from_flat` reads them back.
 #![tactic(auto)]
 
 mod ast;

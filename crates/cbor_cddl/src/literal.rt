@@ -1,5 +1,5 @@
-//! Reads the literals of CDDL: the values of numbers, and the bytes of strings, whose escapes, hex
-//! or base 64 it decodes.
+//! Reads the literals of CDDL: numbers as values, and strings as bytes. It decodes escapes, hex and
+//! base 64.
 
 use crate::fault::FaultKind;
 use crate::lexer::{byte_at, digit_of};

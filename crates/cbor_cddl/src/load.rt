@@ -1,5 +1,6 @@
 //! `Loader`: turns the rules of a parsed text into nodes of a `Schema`, a generic rule once for
-//! each list of arguments. It resolves names and arguments, and what `~` and `&` take of a rule.
+//! each list of arguments. It resolves arguments, `~name`, `&name` and the root. `lower.rt` has the
+//! methods of `Loader` for the types and groups in a rule.
 
 use crate::ast::{Ast, Expr};
 use crate::fault::{Fault, FaultKind};

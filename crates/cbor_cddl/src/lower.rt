@@ -1,4 +1,5 @@
-//! Turns each type and group of a parsed text into nodes of a `Schema`.
+//! Turns each type and group of a parsed text into nodes of a `Schema`. These are methods of
+//! `Loader`, which `load.rt` calls for each rule.
 
 use crate::ast::{Expr, Number};
 use crate::fault::{Fault, FaultKind};

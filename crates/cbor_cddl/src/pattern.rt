@@ -1,5 +1,5 @@
 //! Finds the first part of a `.regexp` pattern that XSD allows, but the library for regular
-//! expressions does not support: a class without another one, as in `[a-z-[aeiou]]`, or `\i`, `\I`,
+//! expressions does not support: a class minus another one, as in `[a-z-[aeiou]]`, or `\i`, `\I`,
 //! `\c`, `\C`.
 
 /// A class of characters of XSD with this letter.

@@ -1,5 +1,5 @@
-//! `Schema::pruned`: the parts of a schema that its root leads to. So a schema in bytes is as short
-//! as its rules allow, and quick to read.
+//! `Schema::pruned` copies a schema: only the parts that its root leads to, and no labels.
+//! `to_flat` writes this copy, so the bytes are short and quick to read.
 
 use crate::schema::{List, Node, Rule, Schema, Span};
 use std::alloc::{AllocError, Global};

@@ -1,5 +1,5 @@
-//! Ranks the rules: a rule ranks higher than each rule that it tries at the same item, or at the
-//! same place of a group. If a rule leads back to itself in this way, that is a fault.
+//! Ranks the rules: a rule ranks higher than each rule that it leads to at the same item or at the
+//! same place of a group. A rule that leads back to itself in this way is a fault.
 
 use crate::fault::{Fault, FaultKind};
 use crate::load::Loader;

@@ -1,5 +1,5 @@
-//! `Schema::load` parses a CDDL text, resolves its names and checks it. `source_of` appends the
-//! prelude to a text; the places in a `Fault` are places in this source.
+//! `Schema::load` parses a CDDL text, resolves its names and checks it. `source_of` returns the
+//! source: the text with the prelude after it. The places in a `Fault` are places in the source.
 
 use crate::fault::Fault;
 use crate::grammar::parse;

@@ -1,4 +1,6 @@
-//! The alternatives of a type: what an item of it may be.
+//! `Alternative`: a node of a schema that an item of a type may be, with its name from a rule or an
+//! enumeration. `alternatives` lists those of a type, and `kind_of` says whether the items of the
+//! type are maps, arrays or named values.
 
 use crate::source::{MOST, Source};
 use cbor_cddl::Node;

@@ -1,4 +1,5 @@
-//! Adds the types of a schema to tables of names.
+//! `with_schema` adds the types of a schema to tables of names: the rules that are maps, arrays,
+//! tags or choices of named values, and the types inside them.
 
 use crate::alternatives::{Alternative, Depth, Kind};
 use crate::groups::{Entry, placed_len};

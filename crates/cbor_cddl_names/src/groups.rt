@@ -1,4 +1,6 @@
-//! The members of arrays, and the entries of maps, with the groups in them.
+//! Lists the parts of a group of CDDL, also those of the groups inside it: `members` lists the
+//! members of an array (`Member`), and `entries` the entries of a map (`Entry`). `placed_len`
+//! counts the members that have known places.
 
 use crate::source::{MOST, Source, name_of};
 use cbor_cddl::{Node, Occurrence};

@@ -1,5 +1,5 @@
-//! Names from CDDL: the rules of a loaded text as types of `cbor_names`. docs/NAMES.md says what
-//! has which name.
+//! Makes names from CDDL: [`with_schema`] adds the rules of a loaded schema to tables of
+//! `cbor_names`, as types. docs/NAMES.md says what has which name.
 //!
 //! ```rust
 //! use cbor_cddl::Schema;

@@ -1,4 +1,6 @@
-//! `Types`: the types that a schema gives, with their names, before they are in a table of names.
+//! `Types`: the types of a schema, each with its name and its node, before `builder.rt` adds them
+//! to tables of names. Its call `known` says what is known of the items at a node, such as their
+//! type. A type without a rule gets a name of its own.
 
 use crate::alternatives::{Depth, Kind};
 use crate::source::Source;

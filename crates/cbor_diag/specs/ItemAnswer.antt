@@ -1,4 +1,7 @@
--- The results of a reader of a `DataItem`, in the terms of `specs/Answer.antt` of `cbor_grammar`.
+-- Relates the result of a reader of a `DataItem` to the definitions of `cbor_grammar`. `Gave`: a reader of the front of
+-- an input returned this outcome (`specs/Answer.antt`). `GaveItem`: a reader of a whole input returned this item.
+-- `GaveOrTooDeep`: the same, or an error because the item is nested too deep. In all three, memory may have run out
+-- instead.
 use Rattle.std.specs.Prelude.{◌≡◌, ◌⊎◌, ℕ, List, Option, Some, None, Result, Ok, Err, MatchResult}
 use Rattle.cbor_grammar.specs.declared.error.Error.{Error}
 use Rattle.cbor_grammar.specs.declared.error.Error.TheVariants as refusal

@@ -1,4 +1,5 @@
--- The result of converting an input from one form to another.
+-- `IsOutput`: the result of converting an input from one form to another. It is the item of the input in the other
+-- form, or the reason why the input is not an item. `Reads`, `Refuses` and `output_of` define these for each form.
 use Rattle.std.specs.Prelude.{◌≡◌, ℕ, List, [], ◌∷◌, ◌++◌, IsUtf8, Result, Ok, Err, ◌⊎◌}
 use Rattle.cbor_grammar.specs.declared.error.Error.{Error}
 use Rattle.cbor_grammar.specs.declared.error.Error.TheVariants as refusal

@@ -1,4 +1,4 @@
--- The item that a `DataItem` stands for in the definitions.
+-- `view`: the item of the definitions (`specs/Item.antt` of `cbor_grammar`) that a `DataItem` of the code stands for.
 use Rattle.std.specs.Prelude.{List, map}
 use Rattle.cbor_grammar.specs.Item as spec
 use Rattle.cbor_grammar.specs.Item.{Item, Items, Pairs}

@@ -15,9 +15,9 @@
 //! }
 //! ```
 //!
-//! A call that allocates takes an allocator and returns `Error::Memory` if an allocation fails.
-//! Every other result depends on the input alone. In the examples of this crate, `rt` is the
-//! `HostRuntime` of a test, and `alloc` is `rt.alloc()`.
+//! A call that allocates takes an allocator or the output that it appends to, and returns
+//! `Error::Memory` if an allocation fails. Every other result depends on the input alone. In the
+//! examples of this crate, `rt` is the `HostRuntime` of a test, and `alloc` is `rt.alloc()`.
 #![tactic(auto)]
 
 mod conversion;

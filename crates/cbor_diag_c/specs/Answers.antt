@@ -1,4 +1,5 @@
--- What an export returns, a length or minus the number of an error, and what its buffer holds then.
+-- A C call returns a length (`IfLength`), or minus the number of an error (`IfError`). The file has the numbers of the
+-- errors from 11 on, the texts of all errors (`IsTextOf`), and a buffer after a text was written to it (`written`).
 use Rattle.std.specs.Prelude.{◌≡◌, ◌⊎◌, ⊤, ℕ, ◌+◌, ◌<◌, ℤ, pos, negsuc, List, ◌++◌, length, take, drop, codes}
 use Rattle.cbor_grammar.specs.declared.error.Error.{Error}
 use Rattle.cbor_grammar.specs.Refusals.{text_of, number_of}

@@ -1,4 +1,6 @@
--- Results for C: how bytes begin.
+-- The results of the C calls `cbor_diag_extent` and `cbor_diag_scanner_feed`: the length of the item at the front
+-- (`IsItemOf`), or the error of truncated or malformed bytes (`IsCutOrFault`), and the number of bytes that decide
+-- this. `IsReturned`: the result for an `Extent`.
 use Rattle.std.specs.Prelude.{◌≡◌, ◌⊎◌, ℕ, ℤ, List, length}
 use Rattle.cbor_grammar.specs.declared.error.Error.{Error}
 use Rattle.cbor_grammar.specs.declared.error.Error.TheVariants.{CutShort}

@@ -1,4 +1,6 @@
--- Results for C: a conversion between forms that are given by their numbers.
+-- The results of the C calls that convert an input between two forms, given by their numbers: the length of the output
+-- and the buffer after it (`IsWhole`), or why there is no output (`IsWhy`; `IsOutputFault`, with its place).
+-- `Forms.antt` defines the conversion.
 use Rattle.std.specs.Prelude.{◌≡◌, ◌⊎◌, ℕ, List, length}
 use Rattle.cbor_json.specs.declared.error.JsonError.{JsonError}
 use Rattle.cbor_diag_c.specs.declared.form.Form.{Form}

@@ -1,4 +1,5 @@
--- The numbers of the forms for C, and the conversions between them.
+-- The forms of inputs and outputs for C, and their numbers (`form_number`). `ReadsIn` and `IsWrittenIn`: an input or an
+-- output is an item in a form. `IsConversion`: an output is the item of an input, by the numbers of both forms.
 use Rattle.std.specs.Prelude.{◌≡◌, ◌⊎◌, ℕ, ◌<◌, Bool, true, false, List, [], ◌∷◌, ◌++◌, Option, Some, None, Err, IsUtf8}
 use Rattle.cbor_grammar.specs.declared.error.Error.{Error}
 use Rattle.cbor_grammar.specs.declared.error.Error.TheVariants as refusal

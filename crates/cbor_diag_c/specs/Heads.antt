@@ -1,4 +1,5 @@
--- What C gets of a head, and of a break.
+-- The results of the C call `cbor_diag_head` for the head or the break at the front of bytes: its length, its kind and
+-- its argument (`IsHeadOf`), or the number of the error if there is neither (`IsNoHeadBy`).
 use Rattle.std.specs.Prelude.{◌≡◌, ℕ, ◌+◌, List, length, Ok, Err, Some, None}
 use Rattle.std.specs.Prelude.{◌⊎◌}
 use Rattle.cbor_floats.specs.Value.{value_of}

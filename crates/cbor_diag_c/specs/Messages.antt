@@ -1,4 +1,5 @@
--- Results for C: where in the item an input is truncated or malformed.
+-- The results of the C calls `cbor_diag_fault_path` and `cbor_diag_fault_message`. Only an input that is not an item
+-- has a path that is not empty (`IsFaultPath`), or a message other than the words of `Words.antt` (`IsFaultMessage`).
 use Rattle.std.specs.Prelude.{◌≡◌, ◌⊎◌, ℕ, List, []}
 use Rattle.cbor_grammar.specs.declared.error.Error.{Error}
 use Rattle.cbor_diag_c.specs.declared.form.Form.{Form}

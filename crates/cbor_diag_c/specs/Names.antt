@@ -1,4 +1,6 @@
--- Results for C: why a part of an item has no name.
+-- The errors of the C calls that show names or paths, by their numbers: `IsNoName` for `cbor_diag_name_at`, and
+-- `IsNotShown` for `cbor_diag_named` and `cbor_diag_paths`. An error says that the input is not an item, that the path
+-- is not text or leads to no part, or that no type has the given name.
 use Rattle.std.specs.Prelude.{◌≡◌, ◌≢◌, ◌⊎◌, ℕ, List, [], IsUtf8}
 use Rattle.cbor_grammar.specs.declared.error.Error.{Error}
 use Rattle.cbor_grammar.specs.declared.error.Error.TheVariants as refusal

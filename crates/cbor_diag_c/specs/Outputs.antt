@@ -1,4 +1,6 @@
--- Results for C: why an item has no output, and at which of its bytes.
+-- Why C gets no output for an input: it is not an item in its form, or the item cannot be written as JSON
+-- (`IsNoOutput`). `IsTold`: the number of the error, the place in the bytes of the item, and the place of the other key
+-- or the kind of loss.
 use Rattle.std.specs.Prelude.{◌≡◌, ◌≢◌, ℕ, List, Result, Ok, IfErr, IsUtf8}
 use Rattle.hex.specs.Hex.{decode_of}
 use Rattle.cbor_tokens.specs.Uncommented.{uncommented}

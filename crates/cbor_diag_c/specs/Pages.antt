@@ -1,4 +1,5 @@
--- Results for C: why there are no lines of a page.
+-- The errors of the C call `cbor_diag_page` (`IsNoPage`): memory ran out, the flags are unknown, no type has the given
+-- name, or the given file of names has an error.
 use Rattle.std.specs.Prelude.{◌≡◌, ◌≢◌, ◌⊎◌, ℕ, ◌<◌, List, []}
 use Rattle.cbor_diag_c.specs.Answers.{no_form, no_type, wrong_names}
 

@@ -1,4 +1,5 @@
--- What C gets of the parts of an item.
+-- The results of the C calls that find parts of an item by a path: a part is an item between two places (`IsPartAt`),
+-- or the number of an error says why there is no part (`IsNoPart`).
 use Rattle.std.specs.Prelude.{◌≡◌, ◌⊎◌, ℕ, ◌+◌, List, drop}
 use Rattle.cbor_grammar.specs.declared.error.Error.{Error}
 use Rattle.cbor_grammar.specs.Item.{Item}

@@ -1,4 +1,5 @@
--- What a scanner of C has scanned.
+-- `HasScanned`: the scanner of a C program (`CountedScanner`) was fed given bytes. `IfFed`: a fact of all bytes that it
+-- was fed, with the next input after them.
 use Rattle.std.specs.Prelude.{◌≡◌, ℕ, ◌+◌, ◌^◌, ◌<◌, List, ◌++◌, length}
 use Rattle.cbor_bytes.specs.Scanning as library
 use Rattle.cbor_diag_c.specs.declared.scanner.CountedScanner.{CountedScanner}

@@ -1,4 +1,6 @@
--- Results for C: where an input is not an item, as the number of bytes before the error position.
+-- The place of the error in an input that is not an item, for each form (`IsPlace`). A place is the number of bytes
+-- before it, and `no_place` stands for none. `IsFaultIn`: the number of the error and its place, for the C call
+-- `cbor_diag_fault`.
 use Rattle.std.specs.Prelude.{◌≡◌, ◌⊎◌, ℕ, ◌+◌, ◌-◌, ◌*◌, ◌^◌, ◌<◌, ◌≤◌, List, length, take, Ok, IsUtf8}
 use Rattle.std.specs.Str.{IsValidUpTo}
 use Rattle.hex.specs.Hex.{decode_of}

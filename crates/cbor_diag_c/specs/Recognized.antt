@@ -1,4 +1,5 @@
--- What C gets of the form of an input.
+-- The results of the C call `cbor_diag_recognize`: the number of the first form that takes an input, and the bytes that
+-- the input stands for (`IsRecognized`), or the number of an error (`IsNotRecognized`).
 use Rattle.std.specs.Prelude.{◌≡◌, ◌⊎◌, ℕ, List, length}
 use Rattle.cbor_inputs.specs.declared.decode.Input.{Input}
 use Rattle.cbor_inputs.specs.declared.decode.Input.TheVariants as input

@@ -1,4 +1,6 @@
--- Results for C: items re-encoded so that they keep a set of rules.
+-- The results of the C calls `cbor_diag_reencode`, which re-encodes items by a set of rules (`IsAgainBy`), and
+-- `cbor_diag_reencode_fault`, which says why it cannot (`IsToldWhyNotBy`). `BreaksBy`: the input violates a rule that
+-- re-encoding cannot repair.
 use Rattle.std.specs.Prelude.{◌≡◌, ◌⊎◌, ℕ, List, Some, None, length}
 use Rattle.cbor_rules.specs.declared.rules.Rules.{Rules}
 use Rattle.cbor_rules.specs.declared.kind.Violation.{Violation}

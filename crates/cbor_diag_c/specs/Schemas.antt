@@ -1,4 +1,5 @@
--- Results for C: why there is no schema, why items are not checked by one, and the parts of a message.
+-- The errors of the C calls for schemas: a text of CDDL gives no schema (`IsNoSchema`), or items are not checked by a
+-- schema (`IsNotChecked`). `AreWithin`: the places of the parts of a message are within the message.
 use Rattle.std.specs.Prelude.{◌≡◌, ◌⊎◌, ℕ, ◌≤◌}
 use Rattle.cbor_grammar.specs.declared.error.Error.{Error}
 use Rattle.cbor_grammar.specs.Refusals.{number_of}

@@ -1,4 +1,6 @@
--- Results for C: the first violation of a set of rules.
+-- The sets of rules by their numbers in C (`rules_of`), and what C gets of the first violation of such a set: its kind,
+-- its place and a detail (`IsFoundBy`). `KeepsBy`: the input keeps the rules. `TakesMemoryBy`: a check of the rules
+-- takes memory.
 use Rattle.std.specs.Prelude.{◌≡◌, ◌⊎◌, ℕ, List, Option, Some, None, IsTrue}
 use Rattle.std.specs.Prelude.{◌==◌, if◌then◌else◌}
 use Rattle.cbor_grammar.specs.Refusals.{number_of}

@@ -1,5 +1,5 @@
-//! `Form`: the form of an input or an output, by its number in C. Also returns the form as which
-//! `cbor_diag` reads an input, and the styles in which EDN and JSON are written.
+//! `Form`: the form of an input or an output, found by its number in C. Also says in which form
+//! `cbor_diag` reads an input, and in which styles EDN and JSON are written.
 ghost use Rattle.std.specs.Prelude.{◌≡◌, None, IfSome};
 ghost use Rattle.cbor_diag_c.specs.Forms.{form_number, read_as, edn_style, json_style, IsNoForm};
 

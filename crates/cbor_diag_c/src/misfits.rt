@@ -1,4 +1,5 @@
-//! For C, `cbor_diag_schema_misfit`: why items do not fit a schema, and where.
+//! The C call `cbor_diag_schema_misfit`: finds the first item of an input that does not fit a
+//! schema, writes why, and returns where it does not fit (`MisfitParts`).
 ghost use Rattle.std.specs.Prelude.{◌≡◌, ◌⊎◌, ◌≤◌, ℕ, List, length, IfOk, IfSome};
 ghost use Rattle.cbor_diag_c.specs.Answers.{IfLength, IfError, IsMinus, written};
 ghost use Rattle.cbor_diag_c.specs.Schemas.{AreWithin, IsNotChecked, check_error};

@@ -1,5 +1,5 @@
-//! For C, `cbor_diag_schema_load` and `cbor_diag_schema_fault`: a text of CDDL as a schema in
-//! bytes, and what is wrong with such a text.
+//! The C calls `cbor_diag_schema_load`, which turns a text of CDDL into a schema in bytes, and
+//! `cbor_diag_schema_fault`, which writes what is wrong with such a text.
 ghost use Rattle.std.specs.Prelude.{◌≡◌, ◌⊎◌, ℕ, List, length, IfErr};
 ghost use Rattle.cbor_diag_c.specs.Answers.{IfLength, IfError, written};
 ghost use Rattle.cbor_diag_c.specs.Schemas.{IsNoSchema};

@@ -1,5 +1,5 @@
--- The lines of the dump of an item: its bytes in order, each line with a comment, and notes on the values of tags. The
--- layout of the lines depends on the lines alone.
+-- `lines`: the lines of the dump of an item. They show its bytes in order, each line with a comment, and notes on the
+-- values of tags. `dump`: the text of these lines, laid out in columns.
 use Rattle.std.specs.Prelude.{ℕ, zero, suc, ◌+◌, ◌%◌, ◌==◌, List, [], ◌∷◌, ◌++◌, length, min, map, Option, Some}
 use Rattle.std.specs.Prelude.{None, Ok, Err, unwrap_or, codes, nat_le, take, drop, if◌then◌else◌}
 use Rattle.std.specs.List.{flat_map}

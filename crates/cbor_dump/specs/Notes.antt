@@ -1,4 +1,5 @@
--- The notes of a dump: what it says about a tag's value, below the lines of the value.
+-- `value_note`: the note of a dump on the value of a tag, such as the date of a number of days. It comes below the
+-- lines of the value. The notes on embedded items (tags 24 and 63) are in `Dump.antt`.
 use Rattle.std.specs.Prelude.{ℕ, ◌-◌, ◌%◌, ◌==◌, nat_lt, pos, negsuc, Bool, true, Option, Some, None, List, [], ◌∷◌}
 use Rattle.std.specs.Prelude.{◌++◌, length, replicate, codes, decimal, false, nat_eq, if◌then◌else◌}
 use Rattle.std.specs.List.{ends_with}

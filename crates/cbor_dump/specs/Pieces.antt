@@ -1,4 +1,5 @@
--- The pieces of a string in a dump. Each piece has its own line.
+-- The pieces of a string in a dump: each has its own line. `byte_pieces` cuts bytes into pieces of 16.
+-- `text_pieces` cuts a text of more than 24 bytes between characters, into pieces of at most 16 bytes.
 use Rattle.std.specs.Prelude.{ℕ, zero, suc, nat_lt, nat_le, ◌||◌, Bool, List, [], ◌∷◌, length, min, max, take, drop}
 use Rattle.std.specs.Prelude.{slice_index, if◌then◌else◌}
 

@@ -1,5 +1,6 @@
-//! `DumpContext`: the level and the depth of an item in a dump, and what the tags above it state:
-//! the tag right above, the encoding of byte strings, and how many values were shared before.
+//! `DumpContext`: the place of an item in a dump: its level, the depth of its lines, the tag right
+//! above it, the encoding in which byte strings are shown, and how many values were shared before
+//! that tag.
 ghost use Rattle.std.specs.Prelude.{◌≡◌, ◌+◌};
 ghost use Rattle.cbor_dump.specs.Comments.{encoding_below};
 ghost use Rattle.cbor_dump.specs.Dump as spec;

@@ -2,10 +2,10 @@
 //! `specs/` defines the lines, comments and notes of a dump.
 //!
 //! A first recursion over the bytes finds the column of the comments. A second one writes each line
-//! as soon as it is read.
+//! as soon as the bytes of the line are read.
 //!
-//! Lines, comments, columns and notes are public. `cbor_screen` builds the dumps of `cborcat` from
-//! them; these also show names and the items in byte strings.
+//! Lines, comments, columns and notes are public. `cbor_screen` uses them for the dumps of
+//! `cborcat`, which also show names and the items in byte strings.
 #![tactic(auto)]
 
 pub mod addresses;

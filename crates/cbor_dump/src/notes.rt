@@ -1,6 +1,6 @@
 //! Returns the note of a dump on the value of a tag (`value_note`). The folder `notes` has the
-//! notes on dates, addresses, shared values and encoded texts; the note on an invalid typed array
-//! is here. `Note`: the first line of a note, and the lines below it.
+//! notes on dates, addresses, shared values, URIs, base 64 texts and UUIDs; the note on an invalid
+//! typed array is here. `Note`: the first line of a note, and the lines below it.
 ghost use Rattle.std.specs.Prelude.{◌≡◌, ◌<◌, ℕ, false, option_map, Some, None, IfOk};
 ghost use Rattle.std.specs.String.{string_bytes};
 ghost use Rattle.cbor_dump.specs.Comments as comments;

@@ -1,8 +1,8 @@
 //! Computes the width of the left column of a dump, which has the hex digits, from the bytes of the
 //! item. `text_cut` and `longest_piece` find the pieces in which strings are shown.
 //!
-//! Each function takes the remaining bytes and returns those after what it counted. Notes have no
-//! digits, so an item in a byte string counts as the bytes of the string.
+//! A function that reads an item or a part of one takes the remaining bytes and returns those after
+//! it. Notes have no digits, so an item in a byte string counts as the bytes of the string.
 ghost use Rattle.std.specs.Prelude.{◌≡◌, ◌<◌, ◌≤◌, ◌+◌, ◌-◌, length, max, IfOk, IfErr};
 ghost use Rattle.std.specs.Str.{IsCharBoundary};
 ghost use Rattle.cbor_notes.specs.Layout.{width_of};

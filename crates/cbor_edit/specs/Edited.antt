@@ -1,4 +1,6 @@
--- Bytes in which a part is another one, and what that changes around it.
+-- `Edited`: bytes after a part of them was replaced. The head of a byte string of definite length around the part gets
+-- the new length, in the same width if it fits (`kept`). `changed`: bytes with several parts replaced, up to the last
+-- of these parts.
 use Rattle.std.specs.Prelude.{ℕ, ◌-◌, ◌^◌, List, [], ◌∷◌, ◌++◌, length, take, drop, nat_lt, if◌then◌else◌}
 use Rattle.cbor_grammar.specs.declared.width.IntegerWidth.{IntegerWidth}
 use Rattle.cbor_grammar.specs.declared.width.IntegerWidth.TheVariants.{Unknown, Zero, Eight, Sixteen, ThirtyTwo}

@@ -1,4 +1,5 @@
--- Containers without some of their members, and with one more.
+-- `IsWithout`: an array or a map without some of its members, up to the last of these. `IsWith`: an array or a map with
+-- one member more at its end. The head gets the new count, and an indefinite length stays.
 use Rattle.std.specs.Prelude.{◌≡◌, ◌⊎◌, ℕ, ◌+◌, ◌-◌, List, [], ◌∷◌, ◌++◌, length, take, drop}
 use Rattle.cbor_grammar.specs.declared.argument.Argument.{Argument}
 use Rattle.cbor_grammar.specs.declared.argument.Argument.TheVariants.{Number, Indefinite}

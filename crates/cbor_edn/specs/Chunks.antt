@@ -1,4 +1,5 @@
--- The chunks of a string that is read from EDN.
+-- For `strings.rt`: the chunks that a `Chunks` has collected for an indefinite-length string of EDN (`chunk_list`), the
+-- kind of the string (`list_kind`), and the result of adding a chunk (`PushGives`).
 use Rattle.std.specs.Prelude.{◌≡◌, List, [], ◌∷◌, ◌++◌, map, Option, Some, Result, Ok, Err}
 use Rattle.cbor_grammar.specs.Item.{Chunk}
 use Rattle.cbor_grammar.specs.declared.strings.StringKind.{StringKind}

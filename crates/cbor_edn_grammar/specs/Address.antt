@@ -1,4 +1,5 @@
--- Network addresses between apostrophes in EDN, and address prefixes (RFC 9164 sections 3 and 4).
+-- The item that the content of `ip'..'` (`ip_item`) or `IP'..'` (`tagged_ip`) denotes in EDN (RFC 9164 sections 3 and
+-- 4): a byte string for an IPv4 or IPv6 address, and an array for an address prefix. `IP'` puts a tag around it.
 use Rattle.std.specs.Prelude.{ℕ, zero, suc, ◌+◌, ◌-◌, ◌%◌, ◌^◌, List, [], ◌∷◌, length, take, drop, position}
 use Rattle.std.specs.Prelude.{Option, Some, None, Bool, true, ◌==◌, ◌&&◌, if◌then◌else◌, nat_lt, nat_le, slice_index}
 use Rattle.std.specs.List.{list_any}

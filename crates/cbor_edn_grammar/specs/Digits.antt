@@ -1,4 +1,5 @@
--- The bytes that digits between apostrophes encode in EDN: base 16, 32 and 64, with blanks between the digits.
+-- The bytes that digits between apostrophes encode in EDN, as in `h'..'`. The digits are in base 16, 32 or 64, and may
+-- have blanks between them.
 use Rattle.std.specs.Prelude.{ℕ, ◌+◌, ◌-◌, ◌%◌, List, [], ◌∷◌, ◌++◌, length, take, drop, position, map, replicate}
 use Rattle.std.specs.Prelude.{Option, Some, Bool, true, false, ◌==◌, ◌||◌, if◌then◌else◌}
 use Rattle.std.specs.List.{list_any}

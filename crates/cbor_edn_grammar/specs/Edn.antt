@@ -1,4 +1,5 @@
--- EDN, the notation that people write: which items a text denotes (RFC 8949 section 8, RFC 8610 appendix G).
+-- EDN, the notation that people write (RFC 8949 section 8, RFC 8610 appendix G): which items a whole text denotes
+-- (`items_of_edn`), and what a call that reads the text may return (`Answers`).
 use Rattle.std.specs.Prelude.{◌≡◌, ℕ, ◌≤◌, List, [], ◌∷◌, length, Option, Some, None, Result, Ok, Err}
 use Rattle.cbor_grammar.specs.Item.{Item, items_of}
 use Rattle.cbor_grammar.specs.WellFormed.{deepest}

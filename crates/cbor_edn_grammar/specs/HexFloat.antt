@@ -1,4 +1,5 @@
--- Hexadecimal floats in EDN: a number in base 16 times a power of 2, as in C: `0x1.8p3` (ISO C, section 6.4.4.2).
+-- Hexadecimal floats in EDN, written as in C, such as `0x1.8p3` (ISO C, section 6.4.4.2): the exact number that a text
+-- stands for (`Dyadic`), and the float that is nearest to it (`rounded`).
 use Rattle.std.specs.Prelude.{ℕ, ◌+◌, ◌*◌, ◌^◌, List, [], ◌∷◌, length, take, drop, position, codes, bytes_eq}
 use Rattle.std.specs.Prelude.{Option, Some, None, Bool, ◌==◌, ◌&&◌, ◌||◌, if◌then◌else◌, nat_lt, is_some, false}
 use Rattle.std.specs.Char.{digit_value}

@@ -1,4 +1,5 @@
--- Items in EDN: containers, tags and simple values, and which kind of item a text begins with.
+-- The item at the front of an EDN text (`read_item`): which kind of item begins there, and how containers, strings in
+-- chunks, tags, simple values and dates (`dt'..'`) are read. Numbers, strings and addresses have their own files.
 use Rattle.std.specs.Prelude.{ℕ, zero, suc, List, [], ◌∷◌, length, codes, Option, Some, None, Bool, true, false}
 use Rattle.std.specs.Prelude.{◌==◌, ◌&&◌, ◌||◌, ◌+◌, if◌then◌else◌, nat_le, nat_lt, bytes_eq, take, drop, position}
 use Rattle.std.specs.Prelude.{slice_index}

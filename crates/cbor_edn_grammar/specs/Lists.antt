@@ -1,4 +1,5 @@
--- Lists in EDN: what opens a list, what separates its members, and what closes it.
+-- Lists in EDN (arrays, maps, strings in chunks, items between `<<` and `>>`, and a whole text): the width after the
+-- opening, what separates members, and what closes the list.
 use Rattle.std.specs.Prelude.{ℕ, ◌-◌, List, [], ◌∷◌, codes, length, take, Option, Some, None, Bool, true, false}
 use Rattle.std.specs.Prelude.{◌==◌, ◌&&◌, ◌||◌, if◌then◌else◌, is_some, not, nat_eq}
 use Rattle.std.specs.List.{list_any}

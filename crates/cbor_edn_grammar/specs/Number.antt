@@ -1,4 +1,5 @@
--- Integers in EDN, and the widths that they state.
+-- Integers in EDN that fit 64 bits: which integer a word is (`integer_of`), and whether it fits the width that the word
+-- states. Also the numbers of tags (`tag_number`).
 use Rattle.std.specs.Prelude.{ℕ, zero, suc, ◌^◌, List, [], ◌∷◌, take, drop, position, Option, Some, None, Bool}
 use Rattle.std.specs.Prelude.{◌==◌, if◌then◌else◌, nat_lt}
 use Rattle.std.specs.Option.{option_or}

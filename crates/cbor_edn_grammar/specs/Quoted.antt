@@ -1,4 +1,5 @@
--- Text between quotes in EDN, with JSON's escapes.
+-- The bytes of the content between quotes or apostrophes in EDN (`quoted`). The escapes are those of JSON, `\u{..}`
+-- with hex digits, and `\'` between apostrophes.
 use Rattle.std.specs.Prelude.{ℕ, ◌+◌, ◌-◌, ◌*◌, List, [], ◌∷◌, Option, Some, None, Bool, true, false}
 use Rattle.std.specs.Prelude.{◌==◌, ◌&&◌, ◌||◌, if◌then◌else◌, nat_lt, nat_le, encode_utf8, codes}
 use Rattle.std.specs.List.{position_or_len}

@@ -1,4 +1,5 @@
--- The result of reading EDN: a value and the text after it, or nothing. A text is the list of its bytes in UTF-8.
+-- The result of reading EDN (`Read`): a value and the text after it, or nothing. A text is the list of its bytes in
+-- UTF-8. `Gives` says that a function returned such a result, unless memory ran out.
 use Rattle.std.specs.Prelude.{◌≡◌, ℕ, zero, suc, List, [], ◌∷◌, ◌++◌, length, drop, Option, Some, None, Result, Ok}
 use Rattle.std.specs.Prelude.{Err}
 use Rattle.std.specs.Prelude.{Bool, true, false, nat_eq, ◌==◌, if◌then◌else◌}

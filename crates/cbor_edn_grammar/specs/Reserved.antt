@@ -1,5 +1,5 @@
--- Items by RFC 8949: none of them has a simple value below 32 in two bytes (f8 00 to f8 1f), which section 3.3 forbids
--- and RFC 7049 allows. EDN keeps the bytes of these items.
+-- Items by RFC 8949 (`IsItem8949`): no simple value is from 24 to 31 (`NoneReserved`), and none below 24 takes two
+-- bytes. Section 3.3 forbids these encodings (f8 00 to f8 1f), and RFC 7049 allows them.
 use Rattle.std.specs.Prelude.{◌⊎◌, ℕ, ◌<◌, ◌≤◌, List}
 use Rattle.cbor_grammar.specs.Item as spec
 use Rattle.cbor_grammar.specs.Item.{Atom, integer, negative, string, chunked_string, float, simple, Item, atom, array}

@@ -1,5 +1,5 @@
 //! `Close`: what closes a list of EDN: `]`, `}`, `)`, `>>` or the end of the text. `missing`
-//! returns the error message if it is not there.
+//! returns the error message for a member with neither a comma nor the `Close` after it.
 ghost use Rattle.std.specs.Prelude.{◌≡◌};
 ghost use Rattle.cbor_edn_grammar.specs.Expectations.{missing};
 

@@ -1,5 +1,5 @@
 //! `Literal`: a word of EDN that is an item, such as `null`. Finds the word for a spelling of
-//! another language, and has the error message for such a spelling.
+//! another language, such as `nil`, and has the error message for such a spelling.
 ghost use Rattle.std.specs.Prelude.{◌≡◌};
 ghost use Rattle.cbor_edn_grammar.specs.Expectations.{spelled};
 

@@ -1,5 +1,5 @@
-//! `Message`: the message of an error in an EDN text. It repeats the word at the place of the
-//! error, or the content of the quotes after it, if that is short and printable ASCII.
+//! `Message`: the message of an error in an EDN text. It can repeat the word at the place of the
+//! error, and the content of the quotes after this word, if they are short and printable ASCII.
 ghost use Rattle.std.specs.Prelude.{IfSome, ◌≡◌, true};
 ghost use Rattle.std.specs.List.{list_all};
 ghost use Rattle.cbor_edn_grammar.specs.Expectations.{is_printing};

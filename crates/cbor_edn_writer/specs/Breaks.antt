@@ -1,4 +1,5 @@
--- Where the line feeds are in a written text of EDN: outside of quotes and comments.
+-- Which texts of EDN have line feeds only outside of quotes and comments (`BreaksApart`). `Within` says whether a
+-- character is in quotes, in a comment or in neither.
 use Rattle.std.specs.Prelude.{◌≡◌, ℕ, ◌==◌, List, [], ◌∷◌, if◌then◌else◌}
 
 -- what a character of a text is within: neither quotes nor a comment, or one of these; a text or bytes also right

@@ -1,4 +1,5 @@
--- EDN as a dialect of notation: how numbers and strings are written, and what is written around members.
+-- EDN as a dialect of notation (`edn_leaves`): how numbers and strings are written, what is written around members,
+-- which comments stand beside an item, and which byte strings are written as the items in them.
 use Rattle.std.specs.Prelude.{◌≡◌, ◌⊎◌, ◌+◌, ◌-◌, ℕ, ◌^◌, List, [], ◌∷◌, ◌++◌, length, codes, Bool, true, false}
 use Rattle.std.specs.Prelude.{Option, Some, None, ◌&&◌, ◌||◌, if◌then◌else◌, nat_lt, nat_le, ◌==◌, not}
 use Rattle.std.specs.Borrow.{Bor}

@@ -1,5 +1,5 @@
--- Bytes that EDN may show as the items in them, since the same bytes are read back: no simple value in them is in a
--- non-minimal encoding (f8 00 to f8 1f).
+-- Which bytes EDN may show as the items in them, so that the same bytes are read back: no simple value below 32 in them
+-- takes two bytes (f8 00 to f8 1f; `is_strict`). `is_sequence` tests whether bytes are a sequence of items.
 use Rattle.std.specs.Prelude.{ℕ, zero, suc, ◌+◌, List, [], ◌∷◌, length, drop, Option, Some, None, Ok, Err, Bool}
 use Rattle.std.specs.Prelude.{true, false, ◌==◌, ◌&&◌, if◌then◌else◌, nat_lt, nat_le}
 use Rattle.cbor_grammar.specs.declared.argument.Argument.TheVariants.{Number}

@@ -1,4 +1,5 @@
--- Which texts of EDN may be written for an item.
+-- Which texts of EDN may be written for an item (`IsEdnText`; `IsNotedText`, with notes), and the results of a call
+-- that appends such a text (`GaveEdn`).
 use Rattle.std.specs.Prelude.{◌≡◌, ℕ, true, false, List, [], ◌++◌, Option, Some, None, Result, Ok, Err}
 use Rattle.cbor_grammar.specs.declared.error.Error.{Error}
 use Rattle.cbor_grammar.specs.declared.error.Error.TheVariants as refusal

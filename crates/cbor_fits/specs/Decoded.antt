@@ -1,4 +1,5 @@
--- The values that bytes encode: the item that `cbor_grammar` defines for them, without what its encoding adds.
+-- `decoded`: the value of the item that bytes encode, without widths and chunks, and with the pairs of maps in the
+-- order of their keys (`decoded_sequence`, for items one after the other). There is no value if a map has a key twice.
 use Rattle.std.specs.Prelude.{ℕ, ◌%◌, ◌^◌, List, [], ◌∷◌, map, pos, negsuc, Bool, false, ◌||◌, if◌then◌else◌}
 use Rattle.std.specs.Prelude.{Option, Some, None, is_some}
 use Rattle.std.specs.List.{flat_map}

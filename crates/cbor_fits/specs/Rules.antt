@@ -1,4 +1,5 @@
--- Loaded CDDL as the definition of fitting reads it: what the indices in its nodes mean.
+-- `Rules`: loaded CDDL as functions that `Fits.antt` uses. They give the node, list, rule, literal or pattern for an
+-- index, and the value that bytes encode.
 use Rattle.std.specs.Prelude.{ℕ, List, Bool, Option}
 use Rattle.cbor_cddl.specs.declared.schema.Node.{Node}
 use Rattle.cbor_cddl.specs.declared.schema.List as nodes

@@ -1,5 +1,5 @@
--- What the indices of a loaded schema lead to: nodes, lists, rules, literals and patterns, as `Rules` of `Rules.antt`
--- has them.
+-- `rules`: the functions of `Rules.antt` for a loaded schema. They look up nodes, lists, rules, literals and patterns
+-- in its tables. An index that is not in a table leads to a default, such as the node `Any`.
 use Rattle.std.specs.Prelude.{ℕ, zero, suc, List, [], ◌∷◌, length, get_or, slice_range, Bool, true, false, nat_le}
 use Rattle.std.specs.Prelude.{is_some}
 use Rattle.std.specs.Prelude.{◌+◌, ◌&&◌, ◌==◌, if◌then◌else◌}

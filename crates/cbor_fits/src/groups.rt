@@ -1,5 +1,5 @@
-//! Finds what a group takes (RFC 8610, sections 2.1 and 3.2): ordered choice, greedy occurrences,
-//! cuts.
+//! Finds which members of an array, or which pairs of a map, a group of CDDL takes (RFC 8610,
+//! sections 2.1 and 3.2). Choices are ordered and occurrences are greedy; an entry may have a cut.
 
 ghost use Rattle.std.specs.Prelude.{◌≡◌, Some, IfOk, OnOk, map};
 ghost use Rattle.cbor_fits.specs.Rests.{rest_view, outcome_view, pair_view_of};

@@ -1,5 +1,6 @@
 //! States laws of the definition of fitting, each as the contract of a function that no code calls.
-//! An answer stays the same with more levels. So a value never both fits a type and does not.
+//! The definition takes a number of levels of nesting, and gives no answer if these are too few. An
+//! answer stays the same with more levels. So a value never both fits a type and does not.
 ghost use Rattle.std.specs.Prelude.{◌≡◌, ◌≤◌, ℕ, Bool, false, Some};
 ghost use Rattle.cbor_fits.specs.Value.{Value};
 ghost use Rattle.cbor_fits.specs.Rules.{Rules};

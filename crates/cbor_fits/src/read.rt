@@ -1,4 +1,5 @@
-//! Reads items as values.
+//! Reads the bytes of one item as a value (`Datum`), and the bytes of several items as the value of
+//! an array. There is no value if the bytes are not items, or if a map in them has a key twice.
 ghost use Rattle.std.specs.Prelude.{◌≡◌, ◌||◌, map, IfOk, OnOk, option_map};
 ghost use Rattle.cbor_diag.specs.View.{view as item_view};
 ghost use Rattle.cbor_grammar.specs.Embedded.{sequence};

@@ -1,4 +1,5 @@
-//! `Rest`: what is left for a group to take. `Outcome`: what a group does with it.
+//! `Rest`: the members of an array, or the pairs of a map, that are left for a group to take.
+//! `Outcome`: what is left after a group that fits, or how a group fails: with or without a cut.
 ghost use Rattle.std.specs.Prelude.{◌≡◌, length, IfOk, map};
 ghost use Rattle.cbor_fits.specs.View.{view};
 ghost use Rattle.cbor_fits.specs.Rests.{rest_view, outcome_view, pair_view, pair_view_of};

@@ -1,5 +1,5 @@
-//! Compares items, until a number of parts is used up. Each item is a part, and so are 64 bytes of
-//! a string.
+//! Compares two items within a given number of parts. Each item in them is a part, and so are 64
+//! bytes of a string. If the parts are not enough, the items count as different.
 
 ghost use Rattle.std.specs.Prelude.{◌≡◌, true, map, length, Float};
 ghost use Rattle.cbor_fits.specs.View.{view};

@@ -1,5 +1,7 @@
-//! Chooses the slot of a question: by a hash of the type and of the first parts of the item. How
-//! many levels there are does not count, since an answer stays the same with more levels.
+//! Chooses the slot of a question in the table of answers that `work.rt` keeps. A question is
+//! whether an item fits a type. The slot is a hash of the type and of the first parts of the item.
+//! The number of levels that are left does not count, since an answer stays the same with more
+//! levels.
 
 use crate::value::Datum;
 use crate::work::Question;

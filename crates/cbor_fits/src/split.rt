@@ -1,4 +1,5 @@
-//! `Split`: which pairs an entry of a map takes (RFC 8610, sections 3.5.1 to 3.5.4).
+//! `Entry`: an entry of a group of CDDL. `Split`: divides the pairs of a map into those that an
+//! entry takes and those that it leaves (RFC 8610, sections 3.5.1 to 3.5.4).
 
 ghost use Rattle.std.specs.Prelude.{◌≡◌, OnOk, true, [], map};
 ghost use Rattle.cbor_fits.specs.Rests.{pair_view, outcome_view};

@@ -1,4 +1,5 @@
-//! `Stop`: why an item cannot be matched.
+//! `Stop`: why an item cannot be matched with a schema: memory ran out, the bytes are not an item,
+//! the match takes too many steps, or the schema and the item are nested too deeply.
 
 use std::alloc::{AllocError, AllocFailed};
 use std::fmt;

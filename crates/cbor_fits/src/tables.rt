@@ -1,4 +1,6 @@
-//! `Tables`: a loaded schema as it is matched, and what its indices mean.
+//! `Tables`: a loaded schema with its patterns, and look-ups in it: the node at an index, the
+//! indices of a list, the body of a rule, a literal string, whether a node is a group, and whether
+//! a text matches the pattern of a node.
 ghost use Rattle.std.specs.Prelude.{◌≡◌, ◌+◌, length, IfOk, get_or};
 ghost use Rattle.cbor_fits.specs.Tables.{rules_of, part, node_at, body_of, is_group_within};
 ghost use Rattle.cbor_fits.specs.Tables.{is_match_of};

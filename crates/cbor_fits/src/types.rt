@@ -1,4 +1,6 @@
-//! Checks whether an item fits a type (RFC 8610, sections 2.2 and 3).
+//! Checks whether an item fits a type (RFC 8610, sections 2.2 and 3): a choice, an array, a map, a
+//! tag or any other type. It calls `leaf.rt` for types without parts, and `controls.rt` for most
+//! controls.
 
 ghost use Rattle.std.specs.Prelude.{◌≡◌, ◌==◌, ℕ, Option, Some, IfOk, OnOk, pos};
 ghost use Rattle.cbor_fits.specs.Value.{integer};

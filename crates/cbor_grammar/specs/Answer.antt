@@ -1,4 +1,7 @@
--- What a reader returns, unless memory runs out.
+-- The answers of a reader of bytes. The bytes begin with an item, are truncated, or are malformed (`Outcome`).
+-- `IsRefused` says why they are not exactly one item. `GaveText`, `GaveRefusal` and `RefusedSo` compare the result of a
+-- call with these answers, unless memory ran out. `MayWantMemory`: a reader may need memory for bytes that begin so.
+-- `size` counts the items in an item.
 use Rattle.std.specs.Prelude.{◌≡◌, ◌≢◌, ℕ, ◌+◌, ◌/◌, ◌%◌, ◌<◌, ◌≤◌, List, [], ◌∷◌, ◌++◌, length, take, Option, Some}
 use Rattle.std.specs.Prelude.{None}
 use Rattle.std.specs.Prelude.{Result, Ok, Err, MatchResult, IfErr, ◌⊎◌}

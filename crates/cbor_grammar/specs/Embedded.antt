@@ -1,4 +1,6 @@
--- Items that are embedded in the content of a byte string (RFC 7049 section 2.4.4.1, RFC 8742).
+-- Items that are embedded in the content of a byte string: the item that the bytes encode (`embedded`; RFC 7049 section
+-- 2.4.4.1), or the longest sequence of items that they begin with (`sequence`; RFC 8742). `Embeds` says what these two
+-- mean, and `Rejects` what reading gives for bytes that are not one item, both by the grammar of bytes alone.
 use Rattle.std.specs.Prelude.{◌≡◌, ◌↔◌, ℕ, zero, suc, ◌+◌, ◌<◌, ◌≤◌, List, [], ◌++◌, length, take, drop, slice_index}
 use Rattle.std.specs.Prelude.{Option, Some, None, Ok, Err}
 use Rattle.cbor_grammar.specs.declared.error.Error.{Error}

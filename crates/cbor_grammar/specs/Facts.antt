@@ -1,4 +1,6 @@
--- The facts that public clauses state: of bytes as a whole, and of an item at the outermost level.
+-- The facts that public contracts state, for items at the outermost level. Bytes encode an item (`IsItem`) or begin
+-- with one (`BeginsWithItem`), are truncated (`IsCut`) or are malformed (`HasFault`). An item has an encoding
+-- (`IsWellFormed`), texts in diagnostic notation (`diag_of`, `pretty_of`) and a normal form (`normal_of`).
 use Rattle.std.specs.Prelude.{ℕ, ◌≤◌, List, length, take}
 use Rattle.cbor_grammar.specs.declared.error.Error.{Error}
 use Rattle.cbor_grammar.specs.Item.{Item}

@@ -1,4 +1,5 @@
--- Which hex with comments encodes an item: which digits a text has, and which item they encode.
+-- Hex with comments as the encoding of an item. `IsHexOf`: its digits encode this item. `IsHexRefused`: why they encode
+-- no item. `IsHexFault`: the place of the first wrong digit.
 use Rattle.std.specs.Prelude.{◌≡◌, ℕ, ◌+◌, ◌%◌, ◌<◌, List, [], ◌∷◌, ◌++◌, length, take, drop, slice_index, false, Ok}
 use Rattle.std.specs.Prelude.{◌⊎◌}
 use Rattle.std.specs.List.{AllPass}

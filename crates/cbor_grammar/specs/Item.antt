@@ -1,4 +1,5 @@
--- The data item that contracts speak of: what a `DataItem` says, whatever its place in memory.
+-- `Item`: a data item, as contracts speak of it, with the width of each number, length and count. It stands for a
+-- `DataItem` of the code, and says nothing about memory.
 use Rattle.std.specs.Prelude.{ℕ, suc, List, Option}
 use Rattle.cbor_grammar.specs.declared.width.IntegerWidth.{IntegerWidth}
 use Rattle.cbor_grammar.specs.declared.width.FloatWidth.{FloatWidth}

@@ -1,5 +1,5 @@
--- What a text keeps of an item, its normal form: two items have the same compact text if and only if their normal
--- forms are equal.
+-- `normal`: the normal form of an item. It leaves out the differences in width that diagnostic notation does not show,
+-- also in embedded items. Two items have the same compact text if and only if their normal forms are equal.
 use Rattle.std.specs.Prelude.{ℕ, zero, suc, List, ◌++◌, map, Option, Some, None, nat_lt, if◌then◌else◌, ◌==◌}
 use Rattle.cbor_grammar.specs.declared.width.IntegerWidth.{IntegerWidth}
 use Rattle.cbor_grammar.specs.declared.width.IntegerWidth.TheVariants.{Unknown, Zero}

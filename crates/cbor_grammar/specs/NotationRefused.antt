@@ -1,4 +1,5 @@
--- Why a reader may refuse a text, whatever the limit on levels: what each refusal says of the text.
+-- `IsNoNotation`: why a text is not an item in diagnostic notation. `MayRefuse`: what each error of a reader says of
+-- the text, under a given limit on levels.
 use Rattle.std.specs.Prelude.{◌≡◌, ℕ, ◌<◌, ◌≤◌, ◌==◌, ◌||◌, Bool, List, Result, Ok, Err}
 use Rattle.std.specs.List.{count_by}
 use Rattle.cbor_tokens.specs.Ascii.{quote, parenthesis, less_than, bracket, underscore, brace}

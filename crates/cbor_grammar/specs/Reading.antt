@@ -1,6 +1,7 @@
--- Reading from left to right, as `parse/binary.rt` of `cbor_diag` does: a function from bytes to a value and the rest,
--- or the first error, `CutShort` where the bytes end. Reading an item also counts its turns. Public clauses name it
--- only for what is embedded in other bytes; `laws.rt` says that it agrees with `Spells`, `Cut` and `Fault` there.
+-- `read_item` reads an item from left to right, as `parse/binary.rt` of `cbor_diag` does. It takes bytes and returns
+-- the item and the bytes after it, or the first error, which is `CutShort` if the bytes end. `counted_item` also counts
+-- the turns. Other functions read heads, strings and containers. Public contracts name these functions only for
+-- embedded items; `laws.rt` says that they agree there with `Spells`, `Cut` and `Fault`.
 use Rattle.std.specs.Prelude.{◌≡◌, ℕ, zero, suc, ◌+◌, ◌/◌, ◌%◌, List, [], ◌∷◌, length, take, drop, Option, Some, None}
 use Rattle.std.specs.Prelude.{Result, Ok, Err, nat_lt, ◌==◌, if◌then◌else◌}
 use Rattle.std.specs.Str.{is_utf8}

@@ -1,4 +1,4 @@
--- What each `Error` says of the input, and its number.
+-- The text (`text_of`) and the number (`number_of`) of each `Error`.
 use Rattle.std.specs.Prelude.{ℕ, List, codes}
 use Rattle.cbor_grammar.specs.declared.error.Error.{Error}
 use Rattle.cbor_grammar.specs.declared.error.Error.TheVariants.{Memory, CutShort, Head, Utf8, TooDeep, Remaining}

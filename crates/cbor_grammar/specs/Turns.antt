@@ -1,5 +1,6 @@
--- How much work an input is, in turns of its reader. A turn reads a head, with the content of a string, reads a chunk
--- or a break, or closes a full container.
+-- How much work an input is, in turns of its reader: `item_turns` for a whole item, `cut_spent` and `fault_spent` for
+-- the complete part of truncated and of malformed bytes. One turn reads a head (and the content of a definite-length
+-- string), reads a chunk or a break, or closes a full container.
 use Rattle.std.specs.Prelude.{ℕ, zero, suc, ◌+◌, ◌*◌, List, length}
 use Rattle.cbor_grammar.specs.declared.error.Error.{Error}
 use Rattle.cbor_grammar.specs.Item as spec

@@ -1,7 +1,8 @@
 //! States laws of the definitions in `specs/`, each as the contract of a function that no code
-//! calls. Any bytes encode an item, are truncated or are malformed, and only one of these. Other
-//! laws say which items a byte string embeds, why it embeds none, and that the complete part of
-//! truncated or malformed bytes takes one number of turns (steps of a reader).
+//! calls. Bytes begin with an item, are truncated or are malformed, and only one of these holds.
+//! Other laws say which items a byte string embeds, and why a byte string embeds none. The last law
+//! says that the complete part of truncated or malformed bytes has only one count of turns (steps
+//! of a reader).
 ghost use Rattle.std.specs.Prelude.{◌≡◌, ℕ, ◌+◌, ◌<◌, ◌≤◌, List, slice_index};
 ghost use Rattle.cbor_grammar.specs.WellFormed.{deepest};
 ghost use Rattle.cbor_grammar.specs.Embedded.{EmbedsExactly, RejectsExactly};

@@ -1,9 +1,9 @@
 //! Defines what CBOR items are (RFC 7049), and which bytes and texts encode them. The contracts of
 //! the other crates cite these definitions.
 //!
-//! `specs/` has the definitions, and `proofs/` the lemmas and laws that follow from them alone. The
-//! code is the types that they name: heads, widths, tags, strings, layouts and errors. The calls
-//! are in `cbor_diag`.
+//! `specs/` has the definitions, and `proofs/` the lemmas and laws that follow from them alone.
+//! `src/` has the types that the definitions name: heads, widths, tags, strings, layouts and
+//! errors. The calls that read and write items are in `cbor_diag`.
 #![tactic(auto)]
 
 pub mod argument;

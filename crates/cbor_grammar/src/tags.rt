@@ -1,4 +1,4 @@
-//! `Tag` and `Simple`: the number of a tag and a simple value, with constants for the known ones.
+//! `Tag`: the number of a tag. `Simple`: a simple value. Both have constants for the known ones.
 //! The tags are from RFC 7049, RFC 8742, RFC 8746, RFC 8943, RFC 9164 and the IANA registry.
 
 /// The number of a tag, which gives a meaning to the item below it (RFC 7049 section 2.4).

@@ -1,4 +1,6 @@
--- Which bytes an input stands for in each form.
+-- Which bytes an input stands for as hex, EDN, base 64 or bytes (`Stands`), and whether one of these forms takes it
+-- (`Takes`). `NoneBefore` and `NoneAfter` say that no form before or after one takes it, and `IsWhy` says why an input
+-- does not have a form.
 use Rattle.std.specs.Prelude.{◌≡◌, ◌≢◌, ◌⊎◌, ℕ, ◌≤◌, List, [], length, drop, IsUtf8, Ok, Some, None}
 use Rattle.hex.specs.Hex.{decode_of}
 use Rattle.cbor_edn_grammar.specs.Edn.{bytes_of_edn}

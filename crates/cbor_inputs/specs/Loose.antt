@@ -1,5 +1,6 @@
--- Hex as people paste it: which characters of a text are kept. A byte is two digits side by side: behind the first,
--- every character is kept, so a blank there is a character that is no digit.
+-- `loose`: the characters of pasted hex that are read as digits. It leaves out blanks, line ends, commas, comments from
+-- `#`, the prefixes `0x` and `\x`, and `:` between bytes. It keeps every character after the first digit of a byte, so
+-- the two digits of a byte have to stand side by side.
 use Rattle.std.specs.Prelude.{ℕ, ◌==◌, ◌&&◌, ◌||◌, Bool, true, false, List, [], ◌∷◌, if◌then◌else◌}
 use Rattle.hex.specs.Hex.{is_hex_digit}
 use Rattle.cbor_inputs.specs.declared.loose.Mode.{Mode}

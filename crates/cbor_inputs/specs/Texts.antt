@@ -1,4 +1,5 @@
--- Which inputs are all text, beside RFC 3629. A text is the list of its bytes in UTF-8.
+-- `IsText`: an input is UTF-8 (RFC 3629) without control characters, except tabs, line feeds and carriage returns.
+-- `unmarked`: a text without its byte order mark. A text is the list of its bytes in UTF-8.
 use Rattle.std.specs.Prelude.{◌≡◌, ◌≢◌, ◌⊎◌, ◌==◌, ◌&&◌, ℕ, ◌+◌, ◌<◌, List, if◌then◌else◌, length, slice_index, drop}
 use Rattle.std.specs.Prelude.{IsUtf8}
 

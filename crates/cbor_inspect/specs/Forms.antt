@@ -1,4 +1,5 @@
--- For viewers, what is written of one item, in each form.
+-- `IsForm`: the output of a viewer for one whole item: EDN over several lines (`Pretty`) or on one (`Diag`), a dump
+-- (`Hex`), hex digits or bytes. Only `Pretty` has notes.
 use Rattle.std.specs.Prelude.{◌≡◌, ◌&&◌, ℕ, Bool, true, false, List, [], ◌∷◌, ◌++◌, Option, Some, None}
 use Rattle.hex.specs.Hex.{encode_lower}
 use Rattle.cbor_grammar.specs.Item.{Item}

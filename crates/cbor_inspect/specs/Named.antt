@@ -1,4 +1,5 @@
--- Why there is no item, at the end of a path, whose name is looked for.
+-- `HasNoName`: what the error says of the bytes if no name is found at the end of a path. `Cbor` says why they are not
+-- an item. `NoPart` says that they are an item; the path leads to no part of it.
 use Rattle.std.specs.Prelude.{ℕ, List}
 use Rattle.cbor_grammar.specs.Item.{Item}
 use Rattle.cbor_grammar.specs.Facts.{IsItem, IsNoItem}

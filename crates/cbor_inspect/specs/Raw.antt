@@ -1,4 +1,5 @@
--- For viewers, the content of a string.
+-- `raw_content`: the content of a byte or text string, with its chunks joined and the tags around it left out.
+-- `IsNoRaw`: why bytes have no such content.
 use Rattle.std.specs.Prelude.{◌≡◌, ℕ, List, Option, Some, None}
 use Rattle.std.specs.List.{flat_map}
 use Rattle.cbor_grammar.specs.Item.{Chunk, Item, atom, string, chunked_string, tagged}

@@ -1,4 +1,5 @@
--- For viewers, items by RFC 8949. Its section 3.3 forbids the byte 0xf8 before a byte below 32, which RFC 7049 allows.
+-- Items (`IsItem8949`) and sequences (`IsSequence8949`) by RFC 8949. Its section 3.3 forbids simple values below 32 in
+-- two bytes (0xf8 and the value), which RFC 7049 allows.
 use Rattle.std.specs.Prelude.{◌≡◌, ℕ, ◌+◌, ◌<◌, ◌≤◌, List, [], ◌∷◌, ◌++◌, length, take, slice_index}
 use Rattle.cbor_grammar.specs.Item.{Item}
 use Rattle.cbor_grammar.specs.Facts.{IsItem, BeginsWithItem}

@@ -1,4 +1,5 @@
--- What is written of an item, or of parts of it, and what the end of a check says.
+-- `Shows`: the output of a viewer for an item: all of it (`IsForm` of `Forms.antt`), or parts of it if there is a path.
+-- `ChecksSo`: whether the `End` of a check by RFC 8949 is true of the bytes that remain.
 use Rattle.std.specs.Prelude.{◌≡◌, ℕ, List, [], ◌∷◌, ◌++◌}
 use Rattle.hex.specs.Hex.{encode_lower}
 use Rattle.cbor_grammar.specs.Item.{Item}

@@ -1,5 +1,6 @@
-//! `Form` and `Style`: the form in which a viewer writes items, and the layout, widths and notes of
-//! their texts.
+//! `Form`: the form in which a viewer writes items, such as EDN, a dump or hex. `Style`: a form,
+//! and how EDN is written: with notes, with widths, with the items in byte strings, and in how many
+//! columns.
 ghost use Rattle.std.specs.Prelude.{◌≡◌};
 ghost use Rattle.cbor_inspect.specs.Forms.{edn_style};
 

@@ -1,5 +1,5 @@
-//! Writes the item at the front as EDN for `cborcat`. It looks for names only where the bytes may
-//! have some, and hands these to the EDN writer as notes.
+//! Writes the item at the front of bytes as EDN, with its names as notes if names are shown. It
+//! looks for names only if the bytes may have some.
 ghost use Rattle.std.specs.Prelude.{◌≡◌, ◌++◌, [], List, IfOk, IfErr, IfSome};
 ghost use Rattle.std.specs.String.{string_bytes};
 ghost use Rattle.cbor_grammar.specs.Item.{Item};

@@ -1,5 +1,5 @@
-//! Writes the parts of an item that a path leads to. If the output is bytes or hex digits, they
-//! stay as they are in the input.
+//! Writes the parts of an item that a path leads to. If the output is bytes or hex digits, the
+//! parts stay as they are in the input.
 ghost use Rattle.std.specs.Prelude.{◌≡◌, ◌++◌, ◌∷◌, ℕ, [], List, IfOk, IfErr, IfSome, OnOk, OnErr};
 ghost use Rattle.std.specs.String.{string_bytes};
 ghost use Rattle.hex.specs.Hex.{encode_lower};

@@ -1,6 +1,6 @@
--- JSON as a dialect of notation (RFC 8949 section 6.1): what is written of numbers, strings and what is round members.
--- A key is a text as it is, an integer by its digits, and anything else by its EDN, in which no width is stated and
--- chunks are joined.
+-- JSON as a dialect of notation (RFC 8949 section 6.1; `json_leaves`): how numbers and strings are written, what is
+-- written around members, and which byte strings are written as the item in them. A key that is a text is written as it
+-- is, an integer key by its digits, and any other key as its EDN, without widths and with its chunks joined.
 use Rattle.std.specs.Prelude.{◌≡◌, ◌⊎◌, ℕ, ◌+◌, List, [], ◌∷◌, ◌++◌, codes, Bool, true, false, Some, None, ◌&&◌, ◌||◌}
 use Rattle.std.specs.Prelude.{if◌then◌else◌, nat_le, nat_lt, ◌==◌, not, Option, length}
 use Rattle.std.specs.Float.{float_is_finite}

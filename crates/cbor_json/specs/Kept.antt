@@ -1,4 +1,5 @@
--- What JSON keeps of an item, whatever its widths and its kinds of length, and the first thing that it does not keep.
+-- Which items JSON keeps whole, apart from widths and kinds of length (`IsKept`), and the first thing in an item that
+-- JSON does not keep (`FirstLoss`), such as a tag or a byte string.
 use Rattle.std.specs.Prelude.{◌≡◌, ℕ, suc, ◌+◌, ◌<◌, List, length, Bool, true, false, Option, Some, None, Ok, IsTrue}
 use Rattle.std.specs.Prelude.{◌==◌, ◌||◌, if◌then◌else◌}
 use Rattle.std.specs.Float.{float_is_finite}

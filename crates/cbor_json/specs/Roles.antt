@@ -1,4 +1,6 @@
--- The role of an item in a text of JSON, as it changes from an item to those in it and after it.
+-- The `Role` of an item in JSON: a value, a key, the value of a key, or a part of a key. Each function takes the role
+-- of an item, and gives the role of another: the first member in it, the next member, the value of the key, or the item
+-- below the tag.
 use Rattle.cbor_notation_writer.specs.declared.parts.Container.{Container}
 use Rattle.cbor_notation_writer.specs.declared.parts.Container.TheVariants.{Map}
 use Rattle.cbor_json.specs.declared.print.place.Role.{Role}

@@ -1,4 +1,5 @@
--- What is written as JSON.
+-- Which texts may be written as the JSON of an item (`IsJsonText`), why bytes are not written as JSON (`IsNoJson`), and
+-- the results of a call that appends such a text (`GaveJson`).
 use Rattle.std.specs.Prelude.{◌≡◌, ◌⊎◌, List, ℕ, ◌++◌, false, Option, Some, None, Result, Ok, Err, IsTrue}
 use Rattle.std.specs.String.{string_bytes}
 use Rattle.json.specs.Json.{Json, document}

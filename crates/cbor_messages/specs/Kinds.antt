@@ -1,4 +1,4 @@
--- What is said of the kinds of violations, and their numbers.
+-- The number of each kind of violation (`kind_number`), and a short text for each number (`kind_text`).
 use Rattle.std.specs.Prelude.{ℕ, List, codes, ◌==◌, if◌then◌else◌}
 use Rattle.cbor_rules.specs.declared.kind.ViolationKind.{ViolationKind}
 use Rattle.cbor_rules.specs.declared.kind.ViolationKind.TheVariants as kind

@@ -1,4 +1,5 @@
--- The places of notes with names, which are counted from the end of the bytes.
+-- The order of notes (`AreInOrder`): the item of each note begins after the item of the note before it begins. The
+-- place of a note is counted from the end of the bytes, so the places fall (`Falls`, `FallsTo`).
 use Rattle.std.specs.Prelude.{ℕ, ◌<◌, ◌≤◌, List, [], ◌∷◌, suc}
 use Rattle.cbor_names.specs.declared.note.Note.{Note}
 use Rattle.cbor_names.specs.declared.note.Notes.{Notes}

@@ -1,4 +1,5 @@
--- The texts of tables of names, which are parts of one text.
+-- `text_of`: the bytes of a text in the tables of names (`Names`). The tables have all their texts in one string, and a
+-- `TextRange` says where a text begins and ends in it.
 use Rattle.std.specs.Prelude.{ℕ, List, slice_range}
 use Rattle.std.specs.String.{string_bytes}
 use Rattle.cbor_names.specs.declared.table.Names.{Names}

@@ -1,6 +1,6 @@
 //! `Note`: the name before an item and the meaning after it, with the place of the item. `Notes`:
-//! the notes of an item, in order. Finds the name of an item, and the names of all that a byte
-//! belongs to.
+//! the notes of an item, in order. Finds the name before an item, and the names of the tags,
+//! members and keys around a byte.
 
 ghost use Rattle.std.specs.Prelude.{◌≡◌, ℕ, IfOk};
 ghost use Rattle.cbor_names.specs.Falling.{AreInOrder, FallsTo, len_of};

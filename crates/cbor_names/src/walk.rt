@@ -1,6 +1,6 @@
 //! `notes`: walks over an item and collects its notes, which are names and meanings. It reads head
-//! after head. Each container, each tag and each byte string that holds an item is a call, at most
-//! 128 deep.
+//! after head. Each container, each tag and each byte string that holds an item is read by a
+//! recursive call, at most 128 deep.
 
 ghost use Rattle.std.specs.Prelude.{◌≡◌, ◌+◌, ◌^◌, ◌<◌, ◌≤◌, length, IfOk};
 ghost use Rattle.cbor_names.specs.Falling.{len_of};

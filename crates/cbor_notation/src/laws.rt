@@ -1,5 +1,6 @@
-//! States laws of reading diagnostic notation: the item that the definition reads from a text is
-//! one that the text encodes, and a text encodes at most one item. No code calls these functions.
+//! States laws of reading diagnostic notation. If the definition `notation_of` reads an item from a
+//! text, the text encodes this item. If it gives an error, a reader may give this error for the
+//! text. A text encodes at most one item. No code calls these functions.
 ghost use Rattle.std.specs.Prelude.{◌≡◌, ℕ, List};
 ghost use Rattle.cbor_grammar.specs.Item.{Item};
 ghost use Rattle.cbor_notation.specs.mirror.NotationReading.{notation_of};

@@ -1,6 +1,6 @@
-//! Reads a number of notation from a `Cursor`: its value and its encoding indicator, or the number
-//! of an unsigned or negative integer and its width. Returns an error if the number does not fit
-//! its width.
+//! Reads a number of notation from a `Cursor`. `read_number` returns its value and its encoding
+//! indicator. The other calls return the number in the head of an integer or a tag, and its width,
+//! or an error if the number does not fit this width.
 ghost use Rattle.std.specs.Prelude.{◌≡◌, ◌≢◌, ◌<◌, ℕ, length, IfOk, Ok, Err, MatchResult};
 ghost use Rattle.cbor_tokens.specs.Token.{capped};
 ghost use Rattle.cbor_grammar.specs.Head.{FitsWidth};

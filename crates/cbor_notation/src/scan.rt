@@ -1,5 +1,5 @@
 //! Skips blanks, a given byte or word, and the end of a list in notation, and reads the width of a
-//! container's count. Each function takes a text and returns the text after what it skips.
+//! container's count. The functions that skip take a text and return the text after what they skip.
 ghost use Rattle.std.specs.Prelude.{◌≡◌, ◌⊎◌, ◌<◌, ◌≤◌, length, position, not, IfOk, IfSome};
 ghost use Rattle.std.specs.Prelude.{option_map};
 ghost use Rattle.cbor_tokens.specs.Token.{is_whitespace};

@@ -1,4 +1,5 @@
--- What a dialect of notation writes: the texts of its leaves, and from these the texts of an item.
+-- `Leaves`: a dialect of notation. It has the texts of numbers, strings and tags, and what is written before, between
+-- and after members. `TextsAt`: the texts that an item has in a dialect. `Writes`: one of some texts was appended.
 use Rattle.std.specs.Prelude.{◌≡◌, ℕ, zero, suc, List, [], ◌∷◌, ◌++◌, length, Bool, true, false, Option, Some}
 use Rattle.std.specs.Prelude.{None, Result, MatchResult, nat_lt, if◌then◌else◌}
 use Rattle.std.specs.Io.{StartsWith}

@@ -2,11 +2,11 @@
 //! length from the bytes that come next. The file `encode/notation/estimate.rt` of `cbor_diag`
 //! makes the same estimate from items.
 //!
-//! Each function takes a budget of characters. It returns how much of the budget its part leaves,
-//! and the bytes after that part. It returns `None` if the part takes all of the budget, or if the
-//! bytes are truncated or malformed. In the last two cases any result will do: the caller reads the
-//! same bytes next, and finds the error. Strings are skipped by their length, and texts are not
-//! tested for UTF-8.
+//! The functions that return an `Ahead` take a budget of characters. They return how much of the
+//! budget their part leaves, and the bytes after that part. They return `None` if the part takes
+//! all of the budget, or if the bytes are truncated or malformed. In the last two cases any result
+//! will do: the caller reads the same bytes next, and finds the error. Strings are skipped by their
+//! length, and texts are not tested for UTF-8.
 //!
 //! Each head takes at least two characters of the budget. So one look reads fewer heads than half
 //! of the limit (30 for a limit of 60), however long or deep the container is.

@@ -1,9 +1,9 @@
 //! Writes an item straight from its bytes, in any dialect of notation. Each part is written as soon
 //! as it is read, and no item is built. The dialect decides which containers are on one line.
 //!
-//! Each function takes the remaining bytes and returns those after what it wrote. What was written
-//! before an error stays. The same functions write the items that are embedded in a byte string. If
-//! these cannot be read, their text is removed again.
+//! The functions whose names end in `_front` take the remaining bytes and return those after what
+//! they wrote. What was written before an error stays. The same functions write the items that are
+//! embedded in a byte string. If these cannot be read, their text is removed again.
 #![tactic(auto, using(cbor_tokens::proofs::texts::Appending::appending_steps))]
 
 ghost use Rattle.std.specs.Prelude.{◌≡◌, ◌+◌, ◌*◌, ◌<◌, ◌≤◌, ◌^◌, IfOk, IfErr, OnErr, true, false};

@@ -1,5 +1,6 @@
 //! Writes CBOR bytes as diagnostic notation (RFC 7049 section 6), in any dialect, without building
-//! an item. The proofs show that the text written for an item is a text of its normal form.
+//! an item. The proofs show that a text in the dialect of `cbor_view` reads back as the normal form
+//! of the item, which is what a text keeps of an item.
 #![tactic(auto)]
 
 pub mod ahead;

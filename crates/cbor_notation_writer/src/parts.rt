@@ -1,5 +1,6 @@
-//! Types for what a dialect of notation writes. `Front`: the head of an item, with the bytes from
-//! there on. `Leaf`: a number, a float or a simple value. `Container`: an item that has members.
+//! Types for what a dialect of notation writes. `Front`: the head of an item, the bytes from the
+//! item on, and the bytes after the head. `Leaf`: a number, a float or a simple value. `Container`:
+//! an item that has members.
 
 use cbor_grammar::argument::Argument;
 use cbor_grammar::head::ItemHead;

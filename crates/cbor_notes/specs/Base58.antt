@@ -1,4 +1,5 @@
--- Base 58, in the alphabet of Bitcoin's addresses, which has no `0`, `I`, `O` and `l`.
+-- `base58_of`: the text of bytes in base 58, with the alphabet of Bitcoin's addresses, which has no `0`, `I`, `O` or
+-- `l`.
 use Rattle.std.specs.Prelude.{ℕ, ◌==◌, ◌<◌, List, [], ◌∷◌, ◌++◌, map, replicate, length, take_while, slice_index, codes}
 use Rattle.std.specs.Int.Digits.{digits_of, number_from_digits}
 use Rattle.cbor_tokens.specs.Ascii.{digit_one}

@@ -1,5 +1,7 @@
--- Dates and times of day, as texts and as the days and seconds since 1970-01-01. The dates, and the number of the day
--- of each, are those of `jiff`.
+-- `date_of_epoch`: the text of the date that is a number of days after 1970-01-01. `epoch_of_date`: the number of days,
+-- from the text. `datetime_of_epoch`: the text of the moment in UTC that is a number of seconds after
+-- 1970-01-01T00:00:00Z; the way back is in `DateTime.antt`. The dates, and the number of the day of each, are those of
+-- `jiff`.
 use Rattle.std.specs.Prelude.{◌≡◌, ℕ, ◌+◌, ◌*◌, ◌/◌, ◌%◌, ◌≤◌, suc, ℤ, pos, negsuc, ◌+ℤ◌, ◌*ℤ◌, ◌≤ℤ◌, int_le}
 use Rattle.std.specs.Prelude.{unsigned_abs, Bool, true, false, ◌&&◌, if◌then◌else◌, Option, Some, None, option_map}
 use Rattle.std.specs.Prelude.{List, [], ◌∷◌, ◌++◌, codes, bytes_eq}

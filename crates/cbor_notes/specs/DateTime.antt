@@ -1,5 +1,5 @@
--- The texts of a date, a time of day and an offset from UTC, by RFC 3339, and the seconds since 1970-01-01T00:00:00Z
--- that they name.
+-- `epoch_of_datetime`: the seconds since 1970-01-01T00:00:00Z that a text of RFC 3339 names. The text has a date, a
+-- time of day and an offset from UTC (`IsDateTimeText`). The way back is in `Date.antt`.
 use Rattle.std.specs.Prelude.{IsTrue, ◌≡◌, ◌⊎◌, ℕ, ◌+◌, ◌*◌, ◌<◌, ◌≤◌, ℤ, pos, neg_ℤ, ◌-ℤ◌, ◌≤ℤ◌, int_le, Bool, ◌&&◌}
 use Rattle.std.specs.Prelude.{◌||◌, Option, Some, None, option_map, option_and_then, List, [], ◌∷◌, ◌++◌, length, take}
 use Rattle.std.specs.Prelude.{drop, take_while, get_or, replicate, codes, bytes_eq, nat_eq, ◌==◌, if◌then◌else◌}

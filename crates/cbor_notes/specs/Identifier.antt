@@ -1,4 +1,5 @@
--- The texts that describe a UUID. RFC 4122, section 4.1, defines where its variant and version are.
+-- The four lines that describe a UUID (`uuid_lines`): its variant and version, and its bytes in base 16, base 58 and
+-- base 64. RFC 4122, section 4.1, defines where the variant and the version are.
 use Rattle.std.specs.Prelude.{ℕ, false, Option, Some, None, List, [], ◌∷◌, ◌++◌, slice_index, codes, decimal}
 use Rattle.base64.specs.Rfc4648.{encode}
 use Rattle.uuid.specs.Parts.{variant_of, version_of}

@@ -1,4 +1,4 @@
--- A few lines of a dump in columns, for examples.
+-- Four lines of a dump (`head`, `number`, `bare` and `deep`), for the examples of `examples.rt`.
 use Rattle.std.specs.Prelude.{[], codes}
 use Rattle.cbor_notes.specs.Layout.{DumpLine}
 

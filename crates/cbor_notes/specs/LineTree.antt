@@ -1,4 +1,5 @@
--- The lines of a tree of lines, in the columns of a dump, and which trees can be laid out.
+-- `tree_lines`: the lines of a dump that a `Line` stands for: the line itself, and then the lines below it, one level
+-- deeper. `Fits`: a tree can be laid out: its levels and the hex digits of each line are within the limits.
 use Rattle.std.specs.Prelude.{ℕ, ◌+◌, ◌<◌, ◌≤◌, List, ◌∷◌, length, string_bytes, flat_map}
 use Rattle.std.specs.List.{AllByRecursion}
 use Rattle.std.specs.Str.{IsAscii}

@@ -1,4 +1,6 @@
--- The first of several numbers for which something is found, for the search of a date.
+-- `first_found` applies a function to 0, 1 and so on, below a limit, and returns the first result that is not `None`.
+-- `first_minute` does the same for the hours and minutes of a day. The definitions of dates read texts by these
+-- searches.
 use Rattle.std.specs.Prelude.{ℕ, zero, suc, Option, None}
 use Rattle.std.specs.Option.{option_or}
 

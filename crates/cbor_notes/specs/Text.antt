@@ -1,4 +1,5 @@
--- How bytes, text and numbers are written in a comment.
+-- How comments show bytes, texts and numbers: bytes between quotes (`quoted_bytes`), texts with escapes
+-- (`escaped_text`), bytes as hex digits (`spaced_hex`), and numbers in groups of three digits (`grouped`).
 use Rattle.std.specs.Prelude.{◌≡◌, ◌<◌, ◌≤◌, ℕ, ◌%◌, ◌==◌, ◌&&◌, ◌||◌, nat_lt, nat_le, Bool, List, [], ◌∷◌, ◌++◌}
 use Rattle.std.specs.Prelude.{length, take, drop, if◌then◌else◌, codes, decimal, false, flat_map, encode_utf8}
 use Rattle.std.specs.List.{AllByRecursion, concat}

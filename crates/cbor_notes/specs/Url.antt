@@ -1,4 +1,4 @@
--- Which texts are URLs: those that the URL Standard's parser in `url` accepts.
+-- `is_url`: a text is a URL if the parser of `url`, which follows the URL Standard, accepts it.
 use Rattle.std.specs.Prelude.{Bool, List, ℕ, None, is_ok}
 use Rattle.url.specs.Parser.{parse_url}
 

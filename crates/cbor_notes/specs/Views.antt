@@ -1,4 +1,5 @@
--- The kind of elements that each variant of the code's own enum stands for, and the bytes that the code searches for.
+-- For `element.rt`: the kind of elements that a variant of the code's own enum `Kind` stands for (`kind_view`). For
+-- `text.rt`: the bytes with which a character that needs an escape may begin (`begins_escape`).
 use Rattle.std.specs.Prelude.{ℕ, Bool, ◌==◌, ◌||◌, nat_lt}
 use Rattle.cbor_tokens.specs.Ascii.{quote, backslash}
 use Rattle.cbor_notes.specs.declared.element.Kind.TheVariants as own_kind

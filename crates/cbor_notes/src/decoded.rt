@@ -1,4 +1,4 @@
-//! Writes the bytes that a base 64 text encodes as lines for comments: hex digits, and the bytes
+//! Decodes a base 64 text and writes the bytes as lines for comments: hex digits, and the bytes
 //! between quotes (`base64_lines`).
 ghost use Rattle.std.specs.Prelude.{◌≡◌, ◌≢◌, ◌*◌, ◌≤◌, ℕ, List, length, map, option_map};
 ghost use Rattle.std.specs.Prelude.{IfSome, IfNone, IfOk, IsSomeAnd};

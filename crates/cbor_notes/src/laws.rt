@@ -1,5 +1,5 @@
-//! States laws of dates: day numbers, dates, moments and their texts agree with each other and with
-//! the kit's `jiff`. No code calls these functions.
+//! States laws of dates: numbers of days and seconds, dates and times, and their texts agree with
+//! each other and with the dates of the kit's crate `jiff`. No code calls these functions.
 ghost use Rattle.std.specs.Prelude.{◌≡◌, ℕ, ◌<◌, ℤ, pos, List, IfSome};
 ghost use Rattle.std.specs.Prelude.{IsSome};
 ghost use Rattle.std.specs.Int.{int_div_euclid};

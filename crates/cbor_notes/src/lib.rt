@@ -1,7 +1,7 @@
 //! Writes the texts of comments on CBOR data: numbers in groups, escaped bytes and texts, base 58,
-//! addresses, UUIDs, dates, the elements of typed arrays and the names of tags. It tests whether a
-//! text is a URL, and lays out the lines of dumps in columns. It re-exports calls of `cbor_tokens`:
-//! base 32, base 64, hex digits, and the tokens of diagnostic notation.
+//! addresses, UUIDs, dates, decoded base 64, the elements of typed arrays and the names of tags. It
+//! tests whether a text is a URL, and lays out the lines of dumps in columns. It re-exports calls
+//! of `cbor_tokens`: base 32, base 64, hex digits, and the tokens of diagnostic notation.
 //!
 //! ```rust
 //! use cbor_notes::grouped;
@@ -10,9 +10,9 @@
 //! assert_eq!(rt; count.as_str(), "1,000,000");
 //! ```
 //!
-//! A call that allocates takes an allocator first and returns `AllocError` if an allocation fails.
-//! Every other result depends on its arguments alone. In the examples of this crate, `rt` is the
-//! `HostRuntime` of a test, and `alloc` is `rt.alloc()`.
+//! A call that allocates takes an allocator or the text that it appends to, and returns
+//! `AllocError` if an allocation fails. Every other result depends on its arguments alone. In the
+//! examples of this crate, `rt` is the `HostRuntime` of a test, and `alloc` is `rt.alloc()`.
 #![tactic(auto)]
 
 mod address;

@@ -1,4 +1,6 @@
--- What is written of lines: constant pieces, and text, bytes and other data, which are escaped.
+-- `IsMarkup`: the HTML of lines of a page is pieces: constants (`mark_text`), text and other data with `&`, `<`, `>`
+-- and `"` escaped (`escaped`), and bytes in hex (`spaced`). The texts joined are a given text, and the bytes joined are
+-- given bytes.
 use Rattle.std.specs.Prelude.{◌≡◌, ◌==◌, ℕ, List, [], ◌∷◌, ◌++◌, if◌then◌else◌, codes, flat_map}
 use Rattle.hex.specs.Hex.{encode_lower}
 use Rattle.cbor_page.specs.declared.mark.Mark.{Mark}

@@ -1,4 +1,6 @@
--- How far a text and its bytes are written.
+-- How far the text and the bytes of a `Source` are written (`Done`): not past their ends (`IsWithin`), or up to them
+-- (`IsAll`). `Writes`: the output grew by markup of the text and the bytes between two places. `ShowsTo`: it grew by
+-- markup of any text and of the bytes between two places.
 use Rattle.std.specs.Prelude.{◌≡◌, ◌≤◌, ◌-◌, ℕ, List, ◌++◌, length, take, drop}
 use Rattle.cbor_page.specs.declared.source.Source.{Source}
 use Rattle.cbor_page.specs.declared.source.Done.{Done}

@@ -1,4 +1,6 @@
--- Of items one after the other, why no further one is written or passed.
+-- `StopsSo`: whether an `End` is true of the bytes that remain after the items of a sequence, such as `Done` if there
+-- are none, `Cut` if they are truncated, and `Fault` if they are malformed. `EndsSo` also allows `Full`, which says
+-- nothing of these bytes.
 use Rattle.std.specs.Prelude.{◌≡◌, ◌≢◌, ℕ, ◌<◌, List, [], take}
 use Rattle.cbor_grammar.specs.declared.error.Error.{Error}
 use Rattle.cbor_grammar.specs.Item.{Item}

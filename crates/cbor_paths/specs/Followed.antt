@@ -1,4 +1,4 @@
--- The parts of an item that a path leads to.
+-- `IsPart`: the bytes of a part that a path leads to (`Found`) are an item. It does not say to which part a path leads.
 use Rattle.std.specs.Prelude.{◌≡◌, ℕ, ◌+◌, List, drop}
 use Rattle.cbor_grammar.specs.Item.{Item}
 use Rattle.cbor_grammar.specs.Facts.{BeginsWithItem}

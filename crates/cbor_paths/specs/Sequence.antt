@@ -1,4 +1,6 @@
--- For viewers, items one after the other (RFC 8742), what is written of them, and where they end.
+-- Sequences of items (RFC 8742): `IsSequence`, and `IsStrictSequence`, in which no simple value below 24 takes two
+-- bytes. `IsShownOfFirst`: the output is what a viewer writes for some items at the front of the input, in order, and a
+-- given rest follows these items.
 use Rattle.std.specs.Prelude.{◌≡◌, ◌⊎◌, ℕ, List, [], ◌∷◌, ◌++◌}
 use Rattle.cbor_grammar.specs.Item.{Item}
 use Rattle.cbor_grammar.specs.Facts.{IsItem, IsStrictItem, BeginsWithItem}

@@ -1,4 +1,5 @@
--- What `--at` shows of the place of a byte: a head as a line of a dump has it, its bytes, and what it is.
+-- The line that `cborcat --at` shows for a head (`head_line`): the bytes of the head in hex, and what it is in words,
+-- such as `array(2)` (`IsHeadWords`). A head that is a whole item is shown in EDN.
 use Rattle.std.specs.Prelude.{◌≡◌, ℕ, List, [], ◌∷◌, ◌++◌, codes}
 use Rattle.std.specs.Fmt.{decimal}
 use Rattle.std.specs.List.{flat_map}

@@ -1,5 +1,5 @@
--- Rules of an encoding where keys are compared by value, and not by their bytes alone: which bytes keep the rules, and
--- what violates them.
+-- Which bytes keep rules (`KeepsWithKeys`) and what violates them (`IsViolation`), if keys are compared by value, and
+-- not by their bytes alone: 1 and 1_0 are the same key.
 use Rattle.std.specs.Prelude.{◌≡◌, ◌⊎◌, ℕ, IsTrue, List, Option, Some, None}
 use Rattle.cbor_rules.specs.declared.rules.Rules.{Rules}
 use Rattle.cbor_rules.specs.declared.kind.Violation.{Violation}

@@ -1,5 +1,6 @@
--- Re-encoding numbers to the one form that rules leave them: a float with an integer value becomes that integer, there
--- is one NaN, and a big number becomes an integer if it fits, and otherwise loses its leading zero bytes.
+-- The form of numbers that rules may ask for (`reduced_item`): a float with an integer value becomes that integer, a
+-- NaN becomes f97e00, and a big number becomes an integer if it fits, or else loses its leading zero bytes.
+-- `IsSameNumbered`: items that are the same apart from these forms and their encoding.
 use Rattle.std.specs.Prelude.{ℕ, ◌+◌, ◌-◌, ◌*◌, ◌^◌, Bool, ◌&&◌, ◌||◌, ◌==◌, nat_lt, if◌then◌else◌, is_nan, List}
 use Rattle.std.specs.Prelude.{[], ◌∷◌}
 use Rattle.std.specs.Prelude.{Option, Some, None}

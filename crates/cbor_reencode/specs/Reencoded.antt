@@ -1,4 +1,6 @@
--- When bytes are a re-encoding of other bytes by some rules: they have the same items, and keep the rules.
+-- Which bytes are a re-encoding of other bytes by rules (`IsReencoded`): they have the same items, and keep all of the
+-- rules but `nfc` and `distinct_keys`. Also the rules that re-encoding cannot repair (`lasting`), and bytes in which no
+-- two keys of a map are equal by value (`KeysOnce`).
 use Rattle.std.specs.Prelude.{◌≢◌, ℕ, IsTrue, List, [], false}
 use Rattle.cbor_grammar.specs.Item as spec
 use Rattle.cbor_grammar.specs.Item.{Item, atom, array, tagged, Items, no_items, item, Pairs, no_pairs, pair}

@@ -1,6 +1,6 @@
-//! Re-encodes items from left to right, and checks the result. Each container is a call of
-//! [`Encoder::push_item`], at most 128 deep. `lasting`: the rules that re-encoding cannot repair,
-//! which are checked first.
+//! Re-encodes items from left to right, and checks the result. [`Encoder::push_item`] writes
+//! containers by recursion, at most 128 levels deep. `lasting`: the rules that re-encoding cannot
+//! repair, which are checked first.
 ghost use Rattle.std.specs.Prelude.{◌≡◌, ◌++◌, ◌+◌, ◌<◌, ◌≤◌, length, [], Ok, IfOk};
 ghost use Rattle.std.specs.Prelude.{MatchResult, Some, ◌⊎◌};
 ghost use Rattle.std.specs.List.Sorted.{IsPermutation};

@@ -1,6 +1,6 @@
 -- The first violation of the rules, as a function that reads the bytes from left to right, head by head. A head is
--- tested before the items inside it. A key is compared with the previous key once the whole key is read. Which bytes
--- have no violation is the clause `none` of the call `violation` in `src/check.rt`.
+-- tested before the items inside it. A key is compared with the previous key once the whole key is read. The clause
+-- `none` of `violation` in `src/check.rt` says which bytes have no violation.
 use Rattle.std.specs.Prelude.{ℕ, zero, suc, ◌-◌, List, [], ◌∷◌, length, take, Option, Some, None}
 use Rattle.std.specs.Prelude.{Bool, false, ◌&&◌, ◌||◌, Result, Ok, Err, nat_lt, nat_le, ◌==◌, if◌then◌else◌, not}
 use Rattle.std.specs.Prelude.{is_nan, chars, bytes_eq}

@@ -1,5 +1,5 @@
--- Which items keep the rules, by the item alone (RFC 8949 sections 4.1 and 4.2). The item is as its bytes have it: its
--- widths are those of its heads.
+-- Which items keep the rules (`Keeps`; RFC 8949 sections 4.1 and 4.2), and which bytes encode such items
+-- (`KeepsRules`). An item has the widths and the kinds of length that its bytes have.
 use Rattle.std.specs.Prelude.{◌≡◌, ◌≢◌, ℕ, ◌+◌, ◌<◌, ◌≤◌, List, [], length, Option, Some, None, false, IsTrue}
 use Rattle.std.specs.Prelude.{◌⊎◌, is_nan, chars, slice_index}
 use Rattle.std.specs.List.{AllByRecursion}

@@ -1,4 +1,5 @@
--- The orders of keys that rules ask for, by their encodings (RFC 8949 sections 4.2.1 and 4.2.3, CTAP 2.1 section 8).
+-- The orders of the keys of a map that rules ask for. `key_cmp` compares the encodings of two keys (RFC 8949 sections
+-- 4.2.1 and 4.2.3, CTAP 2.1 section 8).
 use Rattle.std.specs.Prelude.{ℕ, ◌/◌, List, [], ◌∷◌, length}
 use Rattle.std.specs.declared.cmp.Ordering.{Ordering}
 use Rattle.std.specs.declared.cmp.Ordering.TheVariants.{Less}

@@ -1,5 +1,5 @@
--- Items that are the same but for what rules of an encoding may choose: widths, kinds of length, and the order of
--- pairs.
+-- Which items are the same but for their encoding (`IsSame`): widths, kinds of length and the order of pairs may
+-- differ. `IsDeterministic`: rules that leave an encoding no choice but the widths of floats.
 use Rattle.std.specs.Prelude.{◌≡◌, ◌≢◌, ℕ, Bool, true, false, List, [], IsTrue}
 use Rattle.std.specs.List.{flat_map}
 use Rattle.cbor_grammar.specs.declared.width.IntegerWidth.TheVariants as width

@@ -1,5 +1,5 @@
--- What the sets of rules that have a name are, rule by rule: each is a column of the table of docs/RULES.md. The laws
--- of `laws.rt` say that the constants of `Rules` are these.
+-- The named sets of rules, such as `core` and `dcbor`, rule by rule. Each set is a column of the table in
+-- docs/RULES.md. The laws of `laws.rt` say that the constants of `Rules` are these sets.
 use Rattle.std.specs.Prelude.{true, false}
 use Rattle.cbor_rules.specs.declared.rules.Rules.{Rules}
 use Rattle.cbor_rules.specs.declared.rules.KeyOrder.TheVariants.{Any, Bytes, Length, MajorType}

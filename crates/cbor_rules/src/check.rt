@@ -1,10 +1,10 @@
-//! Finds the first violation of `Rules`. Each array, map and tag is a call, at most 128 deep; other
-//! items are read in the loop of their container. The call for a map keeps the place of its last
-//! key and, if no key may stand twice, of each key.
+//! Finds the first violation of `Rules`. Each array, map and tag is read by a recursive call, at
+//! most 128 deep; other items are read in the loop of their container. The call for a map keeps the
+//! place of its last key and, if no key may stand twice, of each key.
 //!
-//! Each function takes the remaining bytes and returns those after what it read. To stop, it
-//! returns `None` and writes why into `stop`, so that a violation, which is large, is not copied
-//! through each call.
+//! A function that reads past an item or a part of one takes the remaining bytes and returns those
+//! after it. To stop, it returns `None` and writes why into `stop`, so that a violation, which is
+//! large, is not copied through each call.
 mod strings;
 
 ghost use Rattle.std.specs.Prelude.{◌≡◌, ◌≢◌, ℕ, suc, ◌<◌, ◌≤◌, length, Some, None, Ok, Err};

@@ -1,4 +1,4 @@
-//! `Parts`: the members of an array or a tag, or the pairs of a map, with their count. Counts for
+//! `Parts`: how many members an array or a tag has, or how many pairs a map has. Counts for
 //! `check.rt` how many are still to come.
 ghost use Rattle.std.specs.Prelude.{◌≡◌, ◌≤◌, length, IfSome, option_map};
 ghost use Rattle.cbor_grammar.specs.Reading.{after_members, one_less};

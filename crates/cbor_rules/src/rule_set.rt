@@ -1,5 +1,6 @@
 //! `RuleSet`: a set of rules with a name, such as `dcbor`, and the first words of its error
-//! messages. Finds a set by its name. `RULES` and `ENCODINGS` list the names.
+//! messages. Finds a set by its name. `RULES` lists the names of the sets, and `ENCODINGS` those of
+//! the sets that items can be encoded by.
 
 use crate::rules::Rules;
 

@@ -1,4 +1,5 @@
--- What a `Checker` says of bytes, by the definition of what fits.
+-- `fits`: whether bytes encode an item that fits the schema of a `Checker`, as `Fits.antt` of `cbor_fits` defines it.
+-- There is no answer (`None`) if rules and items are nested more than 700 deep.
 use Rattle.std.specs.Prelude.{ℕ, List, Bool, Option}
 use Rattle.cbor_fits.specs.Fits.{accepts}
 use Rattle.cbor_fits.specs.Tables.{rules}

@@ -1,6 +1,6 @@
-//! `Blame`: collects the places where an item does not fit, and keeps the one to report. That is
-//! the one after the most bytes that fit, and of several the last in the data. Also counts the
-//! alternatives that came less far (`Tried`).
+//! `Blame`: collects the places where an item does not fit, and keeps the one to report: the place
+//! before which the most bytes fit, or, of several such places, the last in the data. `Tried`:
+//! counts the alternatives of a choice that came less far.
 
 use cbor_cddl::Span;
 use std::alloc::{AllocError, Global};

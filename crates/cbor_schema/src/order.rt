@@ -1,6 +1,7 @@
-//! Sorts the pairs of a map by the core encodings of their keys (RFC 8949, section 4.2.1), however
-//! these are encoded. Keys that are arrays or maps are in the order of their bytes, and tags in the
-//! order of their numbers, then of their bytes.
+//! Sorts the pairs of a map by the core deterministic encodings of their keys (RFC 8949, section
+//! 4.2.1), whatever encodings the keys have. But keys that are arrays or maps are sorted by their
+//! own bytes, and tags by their numbers, then by their bytes. Also finds a key that the map has
+//! twice.
 
 use crate::items::{Items, Kind};
 use cbor_floats::EncodedFloat;

@@ -1,4 +1,5 @@
--- What a text in colours is.
+-- `IsColored`: one text is another in colours. The text is split into spans, and each span that is not `Plain` has an
+-- escape sequence before and after it (`in_color`). Such a span contains no line feed.
 use Rattle.std.specs.Prelude.{◌≡◌, ◌≢◌, ℕ, ◌<◌, List, [], ◌∷◌, ◌++◌, length, slice_index}
 use Rattle.cbor_screen.specs.declared.kind.Kind.{Kind}
 use Rattle.cbor_screen.specs.declared.kind.Kind.TheVariants as kind

@@ -1,4 +1,5 @@
--- What a text is whose long strings are cut.
+-- `IsElided`: one text is another with some long strings cut. `...` stands for the part of a string that is left out,
+-- and a note after the string says how many bytes it has.
 use Rattle.std.specs.Prelude.{◌≡◌, ◌⊎◌, ℕ, ◌<◌, List, ◌++◌, length, codes}
 use Rattle.std.specs.Fmt.{decimal}
 use Rattle.cbor_screen.specs.Tokens.{InTokens}

@@ -1,4 +1,5 @@
--- Select Graphic Rendition, of ECMA-48: a sequence is ESC [, parameters, and m. A text is the list of its bytes.
+-- `without_sgr`: a text without the escape sequences that set colours (Select Graphic Rendition, of ECMA-48): ESC [,
+-- parameters, and `m`. It leaves out all bytes from an ESC to the next `m`. A text is the list of its bytes.
 use Rattle.std.specs.Prelude.{ℕ, ◌==◌, not, Bool, true, false, List, [], ◌∷◌, if◌then◌else◌}
 
 -- what is left of a text without its sequences, each from an ESC (27) to the next m (109); whether the text begins

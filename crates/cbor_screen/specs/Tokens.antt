@@ -1,4 +1,5 @@
--- Texts in tokens. Each may be shown in another way.
+-- `InTokens`: a text is split into tokens, and a second text shows each of them in a way that a given relation allows.
+-- `Elided.antt` and `Widthless.antt` give such relations.
 use Rattle.std.specs.Prelude.{◌≡◌, ℕ, List, [], ◌∷◌, ◌++◌}
 
 -- A token, and what is shown of it.

@@ -1,4 +1,5 @@
--- A text with encoding indicators left out.
+-- `IsWidthless`: one text is another without some of its encoding indicators that state a width (`_0` to `_3`, and
+-- `_i`). A blank after such an indicator may be left out, too.
 use Rattle.std.specs.Prelude.{◌≡◌, ◌⊎◌, ℕ, ◌≤◌, List, [], ◌++◌, length, slice_index, codes}
 use Rattle.cbor_screen.specs.Tokens.{InTokens}
 

@@ -1,5 +1,6 @@
-//! `Language`: EDN, a dump, or paths with EDN. Splits a line of it into tokens, each with its kind.
-//! The files that colour texts, cut strings and leave out widths use it.
+//! `Language`: what a text is written in: EDN, a dump, or paths with EDN. Its call `token` returns
+//! the token at the front of a line, with its kind. The files that colour texts, cut strings and
+//! leave out widths use it.
 ghost use Rattle.std.specs.Prelude.{◌≡◌, ◌+◌, ◌<◌, ◌≤◌, length};
 
 use crate::kind::Kind;

@@ -1,5 +1,5 @@
-//! Counts which paths take the bytes of items. For each path it finds how many values there are,
-//! their bytes and kinds, and the least and greatest number and length.
+//! Counts the values in items by their paths. For each path it finds how many values there are, how
+//! many bytes they take, their kinds, and the least and greatest number and length.
 //!
 //! ```rust
 //! use cbor_places::{Entered, Piece};

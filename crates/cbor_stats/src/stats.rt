@@ -1,5 +1,6 @@
-//! `Stats`: counts the values of items by their paths, and writes a line for each path, the one
-//! that takes the most bytes first. If there are more than 10,000 paths, the others share one line.
+//! `Stats`: counts the values of items by their paths, and writes a line for each path. The path
+//! that takes the most bytes comes first. Once there are 10,000 paths, all further paths share one
+//! line.
 
 use crate::entry::Entry;
 use cbor_edn_writer::EdnStyle;

@@ -1,4 +1,5 @@
-//! Tests that each float of 16 bits stays the same when it is turned into a number and back.
+//! Tests that each float of 16 bits stays the same when it is turned into a number and back, but
+//! for a NaN, which gets its usual bits. Each of these numbers is also a float of 32 bits.
 
 use cbor_floats::{half_of, half_value, nearest_half, single_of};
 

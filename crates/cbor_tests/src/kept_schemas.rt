@@ -1,5 +1,5 @@
-//! Tests of schemas in bytes: what is read back is the same, and bytes that are no schema are an
-//! error.
+//! Tests that a schema written as bytes is read back unchanged, and that the bytes are an error if
+//! they are truncated or have one more byte.
 
 use cbor_cddl::{Schema, Unread};
 use std::alloc::{AllocError, Global};

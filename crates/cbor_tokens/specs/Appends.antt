@@ -1,4 +1,5 @@
--- For all crates: what memory holds after a call that appends, also after an error.
+-- For all crates: what memory holds after a call that appends (`Appends`; `AppendsText`, for texts). After `Ok` it
+-- holds the old bytes and then the appended ones. After an error it begins with the old bytes.
 use Rattle.std.specs.Prelude.{◌≡◌, ℕ, List, ◌++◌, Result, MatchResult}
 use Rattle.std.specs.Io.{StartsWith}
 use Rattle.std.specs.String.{string_bytes}

@@ -1,4 +1,6 @@
--- The content of a text between quotes, with escapes, as JSON and EDN write it.
+-- Texts with escapes. `escaped_text` is a text as JSON and EDN write it between quotes: the quote, the backslash and
+-- hidden characters are escaped. `shown_text` is lines of text: only hidden characters other than line feeds are
+-- escaped. `is_hidden` says which characters are hidden.
 use Rattle.std.specs.Prelude.{ℕ, ◌/◌, ◌%◌, ◌==◌, ◌&&◌, ◌||◌, nat_le, Bool, List, [], ◌∷◌, ◌++◌, if◌then◌else◌, codes}
 use Rattle.std.specs.Prelude.{flat_map, encode_utf8, not}
 use Rattle.std.specs.Str.{chars}

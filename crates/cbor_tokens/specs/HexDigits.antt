@@ -1,4 +1,5 @@
--- The bytes that hex digits encode, or none; and the values of digits, as tables have them.
+-- `base16_of`: the bytes that hex digits encode, or `None`. `digits_value`: the value of two hex digits, as the tables
+-- of `hex_digits.rt` have it; it is 256 or more if one of them is not a digit.
 use Rattle.std.specs.Prelude.{ℕ, ◌+◌, ◌*◌, List, Option, Some, None, Result, Ok, Err}
 use Rattle.hex.specs.Hex.{decode_of, hex_digit_value}
 use Rattle.hex.specs.declared.error.FromHexError.{FromHexError}

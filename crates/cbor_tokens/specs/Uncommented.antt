@@ -1,4 +1,5 @@
--- The text that is left of hex without its blanks and comments, for all calls that read hex.
+-- `uncommented`: hex with comments, without its comments, spaces and line ends. A comment begins at `#` and goes up to
+-- the end of the line. All calls that read hex use this definition.
 use Rattle.std.specs.Prelude.{◌≢◌, ℕ, ◌==◌, not, List, filter, flat_map}
 use Rattle.std.specs.List.{All, before_first}
 use Rattle.std.specs.Str.Lines.{lines}

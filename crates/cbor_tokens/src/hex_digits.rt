@@ -3,7 +3,7 @@
 //!
 //! Converting digits takes most of the time that a long byte string takes. One table has both
 //! digits of each byte, and two tables have the values of the digits, so a byte takes few
-//! instructions and no branch. The definitions are those of the kit's crate `hex`.
+//! instructions and no branch. The contracts cite the definitions of the kit's crate `hex`.
 ghost use Rattle.std.specs.Prelude.{◌≡◌, ◌≤◌, ◌<◌, ◌+◌, ◌*◌, ◌++◌, ℕ, List, length, Ok, option_map};
 ghost use Rattle.std.specs.Prelude.{IfOk, IsTrue, OnOk, OnErr};
 ghost use Rattle.std.specs.Bool.{IsFalse};

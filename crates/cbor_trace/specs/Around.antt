@@ -1,4 +1,6 @@
--- Which containers are open at a byte, found by reading from left to right.
+-- Which containers are open at a byte, by reading from left to right. `IsPartAt`: the byte is in this part of the item
+-- at a spot. `IsWay`: the byte is in these parts, from the outermost to the innermost, and in no smaller one.
+-- `IsHeadAt`: the head at a place, and where it ends. `EndsAt`: where the item at a spot ends.
 use Rattle.std.specs.Prelude.{◌≡◌, ℕ, zero, suc, ◌+◌, ◌*◌, ◌<◌, ◌≤◌, List, [], ◌∷◌, length, drop, None, Ok}
 use Rattle.cbor_grammar.specs.declared.argument.Argument.{Argument}
 use Rattle.cbor_grammar.specs.declared.argument.Argument.TheVariants.{Number, Indefinite}

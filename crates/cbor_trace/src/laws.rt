@@ -1,5 +1,7 @@
-//! States laws of the containers that are open at a byte: before the part that contains the byte
-//! come the head of the container and complete parts. No code calls these functions.
+//! States laws of the containers that are open at a byte. The head of the container and complete
+//! parts come before the part that contains the byte. Items that are read one after another are
+//! complete parts, and complete parts are read as items one after another. No code calls these
+//! functions.
 ghost use Rattle.std.specs.Prelude.{◌≡◌, ◌↔◌, ℕ, ◌<◌, ◌≤◌, List, ◌++◌, drop};
 ghost use Rattle.std.specs.Prelude.{slice_index};
 ghost use Rattle.cbor_grammar.specs.Refused.{SpelledParts, Next, Inside, NoBreakAt};

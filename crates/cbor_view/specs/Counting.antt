@@ -1,4 +1,5 @@
--- What a `Counted` records of the calls on its reader or writer.
+-- `Counted` wraps a reader or a writer. It records how many calls failed (`failures_of`), and whether the last read or
+-- write asked for at least one byte, did not fail and moved none (`moved_none`).
 use Rattle.std.specs.Prelude.{ℕ, ◌+◌, ◌-◌, ◌^◌, ◌==◌, min, nat_lt, Bool, false, ◌&&◌, Result, Ok, Err}
 use Rattle.cbor_view.specs.declared.counted.Counted.{Counted}
 

@@ -1,4 +1,6 @@
--- When a run of the filter succeeds or fails, and what it has then read and written.
+-- The words of the laws on a run of the filter `cbor_view`. It reads all input (`ReadsAll`), and writes given bytes
+-- (`Writes`) or only a beginning of them (`WritesPart`). `OnRefused`, `OnOutOfMemory`, `OnReadFailed` and
+-- `OnWriteFailed` state a fact for one kind of failure.
 use Rattle.std.specs.Prelude.{◌≡◌, ◌≢◌, ℕ, ◌<◌, List, length, take, true, Option, IfSome, Result, Err, ⊤, ◌⊎◌}
 use Rattle.std.specs.Io.KnownBytes.{Appends, IsAtEnd}
 use Rattle.cbor_grammar.specs.declared.error.Error.{Error}

@@ -1,4 +1,6 @@
--- A sequence of items (RFC 8742), and what the filter writes for it.
+-- The output of the filter `cbor_view` for a sequence of items (RFC 8742): for some items at the front
+-- (`IsOutputOfFirst`), for all items (`IsOutputOfAll`), or for the items before the first truncated or malformed one
+-- (`IsOutputBefore`).
 use Rattle.std.specs.Prelude.{◌≡◌, ◌≢◌, ◌⊎◌, ℕ, List, [], ◌∷◌, ◌++◌}
 use Rattle.std.specs.List.{flat_map}
 use Rattle.cbor_grammar.specs.declared.error.Error.{Error}

@@ -1,5 +1,5 @@
-//! `show_each` goes through the items of a stream and shows each by its own bytes. `ShowsItem`: the
-//! trait that dumps, `-t json`, `-t raw` and `--encode` implement to show one item.
+//! `show_each` goes through the items of a stream, and hands the bytes of each to a `ShowsItem`:
+//! the trait that dumps, `-t json`, `-t raw` and `--encode` implement to show one item.
 
 use crate::status::Status;
 use cbor_grammar::Error;

@@ -1,5 +1,6 @@
-//! `Job`: what the arguments of `cborcat` ask for, a field for each part: `View` says what to look
-//! for, `Wanted` what to write of each item, `Color` when to use colours.
+//! `Job`: what the arguments of `cborcat` ask for, with a field for each part. `View`: what is
+//! shown of an input, such as items, JSON or paths. `Wanted`: which part of each item is written,
+//! and how. `Color`: when colours are used.
 
 use crate::changes::Change;
 use cbor_inputs::Input;

@@ -1,7 +1,7 @@
 //! Runs the test rows about re-encoding, and returns each result as text.
 //!
-//! `reencode RULES` re-encodes items, with RULES as in `rules`. The result is bytes in hex, or why
-//! there are none, with places: of the input, or after `Written` of the output.
+//! `reencode RULES` re-encodes items, with RULES as in `rules`. The result is bytes in hex, or what
+//! is wrong and where. A place is in the input, or, after `Written`, in the output.
 
 use crate::row::Row;
 use crate::rules::{rules_of, violation_text};

@@ -1,5 +1,6 @@
--- The bytes of a character in UTF-8, by the table of RFC 3629, section 4, as the code of `utf8.rt` tests them. No
--- public clause names it.
+-- For `utf8.rt`: the bytes that begin a character of several bytes (`BeginsLonger`), and those that follow the first
+-- (`MayFollow`, `Continues`), by the table of RFC 3629, section 4. `NoCharFirst`: the bytes begin with no complete
+-- character. No public clause names these definitions.
 use Rattle.std.specs.Prelude.{◌≡◌, ℕ, ◌<◌, ◌≤◌, List, length, take, IsUtf8}
 
 -- a character of several bytes begins with this byte

@@ -1,4 +1,5 @@
--- The open containers, as the arrays of `skip/packed.rt` store them. No public clause names it.
+-- For `skip/packed.rt`: a `Packed` keeps the kinds and the counts of the open containers in two arrays. `with_counts`
+-- joins them into the list of what is still to come in each container. No public clause names these definitions.
 use Rattle.std.specs.Prelude.{ℕ, List, [], ◌∷◌, Some, None}
 use Rattle.cbor_bytes.specs.declared.skip.to_come.Kind.{Kind}
 use Rattle.cbor_bytes.specs.declared.skip.to_come.Kind.TheVariants as kind

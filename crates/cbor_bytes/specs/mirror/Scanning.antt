@@ -1,6 +1,6 @@
--- Skipping over an item whose bytes come in pieces, as `due.rt`, `containers.rt` and `progress.rt` in `src/skip` do it:
--- what is due after the bytes so far, in the terms of `Skipping`. Also the longest front of bytes that is UTF-8, for
--- `utf8.rt`. No public clause names these.
+-- For `due.rt`, `containers.rt` and `progress.rt` in `skip`, which skip over an item whose bytes come in pieces.
+-- `skip_due` and `skip_from` skip what is due after the bytes so far. `Waits` and `Pauses` say why skipping pauses. For
+-- `utf8.rt`: the longest front of bytes that is UTF-8 (`WholeChars`). No public clause names these definitions.
 use Rattle.std.specs.Prelude.{◌≡◌, ℕ, ◌<◌, ◌≤◌, Bool, true, false, if◌then◌else◌, nat_lt, List, length, take, Err}
 use Rattle.std.specs.Prelude.{IsUtf8}
 use Rattle.cbor_grammar.specs.declared.width.IntegerWidth.TheVariants.{Zero}

@@ -1,5 +1,7 @@
--- Skipping over an item, as the code of `skip.rt` does, in the terms of `specs/Reading.antt` of `cbor_grammar`: the
--- result of reading without its value, and what is still to come in open containers. No public clause names it.
+-- For `skip.rt` and the files in `skip`: to skip is to read by `specs/Reading.antt` of `cbor_grammar` and to keep only
+-- the bytes that are left, or the error (`Skip`, `skip_item`). `skip_open` skips what is still to come in open
+-- containers. `Goes` and `FailsAt` say how skipping goes on, or fails, after some bytes. No public clause names these
+-- definitions.
 use Rattle.std.specs.Prelude.{◌≡◌, ◌≢◌, ℕ, ◌-◌, List, [], ◌∷◌, ◌++◌, length, Option, Some, None, Result, Ok, Err}
 use Rattle.cbor_grammar.specs.declared.width.IntegerWidth.{IntegerWidth}
 use Rattle.cbor_grammar.specs.declared.width.IntegerWidth.TheVariants.{Zero}

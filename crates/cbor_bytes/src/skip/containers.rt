@@ -1,5 +1,6 @@
 //! `Containers`, for `Scanner`: the containers that are open where the bytes so far end.
-//! `after_item` goes on through them with the next bytes, up to the end of the item.
+//! `after_item` takes the next bytes, and skips the parts of these containers, up to the end of the
+//! item.
 ghost use Rattle.std.specs.Prelude.{◌≡◌, ◌<◌, ◌+◌, ◌*◌, [], length, Some, None, IfOk, IfErr};
 ghost use Rattle.cbor_bytes.specs.mirror.Scanning.{Pauses, skip_from};
 ghost use Rattle.cbor_grammar.specs.Item.{no_items};

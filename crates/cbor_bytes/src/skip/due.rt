@@ -2,8 +2,8 @@
 //! such as the rest of a string. `Pause` says why skipping stopped: the bytes end, or there is an
 //! error.
 //!
-//! Each function takes the remaining bytes. It returns the bytes after what it skips, or why it
-//! pauses.
+//! The functions whose names begin with `after` take the remaining bytes. They return the bytes
+//! after what they skip, or why they pause.
 ghost use Rattle.std.specs.Prelude.{◌≡◌, ◌<◌, ◌≤◌, ℕ, ◌+◌, length, take, None, IfOk, IfErr, IsUtf8};
 ghost use Rattle.cbor_bytes.specs.mirror.Scanning.{Pauses};
 ghost use Rattle.cbor_grammar.specs.Reading.{opened};

@@ -1,5 +1,5 @@
-//! Reads the parts of a schema from bytes. Each index has to be that of a part that is there, and
-//! each span has to be within its text.
+//! `Reader`: reads the parts of a schema from bytes. It refuses an index that no part has, and a
+//! range that is not within its text or list.
 
 use super::{MARK, Sizes, Unread, kind};
 use crate::schema::{Comparison, Floats, List, Node, Occurrence, Rule, Span, Value};

@@ -1,4 +1,4 @@
-//! Writes the parts of a schema as bytes, numbers with the least byte first.
+//! `Writer`: writes the parts of a schema as bytes. Numbers are little endian.
 
 use super::{Sizes, kind};
 use crate::schema::{Comparison, Floats, Node, Occurrence, Rule, Span, Value};

@@ -1,4 +1,5 @@
--- The results of the readers of bytes. Each field is the clause of that name of `parse_bytes`, `parse_bytes_partial` or
+-- For `parse/binary.rt`: the clauses on the results of the readers of bytes, as records (`WholeAnswer`, `FrontAnswer`,
+-- `FrontTurns`). Each field is the clause of that name of `parse_bytes`, `parse_bytes_partial` or
 -- `parse_bytes_counted`. The functions that these call ensure all fields at once.
 use Rattle.std.specs.Prelude.{◌≡◌, ℕ, ◌+◌, ◌*◌, ◌<◌, ◌≤◌, List, ◌++◌, length, take, Option, None, Result, Ok}
 use Rattle.std.specs.Prelude.{◌↔◌, IfOk, IfSome, OnOk}

@@ -1,4 +1,5 @@
--- The chunks of a string that is being read from notation into a `DataItem`.
+-- For `parse/notation/strings.rt`: the kind of string and the chunks that a `Chunks` of the code stands for
+-- (`list_kind`, `chunk_list`), while an indefinite-length string is read into a `DataItem`.
 use Rattle.std.specs.Prelude.{List, map}
 use Rattle.cbor_diag.specs.declared.parse.notation.strings.Chunks.{Chunks}
 use Rattle.cbor_diag.specs.declared.parse.notation.strings.Chunks.TheVariants as chunks

@@ -1,5 +1,6 @@
--- The open containers while a `DataItem` is read: what a `Frame` and a `Stack` stand for in `specs/Reading.antt` of
--- `cbor_grammar`.
+-- For `frame.rt` and `stack.rt` in `parse/binary`: the open containers of `specs/Reading.antt` of `cbor_grammar` that a
+-- `Frame` and a `Stack` of the code stand for (`frame`, `frames`). `ReservesFew`: memory is reserved for few members at
+-- once.
 use Rattle.std.specs.Prelude.{ℕ, ◌+◌, ◌*◌, ◌≤◌, vec_capacity, List, length, map, Some, None}
 use Rattle.cbor_diag.specs.declared.parse.binary.frame.Frame as code
 use Rattle.cbor_diag.specs.declared.parse.binary.frame.Frame.TheVariants as code_frame

@@ -1,10 +1,10 @@
 //! Reads a `DataItem` from bytes (RFC 7049 section 2), by a loop with a stack of the open
 //! containers. `parse_bytes_counted` also counts the turns of the loop.
 //!
-//! Each private function takes the remaining bytes and returns a value with the bytes after it, or
-//! the first error from the left, which is `CutShort` if the bytes end. Claimed lengths and counts
-//! are not trusted: memory is reserved only for bytes and members that are there, and for a few
-//! members in advance.
+//! `read_atom`, `turn` and `read_item` take the remaining bytes. They return a value with the bytes
+//! after it, or the first error from the left, which is `CutShort` if the bytes end. Claimed
+//! lengths and counts are not trusted: memory is reserved only for bytes and members that are
+//! there, and for a few members in advance.
 mod frame;
 mod stack;
 

@@ -3,10 +3,10 @@
 //!
 //! Each private function reads at a cursor over the text, as bytes of UTF-8. It returns a value and
 //! moves the cursor past it, or returns the first error from the left. After an error the cursor is
-//! at the place of the error, as `stop.rt` says. The first byte decides what comes next. There are
-//! two exceptions: `''_` and `""_`, and the last comma of a list, where the closing byte may follow
-//! after whitespace. The text is read once, except that the first piece of a string is read again
-//! if the fast path of `strings` does not apply.
+//! at the place of the error, as `stop.rt` says. The next byte decides what is read. There are two
+//! exceptions: `''_` and `""_`, and the last comma of a list, which whitespace and the closing byte
+//! may follow. The text is read once, except that the first piece of a string is read again if the
+//! fast path of `strings` does not apply.
 //!
 //! The functions between `read_core` and the list that keeps its item are inlined, and the loop of
 //! a map reads keys and values itself. So no item is moved from one function to another.

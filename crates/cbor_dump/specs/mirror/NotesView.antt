@@ -1,4 +1,6 @@
--- What the code's own notes, values, zones and address families stand for in the definitions.
+-- For `notes.rt` and the files in `notes`: what a `Note`, a `Zone` and a `Value` of the code stand for in the
+-- definitions (`note_view`, `zone_view`, `value_view`). Notes look only at a part of an item: `seen` and `first_seen`
+-- keep this part. `Sees` and `IsNextMember`: a value that the code reads is this part of an item or of a member.
 use Rattle.std.specs.Prelude.{◌≡◌, ℕ, zero, suc, List, map, Option, Some, None, Ok, IsSome}
 use Rattle.std.specs.String.{string_bytes}
 use Rattle.cbor_dump.specs.declared.notes.Note as declared_note

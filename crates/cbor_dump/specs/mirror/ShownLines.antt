@@ -1,4 +1,6 @@
--- The lines of a dump that the code writes, in the terms of the definitions. No public clause names them.
+-- For `comment.rt`, `hex_style.rt` and `lines.rt`: the text of a `Comment` of the code (`comment_text`), the hex digits
+-- of bytes in a `HexStyle` (`style_hex`), and the line of a dump with both (`shown_line`). No public clause names these
+-- definitions.
 use Rattle.std.specs.Prelude.{ℕ, List, [], Some, codes, unwrap_or}
 use Rattle.hex.specs.Hex.{encode_lower}
 use Rattle.cbor_notes.specs.Element.{element_text}

@@ -1,4 +1,5 @@
--- How far the digits of a dump reach, from the lengths of heads and pieces. No public clause names it.
+-- For `width.rt`: how far to the right the hex digits of an item reach in a dump, from the lengths of heads and pieces
+-- (`width_at`). `Measured`: an item was read, and its digits were counted. No public clause names these definitions.
 use Rattle.std.specs.Prelude.{◌≡◌, ℕ, zero, suc, ◌+◌, ◌*◌, ◌%◌, ◌==◌, ◌<◌, ◌≤◌, List, [], ◌∷◌, length, max, min, nat_le}
 use Rattle.std.specs.Prelude.{nat_lt, Option, Some, None, Ok, if◌then◌else◌}
 use Rattle.cbor_notes.specs.Element.{element_size}

@@ -1,4 +1,5 @@
--- A head that was read where it is in the bytes.
+-- For `container.rt` and `replace.rt`: `HasHead` says that a head of a major type and an argument begins at a place in
+-- bytes, and at which place it ends.
 use Rattle.std.specs.Prelude.{◌≡◌, ℕ, ◌+◌, ◌≤◌, List, ◌++◌, length, drop}
 use Rattle.cbor_grammar.specs.declared.argument.Argument.{Argument}
 use Rattle.cbor_grammar.specs.Reading.{FitsArgument}

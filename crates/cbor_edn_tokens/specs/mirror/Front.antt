@@ -1,4 +1,5 @@
--- Hexadecimal numbers in EDN, represented by the digits at their front.
+-- For `hex_float.rt` and `hex_float/nearest.rt`: which numbers a `Front` (leading hex digits, and how many follow;
+-- `IsFront`) and a `HexNumber` (`IsNumber`) stand for, and how large their fields are.
 use Rattle.std.specs.Prelude.{◌≡◌, ℕ, ◌+◌, ◌*◌, ◌^◌, ◌<◌, ◌≤◌, true, false, Option, Some, Result, Ok, Err}
 use Rattle.std.specs.Float.Ieee as ieee
 use Rattle.cbor_edn_grammar.specs.HexFloat.{Dyadic}

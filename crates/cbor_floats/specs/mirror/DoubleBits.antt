@@ -1,5 +1,5 @@
--- A finite double below 2 ^ 17 with a clear sign bit, by its bits: this many digits times 2 ^ -shift, in units of 2 ^
--- -24.
+-- For `nearest.rt`: a finite double below 2^17 with a clear sign bit, in units of 2^-24, is `digits_of_bits` divided by
+-- 2 to the power `shift_of_bits`. A shift past 63 is taken as 63, since both cut off all digits.
 use Rattle.std.specs.Prelude.{ℕ, ◌+◌, ◌-◌, ◌/◌, ◌%◌, ◌^◌, min, max, nat_lt, if◌then◌else◌}
 
 abbrev pub digits_of_bits : ℕ → ℕ

@@ -1,4 +1,6 @@
--- What reading returns at a level. No public clause names it.
+-- For code that walks over bytes without a `DataItem`, as for dumps and JSON: what `read_item` of `specs/Reading.antt`
+-- returns at a level (`read_at`), and what reading returns after a head at that level (`read_behind`, `body_read`). No
+-- public clause names these.
 use Rattle.std.specs.Prelude.{ℕ, ◌+◌, List}
 use Rattle.cbor_grammar.specs.Item.{Item}
 use Rattle.cbor_grammar.specs.declared.head.ItemHead.{ItemHead}

@@ -1,5 +1,6 @@
--- Reading as in `specs/Reading.antt` over a stack of open containers, as `parse/binary.rt` of `cbor_diag` goes: what is
--- open is what is left to do with the next item. No public clause names it.
+-- For `parse/binary.rt` of `cbor_diag`: reading as in `specs/Reading.antt`, but with a stack of open containers.
+-- `resume` is the result of reading on with these containers open. `GivesIn` says that a function returned such a
+-- result, in its number of turns. No public clause names these.
 use Rattle.std.specs.Prelude.{◌≡◌, ℕ, zero, suc, ◌-◌, ◌≤◌, List, [], ◌∷◌, length, Option, Some, None, Result, Ok, Err}
 use Rattle.cbor_grammar.specs.declared.error.Error.{Error}
 use Rattle.cbor_grammar.specs.declared.error.Error.TheVariants as refusal

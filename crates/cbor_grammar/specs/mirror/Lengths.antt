@@ -1,4 +1,5 @@
--- The number in the argument of a head, and what remains of a length.
+-- For `argument.rt`: the number in an `Argument`, if there is one (`argument_count`), and the `Argument` that is left
+-- of a length after some members are there (`left_of`).
 use Rattle.std.specs.Prelude.{ℕ, ◌-◌, Option, Some, None}
 use Rattle.cbor_grammar.specs.declared.argument.Argument.{Argument}
 use Rattle.cbor_grammar.specs.declared.argument.Argument.TheVariants.{Number, Indefinite}

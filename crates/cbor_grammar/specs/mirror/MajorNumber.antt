@@ -1,4 +1,4 @@
--- The number of each major type in the code's own type.
+-- For `major.rt`: the number of each value of the enum `Major` (`major_number`).
 use Rattle.std.specs.Prelude.{ℕ}
 use Rattle.cbor_grammar.specs.declared.major.Major.{Major}
 use Rattle.cbor_grammar.specs.declared.major.Major.TheVariants as major

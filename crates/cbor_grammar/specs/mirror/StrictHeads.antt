@@ -1,4 +1,6 @@
--- Heads in sequence, none of them of a simple value in a non-minimal encoding (`f8 00`).
+-- For `strict.rt` of `cbor_bytes`. `StrictHeads`: bytes are heads in sequence, with the content of strings and with
+-- breaks, and no head is of a simple value below 24 in a non-minimal encoding (such as `f8 00`). `NoLongSimple`: the
+-- two bytes of such a value are nowhere in the bytes, at a head or not.
 use Rattle.std.specs.Prelude.{◌≡◌, ◌≢◌, ℕ, ◌-◌, ◌/◌, ◌%◌, ◌^◌, ◌≤◌, ◌<◌, ◌⊎◌, List, [], ◌∷◌, drop, Ok}
 use Rattle.cbor_grammar.specs.declared.argument.Argument.TheVariants.{Number}
 use Rattle.cbor_grammar.specs.Head.{break_byte}

@@ -1,4 +1,5 @@
--- The content of a string, and the chunks of one that is read, as readers and printers pass them on.
+-- For `StringContent` of `strings.rt`, which borrows the content of a string: its kind (`kind_of`), its bytes
+-- (`bytes_of`), and the `Chunk` of these bytes and a given width (`borrowed_chunk`).
 use Rattle.std.specs.Prelude.{ℕ, List}
 use Rattle.cbor_grammar.specs.declared.width.IntegerWidth.{IntegerWidth}
 use Rattle.cbor_grammar.specs.declared.strings.StringKind.{StringKind}

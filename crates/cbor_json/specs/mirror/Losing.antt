@@ -1,4 +1,5 @@
--- Where `loss.rt` stops: at the first thing that JSON does not keep.
+-- For `loss.rt`: what a `Stop` says of an item, of the bytes after its head, or of a key: the first thing there that
+-- JSON does not keep, or that no item is there.
 use Rattle.std.specs.Prelude.{◌≡◌, ◌≤◌, ℕ, List, length, false, Ok}
 use Rattle.cbor_grammar.specs.declared.head.ItemHead.{ItemHead}
 use Rattle.cbor_grammar.specs.declared.head.ItemHead.TheVariants as head

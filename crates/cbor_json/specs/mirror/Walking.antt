@@ -1,4 +1,5 @@
--- What `walk.rt` writes: JSON in which no object has a name twice.
+-- For `walk.rt` and `names.rt`: the texts of an item in JSON in which no object has a name twice (`UniqueTexts`), and
+-- where the names of an object are in a text (`AreAt`).
 use Rattle.std.specs.Prelude.{◌≡◌, ℕ, ◌+◌, ◌≤◌, List, [], ◌∷◌, ◌++◌, codes, length, Some}
 use Rattle.std.specs.Cmp.Lexicographic.{slice_cmp}
 use Rattle.std.specs.List.{AllZip, between}

@@ -1,4 +1,6 @@
--- What the methods of a `Cursor` do to the text that is still to be read.
+-- For `cursor.rt`: the text that is still to be read, before and after a method of a `Cursor`. `Takes`: a token was
+-- taken, or there is none and the text is unchanged. `TakesComma`: a comma was taken, or the end of a list, or neither
+-- is next.
 use Rattle.std.specs.Prelude.{◌≡◌, ℕ, List, Option, Some, None, Result, Ok, Err, Bool, true, false}
 use Rattle.cbor_grammar.specs.declared.error.Error.{Error}
 use Rattle.cbor_grammar.specs.declared.error.Error.TheVariants as refusal

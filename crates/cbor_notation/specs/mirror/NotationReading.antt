@@ -1,5 +1,6 @@
--- Reading notation from left to right, as `parse/notation.rt` of `cbor_diag` does: a function from a text to a value
--- and the rest, or to the first error. No public clause names it: proofs/ shows that it agrees with `Reads`.
+-- Reading notation from left to right, as `parse/notation.rt` of `cbor_diag` does. `read_item` reads an item with the
+-- blanks around it, and returns the item and the rest of the text, or the first error. `notation_of` reads a whole
+-- text. No public clause names these functions. The proofs show that they agree with the grammar (`Reads`).
 use Rattle.std.specs.Prelude.{ℕ, zero, suc, ◌+◌, ◌-◌, ◌*◌, ◌/◌, ◌%◌, ◌^◌, List, [], ◌∷◌, ◌++◌, length, take, drop, map}
 use Rattle.std.specs.Prelude.{position, codes, Option, Some, None, option_and_then, unwrap_or, Result, Ok, Err, Bool}
 use Rattle.std.specs.Prelude.{true, false, not, nat_lt, nat_le, nat_eq, bytes_eq, ◌==◌, ◌&&◌, ◌||◌, if◌then◌else◌}

@@ -1,4 +1,6 @@
--- The result of a look ahead at bytes that are not read yet.
+-- For `ahead.rt`: a look at the next bytes takes the length of a part from a budget of characters. It leaves some of
+-- the budget, and the bytes after the part, or nothing (`Leaves`). `Estimates`: that length is the estimated length of
+-- the item that reading gives.
 use Rattle.std.specs.Prelude.{◌≡◌, ℕ, ◌+◌, ◌<◌, ◌≤◌, List, Option, Some, None, Ok}
 use Rattle.cbor_notation_writer.specs.declared.ahead.Ahead.{Ahead}
 use Rattle.cbor_grammar.specs.Estimate.{estimated_length}

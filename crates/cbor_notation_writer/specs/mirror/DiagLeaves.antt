@@ -1,4 +1,4 @@
--- The notation that `cbor_view` writes, as a dialect.
+-- For `diag.rt`: the notation that `cbor_view` writes, as a dialect of `specs/Dialect.antt` (`diag_leaves`).
 use Rattle.std.specs.Prelude.{◌≡◌, ◌+◌, ◌++◌, List, [], ℕ, codes, None, false}
 use Rattle.cbor_grammar.specs.declared.layout.Content.TheVariants as shown
 use Rattle.cbor_grammar.specs.declared.layout.ContainerStyle.{ContainerStyle}

@@ -1,4 +1,6 @@
--- What the code's own context of an item stands for in the definitions, and the texts of an item in it.
+-- For `context.rt`, `members.rt` and `diag.rt`, and for `encode/notation.rt` of `cbor_diag`: the `Context` of the
+-- definitions that a `NotationContext` of the code stands for (`context_view`), and the texts of an item and of its
+-- parts in this context, such as `item_text`, `before_member` and `chunks_there`.
 use Rattle.std.specs.Prelude.{ℕ, ◌+◌, ◌*◌, ◌≤◌, List, [], codes, Bool, if◌then◌else◌}
 use Rattle.cbor_notation_writer.specs.declared.context.NotationContext.{NotationContext}
 use Rattle.cbor_grammar.specs.declared.layout.Content.{Content}

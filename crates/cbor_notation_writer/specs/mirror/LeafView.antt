@@ -1,4 +1,5 @@
--- What the leaves that the code hands to a dialect stand for in the definitions.
+-- For `dialect.rt`: the `Atom` of the definitions that a `Leaf` of the code stands for (`atom_of`). `FitsLeaf`: if the
+-- leaf is a float, its bits fit its width.
 use Rattle.cbor_grammar.specs.Item.{Atom, integer, negative, float, simple}
 use Rattle.cbor_grammar.specs.WellFormed.{FitsFloat}
 use Rattle.cbor_notation_writer.specs.declared.parts.Leaf.{Leaf}

@@ -1,4 +1,6 @@
--- The notation that is written from bytes in one pass, while they are read.
+-- For `from_bytes.rt` and `outermost.rt`: an item was read, and its text was appended to the old text (`Printed`;
+-- `Written`, for one of several texts). Also the texts of the parts of an item at a place of a dialect, such as
+-- `TextsHere`, `StringThere` and `BeforeChunk`.
 use Rattle.std.specs.Prelude.{◌≡◌, ℕ, zero, suc, ◌+◌, ◌*◌, ◌≤◌, List, ◌++◌, true, false, Ok}
 use Rattle.cbor_grammar.specs.declared.layout.Layout.{Layout}
 use Rattle.cbor_grammar.specs.declared.encoding.Encoding.TheVariants.{Base16}

@@ -1,4 +1,4 @@
--- Re-encoding: which widths and which kinds of length are chosen.
+-- For `encoder.rt`: which widths of heads and floats, and which kinds of length, re-encoding chooses by the rules.
 use Rattle.std.specs.Prelude.{◌≡◌, ℕ, if◌then◌else◌, Option, Some, None, IsTrue}
 use Rattle.cbor_grammar.specs.declared.width.IntegerWidth.{IntegerWidth}
 use Rattle.cbor_grammar.specs.declared.width.FloatWidth.{FloatWidth}

@@ -1,4 +1,5 @@
--- Re-encoding: what is written for a float, and for a tag and its item.
+-- For `numbers.rt`: which number may be written for a float (`IsNumber`), and the bytes that are written for it
+-- (`number_bytes`) and for a tag and its item (`tagged_bytes`).
 use Rattle.std.specs.Prelude.{◌≡◌, ℕ, ◌<◌, ◌^◌, ◌++◌, ◌==◌, nat_lt, if◌then◌else◌, List, length, Option}
 use Rattle.std.specs.Prelude.{Some, None, Ok}
 use Rattle.cbor_grammar.specs.declared.width.IntegerWidth.{IntegerWidth}

@@ -1,4 +1,6 @@
--- Re-encoding: what was read, and what was written for it.
+-- For `items.rt`, `pairs.rt` and `scalars.rt`: an item was read at the front of bytes, and an encoding of the same item
+-- was appended to the output (`Rewritten`). `RewrittenChunks`, `RewrittenItems` and `Sequence` say this of chunks,
+-- members and sequences. `RewrittenPairs`: pairs were read, and their encodings were collected.
 use Rattle.std.specs.Prelude.{◌≡◌, ℕ, List, [], ◌∷◌, ◌++◌, length}
 use Rattle.std.specs.List.{flat_map}
 use Rattle.cbor_grammar.specs.declared.width.IntegerWidth.{IntegerWidth}

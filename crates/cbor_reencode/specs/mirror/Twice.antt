@@ -1,4 +1,5 @@
--- Re-encoding: keys with the same bytes, where keys have no order.
+-- For `keys.rt`: `unordered`, the rules of core deterministic encoding without an order of keys. Its argument says
+-- whether the keys of a map have to differ.
 use Rattle.std.specs.Prelude.{Bool}
 use Rattle.cbor_rules.specs.declared.rules.Rules.{Rules}
 use Rattle.cbor_rules.specs.declared.rules.KeyOrder.TheVariants.{Any}

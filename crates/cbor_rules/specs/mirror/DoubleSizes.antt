@@ -1,4 +1,4 @@
--- For the rules of dCBOR, the size of a double as an integer, by its bits without the sign.
+-- For `reduced.rt`: the absolute value of a double, from its bits without the sign, if it is an integer below 2^64.
 use Rattle.std.specs.Prelude.{ℕ, ◌/◌, ◌%◌, ◌^◌, Bool, ◌&&◌, Option, Some, None, ◌==◌, nat_lt, if◌then◌else◌}
 use Rattle.std.specs.Float.MulAdd.{units_of_bits}
 use Rattle.cbor_rules.specs.Reduced.{in_range}

@@ -1,5 +1,5 @@
--- Finding a violation: what the code keeps of the keys of an open map, as the definitions have it; and what reading
--- gives where memory may run out.
+-- For `check.rt`, `keys.rt` and `container.rt`: what the code's `Keys` and `Parts` stand for in `FirstViolation.antt`,
+-- and whether a result of the code is what reading gives, unless memory ran out (`Gives`).
 use Rattle.std.specs.Prelude.{◌≡◌, ◌≢◌, ◌≤◌, ℕ, List, Bool, false, Option, Some, None, is_some, if◌then◌else◌}
 use Rattle.std.specs.Prelude.{Result, Ok, Err}
 use Rattle.std.specs.BTreeMap.{BTreeMap, get_by}

@@ -1,6 +1,6 @@
-//! Finds the first violation of rules in an item that holds no other item. Checks whether the
-//! content of a string, or of each chunk, is there, is UTF-8 and, if the rules ask for it, is in
-//! NFC.
+//! Finds the first violation of rules in an item that holds no other item. Checks that the content
+//! of a string, or of each chunk, is complete. A text has to be UTF-8, too, and in NFC if the rules
+//! ask for it.
 ghost use Rattle.std.specs.Prelude.{◌≡◌, ◌≢◌, ℕ, suc, ◌<◌, ◌≤◌, List, length, take, None, IfOk};
 ghost use Rattle.std.specs.Prelude.{IfErr};
 ghost use Rattle.std.specs.Prelude.{IsErr, IfSome, IfNone, option_map};

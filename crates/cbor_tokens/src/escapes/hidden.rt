@@ -1,5 +1,5 @@
 //! Tests whether a text has no hidden characters, such as control characters (`is_shown`), and
-//! escapes those that it has (`push_shown`).
+//! escapes them, except line feeds (`push_shown`).
 #![tactic(auto, using(crate::proofs::texts::Appending::appending_steps))]
 
 ghost use Rattle.std.specs.Prelude.{◌≡◌, ◌↔◌, ℕ, ◌+◌, ◌<◌, ◌≤◌, true, IsTrue, slice_index, length};

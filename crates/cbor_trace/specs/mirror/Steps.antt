@@ -1,4 +1,5 @@
--- Containers open at a byte: what a head opens, and what is open after one more part.
+-- For `open.rt`: the container that a head opens, before its first part (`opened_by`), and the same container before
+-- the next part (`next_of`).
 use Rattle.std.specs.Prelude.{ℕ, ◌+◌, Option, Some, None}
 use Rattle.cbor_grammar.specs.declared.head.ItemHead.{ItemHead}
 use Rattle.cbor_grammar.specs.declared.head.ItemHead.TheVariants as item_head

@@ -1,5 +1,5 @@
-//! Finds where the items at the front of bytes end that are no longer than `--limit`, and whether a
-//! longer one follows. Also drops or copies the first bytes of a buffer.
+//! Passes the items at the front of bytes that are not longer than `--limit`: returns where they
+//! end, and whether a longer item follows. Also drops or copies the first bytes of a buffer.
 
 use cbor_bytes::{Extent, extent};
 use std::alloc::{AllocError, Global};

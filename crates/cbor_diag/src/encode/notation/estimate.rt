@@ -1,9 +1,9 @@
 //! Decides whether a container in a `DataItem` goes on one line, by an estimate of its length.
 //! Pretty text gives each member of a long container its own line.
 //!
-//! Each function takes a budget of characters and returns what its part leaves of it: 0 if the part
-//! takes all of it or more. It looks at nothing after that. So the budget bounds the work, however
-//! large the item is.
+//! A function `left_after_..` takes a budget of characters and returns how many are left after its
+//! part: 0 if the part takes all of them or more. Once none is left, it reads no further members.
+//! So the budget bounds the work, however large the item is.
 ghost use Rattle.std.specs.Prelude.{◌≡◌, ◌+◌, ◌-◌, ◌*◌, map};
 ghost use Rattle.cbor_diag.specs.View.{view, items_view, pairs_view};
 ghost use Rattle.cbor_grammar.specs.NotationText.{container_style};

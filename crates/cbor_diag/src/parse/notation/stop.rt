@@ -1,7 +1,7 @@
 //! After an error in notation, moves the cursor to the place of the error: before the first byte
 //! with which the text cannot go on, or at the end if the text is only truncated. `diag_fault`
-//! returns this place. It is tested, not proved. After a failed allocation the cursor may be
-//! anywhere.
+//! returns this place. Tests check the place; it is not proved. After a failed allocation the
+//! cursor may be anywhere.
 ghost use Rattle.std.specs.Prelude.{◌≡◌, ◌≢◌, ◌<◌, ◌⊎◌, false, length, Err, IfOk};
 ghost use Rattle.cbor_grammar.specs.Head.{FitsWidth};
 ghost use Rattle.cbor_grammar.specs.Reading.{Gives};
