@@ -1,4 +1,5 @@
--- Which bytes a `Scanner` has scanned. The clauses of its calls keep this relation; a caller need not look into it.
+-- `HasScanned`: a `Scanner` was fed these bytes, and its answer is right for them. The clauses of its calls keep this
+-- relation; a caller need not look into it.
 use Rattle.std.specs.Prelude.{◌≡◌, ℕ, ◌<◌, List, length, slice_index, Option}
 use Rattle.cbor_bytes.specs.declared.skip.answer.Extent.{Extent}
 use Rattle.cbor_bytes.specs.declared.skip.answer.Extent.TheVariants as extent

@@ -1,5 +1,5 @@
 //! Decodes hex with spaces and comments to bytes (`hex_bytes`). The bytes need not encode an item.
-//! `place.rt` finds places in such a text.
+//! `hex_text/place.rt` finds the first wrong digit of such a text, and the digits of a byte.
 //!
 //! The text is read once, line by line. Spaces and comments are skipped, and the rest is gathered
 //! and then decoded.

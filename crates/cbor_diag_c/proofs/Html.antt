@@ -1,5 +1,5 @@
--- For `item_lines`: if all bytes are one item and a page shows them whole, in EDN over several lines with notes and
--- without names, its lines of HTML are those of the item (`IsHtmlLines`).
+-- For `item_lines`: if the input is one item, and a page shows it whole, as EDN over several lines with notes and
+-- without names, what was written are lines of HTML of that item (`IsHtmlLines`).
 use Rattle.std.proofs.Common.{◌≡◌, ℕ, ◌+◌, Bool, true, false, List, [], ◌∷◌, ◌++◌, length, Option, None, refl, sym, ap}
 use Rattle.std.proofs.Common.{subst, ◌∙◌, arith, append-nil, length-append, drop, take}
 use Rattle.std.proofs.lemmas.List.{drop_all, take_all}

@@ -1,6 +1,6 @@
--- The error of a fault of bytes is one for which they are no item (`IsNoItem`), and an error of the bytes that hex
--- stands for is one for which the hex is refused (`IsHexRefused`). If the first `end` bytes have a fault and fewer
--- bytes are truncated, the place of the fault is `end - 1`.
+-- If bytes have a fault with an error, they are no item, with that error (`IsNoItem`). If the bytes that hex stands for
+-- are no item with an error, the hex is refused with it (`IsHexRefused`). If the first `end` bytes have a fault and
+-- fewer bytes are truncated, the place of the fault is `end - 1`.
 use Rattle.std.proofs.Common.{◌≡◌, ◌+◌, ◌-◌, ◌<◌, ◌≤◌, ℕ, List, take, Ok, subst, sym, arith}
 use Rattle.hex.specs.Hex.{decode_of}
 use Rattle.cbor_tokens.specs.Uncommented.{uncommented}

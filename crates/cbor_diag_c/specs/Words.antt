@@ -1,5 +1,5 @@
 -- The result of the C call `cbor_diag_fault_text` (`IsWords`): why an input is not an item in a form, in words. For EDN
--- they say what was expected, and for other forms they are the text of the error. There are none for an item.
+-- in UTF-8 they say what was expected, and otherwise they are the text of the error. There are none for an item.
 use Rattle.std.specs.Prelude.{◌≡◌, ◌⊎◌, ℕ, List, [], codes, IsUtf8, None}
 use Rattle.cbor_grammar.specs.declared.error.Error.{Error}
 use Rattle.cbor_grammar.specs.declared.error.Error.TheVariants as refusal

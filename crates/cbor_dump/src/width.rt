@@ -1,8 +1,10 @@
 //! Computes the width of the left column of a dump, which has the hex digits, from the bytes of the
-//! item. `text_cut` and `longest_piece` find the pieces in which strings are shown.
+//! item. `text_cut`: how many bytes the first piece of a text takes. `longest_piece`: the length of
+//! the longest piece of a string.
 //!
 //! A function that reads an item or a part of one takes the remaining bytes and returns those after
-//! it. Notes have no digits, so an item in a byte string counts as the bytes of the string.
+//! it. The item in a byte string is shown only in a note, whose lines have no digits. So only the
+//! bytes of the string count.
 ghost use Rattle.std.specs.Prelude.{◌≡◌, ◌<◌, ◌≤◌, ◌+◌, ◌-◌, length, max, IfOk, IfErr};
 ghost use Rattle.std.specs.Str.{IsCharBoundary};
 ghost use Rattle.cbor_notes.specs.Layout.{width_of};

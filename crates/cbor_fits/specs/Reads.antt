@@ -1,5 +1,5 @@
--- What the functions of `read.rt` return: the value of a `DataItem`, the entry of a pair of a map, the item at the
--- front of bytes, and the values of items in sequence.
+-- What the functions of `read.rt` and `read/datum.rt` return: the value of a `DataItem`, the entry of a pair of a map,
+-- the item at the front of bytes, and the values of items in sequence.
 use Rattle.std.specs.Prelude.{ℕ, List, ◌++◌, Vec, Option, Some, None, Ok, Err}
 use Rattle.std.specs.Global.{Global}
 use Rattle.cbor_grammar.specs.Item.{Item, Items}

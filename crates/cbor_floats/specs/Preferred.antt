@@ -1,6 +1,6 @@
 -- Floats of two widths are the same float if they are equal as doubles (`widened`). The preferred width of a float is
--- the shortest that can hold it (`IsPreferredOf`; `shorter`, as a function). A NaN keeps its sign and its payload (RFC
--- 8949 sections 4.1 and 4.2.2).
+-- the shortest that can hold it (`IsPreferred`). `IsPreferredOf`, and `shorter` as a function, give the float in that
+-- width, if it is shorter than its own. A NaN keeps its sign and its payload (RFC 8949 sections 4.1 and 4.2.2).
 use Rattle.std.specs.Prelude.{◌≡◌, ◌≢◌, ℕ, ◌+◌, ◌*◌, ◌/◌, ◌%◌, ◌^◌, ◌<◌, Bool, ◌==◌, nat_le, if◌then◌else◌, Option}
 use Rattle.std.specs.Prelude.{Some, None, from_bits, to_bits, is_nan}
 use Rattle.std.specs.Float.{round_to_format}

@@ -1,5 +1,6 @@
 //! Guesses what an input is if no form reads it: a data URL, PEM, UTF-16, hex with dashes, an array
-//! or a string of a program, or a hex dump of another tool. Only messages use the guess.
+//! or a string of a program, or a hex dump of another tool. A message says so, and `cborcat` does
+//! not read such an input in another form.
 
 use crate::text::unmarked;
 

@@ -2,7 +2,8 @@
 //! the tables of COSE, CWT and similar standards, and [`with_file`] adds those of a file.
 //! docs/NAMES.md has the rules.
 //!
-//! [`notes`] gives the names and meanings of the items in an item, each with its place:
+//! [`notes`] gives the names and meanings of the items in an item, each with its place: how many
+//! bytes remain from there to the end.
 //!
 //! ```rust
 //! use cbor_names::{Definition, Key, Names, Part, Shape, notes};

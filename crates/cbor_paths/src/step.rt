@@ -1,5 +1,5 @@
-//! `Step`: one step of a path: to an index or a key, to each member (`*`), or into a byte string
-//! (`@`).
+//! `Step`: one step of a path. It leads to the member at an index, to the value of a key, to each
+//! member or value (`*`), or into a byte string (`@`).
 
 /// A step of a path. Tags need no step.
 #[derive(Drop)]

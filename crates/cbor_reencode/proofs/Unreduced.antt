@@ -1,6 +1,6 @@
--- If an item keeps `CORE` without its order of keys (`loose`), its numbers are reduced already: each item that is the
--- same as its reduced form (`reduced_item`) is the same as the item itself. A tag stays as it is if its item is no
--- content of a big number (`content_of`).
+-- If an item keeps `CORE` without its order of keys (`loose`), its numbers are reduced already: any other item that is
+-- the same as the reduced form of this one (`reduced_item`) is the same as this one. A tag stays as it is if its item
+-- is no content of a big number (`content_of`).
 use Rattle.std.proofs.Common.{◌≡◌, ◌≢◌, ℕ, ◌+◌, ◌*◌, ◌^◌, ◌<◌, ◌≤◌, ◌⊎◌, Bool, true, false, cond, ltb, eqb, List, []}
 use Rattle.std.proofs.Common.{◌∷◌}
 use Rattle.std.proofs.Common.{length, get_or, Option, Some, None, inl, inr, refl, sym, ap, subst, ◌∙◌, arith}

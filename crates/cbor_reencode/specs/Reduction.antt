@@ -1,6 +1,7 @@
--- The form of numbers that rules may ask for (`reduced_item`): a float with an integer value becomes that integer, a
--- NaN becomes f97e00, and a big number becomes an integer if it fits, or else loses its leading zero bytes.
--- `IsSameNumbered`: items that are the same apart from these forms and their encoding.
+-- The form of numbers that rules may ask for (`reduced_item`): a float whose value is an integer from -2^63 to 2^64 - 1
+-- becomes that integer, a NaN becomes f97e00, and a big number becomes an integer if it fits, or else loses its leading
+-- zero bytes. `IsSameNumbered`: two items are the same but for these forms, widths, kinds of length and the order of
+-- pairs.
 use Rattle.std.specs.Prelude.{ℕ, ◌+◌, ◌-◌, ◌*◌, ◌^◌, Bool, ◌&&◌, ◌||◌, ◌==◌, nat_lt, if◌then◌else◌, is_nan, List}
 use Rattle.std.specs.Prelude.{[], ◌∷◌}
 use Rattle.std.specs.Prelude.{Option, Some, None}

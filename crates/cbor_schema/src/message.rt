@@ -1,5 +1,5 @@
 //! `Misfit`: where and why an item does not fit a schema, with its message. `Others`: how many
-//! other alternatives came less far, with the message for these.
+//! alternatives of a choice came less far than the one that is reported, with the words for that.
 
 use cbor_cddl::Span;
 use std::alloc::AllocError;

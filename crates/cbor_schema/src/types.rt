@@ -1,5 +1,6 @@
-//! Checks whether an item fits a type: a literal, a range, a choice, a rule, a tag, an array. For
-//! controls and maps it calls `controls.rt` and `maps.rt`.
+//! Finds where an item does not fit a type: a literal, a range, a choice, a rule, a tag, an array.
+//! `controls.rt`, `arrays.rt` and `maps.rt` do so for controls, for members of arrays and for pairs
+//! of maps.
 
 use crate::blame::{Found, LessFar, Tried, Want};
 use crate::items::{Item, Kind};

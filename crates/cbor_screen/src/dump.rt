@@ -1,6 +1,6 @@
-//! Writes dumps for people: with names in their comments, with the items in byte strings, and with
-//! long strings cut. Each byte is shown as it is, also the second byte of a simple value in a
-//! non-minimal encoding (`f8 00`).
+//! Writes dumps for people. A `DumpStyle` says whether they have names in their comments, show the
+//! items in byte strings, and cut long strings. The bytes that are shown are those of the input,
+//! also the second byte of a simple value in a non-minimal encoding (`f8 00`).
 //!
 //! Lines, comments and notes are those of `cbor_dump`. A first walk over the bytes finds how wide
 //! the column of digits is, and a second one writes the lines.

@@ -1,5 +1,4 @@
--- Which bytes the digits of base 32 encode, in the standard and the extended hex alphabet (RFC 4648, sections 6 and
--- 7).
+-- The encoding of bytes in base 32, in the standard and the extended hex alphabet (RFC 4648, sections 6 and 7).
 use Rattle.std.specs.Prelude.{◌≡◌, ℕ, zero, suc, ◌+◌, ◌-◌, ◌*◌, ◌/◌, ◌%◌, ◌^◌, ◌<◌, ◌≤◌, List, [], ◌∷◌, ◌++◌, map, take}
 use Rattle.std.specs.Prelude.{replicate, length, slice_index, codes}
 use Rattle.std.specs.Int.Digits.{AllBelowBase, number_from_digits}

@@ -1,5 +1,5 @@
--- `alphabet_view` and `base_view`: the values of the code's enums `Alphabet` (of base 32) and `Base` (of numbers), as
--- the `Alphabet` that `Base32` defines and the `Base` that `Token` defines.
+-- `alphabet_view` and `base_view` turn a value of the code's enums `Alphabet` (of base 32) and `Base` (of numbers) into
+-- the type of the same name in `Base32.antt` and `Token.antt`.
 use Rattle.cbor_tokens.specs.declared.base32.Alphabet.TheVariants as own_alphabet
 use Rattle.cbor_tokens.specs.declared.token.number.Base.TheVariants as own_base
 use Rattle.cbor_tokens.specs.declared.base32.Alphabet as declared_alphabet

@@ -1,6 +1,6 @@
-//! Law: as a sequence of items, bytes have only one output of the filter `cbor_view`, and one error
-//! or none. The output of the first items is the beginning of the whole output. The law is the
-//! contract of a function that no code calls.
+//! Law: if the filter `cbor_view` reads bytes as a sequence of items, there is only one output for
+//! each output form, and one error or none. The output of the first items is the beginning of the
+//! whole output. The law is the contract of a function that no code calls.
 ghost use Rattle.std.specs.Prelude.{◌≡◌, ℕ, List, ◌++◌};
 ghost use Rattle.cbor_grammar.specs.declared.error.Error.{Error};
 ghost use Rattle.cbor_diag.specs.declared.conversion.form.To.{To};

@@ -1,5 +1,5 @@
 //! Runs the test rows about the containers that are open at a byte, and returns each result as
-//! text. Places are counted in bytes; LEVEL is 1 for the outermost item. The calls of `cbor_trace`:
+//! text. Places are counted in bytes; LEVEL is 1 for the outermost item. The calls:
 //!
 //! - `part_at START LEVEL AT` gives the step from the item at START to its part at AT, and where
 //!   that begins. `[1/2]` is the member at index 1 of 2, `{0/2}` the key of the pair at index 0,
@@ -10,8 +10,8 @@
 //! - `place_of_fault ERROR END` gives the byte that is wrong, with ERROR `Utf8`, `Head` or
 //!   `CutShort`.
 //! - `paths` gives, for each byte and for the end, where the innermost item begins, and all steps
-//!   to it; a line for each byte at which that changes. `cuts` gives the same for the bytes that
-//!   are cut before each byte.
+//!   to it; a line for each byte at which that changes. `cuts` gives the same at the end of
+//!   the bytes before each place, as if no more had come. Both are made of calls of `cbor_trace`.
 
 use crate::lines::push_line;
 use crate::row::Row;

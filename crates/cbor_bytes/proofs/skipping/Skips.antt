@@ -1,6 +1,6 @@
 -- For `skip.rt`: skipping the content of a string, the length of a chunk or the head of an item goes on with what
--- follows (`Goes`), or stops because the bytes are cut or show a fault (`StopsSo`). If a first step goes on, the result
--- of the next step is that of both.
+-- follows (`Goes`), or stops because the bytes are cut or show a fault (`StopsSo`). If a first step goes on, both steps
+-- together have the result of the second one on the bytes that are left.
 use Rattle.std.proofs.Common.{◌≡◌, ◌≢◌, ℕ, zero, suc, ◌-◌, ◌/◌, ◌%◌, ◌<◌, ◌≤◌, List, [], ◌∷◌, ◌++◌, length}
 use Rattle.std.proofs.Common.{take, drop, Option, Some, None, Ok, Err, ◌⊎◌, inl, inr, refl, sym, ap, subst, ◌∙◌}
 use Rattle.std.proofs.Common.{append_assoc, arith}

@@ -3,13 +3,13 @@
 //!
 //! Each private function reads at a cursor over the text, as bytes of UTF-8. It returns a value and
 //! moves the cursor past it, or returns the first error from the left. After an error the cursor is
-//! at the place of the error, as `stop.rt` says. The next byte decides what is read. There are two
-//! exceptions: `''_` and `""_`, and the last comma of a list, which whitespace and the closing byte
-//! may follow. The text is read once, except that the first piece of a string is read again if the
-//! fast path of `strings` does not apply.
+//! at the place of the error, as `stop.rt` says. The next byte decides what is read, except in
+//! two places that need a look further ahead: the empty strings `''_` and `""_`, and a comma in a
+//! list, because whitespace and the closing byte may follow it. The text is read once, except that
+//! the first piece of a string is read again if the fast path of `strings` does not apply.
 //!
-//! The functions between `read_core` and the list that keeps its item are inlined, and the loop of
-//! a map reads keys and values itself. So no item is moved from one function to another.
+//! `read_item` and the loops over members are inlined, so a member goes from `read_core` into its
+//! list without a move in between.
 mod fault;
 mod stop;
 mod strings;

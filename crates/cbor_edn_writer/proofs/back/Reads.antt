@@ -1,6 +1,6 @@
--- Definitions for the files beside this one: how the text of an item is read back in EDN. `ReadsAs` says that the text,
--- up to a note at its end, is read as an item of the same encoding, whatever comes after it that may follow an item.
--- `ReadsNoted` says the same of a text that may have a note before the item and up to two after it.
+-- Definitions for the files beside this one: how the text of an item is read back in EDN. `ReadsAs`: the reader takes
+-- the text without the note at its end, and returns an item with the same encoding, before any rest that may follow an
+-- item. `ReadsNoted` says the same of a text that may have a note before the item and up to two after it.
 use Rattle.std.proofs.Common.{◌≡◌, ℕ, List, [], ◌∷◌, ◌++◌, true, Some, ◌==◌, ◌||◌}
 pub use Rattle.cbor_edn_grammar.proofs.Ends.{ends_item, is_ended, Follows, begins_item, IsBegun}
 use Rattle.cbor_grammar.specs.Item.{Item}

@@ -1,6 +1,7 @@
--- For a byte string that EDN shows as the items in it: if the bytes pass `is_strict`, they are the encoding of the item
--- in them (`item_same`). If they also pass `is_sequence`, they are the encodings of the items in them, in order
--- (`sequence_same`). None of these items has a simple value from 24 to 31 in it.
+-- For a byte string that EDN shows as the items in it: if the bytes encode an item and pass `is_strict` of
+-- `specs/Same.antt`, `encoded` of that item is these bytes again (`item_same`). If they encode items and pass
+-- `is_sequence`, the encodings of these items in order are these bytes (`sequence_same`). None of these items has a
+-- simple value from 24 to 31 in it.
 use Rattle.std.proofs.Common.{◌≡◌, ℕ, zero, suc, ◌+◌, ◌/◌, ◌%◌, ◌≤◌, Bool, true, false, ◌==◌, ◌&&◌, if◌then◌else◌}
 use Rattle.std.proofs.Common.{nat_lt, List, [], ◌∷◌, ◌++◌, length, take, drop, Some, None, Ok, Err, refl, sym}
 use Rattle.std.proofs.Common.{ap, subst, ◌∙◌, ◌<◌, arith}

@@ -1,6 +1,7 @@
 -- For `turn` in `parse/binary.rt` of `cbor_diag`: a turn closes the innermost open container, opens one after its head,
--- or reads an item that contains no item, and the result and the turns of the whole reading (`resume`) stay the same.
--- If a head or such an item fails, or memory runs out, the whole reading fails with the same error (`FailsIn`).
+-- or reads an item that contains no item. It changes neither what the whole reading gives (`resume`) nor how many turns
+-- that takes in all. If a head or such an item fails, or memory runs out, the whole reading fails with the same error
+-- (`FailsIn`).
 use Rattle.std.proofs.Common.{◌≡◌, ℕ, zero, suc, ◌+◌, ◌-◌, ◌<◌, List, [], ◌∷◌, length, Option, Some, None, Ok, Err}
 use Rattle.std.proofs.Common.{refl, sym, ap, subst, ◌∙◌, arith}
 use Rattle.std.specs.Prelude.{IsSome, drop}

@@ -1,6 +1,6 @@
 -- For `push_parts_front` and `push_joined_front`: if an indefinite string is written chunk by chunk as it is read, what
--- was written is one of its texts (`TextsHere`). The same holds if its chunks are joined to one byte string. Each chunk
--- keeps `ChunksWritten`.
+-- was written is one of its texts (`TextsHere`). The same holds if its chunks are joined to one byte string.
+-- `ChunksWritten` holds before the first chunk that is written, and after each.
 use Rattle.std.proofs.Common.{◌≡◌, ℕ, zero, suc, ◌+◌, true, false, List, [], ◌∷◌, ◌++◌, length, refl, sym, ap}
 use Rattle.std.proofs.Common.{subst, ◌∙◌, append_assoc, arith}
 use Rattle.std.proofs.lemmas.List.{append-nil, length-append}
