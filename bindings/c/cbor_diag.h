@@ -30,9 +30,9 @@ extern "C" {
 /* The version of this header: 10000 * major + 100 * minor + patch. */
 #define CBOR_DIAG_VERSION 100
 
-/* Bytes of stack that are enough for each call, as measured. Checks by CDDL take the most: more than 8 MB for rules that
- * are nested as deeply as they may be, or for a schema whose bytes were changed. No other call takes more than 1 MB. */
-#define CBOR_DIAG_STACK_SIZE 16777216
+/* Bytes of stack that are enough for each call, as measured. Checks by CDDL take the most, for rules and items that are
+ * nested as deeply as they may be. */
+#define CBOR_DIAG_STACK_SIZE 1048576
 
 /* The form of an input or of an output. Each form can be both. */
 enum cbor_diag_form {
