@@ -2046,8 +2046,8 @@ static size_t push_byte_strings(unsigned char *out, size_t strings)
     return length;
 }
 
-/* Each way from a rule into a part of an item that has to fit the rule again, and items that are nested so deeply that
- * the item fits, or that it is an error. */
+/* Rules that lead back to themselves, by each way into an item, on items of many depths: an item fits, or the check
+ * reports that it is nested too deeply. */
 static void check_deep_schemas_in_a_thread(void)
 {
     static const struct {
@@ -2150,7 +2150,7 @@ static void *checking_schemas(void *unused)
     return NULL;
 }
 
-/* With the stack that the header promises to be enough: the main thread may have less. */
+/* With no more stack than the header asks for. */
 static void test_schemas_in_a_thread(void)
 {
     pthread_t thread;
