@@ -1,15 +1,14 @@
 //! `extent`: reports whether bytes begin with an item, are truncated or have an error. It builds no
 //! item and allocates nothing. `after_front` returns the bytes after the item at the front.
 //!
-//! Both loop over heads with a stack of the open containers. For each container they keep how many
-//! parts are still to come. They skip the content of strings, but test that texts are UTF-8. Most
-//! private functions take the remaining bytes. They return the bytes after what they skip, or why
-//! they stop.
+//! Both go from head to head; `after_parts` calls itself for a container in a container. It keeps
+//! how many parts of a container are still to come. The content of strings is skipped, but texts
+//! are tested for UTF-8. Most private functions take the remaining bytes. They return the bytes
+//! after what they skip, or why they stop.
 mod answer;
 mod containers;
 mod due;
 mod held;
-mod outer;
 mod packed;
 mod progress;
 mod scanner;
@@ -36,7 +35,6 @@ use cbor_grammar::head::ItemHead;
 use cbor_grammar::level::DEEPEST;
 use cbor_grammar::strings::StringKind;
 use cbor_grammar::{Error, IntegerWidth};
-use outer::Outer;
 pub use scanner::Scanner;
 use to_come::ToCome;
 
@@ -194,8 +192,9 @@ fn after_whole(bytes: &[u8]) -> Option<&[u8]>
     }
 }
 
-/// The bytes after an item at `level` with these parts still to come. Its head is already read. Not
-/// inlined: only containers need its stack.
+/// The bytes after the parts that are still to come of an item at `level`. The call stack keeps the
+/// containers around it, since an array for them would be cleared for each item. Not inlined: an
+/// item without parts needs no frame.
 #[inline(never)]
 fn after_parts(parts: ToCome, bytes: &[u8], level: u8) -> Result<&[u8], Stop>
     requires { level ≤ deepest }
@@ -203,25 +202,19 @@ fn after_parts(parts: ToCome, bytes: &[u8], level: u8) -> Result<&[u8], Stop>
         Goes (skip_parts (deepest - level) parts) here bytes.now rest.now) }
     ensures stops { IfErr result (λ stop.
         StopsSo (skip_parts (deepest - level) parts) bytes.now stop) }
+    ensures shorter { IfOk result (λ rest. length rest.now ≤ length bytes.now) }
 {
-    let mut outer = Outer::ended(level);
-    let mut top = parts;
+    let mut parts = parts;
     let mut rest = bytes;
-    'turns: loop {
-        if let Some(after) = top.after_end(rest) {
-            rest = after;
-            let Some(open) = outer.pop() else {
-                return Ok(rest);
-            };
-            top = open;
-        } else {
-            let (parts, after) = read_part(rest, usize::from(DEEPEST) - outer.len())?;
-            rest = after;
-            top = top.after_part();
-            if let Some(parts) = parts {
-                outer.push(top);
-                top = parts;
-            }
+    'parts: loop {
+        if let Some(after) = parts.after_end(rest) {
+            return Ok(after);
+        }
+        let (inner, after) = read_part(rest, usize::from(DEEPEST - level))?;
+        parts = parts.after_part();
+        rest = after;
+        if let Some(inner) = inner {
+            rest = after_parts(inner, after, level + 1)?;
         }
     }
 }

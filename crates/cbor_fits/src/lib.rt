@@ -1,4 +1,8 @@
 //! Says whether CBOR items fit CDDL (RFC 8610), by the definition in `specs/Fits.antt`.
+//!
+//! The functions of `types.rt`, `groups.rt` and `controls.rt` call each other, up to once for each
+//! level of a schema. They, and what they call, are not inlined, so that each call takes little
+//! stack.
 #![tactic(auto)]
 
 mod controls;

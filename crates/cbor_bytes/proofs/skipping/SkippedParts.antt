@@ -1,14 +1,13 @@
--- For `skip.rt` and `skip/containers.rt`: how skipping over the open containers (`skip_open`) goes on if the innermost
--- one ends, or if its next part is whole, opens a container, is cut or has a fault. Only how much is still to come
--- matters, not what was read before.
+-- For `skip.rt` and `skip/containers.rt`: how skipping the parts of a container (`skip_parts`) goes on if it ends, or if
+-- its next part is whole, is cut or has a fault. The same for the open containers (`skip_open`), where a part may also
+-- open one more. Only how much is still to come matters, not what was read before.
 use Rattle.std.proofs.Common.{◌≡◌, ℕ, zero, suc, ◌-◌, ◌<◌, List, [], ◌∷◌, ◌++◌, length, Some, None, Ok, Err, refl, sym}
 use Rattle.std.proofs.Common.{ap, subst, ◌∙◌, append_assoc, inl, inr, arith}
-use Rattle.std.specs.Prelude.{option_map, replicate}
-use Rattle.std.proofs.lemmas.List.{length-append, length-replicate}
+use Rattle.std.specs.Prelude.{option_map}
+use Rattle.std.proofs.lemmas.List.{length-append}
 use Rattle.cbor_grammar.specs.declared.width.IntegerWidth.{IntegerWidth}
 use Rattle.cbor_grammar.specs.declared.width.IntegerWidth.TheVariants.{Zero}
 use Rattle.cbor_grammar.specs.declared.error.Error.{Error}
-use Rattle.cbor_grammar.specs.declared.error.Error.TheVariants as refusal
 use Rattle.cbor_bytes.specs.declared.skip.Stop.{Stop}
 use Rattle.cbor_bytes.specs.declared.skip.Stop.TheVariants as stops
 use Rattle.cbor_bytes.specs.declared.skip.to_come.ToCome.{ToCome}
@@ -26,12 +25,12 @@ use Rattle.cbor_grammar.specs.Reading.{parts_from, read_chunks}
 use Rattle.cbor_grammar.specs.Reading.{counted_item, one_less}
 use Rattle.cbor_bytes.specs.mirror.Skipping.{Skip, rest_of, here, Goes, StopsSo, skip_content, skip_item, any_width}
 use Rattle.cbor_bytes.specs.mirror.Skipping.{skip_body, some_item, emptied, frame_of, skip_frame, skip_parts, begun}
-use Rattle.cbor_bytes.specs.mirror.Skipping.{closing, skip_open, ended, skip_chunks}
+use Rattle.cbor_bytes.specs.mirror.Skipping.{closing, skip_open, skip_chunks}
 use Rattle.cbor_grammar.proofs.bytes.Heads.{cons_is}
 use Rattle.cbor_grammar.proofs.bytes.Steps.{parts_more, parts_end, item_shortens, open_or}
 use Rattle.cbor_grammar.proofs.bytes.Frames.{end_ways, close_ended}
 use Rattle.cbor_grammar.proofs.bytes.Found.{break_ways, after_break_is}
-use Rattle.cbor_bytes.proofs.skipping.Skips.{goes_here, goes_then, goes_within, rest_made, rest_then}
+use Rattle.cbor_bytes.proofs.skipping.Skips.{goes_here, goes_then, goes_within, stops_within, rest_made, rest_then}
 
 -- ---- what was read makes no difference
 
@@ -152,7 +151,7 @@ end_over f b after ends = over f ends
     over (tag_of t w) e = absurd cc
     over (tagged_with t w i) e = ([], cc, λ c. refl)
 
-frame_ends : (left : ℕ) (f : Frame) (b after : List ℕ) → after_end f b ≡ Some after
+pub frame_ends : (left : ℕ) (f : Frame) (b after : List ℕ) → after_end f b ≡ Some after
     → Goes (skip_frame left f) here b after
 frame_ends left f b after ends =
     let o = end_over f b after ends in
@@ -186,47 +185,6 @@ chunks_same left kind b = at (read_chunks (length b) kind b)
         → rest_of (c >>- λ cs. (0, Ok (atom (chunked_string kind cs.0), cs.1))).1 ≡ rest_of c.1
     at (n, Ok cs) = refl
     at (n, Err e) = refl
-
--- ---- containers in containers
-
--- with one more inside
-closing_append : (left : ℕ) (ts : List ToCome) (t : ToCome) (r : Skip)
-    → closing left (ts ++ t ∷ []) r ≡ closing left ts (r >>= skip_parts (left - length ts) t)
-closing_append left [] t r = let same : left ≡ left - 0 = omega arith in ap (λ l. r >>= skip_parts l t) same
-closing_append left (u ∷ ts) t r =
-    let same : left - 1 - length ts ≡ left - suc (length ts) = omega arith in
-    ap (λ q. q >>= skip_parts left u) (closing_append (left - 1) ts t r
-    ∙ ap (λ l. closing (left - 1) ts (r >>= skip_parts l t)) same)
-
-closing_err : (left : ℕ) (ts : List ToCome) (e : Error) → closing left ts (Err e) ≡ Err e
-closing_err left [] e = refl
-closing_err left (t ∷ ts) e = ap (λ q. q >>= skip_parts left t) (closing_err (left - 1) ts e)
-
--- an error of a part is one of all that is open
-abbrev pub wanted : List ToCome → ToCome → Skip → Skip
-wanted outer top r = closing deepest outer (r >>= skip_frame (deepest - length outer) (put (frame_of top) some_item))
-
-pub wanted_err : (outer : List ToCome) (top : ToCome) (e : Error) → wanted outer top (Err e) ≡ Err e
-wanted_err outer top e = closing_err deepest outer e
-
-wanted_same : (outer : List ToCome) (top : ToCome) (b : List ℕ) → after_end (frame_of top) b ≡ None
-    → skip_open outer top b ≡ wanted outer top (skip_item (deepest - length outer) b)
-wanted_same outer top b none = ap (closing deepest outer) (frame_next (deepest - length outer) (frame_of top) b none)
-
--- the innermost container ends, and nothing is open round it
-pub last_ends : {f : List ℕ → Skip} {all : List ℕ} (outer : List ToCome) (top : ToCome) (b after : List ℕ)
-    → Goes f (skip_open outer top) all b → outer ≡ [] → Some after ≡ after_end (frame_of top) b → Goes f here all after
-last_ends outer top b after so_far none some =
-    goes_then (rw none at so_far) (frame_ends (deepest - 0) (frame_of top) b after (sym some))
-
--- the innermost container ends in another one
-pub open_ends : {f : List ℕ → Skip} {all : List ℕ} (whole outer : List ToCome) (t top : ToCome) (b after : List ℕ)
-    → Goes f (skip_open whole top) all b → whole ≡ outer ++ t ∷ [] → Some after ≡ after_end (frame_of top) b
-    → Goes f (skip_open outer t) all after
-open_ends whole outer t top b after so_far is some =
-    let ends = goes_within (closing deepest (outer ++ t ∷ []))
-    (frame_ends (deepest - length (outer ++ t ∷ [])) (frame_of top) b after (sym some)) in
-    goes_then (rw is at so_far) (goes_then ends (goes_here after (λ c. closing_append deepest outer t (Ok c))))
 
 -- ---- the next part
 
@@ -270,11 +228,15 @@ end_longer (value_of ps k left) (first ∷ x) rest c lt none = refl
 end_longer (tag_of t w) (first ∷ x) rest c lt none = refl
 end_longer (tagged_with t w i) (first ∷ x) rest c lt none = absurd cc
 
--- a part that was skipped goes on with what is open
-pub part_goes : (outer : List ToCome) (top : ToCome) (to : List ℕ → Skip) (b rest : List ℕ)
-    → None ≡ after_end (frame_of top) b → length rest < length b → Goes (skip_item (deepest - length outer)) to b rest
-    → Goes (skip_open outer top) (λ c. wanted outer top (to c)) b rest
-part_goes outer top to b rest none lt goes =
+-- what is left after a part, and after those that follow it
+abbrev pub after_one : ℕ → ToCome → Skip → Skip
+after_one left top r = r >>= skip_frame left (put (frame_of top) some_item)
+
+-- a part that was skipped goes on with those that follow it
+part_over : (left : ℕ) (top : ToCome) (to : List ℕ → Skip) (b rest : List ℕ) → None ≡ after_end (frame_of top) b
+    → length rest < length b → Goes (skip_item left) to b rest
+    → Goes (skip_parts left top) (λ c. after_one left top (to c)) b rest
+part_over left top to b rest none lt goes =
     let here_none : after_end (frame_of top) (goes.over ++ rest) ≡ None =
     subst (λ (x : List ℕ). after_end (frame_of top) x ≡ None) goes.parts (sym none) in
     let longer : length rest < length (goes.over ++ rest) =
@@ -282,15 +244,16 @@ part_goes outer top to b rest none lt goes =
     record {
       over = goes.over;
       parts = goes.parts;
-      along = λ c. wanted_same outer top (goes.over ++ c) (end_longer (frame_of top) goes.over rest c longer here_none)
-          ∙ ap (wanted outer top) (goes.along c);
+      along = λ c. frame_next left (frame_of top) (goes.over ++ c)
+          (end_longer (frame_of top) goes.over rest c longer here_none)
+          ∙ ap (after_one left top) (goes.along c);
     }
 
-pub part_stops : (outer : List ToCome) (top : ToCome) (b : List ℕ) (stop : Stop) → None ≡ after_end (frame_of top) b
-    → StopsSo (skip_item (deepest - length outer)) b stop → StopsSo (skip_open outer top) b stop
-part_stops outer top b stops.Cut none s = wanted_same outer top b (sym none) ∙ ap (wanted outer top) s
-    ∙ wanted_err outer top refusal.CutShort
-part_stops outer top b (stops.Fault e after) none s =
+-- an error of a part is one of its container
+pub part_fails : (left : ℕ) (top : ToCome) (b : List ℕ) (stop : Stop) → None ≡ after_end (frame_of top) b
+    → StopsSo (skip_item left) b stop → StopsSo (skip_parts left top) b stop
+part_fails left top b stops.Cut none s = frame_next left (frame_of top) b (sym none) ∙ ap (after_one left top) s
+part_fails left top b (stops.Fault e after) none s =
     let whole : b ≡ (s.before ++ s.last ∷ []) ++ s.behind = s.parts
     ∙ sym (append_assoc s.before (s.last ∷ []) s.behind) in
     let all : after_end (frame_of top) (s.before ++ s.last ∷ []) ≡ None =
@@ -302,10 +265,9 @@ part_stops outer top b (stops.Fault e after) none s =
       behind = s.behind;
       parts = s.parts;
       count = s.count;
-      cut = wanted_same outer top s.before (end_front (frame_of top) s.before (s.last ∷ []) all)
-          ∙ ap (wanted outer top) s.cut ∙ wanted_err outer top refusal.CutShort;
-      fails = wanted_same outer top (s.before ++ s.last ∷ []) all ∙ ap (wanted outer top) s.fails
-          ∙ wanted_err outer top e;
+      cut = frame_next left (frame_of top) s.before (end_front (frame_of top) s.before (s.last ∷ []) all)
+          ∙ ap (after_one left top) s.cut;
+      fails = frame_next left (frame_of top) (s.before ++ s.last ∷ []) all ∙ ap (after_one left top) s.fails;
       other = s.other;
     }
 
@@ -318,13 +280,71 @@ pub next_same : (left : ℕ) (top next : ToCome) (c : List ℕ) → Next top nex
 next_same left top next c is = frame_alike left (put (frame_of top) some_item) (frame_of next) c
     (sym (emptied_twice (put (frame_of top) some_item)) ∙ ap emptied (sym is))
 
+-- a part that was skipped whole
+pub part_whole : (left : ℕ) (top next : ToCome) (b rest : List ℕ) → None ≡ after_end (frame_of top) b → Next top next
+    → length rest < length b → Goes (skip_item left) here b rest
+    → Goes (skip_parts left top) (skip_parts left next) b rest
+part_whole left top next b rest none is lt goes =
+    goes_then (part_over left top here b rest none lt goes) (goes_here rest (λ c. next_same left top next c is))
+
+-- ---- containers in containers
+
+-- with one more inside
+closing_append : (left : ℕ) (ts : List ToCome) (t : ToCome) (r : Skip)
+    → closing left (ts ++ t ∷ []) r ≡ closing left ts (r >>= skip_parts (left - length ts) t)
+closing_append left [] t r = let same : left ≡ left - 0 = omega arith in ap (λ l. r >>= skip_parts l t) same
+closing_append left (u ∷ ts) t r =
+    let same : left - 1 - length ts ≡ left - suc (length ts) = omega arith in
+    ap (λ q. q >>= skip_parts left u) (closing_append (left - 1) ts t r
+    ∙ ap (λ l. closing (left - 1) ts (r >>= skip_parts l t)) same)
+
+closing_err : (left : ℕ) (ts : List ToCome) (e : Error) → closing left ts (Err e) ≡ Err e
+closing_err left [] e = refl
+closing_err left (t ∷ ts) e = ap (λ q. q >>= skip_parts left t) (closing_err (left - 1) ts e)
+
+-- what is left after a part of the innermost container and all that is open
+abbrev pub wanted : List ToCome → ToCome → Skip → Skip
+wanted outer top r = closing deepest outer (after_one (deepest - length outer) top r)
+
+pub wanted_err : (outer : List ToCome) (top : ToCome) (e : Error) → wanted outer top (Err e) ≡ Err e
+wanted_err outer top e = closing_err deepest outer e
+
+-- the innermost container ends, and nothing is open round it
+pub last_ends : {f : List ℕ → Skip} {all : List ℕ} (outer : List ToCome) (top : ToCome) (b after : List ℕ)
+    → Goes f (skip_open outer top) all b → outer ≡ [] → Some after ≡ after_end (frame_of top) b → Goes f here all after
+last_ends outer top b after so_far none some =
+    goes_then (rw none at so_far) (frame_ends (deepest - 0) (frame_of top) b after (sym some))
+
+-- the innermost container ends in another one
+pub open_ends : {f : List ℕ → Skip} {all : List ℕ} (whole outer : List ToCome) (t top : ToCome) (b after : List ℕ)
+    → Goes f (skip_open whole top) all b → whole ≡ outer ++ t ∷ [] → Some after ≡ after_end (frame_of top) b
+    → Goes f (skip_open outer t) all after
+open_ends whole outer t top b after so_far is some =
+    let ends = goes_within (closing deepest (outer ++ t ∷ []))
+    (frame_ends (deepest - length (outer ++ t ∷ [])) (frame_of top) b after (sym some)) in
+    goes_then (rw is at so_far) (goes_then ends (goes_here after (λ c. closing_append deepest outer t (Ok c))))
+
+-- ---- the next part in containers
+
+-- the same in containers that are open
+pub part_goes : (outer : List ToCome) (top : ToCome) (to : List ℕ → Skip) (b rest : List ℕ)
+    → None ≡ after_end (frame_of top) b → length rest < length b → Goes (skip_item (deepest - length outer)) to b rest
+    → Goes (skip_open outer top) (λ c. wanted outer top (to c)) b rest
+part_goes outer top to b rest none lt goes =
+    goes_within (closing deepest outer) (part_over (deepest - length outer) top to b rest none lt goes)
+
+pub part_stops : (outer : List ToCome) (top : ToCome) (b : List ℕ) (stop : Stop) → None ≡ after_end (frame_of top) b
+    → StopsSo (skip_item (deepest - length outer)) b stop → StopsSo (skip_open outer top) b stop
+part_stops outer top b stop none s =
+    stops_within (skip_parts (deepest - length outer) top) b stop (closing deepest outer) (closing_err deepest outer)
+    (part_fails (deepest - length outer) top b stop none s)
+
 -- a part without parts, and one that opens a container
 pub whole_goes : (outer : List ToCome) (top next : ToCome) (b rest : List ℕ) → None ≡ after_end (frame_of top) b
     → Next top next → length rest < length b → Goes (skip_item (deepest - length outer)) here b rest
     → Goes (skip_open outer top) (skip_open outer next) b rest
 whole_goes outer top next b rest none is lt goes =
-    goes_then (part_goes outer top here b rest none lt goes)
-    (goes_here rest (λ c. ap (closing deepest outer) (next_same (deepest - length outer) top next c is)))
+    goes_within (closing deepest outer) (part_whole (deepest - length outer) top next b rest none is lt goes)
 
 pub opens_goes : (outer : List ToCome) (top next t : ToCome) (b rest : List ℕ) → None ≡ after_end (frame_of top) b
     → Next top next → length rest < length b
@@ -346,22 +366,6 @@ opens_goes outer top next t b rest none is lt goes =
     on_same (Err e) = refl
 
 -- ---- one item is to come
-
--- containers that end after an item change nothing
-around_ended : (n left : ℕ) (r : Skip) → closing left (replicate n ended) r ≡ r
-around_ended zero left r = refl
-around_ended (suc n) left r = ap (λ s. s >>= skip_parts left ended) (around_ended n (left - 1) r) ∙ ends r
-  where
-    ends : (s : Skip) → (s >>= skip_parts left ended) ≡ s
-    ends (Ok b) = frame_end left (items_in no_items (Number 0 Zero)) b b refl
-    ends (Err e) = refl
-
--- the parts of the innermost of `n` containers that end here
-pub parts_goes : (n : ℕ) (b : List ℕ) (t : ToCome)
-    → Goes (skip_parts (deepest - n) t) (skip_open (replicate n ended) t) b b
-parts_goes n b t = goes_here b (λ c.
-    ap (λ m. skip_parts (deepest - m) t c) (sym (length-replicate n ended))
-    ∙ sym (around_ended n deepest (skip_parts (deepest - length (replicate n ended)) t c)))
 
 -- nothing is open
 pub first_goes : (b : List ℕ) (t : ToCome) → frame_of t ≡ emptied (tag_of 0 Zero)

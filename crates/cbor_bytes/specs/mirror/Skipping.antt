@@ -110,10 +110,6 @@ frame_of (to_come.Items left) = items_in no_items (argument_of left)
 frame_of (to_come.Pairs left) = pairs_in no_pairs (argument_of left)
 frame_of (to_come.Value left) = value_of no_pairs some_item (argument_of left)
 
--- nothing
-abbrev pub ended : ToCome
-ended = to_come.Items (Some 0)
-
 -- the parts, with `left` levels left for each
 abbrev pub skip_frame : ℕ → Frame → List ℕ → Skip
 skip_frame left f b = rest_of (read_parts (counted_item left) f b).1

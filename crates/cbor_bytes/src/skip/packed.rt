@@ -1,7 +1,7 @@
 //! `Packed`, for `Scanner`: the stack of the open containers around the innermost one. Its size is
-//! fixed. It takes a third of the memory of [`Outer`], but [`Outer`] is faster.
+//! fixed. Two arrays take a third of the memory of one array of [`ToCome`].
 //!
-//! [`Outer`]: super::outer::Outer
+//! [`ToCome`]: super::to_come::ToCome
 ghost use Rattle.std.specs.Prelude.{◌≡◌, ◌<◌, ◌≤◌, [], ◌∷◌, ◌++◌, length, IfSome, Some, None};
 ghost use Rattle.cbor_grammar.specs.WellFormed.{deepest};
 
