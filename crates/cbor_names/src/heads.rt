@@ -1,5 +1,4 @@
-//! Skips heads, strings and small items fast, with a table of first bytes. It does not check how
-//! deep items are nested. Also tests whether a tag is next.
+//! Skips heads and strings fast, with a table of first bytes. Also tests whether a tag is next.
 
 ghost use Rattle.std.specs.Prelude.{◌<◌, length, IfSome};
 
@@ -71,30 +70,4 @@ pub(crate) fn after_leaf(bytes: &[u8]) -> Option<&[u8]>
         Some(0x5f | 0x7f | 0x80..=0xdf | 0xff) => None,
         _ => after_head(bytes),
     }
-}
-
-/// How many items are in one that begins so; `None` where that is not in its first byte.
-fn parts_of(first: u8) -> Option<usize> {
-    match first {
-        0x80..=0x97 => Some(usize::from(first & 31)),
-        0xa0..=0xb7 => Some(2 * usize::from(first & 31)),
-        0xc0..=0xdf => Some(1),
-        0x5f | 0x7f | 0x98..=0x9f | 0xb8..=0xbf | 0xff => None,
-        _ => Some(0),
-    }
-}
-
-/// The bytes after the item at the front, if no container in it has more than 23 members or pairs,
-/// nor an indefinite length. It may be nested too deeply.
-pub(crate) fn after_small(bytes: &[u8]) -> Option<&[u8]>
-    ensures { IfSome result (λ rest. length rest.now < length bytes.now) }
-{
-    let mut rest = after_head(bytes)?;
-    let mut due = parts_of(*bytes.first()?)?;
-    'items: while due > 0 {
-        let parts = parts_of(*rest.first()?)?;
-        rest = after_head(rest)?;
-        due = (due - 1).saturating_add(parts);
-    }
-    Some(rest)
 }

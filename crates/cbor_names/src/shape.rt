@@ -2,12 +2,10 @@
 //! (its members still get names), or wholly. `says`: whether the tag at the front gives notes.
 
 use crate::decimal::Scaled;
-use crate::heads::after_small;
 use crate::scalar::float_at;
 use crate::table::{Inside, Names, PartRow, Type, WhatRow};
 use cbor_bytes::head::read_head;
 use cbor_bytes::skip::after_front;
-use cbor_bytes::strings::split_at;
 use cbor_grammar::argument::Argument;
 use cbor_grammar::head::ItemHead;
 use cbor_grammar::strings::StringKind;
@@ -86,7 +84,7 @@ impl Names {
             if count.after_end(index, rest).is_some() {
                 return self.fit_without(parts.get(index..).unwrap_or(&[]));
             }
-            let Ok((head, inner)) = read_head(rest) else {
+            let Ok((head, _)) = read_head(rest) else {
                 return fit_count(parts, count);
             };
             if !self.may_be(part.what, head) {
@@ -96,7 +94,7 @@ impl Names {
             if index.saturating_add(1) == parts.len() && matches!(count, Argument::Number(..)) {
                 return fit_count(parts, count);
             }
-            match after_head(head, inner, rest) {
+            match after_front(rest, 1) {
                 Some(after) => rest = after,
                 None => return fit_count(parts, count),
             }
@@ -164,27 +162,6 @@ impl Names {
             None if tag == EPOCH => float_at(rest).is_some(),
             None => Scaled::below(tag, rest).is_some(),
         }
-    }
-}
-
-/// The bytes after the item at the front, whose head and the bytes after that are known.
-fn after_head<'b>(head: ItemHead, inner: &'b [u8], bytes: &'b [u8]) -> Option<&'b [u8]> {
-    match head {
-        ItemHead::Integer(..) | ItemHead::Negative(..) | ItemHead::Float(..) => Some(inner),
-        ItemHead::Simple(_) => Some(inner),
-        ItemHead::Array(Argument::Number(0, _)) | ItemHead::Map(Argument::Number(0, _)) => {
-            Some(inner)
-        }
-        ItemHead::String(StringKind::Bytes, Argument::Number(len, _)) => {
-            match split_at(inner, len) {
-                Ok((_, after)) => Some(after),
-                Err(_) => None,
-            }
-        }
-        _ => match after_small(bytes) {
-            Some(after) => Some(after),
-            None => after_front(bytes, 1),
-        },
     }
 }
 
