@@ -331,17 +331,28 @@ impl<'a> Leaves<'a> {
         Ok(())
     }
 
-    /// Appends the line of an item.
-    fn push_line(&mut self, out: &mut String, leaf: Span) -> Result<(), Error> {
+    /// Appends what a line has before the item that [`next_leaf`](Leaves::next_leaf) returned last:
+    /// its place, if asked, its path and two blanks.
+    pub fn push_path(&self, out: &mut String, leaf: Span) -> Result<(), AllocError> {
         if self.places {
             let byte = self.items.number(leaf.start);
             write!(out, "0x{byte:x}  ")?;
         }
         push_number(out, self.number.saturating_sub(1))?;
         out.push_str(self.path.as_str())?;
-        out.push_str("  ")?;
+        out.push_str("  ")
+    }
+
+    /// Appends that item in EDN.
+    pub fn push_item(&self, out: &mut String, leaf: Span) -> Result<(), Error> {
         let item = leaf.bytes(self.items.bytes);
-        push_bytes_to_edn(*out.allocator(), item, self.style, out)?;
+        push_bytes_to_edn(*out.allocator(), item, self.style, out)
+    }
+
+    /// Appends the line of an item.
+    fn push_line(&self, out: &mut String, leaf: Span) -> Result<(), Error> {
+        self.push_path(out, leaf)?;
+        self.push_item(out, leaf)?;
         out.push('\n')?;
         Ok(())
     }

@@ -50,7 +50,7 @@ fn push_line(out: &mut Vec<u8>, line: &[u8], language: Language) -> Result<(), A
     let mut at = 0;
     'tokens: while at < line.len() {
         let rest = &line[at..];
-        let token = language.token(rest, at == 0);
+        let token = language.token(rest);
         push_in_color(out, token.kind, &rest[..token.end])?;
         at += token.end;
     }

@@ -7,7 +7,7 @@ ghost use Rattle.cbor_screen.specs.Elided.{IsElided, IsElidedToken};
 
 use crate::color::line_end;
 use crate::quoted::content_end;
-use crate::token::Language;
+use crate::token::edn_token;
 use std::alloc::AllocError;
 
 /// What is left out of a token.
@@ -117,15 +117,11 @@ fn push_cut(out: &mut Vec<u8>, token: &[u8], cut: Cut) -> Result<(), AllocError>
     out.extend_from_slice(b" bytes/")
 }
 
-/// Appends a token, cut if it is a string of more than this many bytes. A path is never cut.
-fn push_token(out: &mut Vec<u8>, token: &[u8], is_path: bool, most: usize) -> Result<(), AllocError>
+/// Appends a token, cut if it is a string of more than this many bytes.
+fn push_token(out: &mut Vec<u8>, token: &[u8], most: usize) -> Result<(), AllocError>
     ensures { OnOk result ((added : List ℕ)
         × (out.new.items ≡ out.old.items ++ added) × IsElidedToken most token.now added) }
 {
-    if is_path {
-        out.extend_from_slice(token)?;
-        return Ok(());
-    }
     match cut_of(token, most) {
         Some(cut) => push_cut(out, token, cut)?,
         None => out.extend_from_slice(token)?,
@@ -134,20 +130,15 @@ fn push_token(out: &mut Vec<u8>, token: &[u8], is_path: bool, most: usize) -> Re
 }
 
 /// Appends a line with its long strings cut.
-fn push_line(
-    out: &mut Vec<u8>,
-    line: &[u8],
-    language: Language,
-    most: usize,
-) -> Result<(), AllocError>
+fn push_line(out: &mut Vec<u8>, line: &[u8], most: usize) -> Result<(), AllocError>
     ensures { OnOk result ((added : List ℕ)
         × (out.new.items ≡ out.old.items ++ added) × IsElided most line.now added) }
 {
     let mut at = 0;
     'tokens: while at < line.len() {
         let rest = &line[at..];
-        let end = language.token(rest, at == 0).end;
-        push_token(out, &rest[..end], at == 0 && language.has_paths(), most)?;
+        let end = edn_token(rest).end;
+        push_token(out, &rest[..end], most)?;
         at += end;
     }
     Ok(())
@@ -155,12 +146,7 @@ fn push_line(
 
 /// Appends the first line of a text, which is not empty, with its long strings cut, and its line
 /// feed. Returns how long it was.
-fn push_first_line(
-    out: &mut Vec<u8>,
-    text: &[u8],
-    language: Language,
-    most: usize,
-) -> Result<usize, AllocError>
+fn push_first_line(out: &mut Vec<u8>, text: &[u8], most: usize) -> Result<usize, AllocError>
     requires { 0 < length text.now }
     ensures some { IfOk result (λ len. 0 < len) }
     ensures within { IfOk result (λ len. len ≤ length text.now) }
@@ -168,7 +154,7 @@ fn push_first_line(
         × (out.new.items ≡ out.old.items ++ added) × IsElided most (take len text.now) added) }
 {
     let end = line_end(text);
-    push_line(out, &text[..end], language, most)?;
+    push_line(out, &text[..end], most)?;
     if end == text.len() {
         return Ok(end);
     }
@@ -181,19 +167,14 @@ fn push_first_line(
 /// how many bytes it has. Such a text is not to be read back.
 ///
 /// ```rust
-/// use cbor_screen::{Language, push_elided};
+/// use cbor_screen::push_elided;
 ///
 /// let mut out = Vec::new(alloc);
-/// push_elided(&mut out, b"[h'3082024101', \"no\"]", Language::Edn, 2)?;
+/// push_elided(&mut out, b"[h'3082024101', \"no\"]", 2)?;
 /// let wanted = b"[h'3082...' /5 bytes/, \"no\"]";
 /// assert_eq!(rt; out.as_slice(), wanted.as_slice());
 /// ```
-pub fn push_elided(
-    out: &mut Vec<u8>,
-    text: &[u8],
-    language: Language,
-    most: usize,
-) -> Result<(), AllocError>
+pub fn push_elided(out: &mut Vec<u8>, text: &[u8], most: usize) -> Result<(), AllocError>
     // The text in tokens; some that are longer than `most` have a part left out.
     ensures elided { OnOk result ((added : List ℕ)
         × (out.new.items ≡ out.old.items ++ added) × IsElided most text.now added) }
@@ -205,7 +186,7 @@ pub fn push_elided(
     let mut at = 0;
     'lines: while at < text.len() {
         let rest = &text[at..];
-        let len = push_first_line(out, rest, language, most)?;
+        let len = push_first_line(out, rest, most)?;
         at += len;
     }
     Ok(())

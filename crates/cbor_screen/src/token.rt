@@ -1,6 +1,5 @@
-//! `Language`: what a text is written in: EDN, a dump, or paths with EDN. Its call `token` returns
-//! the token at the front of a line, with its kind. The files that colour texts, cut strings and
-//! leave out widths use it.
+//! `Language`: what a text is written in: EDN or a dump. Its call `token` returns the token at the
+//! front of a line, with its kind. `edn_token` does so for EDN alone.
 ghost use Rattle.std.specs.Prelude.{◌≡◌, ◌+◌, ◌<◌, ◌≤◌, length};
 
 use crate::kind::Kind;
@@ -11,10 +10,6 @@ use crate::quoted::{byte_at, comment_end, string_end};
 pub enum Language {
     /// EDN, which includes JSON.
     Edn,
-    /// Lines of a path and EDN, with two blanks between them.
-    Paths,
-    /// The same with a place and two blanks before each.
-    Places,
     /// A dump: digits, and comments from `#` to the end of a line.
     Dump,
 }
@@ -28,58 +23,17 @@ pub(crate) struct Token {
 }
 
 impl Language {
-    /// Whether each line begins with a path.
-    pub(crate) fn has_paths(self) -> bool {
-        matches!(self, Language::Paths | Language::Places)
-    }
-
-    /// The token at the front of what remains of a line, which is not empty, or is all of the line.
-    pub(crate) fn token(self, line: &[u8], all: bool) -> Token
+    /// The token at the front of what remains of a line, which is not empty.
+    pub(crate) fn token(self, line: &[u8]) -> Token
         requires { 0 < length line.now }
         ensures some { 0 < result.end }
         ensures within { result.end ≤ length line.now }
     {
         match self {
-            Language::Paths if all => Token {
-                kind: Kind::Key,
-                end: path_end(line, 1),
-            },
-            Language::Places if all => Token {
-                kind: Kind::Key,
-                end: path_end(line, 2),
-            },
-            Language::Edn | Language::Paths | Language::Places => edn_token(line),
+            Language::Edn => edn_token(line),
             Language::Dump => dump_token(line),
         }
     }
-}
-
-/// Where the path ends that a line begins with, maybe after a place: after this many times two
-/// blanks that are not between quotes, or at the end of the line.
-fn path_end(line: &[u8], most: u8) -> usize
-    requires { 0 < length line.now }
-    ensures some { 0 < result }
-    ensures within { result ≤ length line.now }
-{
-    let mut at = 1;
-    let mut gaps = 0u8;
-    let mut before = line[0];
-    let mut quoted = before == b'"';
-    'path: while at < line.len() && gaps < most {
-        let byte = line[at];
-        let ends = !quoted && byte == b' ' && before == b' ';
-        if ends {
-            gaps += 1;
-        }
-        quoted ^= byte == b'"' && before != b'\\';
-        before = if ends || (byte == b'\\' && before == b'\\') {
-            0
-        } else {
-            byte
-        };
-        at += 1;
-    }
-    at
 }
 
 /// The token at the front of a line of a dump.
@@ -109,7 +63,7 @@ fn dump_token(line: &[u8]) -> Token
 }
 
 /// The token at the front of a line of EDN.
-fn edn_token(line: &[u8]) -> Token
+pub(crate) fn edn_token(line: &[u8]) -> Token
     requires { 0 < length line.now }
     ensures some { 0 < result.end }
     ensures within { result.end ≤ length line.now }

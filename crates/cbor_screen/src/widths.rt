@@ -6,7 +6,7 @@ ghost use Rattle.cbor_screen.specs.Widthless.{IsIndicator, IsWidthless, IsWidthl
 
 use crate::color::line_end;
 use crate::kind::Kind;
-use crate::token::Language;
+use crate::token::edn_token;
 use std::alloc::AllocError;
 
 /// Whether a text is an indicator that states a width.
@@ -66,7 +66,7 @@ fn piece_end(rest: &[u8], opens: bool, end: usize) -> usize
 }
 
 /// Appends a line without widths.
-fn push_line(out: &mut Vec<u8>, line: &[u8], language: Language) -> Result<(), AllocError>
+fn push_line(out: &mut Vec<u8>, line: &[u8]) -> Result<(), AllocError>
     ensures { OnOk result ((added : List ℕ)
         × (out.new.items ≡ out.old.items ++ added) × IsWidthless line.now added) }
 {
@@ -74,7 +74,7 @@ fn push_line(out: &mut Vec<u8>, line: &[u8], language: Language) -> Result<(), A
     let mut opens = false;
     'tokens: while at < line.len() {
         let rest = &line[at..];
-        let token = language.token(rest, at == 0);
+        let token = edn_token(rest);
         let end = piece_end(rest, opens, token.end);
         push_piece(out, &rest[..end], token.kind)?;
         opens = matches!(rest[end - 1], b'[' | b'{');
@@ -85,7 +85,7 @@ fn push_line(out: &mut Vec<u8>, line: &[u8], language: Language) -> Result<(), A
 
 /// Appends the first line of a text, which is not empty, without widths, and its line feed. Returns
 /// how long it was.
-fn push_first_line(out: &mut Vec<u8>, text: &[u8], language: Language) -> Result<usize, AllocError>
+fn push_first_line(out: &mut Vec<u8>, text: &[u8]) -> Result<usize, AllocError>
     requires { 0 < length text.now }
     ensures some { IfOk result (λ len. 0 < len) }
     ensures within { IfOk result (λ len. len ≤ length text.now) }
@@ -93,7 +93,7 @@ fn push_first_line(out: &mut Vec<u8>, text: &[u8], language: Language) -> Result
         × (out.new.items ≡ out.old.items ++ added) × IsWidthless (take len text.now) added) }
 {
     let end = line_end(text);
-    push_line(out, &text[..end], language)?;
+    push_line(out, &text[..end])?;
     if end == text.len() {
         return Ok(end);
     }
@@ -106,17 +106,13 @@ fn push_first_line(out: &mut Vec<u8>, text: &[u8], language: Language) -> Result
 /// Such a text is for reading: read back, each of these has its shortest width.
 ///
 /// ```rust
-/// use cbor_screen::{Language, push_without_widths};
+/// use cbor_screen::push_without_widths;
 ///
 /// let mut out = Vec::new(alloc);
-/// push_without_widths(&mut out, b"[_0 1.5_3, 1_0, [_ \"a\"_0]]", Language::Edn)?;
+/// push_without_widths(&mut out, b"[_0 1.5_3, 1_0, [_ \"a\"_0]]")?;
 /// assert_eq!(rt; out.as_slice(), b"[1.5, 1, [_ \"a\"]]".as_slice());
 /// ```
-pub fn push_without_widths(
-    out: &mut Vec<u8>,
-    text: &[u8],
-    language: Language,
-) -> Result<(), AllocError>
+pub fn push_without_widths(out: &mut Vec<u8>, text: &[u8]) -> Result<(), AllocError>
     // The text in tokens; some have the indicator at their end left out.
     ensures widthless { OnOk result ((added : List ℕ)
         × (out.new.items ≡ out.old.items ++ added) × IsWidthless text.now added) }
@@ -124,7 +120,7 @@ pub fn push_without_widths(
     let mut at = 0;
     'lines: while at < text.len() {
         let rest = &text[at..];
-        let len = push_first_line(out, rest, language)?;
+        let len = push_first_line(out, rest)?;
         at += len;
     }
     Ok(())

@@ -40,7 +40,7 @@ fn push_colored_example(rt: HostRuntime) -> Result<(), Fail> {
 fn push_elided_example(rt: HostRuntime) -> Result<(), Fail> {
     let alloc = rt.alloc();
     let mut out = Vec::new(alloc);
-    push_elided(&mut out, b"[h'3082024101', \"no\"]", Language::Edn, 2)?;
+    push_elided(&mut out, b"[h'3082024101', \"no\"]", 2)?;
     let wanted = b"[h'3082...' /5 bytes/, \"no\"]";
     assert_eq!(rt; out.as_slice(), wanted.as_slice());
     Ok(())
@@ -50,7 +50,7 @@ fn push_elided_example(rt: HostRuntime) -> Result<(), Fail> {
 fn push_without_widths_example(rt: HostRuntime) -> Result<(), Fail> {
     let alloc = rt.alloc();
     let mut out = Vec::new(alloc);
-    push_without_widths(&mut out, b"[_0 1.5_3, 1_0, [_ \"a\"_0]]", Language::Edn)?;
+    push_without_widths(&mut out, b"[_0 1.5_3, 1_0, [_ \"a\"_0]]")?;
     assert_eq!(rt; out.as_slice(), b"[1.5, 1, [_ \"a\"]]".as_slice());
     Ok(())
 }

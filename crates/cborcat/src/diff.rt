@@ -145,28 +145,26 @@ impl Diff<'_> {
         sides: (&[u8], &[u8]),
     ) -> Result<Written, Error> {
         let alloc = self.rt.alloc();
-        let mut front = String::from_str(alloc, mark_of(difference.change))?;
+        let screen = Screen::new(self.rt, self.job);
+        let mut path = String::new(alloc);
         if difference.number > 0 {
-            write!(front, "{}:", difference.number)?;
+            write!(path, "{}:", difference.number)?;
         }
-        front.push_str(difference.path.as_str())?;
-        front.push_str("  ")?;
-        match write(self.rt, target, front.as_bytes()) {
-            Written::Whole => {}
-            end => return Ok(end),
-        }
-        let mut line = Vec::new(alloc);
-        self.push_item(&mut line, difference.old.bytes(sides.0))?;
+        path.push_str(difference.path.as_str())?;
+        path.push_str("  ")?;
+        let mut line = Vec::from_slice(alloc, mark_of(difference.change).as_bytes())?;
+        screen.push_path(&mut line, &path)?;
+        self.push_item(&mut line, screen, difference.old.bytes(sides.0))?;
         if difference.old.len() > 0 && difference.new.len() > 0 {
             line.extend_from_slice(b" -> ")?;
         }
-        self.push_item(&mut line, difference.new.bytes(sides.1))?;
+        self.push_item(&mut line, screen, difference.new.bytes(sides.1))?;
         line.push(b'\n')?;
-        Ok(Screen::new(self.rt, self.job).write(target, &line, Language::Edn)?)
+        Ok(write(self.rt, target, &line))
     }
 
     /// Appends an item in EDN on one line, if it is there.
-    fn push_item(self, line: &mut Vec<u8>, item: &[u8]) -> Result<(), Error> {
+    fn push_item(self, line: &mut Vec<u8>, screen: Screen<'_>, item: &[u8]) -> Result<(), Error> {
         if item.is_empty() {
             return Ok(());
         }
@@ -179,10 +177,12 @@ impl Diff<'_> {
             steps: Vec::new(self.rt.alloc()),
             one: false,
         };
-        if show_items(&show, item, line).end == End::Memory {
+        let mut text = Vec::new(self.rt.alloc());
+        if show_items(&show, item, &mut text).end == End::Memory {
             return Err(Error::Memory);
         }
-        let _ = line.pop();
+        let _ = text.pop();
+        screen.push(line, &text, Language::Edn)?;
         Ok(())
     }
 }

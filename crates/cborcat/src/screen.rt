@@ -124,19 +124,30 @@ impl<'a> Screen<'a> {
         self.colors || self.widthless || self.most.is_some() || language == Language::Dump
     }
 
-    /// Writes some lines. In comments of a dump, which are all that has such characters, what no
-    /// terminal and no log is given as it is is escaped.
+    /// Writes some lines.
     fn write_lines(
         self,
         target: &mut Target,
         lines: &[u8],
         language: Language,
     ) -> Result<Written, AllocError> {
+        let mut shown = Vec::new(self.rt.alloc());
+        self.push(&mut shown, lines, language)?;
+        Ok(write(self.rt, target, &shown))
+    }
+
+    /// Appends some lines as they are shown. In comments of a dump, which are all that has such
+    /// characters, what no terminal and no log is given as it is is escaped.
+    pub fn push(
+        self,
+        out: &mut Vec<u8>,
+        lines: &[u8],
+        language: Language,
+    ) -> Result<(), AllocError> {
         let alloc = self.rt.alloc();
         let mut escaped = String::new(alloc);
         let mut widthless = Vec::new(alloc);
         let mut elided = Vec::new(alloc);
-        let mut colored = Vec::new(alloc);
         let mut shown = lines;
         if language == Language::Dump {
             if !is_shown(true, shown)
@@ -147,24 +158,33 @@ impl<'a> Screen<'a> {
             }
         } else {
             if self.widthless {
-                push_without_widths(&mut widthless, shown, language)?;
+                push_without_widths(&mut widthless, shown)?;
                 shown = widthless.as_slice();
             }
             if let Some(most) = self.most {
-                push_elided(&mut elided, shown, language, most)?;
+                push_elided(&mut elided, shown, most)?;
                 shown = elided.as_slice();
             }
         }
         if self.colors {
-            push_colored(&mut colored, shown, language)?;
-            shown = colored.as_slice();
+            push_colored(out, shown, language)
+        } else {
+            out.extend_from_slice(shown)
         }
-        Ok(write(self.rt, target, shown))
+    }
+
+    /// Appends what a line of a path has before its item.
+    pub fn push_path(self, out: &mut Vec<u8>, path: &str) -> Result<(), AllocError> {
+        if self.colors {
+            push_in_color(out, Kind::Key, path.as_bytes())
+        } else {
+            out.extend_from_slice(path.as_bytes())
+        }
     }
 }
 
-/// How many bytes of a text are looked at together, at least.
-const BLOCK: usize = 64 * 1024;
+/// How many bytes of a text are looked at or written together, at least.
+pub const BLOCK: usize = 64 * 1024;
 
 /// How many bytes the first lines of a text take, which are a block or all of it.
 fn lines_len(text: &[u8]) -> usize {

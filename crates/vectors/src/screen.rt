@@ -46,14 +46,14 @@ fn colored(alloc: Global, row: &Row) -> Result<String, AllocError> {
 /// EDN with its long strings cut.
 fn elided(alloc: Global, row: &Row) -> Result<String, AllocError> {
     let mut out = Vec::new(alloc);
-    push_elided(&mut out, &row.input, Language::Edn, number_of(row.argument))?;
+    push_elided(&mut out, &row.input, number_of(row.argument))?;
     String::from_str(alloc, text_of(&out))
 }
 
 /// EDN without widths.
 fn widthless(alloc: Global, row: &Row) -> Result<String, AllocError> {
     let mut out = Vec::new(alloc);
-    push_without_widths(&mut out, &row.input, Language::Edn)?;
+    push_without_widths(&mut out, &row.input)?;
     String::from_str(alloc, text_of(&out))
 }
 

@@ -7,7 +7,7 @@ use crate::dumps::Dumps;
 use crate::messages::say_out_of_memory;
 use crate::naming::encoded_in;
 use crate::output::{Written, write};
-use crate::screen::language_of;
+use crate::screen::{BLOCK, language_of};
 use crate::shown::show_of;
 use crate::status::Status;
 use cbor_bytes::{Extent, extent};
@@ -57,26 +57,41 @@ impl Conversion<'_> {
         let mut leaves = Leaves::new(alloc, items, style.edn(), entered)
             .numbered_from(self.number)
             .with_places(self.job.places);
-        let language = if self.job.places {
-            Language::Places
-        } else {
-            Language::Paths
-        };
-        let mut lines = String::new(alloc);
+        let mut lines = Vec::new(alloc);
         for _ in 0..u64::MAX {
-            if leaves.is_done() {
+            lines.clear();
+            self.push_leaves(&mut lines, &mut leaves)?;
+            if lines.is_empty() {
                 break;
             }
-            lines.clear();
-            leaves.push_block(&mut lines)?;
-            let text = lines.as_bytes();
-            match self.screen.write(self.target, text, language)? {
+            match write(self.rt, self.target, &lines) {
                 Written::Whole => {}
                 end => return Ok(end),
             }
         }
         self.number = leaves.number();
         Ok(Written::Whole)
+    }
+
+    /// Appends the lines of the items that come next, about a block of them.
+    fn push_leaves(&self, lines: &mut Vec<u8>, leaves: &mut Leaves) -> Result<(), Error> {
+        let mut text = String::new(self.rt.alloc());
+        for _ in 0..u64::MAX {
+            if lines.len() >= BLOCK {
+                break;
+            }
+            let Some(leaf) = leaves.next_leaf()? else {
+                break;
+            };
+            text.clear();
+            leaves.push_path(&mut text, leaf)?;
+            self.screen.push_path(lines, &text)?;
+            text.clear();
+            leaves.push_item(&mut text, leaf)?;
+            self.screen.push(lines, text.as_bytes(), Language::Edn)?;
+            lines.push(b'\n')?;
+        }
+        Ok(())
     }
 
     /// Writes which paths take the bytes of the input.
