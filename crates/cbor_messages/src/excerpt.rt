@@ -3,6 +3,7 @@
 //! byte.
 
 use arrayvec::ArrayString;
+use std::alloc::{AllocError, Global};
 use std::fmt;
 use std::fmt::Write;
 
@@ -87,6 +88,17 @@ impl fmt::Display for Excerpt<'_> {
 }
 
 impl<'a> Excerpt<'a> {
+    /// What is written before the mark: the line, and the blanks below it.
+    pub fn unmarked(&self, alloc: Global) -> Result<String, AllocError> {
+        let (line, before) = (self.line.as_str(), self.before);
+        format!(in alloc; "    {line}\n    {:before$}", "")
+    }
+
+    /// The mark, which is the last that is written.
+    pub fn mark(&self) -> &'a str {
+        self.mark
+    }
+
     /// The bytes round a place in hex, with a mark below the one at it; none if the place is after
     /// them.
     pub fn of_bytes(bytes: &[u8], at: usize) -> Option<Excerpt<'static>> {

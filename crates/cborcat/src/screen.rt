@@ -43,16 +43,10 @@ fn has_colors(rt: &HostRuntime, color: Color, terminal: bool) -> bool {
     }
 }
 
-/// The lines of an excerpt, with its mark, which follows the last blank, in colour.
+/// The lines of an excerpt, with its mark in colour.
 fn with_colored_mark(alloc: Global, excerpt: &Excerpt) -> Result<Vec<u8>, AllocError> {
-    let text = format!(in alloc; "{excerpt}")?;
-    let begins = match text.rfind(' ') {
-        Some(blank) => blank.saturating_add(1),
-        None => 0,
-    };
-    let (lines, mark) = text.as_bytes().split_at(begins.min(text.len()));
-    let mut shown = Vec::from_slice(alloc, lines)?;
-    push_in_color(&mut shown, Kind::Fault, mark)?;
+    let mut shown = excerpt.unmarked(alloc)?.into_bytes();
+    push_in_color(&mut shown, Kind::Fault, excerpt.mark().as_bytes())?;
     Ok(shown)
 }
 
