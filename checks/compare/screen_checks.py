@@ -6,7 +6,7 @@ import re
 
 ENDED = re.compile(rb"([^\x1b]|\x1b\[[0-9;]+m[^\x1b]*\x1b\[0m)*")
 SGR = re.compile(rb"\x1b\[[0-9;]*m")
-KEY, TEXT, BYTES, NUMBER, TAG, NOTE = b"1;34", b"32", b"33", b"36", b"35", b"90"
+KEY, TEXT, BYTES, NUMBER, TAG, NOTE, FAULT = b"1;34", b"32", b"33", b"36", b"35", b"90", b"1;31"
 
 
 def colored(*parts):
@@ -30,6 +30,12 @@ def colors(run, same):
          colored((KEY, b'0x6  "a  \\u0022"  '), (NUMBER, b"false"), b"\n"))
     same("JSON", run("--color=always", "-t", "json", "-f", "hex", "-x", "a161610a")[0],
          colored(b"{", (KEY, b'"a"'), b": ", (NUMBER, b"10"), b"}\n"))
+    partial = ["--color=always", "--partial", "--as=COSE_Key", "-f", "hex", "-x", "a2 05 41 00 03"]
+    same("what is wrong with an item", run(*partial, "-t", "diag")[0],
+         colored(b"{", (KEY, b"5"), b": ", (BYTES, b"h'00'"), b", ", (KEY, b"3"), b": ", (FAULT, b"/truncated/"), b" ",
+                 (BYTES, b"h''"), b"}\n"))
+    same("the same in a dump", run(*partial, "--no-names", "-t", "hex")[0].split(b"\n")[-2],
+         colored(b"   ", (FAULT, b"# truncated")))
     for form in ("digits", "bytes"):
         same(f"{form} have no colours", run("--color=always", "-t", form, data=item), run("-t", form, data=item))
     same("never", run("--color=never", data=item), run(data=item))

@@ -5,14 +5,14 @@ use crate::items::Show;
 use crate::naming::edn_notes;
 use cbor_edn_writer::NotedStyle;
 use cbor_grammar::Error;
-use cbor_places::partial_edn;
+use cbor_places::{PartialText, partial_edn};
 use std::alloc::Global;
 
 impl Show<'_> {
     /// Returns the EDN of the whole parts of the item at the front, which is truncated or
     /// malformed, with their names. In place of the rest stand what is `said` of it and its first
     /// bytes.
-    pub fn partial(&self, alloc: Global, bytes: &[u8], said: &str) -> Result<String, Error> {
+    pub fn partial(&self, alloc: Global, bytes: &[u8], said: &str) -> Result<PartialText, Error> {
         let style = self.style.edn();
         let naming = match self.names {
             Some(naming) if self.style.has_notes() => naming,

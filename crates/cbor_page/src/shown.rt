@@ -10,7 +10,7 @@ use crate::lines::push_lines;
 use crate::mark::Mark;
 use crate::plan::Plan;
 use crate::source::{Done, Source};
-use crate::walk::Items;
+use crate::walk::{FaultPlace, Items};
 use cbor_bytes::{Extent, extent};
 use cbor_inspect::{End, Show, Shown, show_items};
 use cbor_places::{Around, ByteNumbers, Piece};
@@ -114,15 +114,18 @@ pub fn push_partial(
 {
     let alloc = *out.allocator();
     let wrong = wrong_with(alloc, piece)?;
-    let Ok(text) = show.partial(alloc, piece.bytes, &wrong.note) else {
+    let Ok(shown) = show.partial(alloc, piece.bytes, &wrong.note) else {
         return Err(AllocError);
     };
     let items = Items {
-        text: text.as_bytes(),
+        text: shown.text.as_bytes(),
         bytes: piece.bytes,
         begins: piece.begins,
         paths,
-        fault: Some(wrong.place),
+        fault: Some(FaultPlace {
+            byte: wrong.place,
+            said: shown.said.start,
+        }),
     };
     push_lines(out, &items)?;
     push_wrong(out, &wrong, (piece.number(wrong.place), paths.number))?;

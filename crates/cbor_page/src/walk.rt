@@ -32,9 +32,17 @@ pub(crate) struct Items<'a> {
     pub(crate) begins: usize,
     /// Where they stand.
     pub(crate) paths: PathStart<'a>,
-    /// Where in the bytes the fault is, if the last item is not whole: at their end if they are
-    /// truncated.
-    pub(crate) fault: Option<usize>,
+    /// What is wrong with the last item, if it is not whole.
+    pub(crate) fault: Option<FaultPlace>,
+}
+
+/// Where an item that is not whole is wrong.
+#[derive(Clone, Copy)]
+pub(crate) struct FaultPlace {
+    /// Where in the bytes: at their end if they are truncated.
+    pub(crate) byte: usize,
+    /// Where in the text the comment begins that says what is wrong.
+    pub(crate) said: usize,
 }
 
 /// Where an item without others in it has its head and its content.
@@ -126,7 +134,7 @@ impl<'a> Walk<'a> {
         let end = from.saturating_add(len);
         match what {
             Token::Between => self.texts.push(Event::Text { end })?,
-            Token::Note => self.take_note(rest, end)?,
+            Token::Note => self.take_note(from, end)?,
             Token::Opening(closer) => self.take_opening(closer, end)?,
             Token::Closing => self.take_closing(end)?,
             Token::Leaf => {
@@ -139,10 +147,11 @@ impl<'a> Walk<'a> {
         Ok(len)
     }
 
-    /// Takes a note before an item.
-    fn take_note(&mut self, rest: &[u8], end: usize) -> Result<(), AllocError> {
-        let is_fault = rest.starts_with(b"/truncated") || rest.starts_with(b"/malformed: ");
-        if self.items.fault.is_some() && is_fault {
+    /// Takes a note before an item, from one place of the text to another.
+    fn take_note(&mut self, from: usize, end: usize) -> Result<(), AllocError> {
+        if let Some(fault) = self.items.fault
+            && fault.said == from
+        {
             self.at_fault = true;
             return self.texts.note(Mark::Wrong, end);
         }
@@ -237,7 +246,10 @@ impl<'a> Walk<'a> {
     /// Takes all bytes that remain, with the fault in them.
     fn take_remaining(&mut self) -> Result<(), AllocError> {
         let (start, end) = (self.at, self.items.bytes.len());
-        let fault = self.items.fault.unwrap_or(end).clamp(start, end.max(start));
+        let fault = match self.items.fault {
+            Some(fault) => fault.byte.clamp(start, end.max(start)),
+            None => end,
+        };
         let after = fault.saturating_add(1).min(end);
         self.open_span(Mark::ByteString, end)?;
         self.runs.run(false, Mark::ByteString, (start, fault))?;

@@ -39,6 +39,6 @@ pub use at::lines_at;
 pub use entered::Entered;
 pub use fault::{Fault, fault_of};
 pub use leaves::Leaves;
-pub use partial::partial_edn;
+pub use partial::{PartialText, partial_edn};
 pub use path::Path;
 pub use piece::{ByteNumbers, Piece, Places};

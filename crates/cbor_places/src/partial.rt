@@ -5,12 +5,20 @@ mod edn;
 
 use cbor_edn_writer::NotedStyle;
 use cbor_grammar::Error;
-use cbor_trace::{Open, Spot};
+use cbor_trace::{Open, Span, Spot};
 use edn::PartialEdn;
 use std::alloc::Global;
 
 /// How many of the bytes that remain are shown.
 const MOST: usize = 64;
+
+/// A text that shows an item which is not whole.
+#[derive(Drop)]
+pub struct PartialText {
+    pub text: String,
+    /// Where the comment that says what is wrong is in the text.
+    pub said: Span,
+}
 
 /// What EDN shows of the item that is not whole, at the front of these bytes: its whole parts, with
 /// notes, and then, with what is said of them, the bytes that remain.
@@ -22,12 +30,12 @@ pub fn partial_edn(
     noted: NotedStyle<'_>,
     bytes: &[u8],
     said: &str,
-) -> Result<String, Error> {
-    let mut out = String::new(alloc);
+) -> Result<PartialText, Error> {
+    let mut text = String::new(alloc);
     let edn = PartialEdn { bytes, said, noted };
-    edn.push_item(&mut out, Spot::outermost(), 0)?;
-    out.push('\n')?;
-    Ok(out)
+    let said = edn.push_item(&mut text, Spot::outermost(), 0)?;
+    text.push('\n')?;
+    Ok(PartialText { text, said })
 }
 
 /// The first of the bytes that remain, and how many more there are.

@@ -45,7 +45,7 @@ fn dump_token(line: &[u8]) -> Token
     let kind = match line[0] {
         b'#' => {
             return Token {
-                kind: comment_kind(line),
+                kind: Kind::Note,
                 end: line.len(),
             };
         }
@@ -78,7 +78,7 @@ pub(crate) fn edn_token(line: &[u8]) -> Token
             end: string_end(line, 1, b'\''),
         },
         b'/' => Token {
-            kind: comment_kind(line),
+            kind: Kind::Note,
             end: comment_end(line, 0),
         },
         b'#' => Token {
@@ -94,16 +94,6 @@ pub(crate) fn edn_token(line: &[u8]) -> Token
     Token {
         kind: kind_before(line, token),
         end: token.end,
-    }
-}
-
-/// What the comment is with which a line begins: some say what is wrong with an item.
-fn comment_kind(line: &[u8]) -> Kind {
-    let is_fault = line.starts_with(b"/malformed: ") || line.starts_with(b"# malformed: ");
-    if is_fault || line.starts_with(b"/truncated/") || line.starts_with(b"# truncated") {
-        Kind::Fault
-    } else {
-        Kind::Note
     }
 }
 

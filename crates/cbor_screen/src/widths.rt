@@ -41,7 +41,7 @@ fn push_piece(out: &mut Vec<u8>, piece: &[u8], kind: Kind) -> Result<(), AllocEr
     ensures { OnOk result ((added : List ℕ)
         × (out.new.items ≡ out.old.items ++ added) × IsWidthlessToken piece.now added) }
 {
-    if matches!(kind, Kind::Note | Kind::Fault) {
+    if kind == Kind::Note {
         return out.extend_from_slice(piece);
     }
     if is_of_count(piece) {

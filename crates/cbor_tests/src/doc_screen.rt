@@ -77,8 +77,9 @@ fn push_partial_dump_example(rt: HostRuntime) -> Result<(), Fail> {
     let alloc = rt.alloc();
     // An array of two. Its first item is there: a simple value in a non-minimal encoding.
     let mut out = String::new(alloc);
-    push_partial_dump(&mut out, b"\x82\xf8\x00", &DumpStyle::PLAIN, "truncated")?;
+    let said = push_partial_dump(&mut out, b"\x82\xf8\x00", &DumpStyle::PLAIN, "truncated")?;
     let wanted = "82       # array(2)\n   f8 00 #   unassigned, simple(0)\n   # truncated\n";
     assert_eq!(rt; out.as_str(), wanted);
+    assert_eq!(rt; said.bytes(out.as_bytes()), b"# truncated".as_slice());
     Ok(())
 }

@@ -10,7 +10,7 @@ use crate::status::Status;
 use cbor_bytes::{Extent, extent};
 use cbor_grammar::Error;
 use cbor_inspect::{End, Form, Show, Style, show_items};
-use cbor_places::Piece;
+use cbor_places::{PartialText, Piece};
 use cbor_screen::{DumpStyle, push_dump, push_partial_dump};
 use cborcat_arguments::Job;
 
@@ -85,10 +85,10 @@ impl<'a> Dumps<'a> {
     }
 
     /// What is shown of bytes that begin with no whole item, with what is said of that item.
-    pub fn partial(&self, bytes: &[u8], said: &str) -> Result<String, Error> {
+    pub fn partial(&self, bytes: &[u8], said: &str) -> Result<PartialText, Error> {
         let mut text = String::new(self.rt.alloc());
-        push_partial_dump(&mut text, bytes, &self.style_of(bytes), said)?;
-        Ok(text)
+        let said = push_partial_dump(&mut text, bytes, &self.style_of(bytes), said)?;
+        Ok(PartialText { text, said })
     }
 
     /// Writes the dumps of items, one after the other.

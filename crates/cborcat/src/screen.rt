@@ -5,6 +5,7 @@
 use crate::output::{Target, Written, write};
 use cbor_inspect::Form;
 use cbor_messages::Excerpt;
+use cbor_places::PartialText;
 use cbor_screen::{Kind, Language, push_colored, push_elided, push_in_color, push_without_widths};
 use cbor_tokens::{is_shown, push_shown};
 use cborcat_arguments::{Color, Job};
@@ -167,12 +168,32 @@ impl<'a> Screen<'a> {
         }
     }
 
+    /// Writes the text of an item that is not whole. What it says is wrong has the colour of faults.
+    pub fn write_partial(
+        self,
+        target: &mut Target,
+        partial: &PartialText,
+        language: Language,
+    ) -> Result<Written, AllocError> {
+        let (text, said) = (partial.text.as_bytes(), partial.said);
+        let mut shown = Vec::new(self.rt.alloc());
+        self.push(&mut shown, text.get(..said.start).unwrap_or(text), language)?;
+        self.push_kind(&mut shown, Kind::Fault, said.bytes(text))?;
+        self.push(&mut shown, text.get(said.end..).unwrap_or(b""), language)?;
+        Ok(write(self.rt, target, &shown))
+    }
+
     /// Appends what a line of a path has before its item.
     pub fn push_path(self, out: &mut Vec<u8>, path: &str) -> Result<(), AllocError> {
+        self.push_kind(out, Kind::Key, path.as_bytes())
+    }
+
+    /// Appends a text as a token of this kind.
+    fn push_kind(self, out: &mut Vec<u8>, kind: Kind, text: &[u8]) -> Result<(), AllocError> {
         if self.colors {
-            push_in_color(out, Kind::Key, path.as_bytes())
+            push_in_color(out, kind, text)
         } else {
-            out.extend_from_slice(path.as_bytes())
+            out.extend_from_slice(text)
         }
     }
 }

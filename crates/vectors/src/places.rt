@@ -25,7 +25,7 @@ pub fn answer(alloc: Global, row: &Row) -> Result<Option<String>, AllocError> {
         "fault_words" => fault_words(alloc, row),
         "lines_at" => shown(alloc, lines_of_byte(alloc, row)),
         "leaves" => shown(alloc, leaves(alloc, row)),
-        "partial_edn" => shown(alloc, partial_edn(alloc, noted(row), &row.bytes, SAID)),
+        "partial_edn" => shown(alloc, partial(alloc, row)),
         _ => return Ok(None),
     };
     Ok(Some(found?))
@@ -87,6 +87,17 @@ fn lines_of_byte(alloc: Global, row: &Row) -> Result<String, Error> {
     let (byte, word) = row.argument.split_once(" ").unwrap_or((row.argument, ""));
     let byte = number_of(byte);
     lines_at(alloc, item_with(piece(row), byte), byte, entered(word))
+}
+
+/// The EDN of an item that is not whole, unless what it says is not where it says.
+fn partial(alloc: Global, row: &Row) -> Result<String, Error> {
+    let shown = partial_edn(alloc, noted(row), &row.bytes, SAID)?;
+    let comment = format!(in alloc; "/{SAID}/")?;
+    if shown.said.bytes(shown.text.as_bytes()) == comment.as_bytes() {
+        Ok(shown.text)
+    } else {
+        Ok(String::from_str(alloc, "the comment is elsewhere")?)
+    }
 }
 
 /// The first block of the lines of paths.

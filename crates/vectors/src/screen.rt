@@ -75,7 +75,10 @@ fn dumps(alloc: Global, row: &Row) -> Result<String, AllocError> {
     let mut out = String::new(alloc);
     if row.call == "push_partial_dump" {
         return match push_partial_dump(&mut out, &row.bytes, &style, SAID) {
-            Ok(()) => lines_text(alloc, &out),
+            Ok(said) if said.bytes(out.as_bytes()).ends_with(SAID.as_bytes()) => {
+                lines_text(alloc, &out)
+            }
+            Ok(_) => String::from_str(alloc, "the comment is elsewhere"),
             Err(error) => refused_text(alloc, error),
         };
     }

@@ -13,7 +13,7 @@ use cbor_grammar::{Error, IntegerWidth};
 use cbor_notation_writer::members::{push_closing, push_end, push_start};
 use cbor_notation_writer::scalars::push_number;
 use cbor_tokens::push_hex;
-use cbor_trace::{Open, Part, Spot, part_at};
+use cbor_trace::{Open, Part, Span, Spot, part_at};
 use std::alloc::AllocError;
 use std::fmt::Write;
 
@@ -27,22 +27,26 @@ pub(super) struct PartialEdn<'a> {
 
 impl PartialEdn<'_> {
     /// Appends the truncated or malformed item at this spot. Its lines begin with this many
-    /// blanks.
-    pub(super) fn push_item(&self, out: &mut String, spot: Spot, indent: usize) -> Result<(), Error>
+    /// blanks. Returns where the comment is that says what is wrong.
+    pub(super) fn push_item(
+        &self,
+        out: &mut String,
+        spot: Spot,
+        indent: usize,
+    ) -> Result<Span, Error>
         requires start { spot.start ≤ length self.now.bytes.now }
         requires indent { indent ≤ 4 * spot.level }
     {
         push_note_before(out, self.noted, self.bytes.len() - spot.start)?;
         let Some(part) = part_at(self.bytes, spot, self.bytes.len()) else {
-            self.push_remaining(out, spot.start)?;
-            return Ok(());
+            return Ok(self.push_remaining(out, spot.start)?);
         };
         let style = self.container_style(indent);
         self.push_opening(out, part.open, style)?;
         self.push_parts(out, spot, part, style)?;
-        self.push_item(out, spot.of_part(part), indent_in(part.open, indent))?;
+        let said = self.push_item(out, spot.of_part(part), indent_in(part.open, indent))?;
         push_closer(out, part.open, style)?;
-        Ok(())
+        Ok(said)
     }
 
     /// How a container is laid out.
@@ -114,18 +118,26 @@ impl PartialEdn<'_> {
         Ok(())
     }
 
-    /// Appends what is said of the bytes from a place on, and the first of them.
-    fn push_remaining(&self, out: &mut String, start: usize) -> Result<(), AllocError>
+    /// Appends what is said of the bytes from a place on, and the first of them. Returns where the
+    /// comment with the former is.
+    fn push_remaining(&self, out: &mut String, start: usize) -> Result<Span, AllocError>
         requires { start ≤ length self.now.bytes.now }
     {
         let (_, rest) = self.bytes.split_at(start);
         let (shown, more) = shown_of(rest);
+        let begins = out.len();
         out.push('/')?;
         out.push_str(self.said)?;
-        out.push_str("/ h'")?;
+        out.push('/')?;
+        let said = Span {
+            start: begins,
+            end: out.len(),
+        };
+        out.push_str(" h'")?;
         push_hex(out, shown)?;
         out.push('\'')?;
-        push_more(out, more)
+        push_more(out, more)?;
+        Ok(said)
     }
 }
 

@@ -7,6 +7,7 @@ use crate::dump::{DumpStyle, push_named};
 use cbor_grammar::Error;
 use cbor_notes::push_blanks;
 use cbor_tokens::push_hex;
+use cbor_trace::Span;
 use std::alloc::AllocError;
 use std::fmt::Write;
 
@@ -20,16 +21,18 @@ const PER_LINE: usize = 16;
 /// not whole, it has the lines that [`push_dump`] has in this style. In place of that item are what
 /// is said of it and the first 64 of the bytes that remain, below the items before it.
 ///
-/// The only error is `Memory`. After it `out` may end with some of the lines.
+/// Returns where the comment is that says what is wrong. The only error is `Memory`. After it `out`
+/// may end with some of the lines.
 ///
 /// ```rust
 /// use cbor_screen::{DumpStyle, push_partial_dump};
 ///
 /// // An array of two. Its first item is there: a simple value in a non-minimal encoding.
 /// let mut out = String::new(alloc);
-/// push_partial_dump(&mut out, b"\x82\xf8\x00", &DumpStyle::PLAIN, "truncated")?;
+/// let said = push_partial_dump(&mut out, b"\x82\xf8\x00", &DumpStyle::PLAIN, "truncated")?;
 /// let wanted = "82       # array(2)\n   f8 00 #   unassigned, simple(0)\n   # truncated\n";
 /// assert_eq!(rt; out.as_str(), wanted);
+/// assert_eq!(rt; said.bytes(out.as_bytes()), b"# truncated".as_slice());
 /// ```
 ///
 /// [`push_dump`]: crate::push_dump
@@ -38,13 +41,12 @@ pub fn push_partial_dump(
     bytes: &[u8],
     style: &DumpStyle<'_>,
     said: &str,
-) -> Result<(), Error> {
+) -> Result<Span, Error> {
     let mut measure = Measure::new();
     let mut walk = Walk::new(*out.allocator(), bytes, style);
     as_far_as(walk.item(&mut measure))?;
     as_far_as(push_named(out, bytes, (style, measure.width())))?;
-    push_remaining(out, walk.rest(), walk.depth().saturating_mul(3), said)?;
-    Ok(())
+    Ok(push_remaining(out, walk.rest(), walk.depth().saturating_mul(3), said)?)
 }
 
 /// Passes on that memory ran out. Any other error says that an item is not whole.
@@ -56,16 +58,21 @@ fn as_far_as(answer: Result<(), Error>) -> Result<(), AllocError> {
 }
 
 /// Appends the error, and the first of the bytes that remain. The lines begin with that many
-/// blanks.
+/// blanks. Returns where the comment with the error is.
 fn push_remaining(
     out: &mut String,
     rest: &[u8],
     indent: usize,
     said: &str,
-) -> Result<(), AllocError> {
+) -> Result<Span, AllocError> {
     push_blanks(out, indent)?;
+    let begins = out.len();
     out.push_str("# ")?;
     out.push_str(said)?;
+    let said = Span {
+        start: begins,
+        end: out.len(),
+    };
     out.push('\n')?;
     let (shown, more) = rest.split_at(MOST.min(rest.len()));
     for line in shown.chunks(PER_LINE) {
@@ -77,5 +84,5 @@ fn push_remaining(
         push_blanks(out, indent)?;
         write!(out, "# and {} more bytes\n", more.len())?;
     }
-    Ok(())
+    Ok(said)
 }

@@ -13,7 +13,7 @@ use crate::status::Status;
 use cbor_bytes::{Extent, extent};
 use cbor_grammar::Error;
 use cbor_inspect::{End, Form};
-use cbor_places::{Around, Entered, Leaves, Piece, item_with, lines_at};
+use cbor_places::{Around, Entered, Leaves, PartialText, Piece, item_with, lines_at};
 use cbor_screen::Language;
 use cborcat_arguments::View;
 
@@ -191,16 +191,16 @@ impl Conversion<'_> {
             End::Cut => String::from_str(alloc, "truncated")?,
             _ => return Ok(Written::Whole),
         };
-        let Some(text) = self.partial_text(&said)? else {
+        let Some(shown) = self.partial_text(&said)? else {
             return Ok(Written::Whole);
         };
         let language = language_of(self.job.show.style.form).unwrap_or(Language::Edn);
-        Ok(self.screen.write(self.target, text.as_bytes(), language)?)
+        Ok(self.screen.write_partial(self.target, &shown, language)?)
     }
 
     /// What is shown of the item at the front of the bytes that are left, which is not whole;
     /// `None` if it is nothing.
-    fn partial_text(&self, said: &str) -> Result<Option<String>, Error> {
+    fn partial_text(&self, said: &str) -> Result<Option<PartialText>, Error> {
         let style = self.job.show.style;
         let bytes = self.stream.rest();
         if bytes.is_empty() {
