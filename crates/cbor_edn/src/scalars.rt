@@ -182,7 +182,7 @@ fn name_item(word: &[u8]) -> Result<DataItem, Stop>
     }
 }
 
-/// Whether a word is a known prefix, such as `h` in `h'01'`.
+/// Whether a word is a prefix that is read here, such as `dt` in `dt'1970-01-01T00:00:00Z'`.
 fn is_prefix(word: &[u8]) -> bool
     ensures { result ≡ is_prefix word.now }
 {
