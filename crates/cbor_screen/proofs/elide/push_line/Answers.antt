@@ -15,7 +15,7 @@ tokens-preserved c =
     let line = c.args.line.now in
     let at = c.tokens.at in
     let before = c.tokens.invariant.elided in
-    let n = c.token-end.result.end in
+    let n = c.edn_token-end.result.end in
     let next = rw (take_rest line at) at c.in_ok-push_token.ensures in
     let one = shown_one (IsElidedToken c.args.most) (take n (drop at line)) next.0 next.2 in
     record {
