@@ -3,9 +3,10 @@
 //! that a message is about, with its mark in colour.
 
 use crate::output::{Target, Written, write};
+use cbor_grammar::Error;
 use cbor_inspect::Form;
 use cbor_messages::Excerpt;
-use cbor_places::PartialText;
+use cbor_places::{Leaves, PartialText};
 use cbor_screen::{Kind, Language, push_colored, push_elided, push_in_color, push_without_widths};
 use cbor_tokens::{is_shown, push_shown};
 use cborcat_arguments::{Color, Job};
@@ -183,6 +184,27 @@ impl<'a> Screen<'a> {
         Ok(write(self.rt, target, &shown))
     }
 
+    /// Appends the lines of the items that come next, about a block of them.
+    pub fn push_leaves(self, lines: &mut Vec<u8>, leaves: &mut Leaves) -> Result<(), Error> {
+        let mut text = String::new(self.rt.alloc());
+        for _ in 0..u64::MAX {
+            if lines.len() >= BLOCK {
+                break;
+            }
+            let Some(leaf) = leaves.next_leaf()? else {
+                break;
+            };
+            text.clear();
+            leaves.push_path(&mut text, leaf)?;
+            self.push_path(lines, &text)?;
+            text.clear();
+            leaves.push_item(&mut text, leaf)?;
+            self.push(lines, text.as_bytes(), Language::Edn)?;
+            lines.push(b'\n')?;
+        }
+        Ok(())
+    }
+
     /// Appends what a line of a path has before its item.
     pub fn push_path(self, out: &mut Vec<u8>, path: &str) -> Result<(), AllocError> {
         self.push_kind(out, Kind::Key, path.as_bytes())
@@ -199,7 +221,7 @@ impl<'a> Screen<'a> {
 }
 
 /// How many bytes of a text are looked at or written together, at least.
-pub const BLOCK: usize = 64 * 1024;
+const BLOCK: usize = 64 * 1024;
 
 /// How many bytes the first lines of a text take, which are a block or all of it.
 fn lines_len(text: &[u8]) -> usize {

@@ -7,7 +7,7 @@ use crate::dumps::Dumps;
 use crate::messages::say_out_of_memory;
 use crate::naming::encoded_in;
 use crate::output::{Written, write};
-use crate::screen::{BLOCK, language_of};
+use crate::screen::language_of;
 use crate::shown::show_of;
 use crate::status::Status;
 use cbor_bytes::{Extent, extent};
@@ -60,7 +60,7 @@ impl Conversion<'_> {
         let mut lines = Vec::new(alloc);
         for _ in 0..u64::MAX {
             lines.clear();
-            self.push_leaves(&mut lines, &mut leaves)?;
+            self.screen.push_leaves(&mut lines, &mut leaves)?;
             if lines.is_empty() {
                 break;
             }
@@ -71,27 +71,6 @@ impl Conversion<'_> {
         }
         self.number = leaves.number();
         Ok(Written::Whole)
-    }
-
-    /// Appends the lines of the items that come next, about a block of them.
-    fn push_leaves(&self, lines: &mut Vec<u8>, leaves: &mut Leaves) -> Result<(), Error> {
-        let mut text = String::new(self.rt.alloc());
-        for _ in 0..u64::MAX {
-            if lines.len() >= BLOCK {
-                break;
-            }
-            let Some(leaf) = leaves.next_leaf()? else {
-                break;
-            };
-            text.clear();
-            leaves.push_path(&mut text, leaf)?;
-            self.screen.push_path(lines, &text)?;
-            text.clear();
-            leaves.push_item(&mut text, leaf)?;
-            self.screen.push(lines, text.as_bytes(), Language::Edn)?;
-            lines.push(b'\n')?;
-        }
-        Ok(())
     }
 
     /// Writes which paths take the bytes of the input.
