@@ -30,7 +30,7 @@ def colors(run, same):
          colored((KEY, b'0x6  "a  \\u0022"  '), (NUMBER, b"false"), b"\n"))
     same("JSON", run("--color=always", "-t", "json", "-f", "hex", "-x", "a161610a")[0],
          colored(b"{", (KEY, b'"a"'), b": ", (NUMBER, b"10"), b"}\n"))
-    partial = ["--color=always", "--partial", "--as=COSE_Key", "-f", "hex", "-x", "a2 05 41 00 03"]
+    partial = ["--color=always", "--partial", "-f", "hex", "-x", "a2 05 41 00 03"]
     same("what is wrong with an item", run(*partial, "-t", "diag")[0],
          colored(b"{", (KEY, b"5"), b": ", (BYTES, b"h'00'"), b", ", (KEY, b"3"), b": ", (FAULT, b"/truncated/"), b" ",
                  (BYTES, b"h''"), b"}\n"))
