@@ -17,6 +17,7 @@ use crate::form::NO_FORM;
 use crate::names::{NO_TYPE, type_of};
 use cbor_grammar::Error;
 use cbor_inspect::{Form, Naming, Show};
+use cbor_marks::Marks;
 use cbor_names::{Fault, FileError, Names, known_names, with_file};
 use cbor_page::{PathStart, push_data, push_items};
 use cbor_places::Piece;
@@ -31,7 +32,9 @@ fn item_lines(alloc: Global, bytes: &[u8]) -> Result<Vec<u8>, Error>
     if let Some((error, _)) = in_bytes(bytes) {
         return Err(error);
     }
-    let show = Show::new(alloc, Form::Pretty);
+    let marks = Marks::new(alloc);
+    let mut show = Show::new(alloc, Form::Pretty);
+    show.marks = Some(&marks);
     let item = Piece { begins: 0, bytes };
     let outermost = PathStart {
         number: 0,
@@ -94,13 +97,21 @@ const NO_NOTES: u32 = 1;
 
 const EMBEDDED: u32 = 2;
 
+/// What shows items with names, and marks tokens there.
+fn named_show<'a>(alloc: Global, naming: Naming<'a>, marks: &'a Marks) -> Show<'a> {
+    let mut show = Show::new(alloc, Form::Pretty);
+    show.marks = Some(marks);
+    show.names = Some(naming);
+    show
+}
+
 /// Returns the lines of items, and of the part that is there of an item that is not whole.
 fn data_lines(alloc: Global, naming: Naming<'_>, flags: u32, input: &[u8]) -> Result<Vec<u8>, Error>
     ensures lines { IfOk result (λ lines. (text : List ℕ) × IsMarkup text input.now lines.items) }
     ensures memory { IfErr result (λ e. e ≡ Error.Memory) }
 {
-    let mut show = Show::new(alloc, Form::Pretty);
-    show.names = Some(naming);
+    let marks = Marks::new(alloc);
+    let mut show = named_show(alloc, naming, &marks);
     show.style.notes = flags & NO_NOTES == 0;
     show.style.embedded = flags & EMBEDDED != 0;
     let data = Piece {

@@ -301,6 +301,7 @@ edn_leaves = record {
     passed = p.passed;
     found = None;
     line = p.line;
+    marks = p.marks;
   };
   next = λ p. p;
   value = λ k p. p;
@@ -316,6 +317,7 @@ edn_leaves = record {
     passed = p.passed;
     found = None;
     line = p.line;
+    marks = p.marks;
   };
   leaf = λ p a. Beside p (EdnLeaf p a);
   string = λ p kind c. Beside p (Noted p (quoted_string kind c));

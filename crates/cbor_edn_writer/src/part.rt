@@ -47,7 +47,7 @@ impl<'a> PartPlace<'a> {
                 breaks: style.lines,
                 after: 1,
             },
-            ..EdnPlace::new(*out.allocator(), style, self.noted.notes)
+            ..EdnPlace::new(*out.allocator(), self.noted)
         }
     }
 }
@@ -80,6 +80,6 @@ pub fn push_note_before(
     noted: NotedStyle<'_>,
     at: usize,
 ) -> Result<(), AllocError> {
-    let outermost = EdnPlace::new(*out.allocator(), noted.style, noted.notes);
+    let outermost = EdnPlace::new(*out.allocator(), noted);
     push_before(out, &outermost.with_note(at as u64))
 }

@@ -22,13 +22,15 @@ ghost use Rattle.cbor_edn_writer.specs.EdnLeaves.{edn_leaves};
 
 use crate::note::Note;
 use crate::print::leaf::{push_leaf, push_string};
-use crate::print::lists::{push_closing, push_opening, push_tag, spaced};
+use crate::print::line::has_new_line;
+use crate::print::lists::{push_closing, push_opening, push_tag, push_tag_end, spaced};
 use crate::print::numbers::shown_width;
 use crate::print::place::EdnPlace;
 use crate::print::same::content_under;
 use crate::print::text::{push_no_parts, push_part};
 use cbor_grammar::IntegerWidth;
 use cbor_grammar::argument::Argument;
+use cbor_grammar::head::ItemHead;
 use cbor_grammar::layout::{ContainerStyle, Content, Layout};
 use cbor_grammar::strings::{StringContent, StringKind};
 use cbor_notation_writer::dialect::Dialect;
@@ -47,11 +49,16 @@ impl<'a> Dialect for Edn<'a> {
     ghost leaves = { edn_leaves };
 
     #[inline(always)]
+    fn moves(place: &EdnPlace<'a>, head: ItemHead) -> bool {
+        has_new_line(place, head)
+    }
+
+    #[inline(always)]
     fn at(
         place: &EdnPlace<'a>,
         out: &String,
         front: Front<'_>,
-    ) -> Result<Option<EdnPlace<'a>>, AllocError> {
+    ) -> Result<EdnPlace<'a>, AllocError> {
         place.laid_out(out, front)
     }
 
@@ -104,7 +111,11 @@ impl<'a> Dialect for Edn<'a> {
     fn pass(_place: &mut EdnPlace<'a>) {}
 
     #[inline(always)]
-    fn pass_key(_place: &mut EdnPlace<'a>, _bytes: &[u8], _rest: &[u8]) {}
+    fn pass_key(place: &mut EdnPlace<'a>, _bytes: &[u8], _rest: &[u8]) {
+        if let Some(marks) = place.marks {
+            marks.mark_key();
+        }
+    }
 
     #[inline(always)]
     fn below(place: &EdnPlace<'a>, tag: u64) -> EdnPlace<'a> {
@@ -131,9 +142,9 @@ impl<'a> Dialect for Edn<'a> {
         out: &mut String,
         content: StringContent<'_>,
         width: IntegerWidth,
-        _place: &EdnPlace<'a>,
+        place: &EdnPlace<'a>,
     ) -> Result<(), AllocError> {
-        push_part(out, content, width)
+        push_part(out, content, width, place)
     }
 
     #[inline(always)]
@@ -142,7 +153,7 @@ impl<'a> Dialect for Edn<'a> {
         kind: StringKind,
         place: &EdnPlace<'a>,
     ) -> Result<(), AllocError> {
-        push_no_parts(out, kind)
+        push_no_parts(out, kind, place)
     }
 
     #[inline(always)]
@@ -152,7 +163,7 @@ impl<'a> Dialect for Edn<'a> {
         style: ContainerStyle,
         place: &EdnPlace<'a>,
     ) -> Result<(), AllocError> {
-        push_opening(out, container, style)
+        push_opening(out, container, style, place)
     }
 
     #[inline(always)]
@@ -160,9 +171,9 @@ impl<'a> Dialect for Edn<'a> {
         out: &mut String,
         container: Container,
         style: ContainerStyle,
-        _place: &EdnPlace<'a>,
+        place: &EdnPlace<'a>,
     ) -> Result<(), AllocError> {
-        push_closing(out, container, style)
+        push_closing(out, container, style, place)
     }
 
     /// Nothing: a byte string is shown as items only if all of its bytes are items.
@@ -183,12 +194,12 @@ impl<'a> Dialect for Edn<'a> {
         width: IntegerWidth,
         place: &EdnPlace<'a>,
     ) -> Result<(), AllocError> {
-        push_tag(out, tag, shown_width(place.style.widths, tag, width))
+        push_tag(out, tag, shown_width(place.style.widths, tag, width), place)
     }
 
     #[inline(always)]
-    fn tag_end(out: &mut String, _tag: u64, _place: &EdnPlace<'a>) -> Result<(), AllocError> {
-        out.push(')')
+    fn tag_end(out: &mut String, _tag: u64, place: &EdnPlace<'a>) -> Result<(), AllocError> {
+        push_tag_end(out, place)
     }
 
     #[inline(always)]

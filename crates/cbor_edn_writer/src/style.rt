@@ -1,7 +1,9 @@
 //! `EdnStyle`: how EDN is laid out (lines and columns), and whether it shows notes, widths, and
-//! byte strings as the items in them. `NotedStyle`: a style with the notes of a caller.
+//! byte strings as the items in them. `NotedStyle`: a style with the notes of a caller, and with
+//! where the tokens of the text are marked.
 
 use crate::note::Note;
+use cbor_marks::Marks;
 
 /// How EDN is written: what is shown, and how it is laid out. The same bytes are read back in each
 /// style.
@@ -60,7 +62,7 @@ impl EdnStyle {
     };
 }
 
-/// How EDN is written, with notes on items.
+/// How EDN is written, with notes on items, and where its tokens are marked.
 #[derive(Clone, Copy)]
 pub struct NotedStyle<'a> {
     /// How it is written. Without [`EdnStyle::notes`] no comment is written, and none of these
@@ -69,4 +71,6 @@ pub struct NotedStyle<'a> {
     /// The notes in the order of their items, so their [`Note::at`] decrease. In another order some
     /// notes are left out.
     pub notes: &'a [Note<'a>],
+    /// Where the tokens of the text are marked, if they are to be.
+    pub marks: Option<&'a Marks>,
 }

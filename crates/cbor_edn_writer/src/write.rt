@@ -109,7 +109,12 @@ pub fn push_bytes_to_edn(
     ensures every_refusal { (e : Error) → IsNoItem bytes.now e → GaveRefusal result e }
     ensures unchanged { OnErr result (string_bytes out.new ≡ string_bytes out.old) }
 {
-    push_only(out, bytes, NotedStyle { style, notes: &[] }, alloc)
+    let noted = NotedStyle {
+        style,
+        notes: &[],
+        marks: None,
+    };
+    push_only(out, bytes, noted, alloc)
 }
 
 /// Appends to `out` the text of the one item that the bytes encode, with notes on it and on items
@@ -138,6 +143,7 @@ pub fn push_bytes_to_edn(
 /// let noted = NotedStyle {
 ///     style: EdnStyle::PRETTY,
 ///     notes: &notes,
+///     marks: None,
 /// };
 /// let mut out = String::new(alloc);
 /// push_bytes_to_edn_noted(alloc, b"\xa1\x01\x26", noted, &mut out)?;
@@ -204,7 +210,12 @@ pub fn push_bytes_to_edn_partial(
     ensures cut_unchanged { result ≡ Ok None → string_bytes out.new ≡ string_bytes out.old }
     ensures unchanged { OnErr result (string_bytes out.new ≡ string_bytes out.old) }
 {
-    push_bytes_to_edn_noted_partial(alloc, bytes, NotedStyle { style, notes: &[] }, out)
+    let noted = NotedStyle {
+        style,
+        notes: &[],
+        marks: None,
+    };
+    push_bytes_to_edn_noted_partial(alloc, bytes, noted, out)
 }
 
 /// Appends to `out` the text of the item at the front of the bytes, with notes on it and on items
@@ -256,7 +267,7 @@ fn push_front<'a>(
     ensures refused { IfErr result (λ e. Fails e (read_item deepest bytes.now)) }
     ensures unchanged { OnErr result (string_bytes out.new ≡ string_bytes out.old) }
 {
-    let place = EdnPlace::new(alloc, noted.style, noted.notes);
+    let place = EdnPlace::new(alloc, noted);
     if noted.notes.is_empty() {
         push_outermost::<Edn<'_>>(out, bytes, &place)
     } else {

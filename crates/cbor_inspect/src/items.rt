@@ -11,7 +11,7 @@ ghost use Rattle.cbor_grammar.specs.Answer.{RefusedSo};
 ghost use Rattle.cbor_dump.specs.Dump.{dump};
 ghost use Rattle.cbor_grammar.specs.Facts.{IsItem, BeginsWithItem, IsCut, HasFault};
 ghost use Rattle.cbor_grammar.specs.Written.{encoded};
-ghost use Rattle.cbor_inspect.specs.Forms.{IsForm};
+ghost use Rattle.cbor_inspect.specs.Forms.{IsForm, edn_style};
 ghost use Rattle.cbor_paths.specs.Sequence.{IsShownOfFirst, ShowsFront, OneAtMost};
 ghost use Rattle.cbor_paths.specs.Ends.{EndsSo, StopsSo};
 ghost use Rattle.cbor_inspect.specs.Shows.{Shows, steps_of};
@@ -24,8 +24,9 @@ use cbor_bytes::strict::is_strict;
 use cbor_bytes::{Extent, extent};
 use cbor_diag::parse_bytes;
 use cbor_dump::push_bytes_to_hex_partial;
-use cbor_edn_writer::EdnStyle;
+use cbor_edn_writer::{EdnStyle, Note, NotedStyle};
 use cbor_grammar::Error;
+use cbor_marks::Marks;
 use cbor_paths::{End, Picture, Shown, Step};
 use cbor_tokens::push_hex;
 use std::alloc::{AllocError, Global};
@@ -46,6 +47,9 @@ pub struct Show<'a> {
     pub steps: Vec<Step>,
     /// Whether a call passes at most one item, and stops after it with `Full`.
     pub one: bool,
+    /// Where the tokens of EDN are marked, if they are to be. Their places count from the begin of
+    /// the output that the text is appended to.
+    pub marks: Option<&'a Marks>,
 }
 
 impl<'a> Show<'a> {
@@ -73,6 +77,22 @@ impl<'a> Show<'a> {
             names: None,
             steps: Vec::new(alloc),
             one: false,
+            marks: None,
+        }
+    }
+
+    /// Returns how EDN is written, with these notes.
+    #[inline(always)]
+    pub(crate) fn noted<'n>(&self, notes: &'n [Note<'n>]) -> NotedStyle<'n>
+    where
+        'a: 'n,
+        ensures style { result.style ≡ edn_style self.now.style }
+        ensures notes { result.notes.now ≡ notes.now }
+    {
+        NotedStyle {
+            style: self.style.edn(),
+            notes,
+            marks: self.marks,
         }
     }
 
@@ -167,6 +187,9 @@ pub(crate) fn push_front(
 {
     if show.style.form == Form::Bytes {
         return push_encoding(bytes, known, out);
+    }
+    if let Some(marks) = show.marks {
+        marks.begin(out.len());
     }
     let used = match push_form(show, bytes, known, work) {
         Ok(used) => used,

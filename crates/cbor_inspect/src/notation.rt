@@ -11,7 +11,7 @@ ghost use Rattle.cbor_inspect.specs.Forms.{AreBeside, IsLineOf, edn_style};
 
 use crate::items::{Show, len_of};
 use crate::naming::{Naming, edn_notes};
-use cbor_edn_writer::{EdnStyle, Note, NotedStyle, push_bytes_to_edn_noted_partial};
+use cbor_edn_writer::{NotedStyle, push_bytes_to_edn_noted_partial};
 use cbor_paths::End;
 use std::alloc::Global;
 
@@ -43,7 +43,7 @@ pub(crate) fn push_notation(show: &Show, bytes: &[u8], work: &mut Work) -> Resul
 {
     let found = match show.names {
         Some(naming) if show.style.has_notes() => push_named(naming, show, bytes, work),
-        _ => push_edn(show.style.edn(), &[], bytes, &mut work.text),
+        _ => push_edn(show.noted(&[]), bytes, &mut work.text),
     };
     let used = match found {
         Ok(used) => used,
@@ -63,13 +63,12 @@ fn push_named(naming: Naming<'_>, show: &Show, bytes: &[u8], work: &mut Work) ->
         (string_bytes work.new.text)) }
     ensures ends { IfErr result (StopsSo bytes.now) }
 {
-    let style = show.style.edn();
     if work.clear == 0 {
         work.clear = naming.clear(bytes);
     }
     let mut plain = None;
     if !naming.is_near(bytes, work.clear) {
-        let used = match push_edn(style, &[], bytes, &mut work.text) {
+        let used = match push_edn(show.noted(&[]), bytes, &mut work.text) {
             Ok(used) => used,
             Err(end) => return Err(end),
         };
@@ -80,21 +79,22 @@ fn push_named(naming: Naming<'_>, show: &Show, bytes: &[u8], work: &mut Work) ->
         plain = Some(used);
     }
     work.clear = 0;
-    push_noted(naming, style, (bytes, plain), &mut work.text)
+    push_noted(naming, show, (bytes, plain), &mut work.text)
 }
 
 /// Appends the item at the front, with its names. The text is empty, or that of the item without
 /// names, and then the number of its bytes is known.
 fn push_noted(
     naming: Naming<'_>,
-    style: EdnStyle,
+    show: &Show,
     front: (&[u8], Option<usize>),
     text: &mut String,
 ) -> Result<usize, End>
     requires { IfSome front.1 (λ used. (i : Item) × BeginsWithItem front.0.now i used
-        × IsNotedText style [] i (string_bytes text.old)) }
+        × IsNotedText (edn_style show.now.style) [] i (string_bytes text.old)) }
     ensures written { IfOk result (λ used. (i : Item) × BeginsWithItem front.entry.0.now i used
-        × (notes : List Note) × IsNotedText style notes i (string_bytes text.new)) }
+        × (notes : List Note) × IsNotedText (edn_style show.now.style) notes i
+        (string_bytes text.new)) }
     ensures ends { IfErr result (StopsSo front.entry.0.now) }
 {
     let (bytes, plain) = front;
@@ -111,22 +111,16 @@ fn push_noted(
         return Err(End::Memory);
     };
     text.clear();
-    push_edn(style, &notes, bytes, text)
+    push_edn(show.noted(&notes), bytes, text)
 }
 
-/// Appends the item at the front, with these notes. The text is empty.
-fn push_edn(
-    style: EdnStyle,
-    notes: &[Note<'_>],
-    bytes: &[u8],
-    text: &mut String,
-) -> Result<usize, End>
+/// Appends the item at the front. The text is empty.
+fn push_edn(noted: NotedStyle<'_>, bytes: &[u8], text: &mut String) -> Result<usize, End>
     requires { string_bytes text.old ≡ [] }
     ensures written { IfOk result (λ used. (i : Item) × BeginsWithItem bytes.now i used
-        × IsNotedText style notes.now i (string_bytes text.new)) }
+        × IsNotedText noted.entry.style noted.entry.notes.now i (string_bytes text.new)) }
     ensures ends { IfErr result (StopsSo bytes.now) }
 {
-    let noted = NotedStyle { style, notes };
     let found = push_bytes_to_edn_noted_partial(*text.allocator(), bytes, noted, text);
     len_of(bytes, found)
 }

@@ -3,7 +3,6 @@
 
 use crate::items::Show;
 use crate::naming::edn_notes;
-use cbor_edn_writer::NotedStyle;
 use cbor_grammar::Error;
 use cbor_places::{PartialText, partial_edn};
 use std::alloc::Global;
@@ -13,17 +12,15 @@ impl Show<'_> {
     /// malformed, with their names. In place of the rest stand what is `said` of it and its first
     /// bytes.
     pub fn partial(&self, alloc: Global, bytes: &[u8], said: &str) -> Result<PartialText, Error> {
-        let style = self.style.edn();
+        if let Some(marks) = self.marks {
+            marks.begin(0);
+        }
         let naming = match self.names {
             Some(naming) if self.style.has_notes() => naming,
-            _ => return partial_edn(alloc, NotedStyle { style, notes: &[] }, bytes, said),
+            _ => return partial_edn(alloc, self.noted(&[]), bytes, said),
         };
         let found = naming.notes(alloc, bytes)?;
         let notes = edn_notes(alloc, &found)?;
-        let noted = NotedStyle {
-            style,
-            notes: &notes,
-        };
-        partial_edn(alloc, noted, bytes, said)
+        partial_edn(alloc, self.noted(&notes), bytes, said)
     }
 }

@@ -294,6 +294,7 @@ json_leaves = record {
     role = inside_role c p.role;
     encoding = p.encoding;
     tag = None;
+    marks = p.marks;
   };
   next = λ p. record {
     alloc = p.alloc;
@@ -303,6 +304,7 @@ json_leaves = record {
     role = next_role p.role;
     encoding = p.encoding;
     tag = p.tag;
+    marks = p.marks;
   };
   value = λ k p. record {
     alloc = p.alloc;
@@ -312,6 +314,7 @@ json_leaves = record {
     role = value_role p.role;
     encoding = p.encoding;
     tag = p.tag;
+    marks = p.marks;
   };
   below = λ n p. record {
     alloc = p.alloc;
@@ -321,6 +324,7 @@ json_leaves = record {
     role = below_role p.role;
     encoding = encoding_below n p.encoding;
     tag = Some n;
+    marks = p.marks;
   };
   leaf = λ p a t. LeafAt p.role a t;
   string = StringAt;

@@ -26,6 +26,7 @@ use crate::style::JsonStyle;
 use crate::walk::{NotWritten, first_capacity, push_item};
 use cbor_bytes::skip::{Extent, extent};
 use cbor_grammar::Error;
+use cbor_marks::Marks;
 use cbor_notation_writer::outermost::push_outermost;
 use json::{Scratch, Value};
 use std::alloc::{AllocError, Global};
@@ -68,8 +69,8 @@ fn front_text<'a>(
     ensures refused { IfErr result (λ e. Fails e (read_item deepest bytes.now)) }
 {
     let mut text = String::with_capacity(alloc, first_capacity(bytes.len()))?;
-    let place = JsonPlace::new(alloc, style);
-    let rest = push_outermost::<print::Json>(&mut text, bytes, &place)?;
+    let place = JsonPlace::new(alloc, style, None);
+    let rest = push_outermost::<print::Json<'_>>(&mut text, bytes, &place)?;
     Ok((text, rest))
 }
 
@@ -107,6 +108,7 @@ fn distinct_text<'a>(
     bytes: &'a [u8],
     style: JsonStyle,
     alloc: Global,
+    marks: Option<&Marks>,
 ) -> Result<(String, &'a [u8]), NotWritten>
     ensures { IfOk result (λ found. (i : Item)
         × (read_item deepest bytes.now ≡ Ok (i, found.1.now))
@@ -114,7 +116,8 @@ fn distinct_text<'a>(
 {
     let mut text = String::with_capacity(alloc, first_capacity(bytes.len()))?;
     let mut names = Vec::new(alloc);
-    let rest = push_item(&mut text, &mut names, bytes, &JsonPlace::new(alloc, style))?;
+    let place = JsonPlace::new(alloc, style, marks);
+    let rest = push_item(&mut text, &mut names, bytes, &place)?;
     Ok((text, rest))
 }
 
@@ -156,18 +159,20 @@ fn judge_again<'a>(
     Ok((Judged::SameKeys(clash), rest))
 }
 
-/// Writes the item at the front, and returns what became of it and the bytes after it.
+/// Writes the item at the front, with its tokens marked if asked, and returns what became of it
+/// and the bytes after it.
 pub(crate) fn judge_front<'a>(
     bytes: &'a [u8],
     style: JsonStyle,
     alloc: Global,
+    marks: Option<&Marks>,
 ) -> cbor_grammar::Result<(Judged, &'a [u8])>
     ensures judged { IfOk result (λ found. (i : Item)
         × (read_item deepest bytes.now ≡ Ok (i, found.1.now)) × Judges style found.0 i) }
     ensures tells { IfOk result (λ found. Tells bytes.now found.0) }
     ensures refused { IfErr result (λ e. Fails e (read_item deepest bytes.now)) }
 {
-    match distinct_text(bytes, style, alloc) {
+    match distinct_text(bytes, style, alloc, marks) {
         Ok((text, rest)) => Ok((judged_text(text, bytes, style), rest)),
         Err(NotWritten::SameNames(names)) => judge_again(bytes, style, alloc, names),
         Err(NotWritten::Failed) => Err(front_error(bytes)),
@@ -175,13 +180,18 @@ pub(crate) fn judge_front<'a>(
 }
 
 /// The same of the one item that the bytes are, all of them.
-pub(crate) fn judge(bytes: &[u8], style: JsonStyle, alloc: Global) -> cbor_grammar::Result<Judged>
+pub(crate) fn judge(
+    bytes: &[u8],
+    style: JsonStyle,
+    alloc: Global,
+    marks: Option<&Marks>,
+) -> cbor_grammar::Result<Judged>
     ensures judged { IfOk result (λ found. (i : Item) × IsItem bytes.now i
         × Judges style found i) }
     ensures tells { IfOk result (λ found. Tells bytes.now found) }
     ensures refused { RefusedSo result (IsNoItem bytes.now) }
 {
-    let (judged, rest) = judge_front(bytes, style, alloc)?;
+    let (judged, rest) = judge_front(bytes, style, alloc, marks)?;
     if rest.is_empty() {
         Ok(judged)
     } else {

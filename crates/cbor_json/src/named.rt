@@ -11,7 +11,7 @@ use crate::error::{Clash, JsonError, Loss};
 use crate::print::place::JsonPlace;
 use crate::print::text::{content_at, is_item};
 use crate::style::JsonStyle;
-use crate::write::bytes_to_json;
+use crate::write::marked_json;
 use cbor_bytes::head::read_head;
 use cbor_bytes::skip::after_front;
 use cbor_bytes::strings::split_at;
@@ -23,6 +23,7 @@ use cbor_grammar::layout::Content;
 use cbor_grammar::level::DEEPEST;
 use cbor_grammar::major::Major;
 use cbor_grammar::strings::StringKind;
+use cbor_marks::Marks;
 use std::alloc::{AllocError, Global};
 use std::collections::BTreeMap;
 
@@ -33,6 +34,16 @@ pub struct KeyName<'a> {
     pub place: usize,
     /// What is written in place of the key.
     pub name: &'a str,
+}
+
+/// How JSON with names is written.
+#[derive(Clone, Copy)]
+pub struct NamedJson<'a> {
+    pub style: JsonStyle,
+    /// The names of keys.
+    pub names: &'a [KeyName<'a>],
+    /// Where the tokens of the text are marked, if they are to be.
+    pub marks: Option<&'a Marks>,
 }
 
 /// Some of the bytes.
@@ -54,11 +65,11 @@ struct Edit {
 
 /// What is known of items before they are read.
 #[derive(Clone, Copy)]
-struct Around {
+struct Around<'p> {
     /// How many bytes follow those that are read, up to the end of the outermost item's.
     behind: usize,
     /// Their place, which is that of a value.
-    place: JsonPlace,
+    place: JsonPlace<'p>,
 }
 
 /// The bytes between two places; none if there are no such bytes.
@@ -66,11 +77,11 @@ fn between(bytes: &[u8], from: usize, to: usize) -> &[u8] {
     bytes.get(from..to).unwrap_or(b"")
 }
 
-impl Around {
+impl<'p> Around<'p> {
     /// One level below, and right below this tag, if any.
-    fn below(self, tag: Option<u64>) -> Around
+    fn below(self, tag: Option<u64>) -> Around<'p>
         requires { self.place.level ≤ deepest }
-        ensures { result.place.level ≡ self.place.level + 1 }
+        ensures { result.place.level ≡ self.entry.place.level + 1 }
     {
         let place = JsonPlace {
             level: self.place.level + 1,
@@ -116,7 +127,7 @@ impl<'a> Pass<'a> {
     }
 
     /// Where the first of these bytes are, those before the rest.
-    fn span(&self, around: Around, bytes: &[u8], rest: &[u8]) -> Span {
+    fn span(&self, around: Around<'_>, bytes: &[u8], rest: &[u8]) -> Span {
         let left = bytes.len().saturating_add(around.behind);
         Span {
             place: self.total.saturating_sub(left),
@@ -144,7 +155,11 @@ impl<'a> Pass<'a> {
 
     /// The bytes after the item at the front; `None` if there is none.
     #[cycle(item)]
-    fn item<'b>(&mut self, around: Around, bytes: &'b [u8]) -> Result<Option<&'b [u8]>, AllocError>
+    fn item<'b>(
+        &mut self,
+        around: Around<'_>,
+        bytes: &'b [u8],
+    ) -> Result<Option<&'b [u8]>, AllocError>
         requires from { 1 ≤ around.place.level }
         requires to { around.place.level ≤ deepest + 1 }
     {
@@ -169,7 +184,7 @@ impl<'a> Pass<'a> {
     #[cycle(item)]
     fn members<'b>(
         &mut self,
-        inside: Around,
+        inside: Around<'_>,
         count: Argument,
         bytes: &'b [u8],
     ) -> Result<Option<&'b [u8]>, AllocError>
@@ -193,7 +208,7 @@ impl<'a> Pass<'a> {
     #[cycle(item)]
     fn pairs<'b>(
         &mut self,
-        inside: Around,
+        inside: Around<'_>,
         count: Argument,
         bytes: &'b [u8],
     ) -> Result<Option<&'b [u8]>, AllocError>
@@ -217,7 +232,11 @@ impl<'a> Pass<'a> {
     }
 
     /// The bytes after the key at the front.
-    fn key<'b>(&mut self, around: Around, bytes: &'b [u8]) -> Result<Option<&'b [u8]>, AllocError>
+    fn key<'b>(
+        &mut self,
+        around: Around<'_>,
+        bytes: &'b [u8],
+    ) -> Result<Option<&'b [u8]>, AllocError>
         requires from { 1 ≤ around.place.level }
         requires to { around.place.level ≤ deepest + 1 }
     {
@@ -245,7 +264,7 @@ impl<'a> Pass<'a> {
     #[cycle(item)]
     fn byte_string<'b>(
         &mut self,
-        around: Around,
+        around: Around<'_>,
         bytes: &'b [u8],
         inner: (u64, &'b [u8]),
     ) -> Result<Option<&'b [u8]>, AllocError>
@@ -270,7 +289,7 @@ impl<'a> Pass<'a> {
 
     /// The item that is the content of a byte string with this head.
     #[cycle(item)]
-    fn embedded(&mut self, inside: Around, content: &[u8], head: Span) -> Result<(), AllocError>
+    fn embedded(&mut self, inside: Around<'_>, content: &[u8], head: Span) -> Result<(), AllocError>
         requires from { 1 ≤ inside.place.level }
         requires to { inside.place.level ≤ deepest + 1 }
     {
@@ -352,32 +371,39 @@ impl<'a> Pass<'a> {
 /// The errors are those of [`bytes_to_json`]. In a strict style JSON keeps a key that has a name.
 ///
 /// ```rust
-/// use cbor_json::{JsonStyle, KeyName, bytes_to_json_named};
+/// use cbor_json::{JsonStyle, KeyName, NamedJson, bytes_to_json_named};
 ///
-/// let names = [KeyName { place: 1, name: "iss" }];
-/// let text = bytes_to_json_named(alloc, b"\xa2\x01\x61a\x02\x05", JsonStyle::PLAIN, &names)?;
+/// let named = NamedJson {
+///     style: JsonStyle::PLAIN,
+///     names: &[KeyName { place: 1, name: "iss" }],
+///     marks: None,
+/// };
+/// let text = bytes_to_json_named(alloc, b"\xa2\x01\x61a\x02\x05", named)?;
 /// assert_eq!(rt; text.as_str(), "{\"iss\": \"a\", \"2\": 5}");
 /// ```
 pub fn bytes_to_json_named(
     alloc: Global,
     bytes: &[u8],
-    style: JsonStyle,
-    names: &[KeyName<'_>],
+    named: NamedJson<'_>,
 ) -> Result<String, JsonError>
     // JSON of an item: no object in it has a name twice, and no character in it is hidden.
-    ensures { IfOk result (λ s. (i : Item) × IsJsonText style i (string_bytes s)) }
+    ensures { IfOk result (λ s. (i : Item) × IsJsonText named.entry.style i (string_bytes s)) }
 {
-    let mut pass = Pass::new(alloc, bytes.len(), names)?;
+    let style = named.style;
+    if named.names.is_empty() {
+        return marked_json(alloc, bytes, style, named.marks);
+    }
+    let mut pass = Pass::new(alloc, bytes.len(), named.names)?;
     let around = Around {
         behind: 0,
-        place: JsonPlace::new(alloc, style),
+        place: JsonPlace::new(alloc, style, None),
     };
     let edited = match pass.item(around, bytes)? {
         Some([]) => pass.edited(alloc, bytes)?,
         // No item, or one and more bytes: the error says which.
         _ => Vec::from_slice(alloc, bytes)?,
     };
-    match bytes_to_json(alloc, &edited, style) {
+    match marked_json(alloc, &edited, style, named.marks) {
         Ok(text) => Ok(text),
         Err(error) => Err(pass.error_before(error)),
     }

@@ -8,6 +8,9 @@ pub(crate) mod numbers;
 pub(crate) mod place;
 pub(crate) mod text;
 
+ghost use Rattle.std.specs.Prelude.{◌<◌, ◌^◌};
+ghost use Rattle.cbor_grammar.specs.NotationText.{style_indent};
+ghost use Rattle.cbor_tokens.specs.Appends.{AppendsText};
 ghost use Rattle.cbor_json.specs.JsonLeaves.{json_leaves};
 
 use crate::print::leaf::push_leaf;
@@ -18,8 +21,10 @@ use crate::print::place::{JsonPlace, Role};
 use crate::print::text::{content_at, push_part, push_string};
 use cbor_grammar::IntegerWidth;
 use cbor_grammar::argument::Argument;
+use cbor_grammar::head::ItemHead;
 use cbor_grammar::layout::{ContainerStyle, Content, Layout};
 use cbor_grammar::strings::{StringContent, StringKind};
+use cbor_marks::{Kind, Marks};
 use cbor_notation_writer::ahead::{
     array_style_ahead, chunks_style_ahead, map_style_ahead, sequence_style_ahead,
 };
@@ -29,59 +34,66 @@ use cbor_notation_writer::parts::{Container, Front, Leaf};
 use std::alloc::{AllocError, Global};
 
 /// JSON.
-pub(crate) struct Json;
+pub(crate) struct Json<'a> {
+    marks: Option<&'a Marks>,
+}
 
-impl Dialect for Json {
-    type Place = JsonPlace;
+impl<'a> Dialect for Json<'a> {
+    type Place = JsonPlace<'a>;
 
     ghost leaves = { json_leaves };
 
     #[inline(always)]
-    fn at(
-        _place: &JsonPlace,
-        _out: &String,
-        _front: Front<'_>,
-    ) -> Result<Option<JsonPlace>, AllocError> {
-        Ok(None)
+    fn moves(_place: &JsonPlace<'a>, _head: ItemHead) -> bool {
+        false
     }
 
     #[inline(always)]
-    fn level(place: &JsonPlace) -> u8 {
+    fn at(
+        place: &JsonPlace<'a>,
+        _out: &String,
+        _front: Front<'_>,
+    ) -> Result<JsonPlace<'a>, AllocError> {
+        Ok(*place)
+    }
+
+    #[inline(always)]
+    fn level(place: &JsonPlace<'a>) -> u8 {
         place.level
     }
 
     #[inline(always)]
-    fn layout(place: &JsonPlace) -> Layout {
+    fn layout(place: &JsonPlace<'a>) -> Layout {
         place.layout
     }
 
     #[inline(always)]
-    fn array_style(place: &JsonPlace, count: Argument, bytes: &[u8]) -> ContainerStyle {
+    fn array_style(place: &JsonPlace<'a>, count: Argument, bytes: &[u8]) -> ContainerStyle {
         array_style_ahead(place.layout, ONE_LINE_LIMIT, count, bytes)
     }
 
     #[inline(always)]
-    fn map_style(place: &JsonPlace, count: Argument, bytes: &[u8]) -> ContainerStyle {
+    fn map_style(place: &JsonPlace<'a>, count: Argument, bytes: &[u8]) -> ContainerStyle {
         map_style_ahead(place.layout, ONE_LINE_LIMIT, count, bytes)
     }
 
     #[inline(always)]
-    fn chunks_style(place: &JsonPlace, kind: StringKind, bytes: &[u8]) -> ContainerStyle {
+    fn chunks_style(place: &JsonPlace<'a>, kind: StringKind, bytes: &[u8]) -> ContainerStyle {
         chunks_style_ahead(place.layout, ONE_LINE_LIMIT, kind, bytes)
     }
 
     #[inline(always)]
-    fn sequence_style(place: &JsonPlace, bytes: &[u8]) -> ContainerStyle {
+    fn sequence_style(place: &JsonPlace<'a>, bytes: &[u8]) -> ContainerStyle {
         sequence_style_ahead(place.layout, ONE_LINE_LIMIT, place.level + 1, bytes)
     }
 
     #[inline(always)]
-    fn content(place: &JsonPlace, bytes: &[u8]) -> Content {
+    fn content(place: &JsonPlace<'a>, bytes: &[u8]) -> Content {
         content_at(place, bytes)
     }
 
     #[inline(always)]
-    fn joins(place: &JsonPlace, kind: StringKind) -> Option<Global> {
+    fn joins(place: &JsonPlace<'a>, kind: StringKind) -> Option<Global> {
         match (kind, place.role) {
             (StringKind::Bytes, Role::Value | Role::Named) => Some(place.alloc),
             _ => None,
@@ -89,28 +101,31 @@ impl Dialect for Json {
     }
 
     #[inline(always)]
-    fn inside(place: &JsonPlace, container: Container, layout: Layout) -> JsonPlace {
+    fn inside(place: &JsonPlace<'a>, container: Container, layout: Layout) -> JsonPlace<'a> {
         place.inside(container, layout)
     }
 
     #[inline(always)]
-    fn pass(place: &mut JsonPlace) {
+    fn pass(place: &mut JsonPlace<'a>) {
         place.role = place.role.next();
     }
 
     #[inline(always)]
-    fn pass_key(place: &mut JsonPlace, _bytes: &[u8], _rest: &[u8]) {
+    fn pass_key(place: &mut JsonPlace<'a>, _bytes: &[u8], _rest: &[u8]) {
         place.role = place.role.value();
     }
 
     #[inline(always)]
-    fn below(place: &JsonPlace, tag: u64) -> JsonPlace {
+    fn below(place: &JsonPlace<'a>, tag: u64) -> JsonPlace<'a> {
         place.below(tag)
     }
 
     #[inline(always)]
-    fn leaf(out: &mut String, leaf: Leaf, place: &JsonPlace) -> Result<(), AllocError> {
-        push_leaf(out, leaf, place.role)
+    fn leaf(out: &mut String, leaf: Leaf, place: &JsonPlace<'a>) -> Result<(), AllocError> {
+        let start = out.len();
+        let result = push_leaf(out, leaf, place.role);
+        place.mark(Kind::Number, start, out);
+        result
     }
 
     /// The width of the length is not shown.
@@ -119,7 +134,7 @@ impl Dialect for Json {
         out: &mut String,
         content: StringContent<'_>,
         width: IntegerWidth,
-        place: &JsonPlace,
+        place: &JsonPlace<'a>,
     ) -> Result<(), AllocError> {
         push_string(out, content, width, place)
     }
@@ -129,14 +144,21 @@ impl Dialect for Json {
         out: &mut String,
         content: StringContent<'_>,
         width: IntegerWidth,
-        place: &JsonPlace,
+        place: &JsonPlace<'a>,
     ) -> Result<(), AllocError> {
         push_part(out, content, width, place)
     }
 
     #[inline(always)]
-    fn no_parts(out: &mut String, kind: StringKind, place: &JsonPlace) -> Result<(), AllocError> {
-        push_empty(out, kind, place.role)
+    fn no_parts(
+        out: &mut String,
+        kind: StringKind,
+        place: &JsonPlace<'a>,
+    ) -> Result<(), AllocError> {
+        let start = out.len();
+        let result = push_empty(out, kind, place.role);
+        place.mark(Kind::Text, start, out);
+        result
     }
 
     #[inline(always)]
@@ -144,9 +166,12 @@ impl Dialect for Json {
         out: &mut String,
         container: Container,
         _style: ContainerStyle,
-        place: &JsonPlace,
+        place: &JsonPlace<'a>,
     ) -> Result<(), AllocError> {
-        push_opening(out, container, place.role)
+        let start = out.len();
+        let result = push_opening(out, container, place.role);
+        place.mark(opening_kind(container), start, out);
+        result
     }
 
     #[inline(always)]
@@ -154,9 +179,15 @@ impl Dialect for Json {
         out: &mut String,
         container: Container,
         _style: ContainerStyle,
-        place: &JsonPlace,
+        place: &JsonPlace<'a>,
     ) -> Result<(), AllocError> {
-        push_closing(out, container, place.role)
+        let start = out.len();
+        let result = push_closing(out, container, place.role);
+        match (container, place.role) {
+            (Container::Chunks(_), _) | (_, Role::Key) => place.mark_end(out),
+            _ => place.mark(Kind::Closing, start, out),
+        }
+        result
     }
 
     /// Nothing: no byte string is shown as several items.
@@ -165,7 +196,7 @@ impl Dialect for Json {
         _out: &mut String,
         _container: Container,
         _rest: &[u8],
-        _place: &JsonPlace,
+        _place: &JsonPlace<'a>,
     ) -> Result<(), AllocError> {
         Ok(())
     }
@@ -175,14 +206,21 @@ impl Dialect for Json {
         out: &mut String,
         tag: u64,
         _width: IntegerWidth,
-        place: &JsonPlace,
+        place: &JsonPlace<'a>,
     ) -> Result<(), AllocError> {
-        push_tag(out, tag, place.role)
+        let start = out.len();
+        let result = push_tag(out, tag, place.role);
+        place.mark(Kind::Tag, start, out);
+        result
     }
 
     #[inline(always)]
-    fn tag_end(out: &mut String, _tag: u64, place: &JsonPlace) -> Result<(), AllocError> {
-        push_tag_end(out, place.role)
+    fn tag_end(out: &mut String, _tag: u64, place: &JsonPlace<'a>) -> Result<(), AllocError> {
+        let result = push_tag_end(out, place.role);
+        if let Role::Key = place.role {
+            place.mark_end(out);
+        }
+        result
     }
 
     #[inline(always)]
@@ -191,7 +229,10 @@ impl Dialect for Json {
         container: Container,
         _style: ContainerStyle,
         first: bool,
-    ) -> Result<(), AllocError> {
+    ) -> Result<(), AllocError>
+        requires { style_indent _style < 2 ^ 32 }
+        ensures { AppendsText result out.old out.new (json_leaves.start container _style first) }
+    {
         push_start(out, container, first)
     }
 
@@ -200,12 +241,24 @@ impl Dialect for Json {
         _out: &mut String,
         _container: Container,
         _style: ContainerStyle,
-    ) -> Result<(), AllocError> {
+    ) -> Result<(), AllocError>
+        ensures { AppendsText result _out.old _out.new (json_leaves.end _container _style) }
+    {
         Ok(())
     }
 
     #[inline(always)]
-    fn colon(out: &mut String, _style: ContainerStyle) -> Result<(), AllocError> {
+    fn colon(out: &mut String, _style: ContainerStyle) -> Result<(), AllocError>
+        ensures { AppendsText result out.old out.new (json_leaves.colon _style) }
+    {
         out.push_str(": ")
+    }
+}
+
+/// What the text is that opens this container: a string of chunks begins there.
+fn opening_kind(container: Container) -> Kind {
+    match container {
+        Container::Chunks(_) => Kind::Text,
+        _ => Kind::Opening,
     }
 }

@@ -95,7 +95,7 @@ pub(crate) fn push_item<'a>(
     out: &mut String,
     names: &mut Vec<Name>,
     bytes: &'a [u8],
-    place: &JsonPlace,
+    place: &JsonPlace<'_>,
 ) -> Result<&'a [u8], NotWritten>
     requires level { 1 ≤ place.now.level }
     requires deepest { place.now.level ≤ deepest + 1 }
@@ -126,7 +126,7 @@ pub(crate) fn push_item<'a>(
         ItemHead::Array(count) => push_array(out, names, (count, inner), place),
         ItemHead::Map(count) => push_object(out, names, (count, inner), place),
         ItemHead::Tag(tag, _) => push_item(out, names, inner, &place.below(tag)),
-        _ => match push_front::<Json>(out, bytes, place) {
+        _ => match push_front::<Json<'_>>(out, bytes, place) {
             Ok(rest) => Ok(rest),
             Err(_) => Err(NotWritten::Failed),
         },
@@ -140,7 +140,7 @@ fn push_array<'a>(
     out: &mut String,
     names: &mut Vec<Name>,
     array: (Argument, &'a [u8]),
-    place: &JsonPlace,
+    place: &JsonPlace<'_>,
 ) -> Result<&'a [u8], NotWritten>
     requires level { 1 ≤ place.now.level }
     requires deepest { place.now.level ≤ deepest }
@@ -177,7 +177,7 @@ fn push_object<'a>(
     out: &mut String,
     names: &mut Vec<Name>,
     map: (Argument, &'a [u8]),
-    place: &JsonPlace,
+    place: &JsonPlace<'_>,
 ) -> Result<&'a [u8], NotWritten>
     requires level { 1 ≤ place.now.level }
     requires deepest { place.now.level ≤ deepest }
@@ -237,7 +237,7 @@ fn push_name<'a>(
     out: &mut String,
     names: &mut Vec<Name>,
     bytes: &'a [u8],
-    place: &JsonPlace,
+    place: &JsonPlace<'_>,
 ) -> Result<&'a [u8], NotWritten>
     requires deepest { place.now.level ≤ deepest + 1 }
     requires flat { place.now.layout ≡ Layout.Compact }
@@ -248,7 +248,7 @@ fn push_name<'a>(
         ++ name_between (string_bytes out.old) (string_bytes out.new) (length bytes.now) ∷ []) }
 {
     let start = out.len();
-    let Ok(rest) = push_front::<Json>(out, bytes, place) else {
+    let Ok(rest) = push_front::<Json<'_>>(out, bytes, place) else {
         return Err(NotWritten::Failed);
     };
     let name = Name {
@@ -295,7 +295,7 @@ fn push_string<'a>(
     out: &mut String,
     names: &mut Vec<Name>,
     string: ((StringKind, u64, IntegerWidth), &'a [u8]),
-    place: &JsonPlace,
+    place: &JsonPlace<'_>,
 ) -> Result<&'a [u8], NotWritten>
     requires level { 1 ≤ place.now.level }
     requires deepest { place.now.level ≤ deepest }
@@ -319,7 +319,7 @@ fn push_string<'a>(
                 Json::string(out, content, width, place)?;
                 Ok(rest)
             }
-            Content::Item => match shown_text((inner, width), place) {
+            Content::Item => match shown_text((inner, width), place, out.len()) {
                 Ok(text) => {
                     out.push_str(text.as_str())?;
                     Ok(rest)
@@ -337,9 +337,14 @@ fn push_string<'a>(
     }
 }
 
-/// The text of the item that the bytes of a byte string are, all of them.
+/// The text of the item that the bytes of a byte string are, all of them. It is written after this
+/// many bytes of the text around it.
 #[cycle(walk)]
-fn shown_text(string: (&[u8], IntegerWidth), place: &JsonPlace) -> Result<String, NotWritten>
+fn shown_text(
+    string: (&[u8], IntegerWidth),
+    place: &JsonPlace<'_>,
+    before: usize,
+) -> Result<String, NotWritten>
     requires level { 1 ≤ place.now.level }
     requires deepest { place.now.level ≤ deepest }
     requires value { is_value place.now.role ≡ true }
@@ -353,8 +358,10 @@ fn shown_text(string: (&[u8], IntegerWidth), place: &JsonPlace) -> Result<String
     let inside = place.inside(container, Layout::Compact);
     let mut text = String::with_capacity(place.alloc, first_capacity(bytes.len()))?;
     let mut names = Vec::new(place.alloc);
-    let rest = push_item(&mut text, &mut names, bytes, &inside)?;
-    if rest.is_empty() {
+    let begins = place.begin_after(before);
+    let found = push_item(&mut text, &mut names, bytes, &inside);
+    place.begin(begins);
+    if found?.is_empty() {
         Ok(text)
     } else {
         Err(NotWritten::Failed)

@@ -15,6 +15,7 @@ use crate::error::JsonError;
 use crate::judge::{Judged, judge, judge_front};
 use crate::style::JsonStyle;
 use cbor_grammar::Error;
+use cbor_marks::Marks;
 use std::alloc::Global;
 
 /// Returns the one item that the bytes are as JSON on one line (RFC 8949 section 6.1).
@@ -41,7 +42,25 @@ pub fn bytes_to_json(alloc: Global, bytes: &[u8], style: JsonStyle) -> Result<St
     ensures every_refusal { (e : Error) → IsNoItem bytes.now e → MatchResult result (λ _. ⊥)
         (IsErrorOr e) }
 {
-    match judge(bytes, style, alloc)? {
+    marked_json(alloc, bytes, style, None)
+}
+
+/// The same, with the tokens of the text marked if asked.
+pub(crate) fn marked_json(
+    alloc: Global,
+    bytes: &[u8],
+    style: JsonStyle,
+    marks: Option<&Marks>,
+) -> Result<String, JsonError>
+    ensures ok { IfOk result (λ s. (i : Item) × IsItem bytes.now i
+        × IsJsonText style i (string_bytes s)) }
+    ensures every_item { (i : Item) → IsItem bytes.now i → MatchResult result
+        (λ s. IsJsonText style i (string_bytes s)) (IsErrorOf style i) }
+    ensures refused { IfErr result (IsNoJson style bytes.now) }
+    ensures every_refusal { (e : Error) → IsNoItem bytes.now e → MatchResult result (λ _. ⊥)
+        (IsErrorOr e) }
+{
+    match judge(bytes, style, alloc, marks)? {
         Judged::Text(text) => Ok(text),
         Judged::NotKept(loss) => Err(JsonError::NotKept(loss)),
         Judged::SameKeys(clash) => Err(JsonError::SameKeys(clash)),
@@ -101,7 +120,7 @@ pub fn push_bytes_to_json_partial(
     ensures cut_unchanged { result ≡ Ok None → string_bytes out.new ≡ string_bytes out.old }
     ensures unchanged { OnErr result (string_bytes out.new ≡ string_bytes out.old) }
 {
-    let (judged, rest) = match judge_front(bytes, style, alloc) {
+    let (judged, rest) = match judge_front(bytes, style, alloc, None) {
         Ok(found) => found,
         Err(error) => match error {
             Error::CutShort => return Ok(None),

@@ -20,6 +20,7 @@ use crate::members::{
 use crate::parts::{Container, Front, Leaf};
 use crate::scalars::{push_float, push_negative, push_number, push_simple, push_string};
 use cbor_grammar::argument::Argument;
+use cbor_grammar::head::ItemHead;
 use cbor_grammar::layout::{ContainerStyle, Content, Layout};
 use cbor_grammar::strings::{StringContent, StringKind};
 use cbor_grammar::{IntegerWidth, Simple, Tag};
@@ -34,12 +35,17 @@ impl Dialect for Diag {
     ghost leaves = { diag_leaves };
 
     #[inline(always)]
+    fn moves(_place: &NotationContext, _head: ItemHead) -> bool {
+        false
+    }
+
+    #[inline(always)]
     fn at(
-        _place: &NotationContext,
+        place: &NotationContext,
         _out: &String,
         _front: Front<'_>,
-    ) -> Result<Option<NotationContext>, AllocError> {
-        Ok(None)
+    ) -> Result<NotationContext, AllocError> {
+        Ok(*place)
     }
 
     #[inline(always)]

@@ -4,7 +4,7 @@
 //! item.
 
 ghost use Rattle.std.specs.Prelude.{◌≡◌, ◌+◌, ◌<◌, ◌≤◌, ◌^◌, ℕ, List, Option, Ok, IfOk, IfSome};
-ghost use Rattle.std.specs.Prelude.{is_some, unwrap_or};
+ghost use Rattle.std.specs.Prelude.{false, is_some};
 ghost use Rattle.std.specs.Io.{StartsWith};
 ghost use Rattle.std.specs.String.{string_bytes};
 ghost use Rattle.cbor_grammar.specs.Embedded.{sequence_at};
@@ -37,19 +37,16 @@ pub trait Dialect {
 
     ghost leaves: { Leaves Self.Place };
 
-    /// The place of an item, once its head is read. Its bytes are those of the input, or of the
-    /// byte string that embeds the item. `out` has the text before the item. `None` if the place
-    /// stays the same.
-    fn at(
-        place: &Self::Place,
-        out: &String,
-        front: Front<'_>,
-    ) -> Result<Option<Self::Place>, AllocError>
-        ensures place { IfOk result (λ moved. leaves.At place.now (unwrap_or moved place.now)) }
-        ensures level { IfOk result
-            (λ moved. leaves.level (unwrap_or moved place.now) ≡ leaves.level place.now) }
-        ensures layout { IfOk result
-            (λ moved. leaves.layout (unwrap_or moved place.now) ≡ leaves.layout place.now) };
+    /// Whether the place of an item may change once its head is read. If not, it stays the same.
+    fn moves(place: &Self::Place, head: ItemHead) -> bool
+        ensures stays { result ≡ false → leaves.At place.now place.now };
+
+    /// The place of an item, once its head is read, where it may change. The bytes of the item are
+    /// those of the input, or of the byte string that embeds it. `out` has the text before it.
+    fn at(place: &Self::Place, out: &String, front: Front<'_>) -> Result<Self::Place, AllocError>
+        ensures place { IfOk result (λ moved. leaves.At place.now moved) }
+        ensures level { IfOk result (λ moved. leaves.level moved ≡ leaves.level place.now) }
+        ensures layout { IfOk result (λ moved. leaves.layout moved ≡ leaves.layout place.now) };
 
     /// The level of an item there; the outermost is at level 1.
     fn level(place: &Self::Place) -> u8

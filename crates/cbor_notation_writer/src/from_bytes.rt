@@ -6,23 +6,21 @@
 //! embedded in a byte string. If these cannot be read, their text is removed again.
 #![tactic(auto, using(cbor_tokens::proofs::texts::Appending::appending_steps))]
 
-ghost use Rattle.std.specs.Prelude.{◌≡◌, ◌+◌, ◌*◌, ◌<◌, ◌≤◌, ◌^◌, IfOk, IfErr, OnErr, true, false};
-ghost use Rattle.std.specs.Prelude.{unwrap_or};
+ghost use Rattle.std.specs.Prelude.{◌≡◌, ◌+◌, ◌*◌, ◌≤◌, Ok, IfOk, IfErr, OnErr};
 ghost use Rattle.std.specs.Io.{StartsWith};
 ghost use Rattle.std.specs.String.{string_bytes};
 ghost use Rattle.cbor_grammar.specs.declared.layout.Content.TheVariants as shown;
-ghost use Rattle.cbor_grammar.specs.NotationText.{style_indent};
-ghost use Rattle.cbor_grammar.specs.Reading.{Fails};
+ghost use Rattle.cbor_grammar.specs.Reading.{Fails, read_head as head_read};
 ghost use Rattle.cbor_grammar.specs.WellFormed.{deepest};
 ghost use Rattle.cbor_notation_writer.specs.Dialect.{Writes, TextsAt};
 ghost use Rattle.cbor_grammar.specs.mirror.AtLevel.{read_at, read_behind};
 ghost use Rattle.cbor_notation_writer.specs.mirror.Straight.{Written, TextsHere, IsLaidOut};
 ghost use Rattle.cbor_notation_writer.specs.mirror.Straight.{chunk, ContentThere, StringThere};
-ghost use Rattle.cbor_notation_writer.specs.mirror.Straight.{BeforeChunk, AfterChunks};
 
+use crate::chunks::push_chunks_front;
 use crate::dialect::Dialect;
 use crate::parts::{Container, Front, Leaf};
-use cbor_bytes::borrowed::{next_chunk, read_borrowed};
+use cbor_bytes::borrowed::read_borrowed;
 use cbor_bytes::head::{no_level_left, read_head};
 use cbor_grammar::argument::Argument;
 use cbor_grammar::head::ItemHead;
@@ -30,23 +28,12 @@ use cbor_grammar::layout::{ContainerStyle, Content};
 use cbor_grammar::level::DEEPEST;
 use cbor_grammar::strings::{StringContent, StringKind};
 use cbor_grammar::{Error, IntegerWidth};
-use std::alloc::{AllocError, Global};
+use std::alloc::AllocError;
 
 /// Whether the simple value at the front has a two-byte encoding (`f8`).
 #[inline(always)]
 fn takes_two(bytes: &[u8]) -> bool {
     matches!(bytes.first(), Some(0xf8))
-}
-
-/// The new place of an item, or `place` if it has not moved.
-#[inline(always)]
-fn place_of<'a, D: Dialect>(moved: &'a Option<D::Place>, place: &'a D::Place) -> &'a D::Place
-    ensures { result.now ≡ unwrap_or moved.now place.now }
-{
-    match moved {
-        Some(here) => here,
-        None => place,
-    }
 }
 
 /// Writes the item at the front.
@@ -68,28 +55,77 @@ pub fn push_front<'a, D: Dialect>(
     if D::level(place) > DEEPEST {
         return Err(no_level_left(bytes));
     }
-    let (head, rest) = read_head(bytes)?;
-    let moved = D::at(place, out, Front { head, bytes, rest })?;
-    let here = place_of::<D>(&moved, place);
+    let front = read_head(bytes)?;
+    if D::moves(place, front.0) {
+        return push_moved::<D>(out, bytes, front, place);
+    }
+    push_here::<D>(out, bytes, front, place)
+}
+
+/// Writes the item at the front, whose place may change now that its head is read. A function of
+/// its own, so that an item that stays where it is clears and copies no memory for a new place.
+#[cycle(straight)]
+#[inline(never)]
+fn push_moved<'a, D: Dialect>(
+    out: &mut String,
+    bytes: &'a [u8],
+    front: (ItemHead, &'a [u8]),
+    place: &D::Place,
+) -> cbor_grammar::Result<&'a [u8]>
+    requires level { D.leaves.level place.now ≤ deepest }
+    requires indent { IsLaidOut D.leaves place.now }
+    requires head { head_read bytes.now ≡ Ok (front.0, front.1.now) }
+    ensures printed { IfOk result (λ rest. Written (TextsAt D.leaves place.now)
+        (read_at (D.leaves.level place.now) bytes.now)
+        rest.now (string_bytes out.old) (string_bytes out.new)) }
+    ensures refused { IfErr result
+        (λ e. Fails e (read_at (D.leaves.level place.now) bytes.now)) }
+    ensures begun { OnErr result (StartsWith (string_bytes out.new) (string_bytes out.old)) }
+{
+    let (head, rest) = front;
+    let here = D::at(place, out, Front { head, bytes, rest })?;
+    push_here::<D>(out, bytes, front, &here)
+}
+
+/// Writes the item at the front, whose place is this one.
+#[cycle(straight)]
+#[inline(always)]
+fn push_here<'a, D: Dialect>(
+    out: &mut String,
+    bytes: &'a [u8],
+    front: (ItemHead, &'a [u8]),
+    place: &D::Place,
+) -> cbor_grammar::Result<&'a [u8]>
+    requires level { D.leaves.level place.now ≤ deepest }
+    requires indent { IsLaidOut D.leaves place.now }
+    requires head { head_read bytes.now ≡ Ok (front.0, front.1.now) }
+    ensures printed { IfOk result (λ rest. Written (TextsHere D.leaves place.now)
+        (read_behind (D.leaves.level place.now) front.entry.0 front.entry.1.now)
+        rest.now (string_bytes out.old) (string_bytes out.new)) }
+    ensures refused { IfErr result (λ e. Fails e (read_behind (D.leaves.level place.now)
+        front.entry.0 front.entry.1.now)) }
+    ensures begun { OnErr result (StartsWith (string_bytes out.new) (string_bytes out.old)) }
+{
+    let (head, rest) = front;
     match head {
         ItemHead::Integer(value, width) => {
-            D::leaf(out, Leaf::Integer(value, width), here)?;
+            D::leaf(out, Leaf::Integer(value, width), place)?;
             Ok(rest)
         }
         ItemHead::Negative(value, width) => {
-            D::leaf(out, Leaf::Negative(value, width), here)?;
+            D::leaf(out, Leaf::Negative(value, width), place)?;
             Ok(rest)
         }
-        ItemHead::String(kind, len) => push_string_front::<D>(out, (kind, len), rest, here),
-        ItemHead::Array(count) => push_array_front::<D>(out, count, rest, here),
-        ItemHead::Map(count) => push_map_front::<D>(out, count, rest, here),
-        ItemHead::Tag(tag, width) => push_tag_front::<D>(out, (tag, width), rest, here),
+        ItemHead::String(kind, len) => push_string_front::<D>(out, (kind, len), rest, place),
+        ItemHead::Array(count) => push_array_front::<D>(out, count, rest, place),
+        ItemHead::Map(count) => push_map_front::<D>(out, count, rest, place),
+        ItemHead::Tag(tag, width) => push_tag_front::<D>(out, (tag, width), rest, place),
         ItemHead::Float(bits, width) => {
-            D::leaf(out, Leaf::Float(bits, width), here)?;
+            D::leaf(out, Leaf::Float(bits, width), place)?;
             Ok(rest)
         }
         ItemHead::Simple(value) => {
-            D::leaf(out, Leaf::Simple(value, takes_two(bytes)), here)?;
+            D::leaf(out, Leaf::Simple(value, takes_two(bytes)), place)?;
             Ok(rest)
         }
     }
@@ -343,135 +379,5 @@ fn push_sequence<D: Dialect>(
                 }
             },
         }
-    }
-}
-
-/// Writes an indefinite string after its opening byte.
-#[inline(never)]
-fn push_chunks_front<'a, D: Dialect>(
-    out: &mut String,
-    kind: StringKind,
-    bytes: &'a [u8],
-    place: &D::Place,
-) -> cbor_grammar::Result<&'a [u8]>
-    requires level { D.leaves.level place.now ≤ deepest }
-    requires indent { IsLaidOut D.leaves place.now }
-    ensures printed { IfOk result (λ rest. Written (TextsHere D.leaves place.now)
-        (read_behind (D.leaves.level place.now)
-        (ItemHead.String kind Argument.Indefinite) bytes.now)
-        rest.now (string_bytes out.old) (string_bytes out.new)) }
-    ensures refused { IfErr result (λ e. Fails e (read_behind (D.leaves.level place.now)
-        (ItemHead.String kind Argument.Indefinite) bytes.now)) }
-    ensures begun { OnErr result (StartsWith (string_bytes out.new) (string_bytes out.old)) }
-{
-    match D::joins(place, kind) {
-        Some(alloc) => push_joined_front::<D>(out, bytes, place, alloc),
-        None => push_parts_front::<D>(out, kind, bytes, place),
-    }
-}
-
-/// Writes an indefinite byte string after its opening byte, its chunks as one string.
-#[inline(never)]
-fn push_joined_front<'a, D: Dialect>(
-    out: &mut String,
-    bytes: &'a [u8],
-    place: &D::Place,
-    alloc: Global,
-) -> cbor_grammar::Result<&'a [u8]>
-    requires joins { D.leaves.joins place.now StringKind.Bytes ≡ true }
-    requires level { D.leaves.level place.now ≤ deepest }
-    ensures printed { IfOk result (λ rest. Written (TextsHere D.leaves place.now)
-        (read_behind (D.leaves.level place.now)
-        (ItemHead.String StringKind.Bytes Argument.Indefinite) bytes.now)
-        rest.now (string_bytes out.old) (string_bytes out.new)) }
-    ensures refused { IfErr result (λ e. Fails e (read_behind (D.leaves.level place.now)
-        (ItemHead.String StringKind.Bytes Argument.Indefinite) bytes.now)) }
-    ensures begun { OnErr result (StartsWith (string_bytes out.new) (string_bytes out.old)) }
-{
-    let mut joined = Vec::new(alloc);
-    let mut rest = bytes;
-    'chunks: loop {
-        let (chunk, after) = next_chunk(StringKind::Bytes, rest)?;
-        let Some((content, _)) = chunk else {
-            let content = StringContent::Bytes(&joined);
-            D::string(out, content, IntegerWidth::Unknown, place)?;
-            return Ok(after);
-        };
-        joined.extend_from_slice(content.as_bytes())?;
-        rest = after;
-    }
-}
-
-/// Writes an indefinite string after its opening byte, chunk by chunk.
-#[inline(never)]
-fn push_parts_front<'a, D: Dialect>(
-    out: &mut String,
-    kind: StringKind,
-    bytes: &'a [u8],
-    place: &D::Place,
-) -> cbor_grammar::Result<&'a [u8]>
-    requires parts { D.leaves.joins place.now kind ≡ false }
-    requires level { D.leaves.level place.now ≤ deepest }
-    requires indent { IsLaidOut D.leaves place.now }
-    ensures printed { IfOk result (λ rest. Written (TextsHere D.leaves place.now)
-        (read_behind (D.leaves.level place.now)
-        (ItemHead.String kind Argument.Indefinite) bytes.now)
-        rest.now (string_bytes out.old) (string_bytes out.new)) }
-    ensures refused { IfErr result (λ e. Fails e (read_behind (D.leaves.level place.now)
-        (ItemHead.String kind Argument.Indefinite) bytes.now)) }
-    ensures begun { OnErr result (StartsWith (string_bytes out.new) (string_bytes out.old)) }
-{
-    let container = Container::Chunks(kind);
-    let style = D::chunks_style(place, kind, bytes);
-    let mut rest = bytes;
-    let mut held = 0;
-    'chunks: loop {
-        let (chunk, after) = next_chunk(kind, rest)?;
-        let Some((content, width)) = chunk else {
-            push_chunks_end::<D>(out, kind, held, style, place)?;
-            return Ok(after);
-        };
-        push_chunk_start::<D>(out, kind, held, style, place)?;
-        D::part(out, content, width, place)?;
-        D::end(out, container, style)?;
-        rest = after;
-        held += 1;
-    }
-}
-
-/// Writes the text before a chunk, after `held` others.
-fn push_chunk_start<D: Dialect>(
-    out: &mut String,
-    kind: StringKind,
-    held: usize,
-    style: ContainerStyle,
-    place: &D::Place,
-) -> Result<(), AllocError>
-    requires { style_indent style < 2 ^ 32 }
-    ensures { Writes result out.old out.new (BeforeChunk D.leaves place.now kind style held) }
-{
-    let container = Container::Chunks(kind);
-    if held == 0 {
-        D::opening(out, container, style, place)?;
-        D::start(out, container, style, true)
-    } else {
-        D::start(out, container, style, false)
-    }
-}
-
-/// Writes the text after the last of `held` chunks. A string without chunks keeps its kind.
-fn push_chunks_end<D: Dialect>(
-    out: &mut String,
-    kind: StringKind,
-    held: usize,
-    style: ContainerStyle,
-    place: &D::Place,
-) -> Result<(), AllocError>
-    ensures { Writes result out.old out.new (AfterChunks D.leaves place.now kind style held) }
-{
-    if held == 0 {
-        D::no_parts(out, kind, place)
-    } else {
-        D::closing(out, Container::Chunks(kind), style, place)
     }
 }

@@ -5,6 +5,7 @@
 
 pub mod ahead;
 pub mod budget;
+mod chunks;
 pub mod context;
 pub mod convert;
 pub mod diag;

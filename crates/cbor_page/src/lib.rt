@@ -2,8 +2,10 @@
 //! its own bytes. The page is one file that loads nothing else.
 //!
 //! [`push_items`] writes the lines of whole items, [`push_partial`] the lines of a truncated or
-//! malformed item, and [`push_data`] both. [`push_page`] writes a page with such lines, and with
-//! the style and the script of the folder `page`. [`weight`] estimates how long a page will be.
+//! malformed item, and [`push_data`] both. What writes the EDN marks its tokens, if the caller sets
+//! [`Show::marks`](cbor_inspect::Show::marks): nothing reads the EDN again. [`push_page`] writes a
+//! page with such lines, and with the style and the script of the folder `page`. [`weight`]
+//! estimates how long a page will be.
 //!
 //! ```rust
 //! use cbor_page::{Heading, push_page};
@@ -20,6 +22,7 @@
 #![tactic(auto)]
 
 mod escape;
+mod heads;
 mod lines;
 mod mark;
 mod open;
@@ -29,7 +32,6 @@ mod script;
 mod shown;
 mod source;
 mod style;
-mod token;
 mod walk;
 
 pub use page::{Heading, MOST, push_page, weight};

@@ -2,7 +2,6 @@
 //! step of a path that leads to the next part.
 
 use crate::mark::Mark;
-use crate::token::Closer;
 
 /// An item that others are in, whose closing token has not come.
 #[derive(Clone, Copy)]
@@ -11,7 +10,7 @@ pub(crate) struct Open {
     pub(crate) start: usize,
     pub(crate) kind: Mark,
     /// What closes it in the text.
-    pub(crate) closer: Closer,
+    pub(crate) closer: &'static str,
     /// Whether a break closes it in the bytes.
     pub(crate) has_break: bool,
     /// How many members or pairs it has, if it is an array or a map.

@@ -10,9 +10,10 @@ use crate::lines::push_lines;
 use crate::mark::Mark;
 use crate::plan::Plan;
 use crate::source::{Done, Source};
-use crate::walk::{FaultPlace, Items};
+use crate::walk::Items;
 use cbor_bytes::{Extent, extent};
 use cbor_inspect::{End, Show, Shown, show_items};
+use cbor_marks::Token;
 use cbor_places::{Around, ByteNumbers, Piece};
 use cbor_trace::place_of_fault;
 use std::alloc::{AllocError, Global};
@@ -26,12 +27,21 @@ pub struct PathStart<'a> {
     pub path: &'a str,
 }
 
+/// The tokens of the text that was written last; none without [`Show::marks`].
+fn tokens_of(alloc: Global, show: &Show<'_>) -> Result<Vec<Token>, AllocError> {
+    let mut tokens = Vec::new(alloc);
+    if let Some(marks) = show.marks {
+        marks.take(&mut tokens)?;
+    }
+    Ok(tokens)
+}
+
 /// Appends the lines of the items at the front of the data: as many as [`show_items`] shows in one
 /// call. Returns what that returned, and how many items of the data are behind it then.
 ///
-/// The items are shown whole, in pretty EDN: the path in `show` is empty, and its form is
-/// [`Form::Pretty`](cbor_inspect::Form::Pretty). Other texts and paths are written as well, but no
-/// token of theirs stands beside its bytes.
+/// The items are shown whole, in pretty EDN, with marks: the path in `show` is empty, its form is
+/// [`Form::Pretty`](cbor_inspect::Form::Pretty), and [`Show::marks`] is set. Other texts and paths
+/// are written as well, but no token of theirs stands beside its bytes.
 pub fn push_items(
     out: &mut Vec<u8>,
     show: &Show<'_>,
@@ -51,8 +61,10 @@ pub fn push_items(
     let mut text = Vec::new(*out.allocator());
     let shown = show_items(show, piece.bytes, &mut text);
     let (bytes, _) = piece.bytes.split_at(shown.used);
+    let tokens = tokens_of(*out.allocator(), show)?;
     let items = Items {
         text: &text,
+        tokens: &tokens,
         bytes,
         begins: piece.begins,
         paths,
@@ -101,7 +113,7 @@ fn wrong_with(alloc: Global, piece: Piece<'_>) -> Result<Wrong, AllocError> {
 
 /// Appends the lines of the truncated or malformed item that the data begins with: those of its
 /// whole parts, then the bytes that remain, with the fault among them, and last the line that says
-/// what is wrong.
+/// what is wrong. `show` is as for [`push_items`].
 pub fn push_partial(
     out: &mut Vec<u8>,
     show: &Show<'_>,
@@ -117,15 +129,14 @@ pub fn push_partial(
     let Ok(shown) = show.partial(alloc, piece.bytes, &wrong.note) else {
         return Err(AllocError);
     };
+    let tokens = tokens_of(alloc, show)?;
     let items = Items {
         text: shown.text.as_bytes(),
+        tokens: &tokens,
         bytes: piece.bytes,
         begins: piece.begins,
         paths,
-        fault: Some(FaultPlace {
-            byte: wrong.place,
-            said: shown.said.start,
-        }),
+        fault: Some(wrong.place),
     };
     push_lines(out, &items)?;
     push_wrong(out, &wrong, (piece.number(wrong.place), paths.number))?;
@@ -222,14 +233,17 @@ fn push_whole(out: &mut Vec<u8>, show: &Show<'_>, piece: Piece<'_>) -> Result<Fr
 }
 
 /// Appends the lines of data: of its items, one after the other, and of an item that is not whole
-/// the part that is there, and what is wrong.
+/// the part that is there, and what is wrong. `show` is as for [`push_items`].
 ///
 /// ```rust
 /// use cbor_inspect::{Form, Show};
+/// use cbor_marks::Marks;
 /// use cbor_page::push_data;
 /// use cbor_places::Piece;
 ///
-/// let show = Show::new(alloc, Form::Pretty);
+/// let marks = Marks::new(alloc);
+/// let mut show = Show::new(alloc, Form::Pretty);
+/// show.marks = Some(&marks);
 /// let data = Piece {
 ///     begins: 0,
 ///     bytes: b"\x01",

@@ -1,22 +1,19 @@
 //! `Walk`: goes over the EDN of items and over their bytes, side by side, and finds the pieces of
-//! each line of a page. Each token is matched with the next head, unless it is a note or stands
-//! between items.
+//! each line of a page. Each token is matched with the next head, unless it is a note. What wrote
+//! the EDN says where its tokens are.
 //!
-//! A wrong walk cannot hide data: `source.rt` writes all of the EDN and all bytes, whatever pieces
+//! Wrong tokens cannot hide data: `source.rt` writes all of the EDN and all bytes, whatever pieces
 //! the walk finds.
 
+use crate::heads::{leaf_at, opened_at};
 use crate::mark::Mark;
-use crate::open::{Next, Open, Step};
+use crate::open::{Open, Step};
 use crate::plan::Plan;
 use crate::shown::PathStart;
 use crate::source::Event;
-use crate::token::{Closer, Token, first_token};
 use cbor_bytes::{Extent, extent};
-use cbor_grammar::argument::Argument;
-use cbor_grammar::head::ItemHead;
-use cbor_grammar::strings::StringKind;
+use cbor_marks::{Kind, Token};
 use cbor_places::Path;
-use cbor_trace::head_at;
 use memchr::memchr;
 use std::alloc::{AllocError, Global};
 use std::fmt::Write;
@@ -26,37 +23,25 @@ use std::fmt::Write;
 pub(crate) struct Items<'a> {
     /// The EDN: the text of each item, or of the part of it that is there, in lines.
     pub(crate) text: &'a [u8],
+    /// The tokens of the EDN, in order.
+    pub(crate) tokens: &'a [Token],
     /// The bytes of the items.
     pub(crate) bytes: &'a [u8],
     /// Where these begin in the data.
     pub(crate) begins: usize,
     /// Where they stand.
     pub(crate) paths: PathStart<'a>,
-    /// What is wrong with the last item, if it is not whole.
-    pub(crate) fault: Option<FaultPlace>,
-}
-
-/// Where an item that is not whole is wrong.
-#[derive(Clone, Copy)]
-pub(crate) struct FaultPlace {
-    /// Where in the bytes: at their end if they are truncated.
-    pub(crate) byte: usize,
-    /// Where in the text the comment begins that says what is wrong.
-    pub(crate) said: usize,
-}
-
-/// Where an item without others in it has its head and its content.
-#[derive(Clone, Copy)]
-struct Leaf {
-    kind: Mark,
-    head_end: usize,
-    end: usize,
+    /// Where in the bytes the last item is wrong, if it is not whole: at their end if they are
+    /// truncated.
+    pub(crate) fault: Option<usize>,
 }
 
 /// A walk over items.
 #[derive(Drop)]
 pub(crate) struct Walk<'a> {
     items: Items<'a>,
+    /// The tokens that the walk has not taken.
+    tokens: &'a [Token],
     /// How much of the text and of the bytes is behind the walk.
     text_at: usize,
     at: usize,
@@ -86,6 +71,7 @@ impl<'a> Walk<'a> {
     pub(crate) fn new(alloc: Global, items: &Items<'a>) -> Walk<'a> {
         Walk {
             items: *items,
+            tokens: items.tokens,
             text_at: 0,
             at: 0,
             open: Vec::new(alloc),
@@ -114,65 +100,70 @@ impl<'a> Walk<'a> {
         let rest = self.items.text.get(from..).unwrap_or(b"");
         let len = memchr(b'\n', rest).unwrap_or(rest.len());
         let line = rest.get(..len).unwrap_or(rest);
-        let mut at = 0;
-        for _ in 0..line.len() {
-            let rest = line.get(at..).unwrap_or(b"");
-            if rest.is_empty() {
+        let end = from.saturating_add(line.len());
+        for _ in 0..self.tokens.len() {
+            let Some(token) = self.next_token(end) else {
                 break;
-            }
-            at = at.saturating_add(self.take(rest, from.saturating_add(at))?);
+            };
+            self.take(token, end)?;
         }
-        self.text_at = from.saturating_add(len).saturating_add(1);
+        self.texts.push(Event::Text { end })?;
+        self.text_at = end.saturating_add(1);
         self.push_line(begins, indent_of(line))
     }
 
-    /// Takes the token at the front of what remains of a line, which is at a place of the text, and
-    /// returns how many bytes it takes.
-    fn take(&mut self, rest: &[u8], from: usize) -> Result<usize, AllocError> {
-        let (what, len) = first_token(rest);
-        let len = len.max(1);
-        let end = from.saturating_add(len);
-        match what {
-            Token::Between => self.texts.push(Event::Text { end })?,
-            Token::Note => self.take_note(from, end)?,
-            Token::Opening(closer) => self.take_opening(closer, end)?,
-            Token::Closing => self.take_closing(end)?,
-            Token::Leaf => {
-                self.take_leaf(end)?;
-                let notes = self.take_notes(rest.get(len..).unwrap_or(b""), end)?;
-                self.texts.mark(Mark::SpanEnd)?;
-                return Ok(len.saturating_add(notes));
+    /// Passes the next token, if it begins before this place of the text.
+    fn next_token(&mut self, before: usize) -> Option<Token> {
+        let [token, rest @ ..] = self.tokens else {
+            return None;
+        };
+        if token.start >= before {
+            return None;
+        }
+        self.tokens = rest;
+        Some(*token)
+    }
+
+    /// Takes a token of a line that ends at a place of the text, with what is before it, and takes
+    /// the notes that follow a leaf.
+    fn take(&mut self, token: Token, line_end: usize) -> Result<(), AllocError> {
+        self.texts.push(Event::Text { end: token.start })?;
+        match token.kind {
+            Kind::Note => self.texts.note(Mark::Note, token.end),
+            Kind::Fault => {
+                self.at_fault = true;
+                self.texts.note(Mark::Wrong, token.end)
+            }
+            // The parenthesis after the number of a tag is in its span.
+            Kind::Tag => self.take_opening(token.end.saturating_add(1)),
+            Kind::Opening => self.take_opening(token.end),
+            Kind::Closing => self.take_closing(token.end),
+            Kind::Key | Kind::Text | Kind::Bytes | Kind::Number => {
+                self.take_leaf(token.end)?;
+                self.take_notes(token.end, line_end)?;
+                self.texts.mark(Mark::SpanEnd)
             }
         }
-        Ok(len)
     }
 
-    /// Takes a note before an item, from one place of the text to another.
-    fn take_note(&mut self, from: usize, end: usize) -> Result<(), AllocError> {
-        if let Some(fault) = self.items.fault
-            && fault.said == from
-        {
-            self.at_fault = true;
-            return self.texts.note(Mark::Wrong, end);
-        }
-        self.texts.note(Mark::Note, end)
-    }
-
-    /// Takes the notes that follow an item, and returns how many bytes they take.
-    fn take_notes(&mut self, rest: &[u8], from: usize) -> Result<usize, AllocError> {
-        let mut at = 0usize;
-        for _ in 0..rest.len() {
-            let after = rest.get(at..).unwrap_or(b"");
-            if !after.starts_with(b" /") {
+    /// Takes the notes of a line that follow an item, whose text ends at a place: one blank is
+    /// before each.
+    fn take_notes(&mut self, item_end: usize, line_end: usize) -> Result<(), AllocError> {
+        let mut end = item_end;
+        for _ in 0..self.tokens.len() {
+            let start = end.saturating_add(1);
+            match self.tokens {
+                [note, ..] if note.kind == Kind::Note && note.start == start => {}
+                _ => break,
+            }
+            let Some(note) = self.next_token(line_end) else {
                 break;
-            }
-            let (_, len) = first_token(after.get(1..).unwrap_or(b""));
-            let end = from.saturating_add(at).saturating_add(1);
-            self.texts.push(Event::Text { end })?;
-            self.texts.note(Mark::Note, end.saturating_add(len))?;
-            at = at.saturating_add(len.max(1)).saturating_add(1);
+            };
+            end = note.end;
+            self.texts.push(Event::Text { end: start })?;
+            self.texts.note(Mark::Note, end)?;
         }
-        Ok(at)
+        Ok(())
     }
 
     /// Opens the span of an item of this kind, from the place of the walk to this one.
@@ -247,7 +238,7 @@ impl<'a> Walk<'a> {
     fn take_remaining(&mut self) -> Result<(), AllocError> {
         let (start, end) = (self.at, self.items.bytes.len());
         let fault = match self.items.fault {
-            Some(fault) => fault.byte.clamp(start, end.max(start)),
+            Some(fault) => fault.clamp(start, end.max(start)),
             None => end,
         };
         let after = fault.saturating_add(1).min(end);
@@ -260,10 +251,10 @@ impl<'a> Walk<'a> {
     }
 
     /// Takes what opens an item, whose text ends at a place.
-    fn take_opening(&mut self, closer: Closer, text_end: usize) -> Result<(), AllocError> {
+    fn take_opening(&mut self, text_end: usize) -> Result<(), AllocError> {
         let start = self.at;
         let rest = self.items.bytes.get(start..).unwrap_or(b"");
-        let (open, head_end) = opened_at(self.items.bytes, start, closer);
+        let (open, head_end) = opened_at(self.items.bytes, start);
         let end = match extent(rest) {
             Extent::Item(len) => start.saturating_add(len),
             _ => self.items.bytes.len(),
@@ -360,7 +351,7 @@ impl<'a> Walk<'a> {
             write!(words, "{count} ")?;
         }
         for open in self.open.iter().skip(self.low).rev() {
-            words.push_str(open.closer.text())?;
+            words.push_str(open.closer)?;
         }
         Ok(words)
     }
@@ -400,108 +391,4 @@ impl<'a> Walk<'a> {
 fn indent_of(line: &[u8]) -> usize {
     let blanks = line.iter().take_while(|byte| **byte == b' ').count();
     (blanks / INDENT).min(DEEPEST)
-}
-
-/// The kind of a string.
-fn kind_of(kind: StringKind) -> Mark {
-    match kind {
-        StringKind::Bytes => Mark::ByteString,
-        StringKind::Text => Mark::String,
-    }
-}
-
-/// The head and the content at a place of an item without others in it.
-fn leaf_at(bytes: &[u8], start: usize) -> Leaf {
-    let whole = |kind: Mark, end: usize| Leaf {
-        kind,
-        head_end: end,
-        end,
-    };
-    let Some((head, place)) = head_at(bytes, start) else {
-        return whole(Mark::Wrong, start);
-    };
-    match head {
-        ItemHead::String(kind, Argument::Number(len, _)) => Leaf {
-            kind: kind_of(kind),
-            head_end: place,
-            end: after(bytes, place, len),
-        },
-        // A string of no chunks, with its break.
-        ItemHead::String(kind, Argument::Indefinite) => whole(
-            kind_of(kind),
-            after(bytes, place, 1),
-        ),
-        ItemHead::Simple(_) => whole(Mark::Simple, place),
-        ItemHead::Array(_) | ItemHead::Map(_) => whole(Mark::Container, place),
-        ItemHead::Tag(..) => whole(Mark::TagNumber, place),
-        ItemHead::Integer(..) | ItemHead::Negative(..) | ItemHead::Float(..) => {
-            whole(Mark::Number, place)
-        }
-    }
-}
-
-/// The place `len` bytes after another, or the end.
-fn after(bytes: &[u8], place: usize, len: u64) -> usize {
-    let len = usize::try_from(len).unwrap_or(usize::MAX);
-    place.saturating_add(len).min(bytes.len())
-}
-
-/// The item at a place that others are in, and where its head ends.
-fn opened_at(bytes: &[u8], start: usize, closer: Closer) -> (Open, usize) {
-    let (head, place) = match head_at(bytes, start) {
-        Some((head, place)) => (Some(head), place),
-        None => (None, start),
-    };
-    let (kind, next, count) = match head {
-        Some(ItemHead::Array(count)) => (Mark::Container, Next::Member(0), Some(count)),
-        Some(ItemHead::Map(count)) => (Mark::Container, Next::Key, Some(count)),
-        Some(ItemHead::String(kind, len)) => (kind_of(kind), inside(bytes, place, len), None),
-        _ => (Mark::TagNumber, Next::Plain, None),
-    };
-    let has_break = match head {
-        Some(ItemHead::String(_, len)) => len.number().is_none(),
-        _ => count.is_some_and(|count| count.number().is_none()),
-    };
-    let open = Open {
-        start,
-        kind,
-        closer,
-        has_break,
-        count: count.map(|count| count_of(bytes, place, count, next)),
-        next,
-    };
-    (open, place)
-}
-
-/// What is in a string with this content: chunks, or items.
-fn inside(bytes: &[u8], place: usize, len: Argument) -> Next {
-    let Argument::Number(len, _) = len else {
-        return Next::Plain;
-    };
-    let content = bytes.get(place..after(bytes, place, len)).unwrap_or(b"");
-    if extent(content) == Extent::Item(content.len()) {
-        Next::Inside
-    } else {
-        Next::OneInside { content: place }
-    }
-}
-
-/// How many members or pairs a container has. The first begins at a place.
-fn count_of(bytes: &[u8], place: usize, count: Argument, next: Next) -> u64 {
-    if let Some(number) = count.number() {
-        return number;
-    }
-    let mut rest = bytes.get(place..).unwrap_or(b"");
-    let mut items = 0u64;
-    for _ in 0..bytes.len() {
-        let Extent::Item(len) = extent(rest) else {
-            break;
-        };
-        items = items.saturating_add(1);
-        rest = rest.get(len..).unwrap_or(b"");
-    }
-    match next {
-        Next::Key => items / 2,
-        _ => items,
-    }
 }

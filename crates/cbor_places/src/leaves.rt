@@ -5,11 +5,12 @@ use crate::entered::{ByteString, Entered, content_behind};
 use crate::path::{Path, push_number};
 use crate::piece::Piece;
 use cbor_bytes::{Extent, extent};
-use cbor_edn_writer::{EdnStyle, push_bytes_to_edn};
+use cbor_edn_writer::{EdnStyle, NotedStyle, push_bytes_to_edn_noted};
 use cbor_grammar::Error;
 use cbor_grammar::argument::Argument;
 use cbor_grammar::head::ItemHead;
 use cbor_grammar::layout::Content;
+use cbor_marks::Marks;
 use cbor_trace::{Span, head_at};
 use std::alloc::{AllocError, Global};
 use std::fmt::Write;
@@ -343,16 +344,26 @@ impl<'a> Leaves<'a> {
         out.push_str("  ")
     }
 
-    /// Appends that item in EDN.
-    pub fn push_item(&self, out: &mut String, leaf: Span) -> Result<(), Error> {
+    /// Appends that item in EDN, and marks its tokens if asked.
+    pub fn push_item(
+        &self,
+        out: &mut String,
+        leaf: Span,
+        marks: Option<&Marks>,
+    ) -> Result<(), Error> {
+        let noted = NotedStyle {
+            style: self.style,
+            notes: &[],
+            marks,
+        };
         let item = leaf.bytes(self.items.bytes);
-        push_bytes_to_edn(*out.allocator(), item, self.style, out)
+        push_bytes_to_edn_noted(*out.allocator(), item, noted, out)
     }
 
     /// Appends the line of an item.
     fn push_line(&self, out: &mut String, leaf: Span) -> Result<(), Error> {
         self.push_path(out, leaf)?;
-        self.push_item(out, leaf)?;
+        self.push_item(out, leaf, None)?;
         out.push('\n')?;
         Ok(())
     }

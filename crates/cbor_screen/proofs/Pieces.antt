@@ -8,10 +8,12 @@ use Rattle.std.specs.Fmt.{decimal}
 use Rattle.std.proofs.Math.Seq.{take-add, take-length}
 use Rattle.std.proofs.lemmas.Bool.{ne_eqb}
 use Rattle.std.proofs.lemmas.List.{append-nil, take-append-drop, length-take, length-drop, get_or-take, get_or-drop}
-use Rattle.cbor_screen.specs.declared.kind.Kind.{Kind}
-use Rattle.cbor_screen.specs.declared.kind.Kind.TheVariants as kind
-use Rattle.cbor_screen.specs.Colored.{Span, texts_of, colored, KeepLines, IsColored, Lacks}
-use Rattle.cbor_screen.specs.Colored.{in_color, start_of, end_of}
+use Rattle.std.proofs.Common.{Option, None, Some, IfSome}
+use Rattle.cbor_marks.specs.Lines.{Lacks}
+use Rattle.cbor_marks.specs.declared.kind.Kind.{Kind}
+use Rattle.cbor_marks.specs.declared.kind.Kind.TheVariants as kind
+use Rattle.cbor_screen.specs.Colored.{Span, texts_of, colored, KeepLines, IsColored}
+use Rattle.cbor_screen.specs.Colored.{in_color, in_color_of, start_of, end_of}
 use Rattle.cbor_screen.specs.Elided.{Cut, IsElided, IsElidedToken}
 use Rattle.cbor_screen.specs.Sgr.{outside_sgr, without_sgr}
 use Rattle.cbor_screen.specs.Widthless.{IsIndicator, IsWidthlessToken}
@@ -21,24 +23,39 @@ use Rattle.cbor_screen.specs.Tokens.{Piece, tokens_of, shown_of, AreShown, InTok
 pub joined : (old mid new x y : List ℕ) → mid ≡ old ++ x → new ≡ mid ++ y → new ≡ old ++ (x ++ y)
 joined old mid new x y first next = next ∙ ap (λ t. t ++ y) first ∙ append_assoc old x y
 
+-- ---- piece by piece
+
+-- what remains is a piece, and what remains then
+pub parted : (text done rest piece after : List ℕ) → text ≡ done ++ rest → rest ≡ piece ++ after
+    → text ≡ (done ++ piece) ++ after
+parted text done rest piece after all next =
+    all ∙ ap (λ (t : List ℕ). done ++ t) next ∙ sym (append_assoc done piece after)
+
+-- nothing remains
+pub all_done : (text done rest : List ℕ) → text ≡ done ++ rest → rest ≡ [] → done ≡ text
+all_done text done rest all none = sym (all ∙ ap (λ (t : List ℕ). done ++ t) none ∙ append-nil done)
+
+pub shorter : (rest piece after : List ℕ) → rest ≡ piece ++ after → 0 < length piece → length after < length rest
+shorter rest piece after next some = omega (arith, ap length next, length-append piece after)
+
 -- ---- in colours
 
 pub colored_none : IsColored [] []
 colored_none = ([], refl, refl, tt)
 
-pub colored_one : (k : Kind) (text : List ℕ) → Lacks 10 text → IsColored text (in_color k text)
+pub colored_one : (k : Option Kind) (text : List ℕ) → IfSome k (λ _. Lacks 10 text)
+    → IsColored text (in_color_of k text)
 colored_one k text line =
     let span : Span = record { kind = k; text = text } in
-    (span ∷ [], append-nil text, append-nil (in_color k text), (λ _. line, tt))
+    (span ∷ [], append-nil text, append-nil (in_color_of k text), (line, tt))
 
 pub colored_plain : (text : List ℕ) → IsColored text text
-colored_plain text =
-    let span : Span = record { kind = kind.Plain; text = text } in (
-      span ∷ [],
-      append-nil text,
-      append-nil (([] ++ text) ++ []) ∙ append-nil text,
-      (λ other. absurd (other refl), tt),
-    )
+colored_plain text = colored_one None text tt
+
+-- what is true in any case is true of a token
+pub any_kind : (k : Option Kind) (P : Type 0) → P → IfSome k (λ _. P)
+any_kind None P h = tt
+any_kind (Some k) P h = h
 
 -- a part of a line has no line feed either
 pub lacks_part : (line : List ℕ) (at n : ℕ) → Lacks 10 line → Lacks 10 (take n (drop at line))
@@ -56,8 +73,8 @@ texts-append (s ∷ a) b = ap (λ t. s.text ++ t) (texts-append a b) ∙ sym (ap
 colored-append : (a b : List Span) → colored (a ++ b) ≡ colored a ++ colored b
 colored-append [] b = refl
 colored-append (s ∷ a) b =
-    ap (λ t. in_color s.kind s.text ++ t) (colored-append a b)
-    ∙ sym (append_assoc (in_color s.kind s.text) (colored a) (colored b))
+    ap (λ t. in_color_of s.kind s.text ++ t) (colored-append a b)
+    ∙ sym (append_assoc (in_color_of s.kind s.text) (colored a) (colored b))
 
 keep-append : (a b : List Span) → KeepLines a → KeepLines b → KeepLines (a ++ b)
 keep-append [] b h k = k
@@ -111,32 +128,39 @@ plain_stays (c ∷ a) b h =
     rw other (ap (λ t. c ∷ t) (plain_stays a b (lacks_rest 27 c a h)))
 
 end_goes : (k : Kind) (b : List ℕ) → outside_sgr false (end_of k ++ b) ≡ outside_sgr false b
-end_goes kind.Plain b = refl
 end_goes kind.Key b = refl
 end_goes kind.Text b = refl
 end_goes kind.Bytes b = refl
 end_goes kind.Number b = refl
 end_goes kind.Tag b = refl
 end_goes kind.Note b = refl
+end_goes kind.Opening b = refl
+end_goes kind.Closing b = refl
 end_goes kind.Fault b = refl
 
 start_goes : (k : Kind) (b : List ℕ) → outside_sgr false (start_of k ++ b) ≡ outside_sgr false b
-start_goes kind.Plain b = refl
 start_goes kind.Key b = refl
 start_goes kind.Text b = refl
 start_goes kind.Bytes b = refl
 start_goes kind.Number b = refl
 start_goes kind.Tag b = refl
 start_goes kind.Note b = refl
+start_goes kind.Opening b = refl
+start_goes kind.Closing b = refl
 start_goes kind.Fault b = refl
 
-span_stays : (k : Kind) (a b : List ℕ) → Lacks 27 a
+token_stays : (k : Kind) (a b : List ℕ) → Lacks 27 a
     → outside_sgr false (in_color k a ++ b) ≡ a ++ outside_sgr false b
-span_stays k a b h =
+token_stays k a b h =
     let parts : in_color k a ++ b ≡ start_of k ++ (a ++ (end_of k ++ b)) =
     append_assoc (start_of k ++ a) (end_of k) b ∙ append_assoc (start_of k) a (end_of k ++ b) in
     ap (λ t. outside_sgr false t) parts ∙ start_goes k (a ++ (end_of k ++ b))
     ∙ plain_stays a (end_of k ++ b) h ∙ ap (λ t. a ++ t) (end_goes k b)
+
+span_stays : (k : Option Kind) (a b : List ℕ) → Lacks 27 a
+    → outside_sgr false (in_color_of k a ++ b) ≡ a ++ outside_sgr false b
+span_stays None a b h = plain_stays a b h
+span_stays (Some k) a b h = token_stays k a b h
 
 spans_stay : (spans : List Span) → Lacks 27 (texts_of spans) → without_sgr (colored spans) ≡ texts_of spans
 spans_stay [] h = refl
@@ -173,7 +197,7 @@ module _ (R : List ℕ → List ℕ → Type 0) where
   are-append [] b h k = k
   are-append (p ∷ a) b (first, h) k = (first, are-append a b h k)
 
-  shown_both : (a x b y : List ℕ) → InTokens R a x → InTokens R b y → InTokens R (a ++ b) (x ++ y)
+  pub shown_both : (a x b y : List ℕ) → InTokens R a x → InTokens R b y → InTokens R (a ++ b) (x ++ y)
   shown_both a x b y (s, s-tokens, s-shown, s-are) (t, t-tokens, t-shown, t-are) =
       (s ++ t, cc (tokens-append s t), cc (shown-append s t), are-append s t s-are t-are)
 
@@ -234,14 +258,32 @@ elided_short most text added (pieces, is-tokens, is-shown, are) short =
 
 -- ---- without widths
 
--- the width of a count, with the blank behind it
-pub widthless_count : (piece : List ℕ) → IsIndicator (take 2 piece) → drop 2 piece ≡ codes " "
-    → IsWidthlessToken piece []
-widthless_count piece indicator blank =
-    inr (take 2 piece, indicator, inr (sym (take-append-drop 2 piece) ∙ ap (λ t. take 2 piece ++ t) blank))
-
 -- a token without the indicator at its end, or all of it
 pub widthless_end : (piece : List ℕ) (n : ℕ) → (n ≡ length piece) ⊎ IsIndicator (drop n piece)
     → IsWidthlessToken piece (take n piece)
 widthless_end piece n (inl all) = inl (take_all piece n all)
 widthless_end piece n (inr indicator) = inr (drop n piece, indicator, inl (sym (take-append-drop n piece)))
+
+-- what opens an array without its indicator, and the blank behind that
+pub widthless_count : (piece : List ℕ) (n : ℕ) → n < length piece → (n ≡ length piece) ⊎ IsIndicator (drop n piece)
+    → IsWidthlessToken (piece ++ codes " ") (take n piece)
+widthless_count piece n less (inl all) = absurd (omega (arith, all))
+widthless_count piece n less (inr indicator) =
+    inr (
+      drop n piece,
+      indicator,
+      inr (ap (λ (t : List ℕ). t ++ codes " ") (sym (take-append-drop n piece))
+          ∙ append_assoc (take n piece) (drop n piece) (codes " ")),
+    )
+
+-- the same, and what remains of the text behind it
+pub widthless_opening : (piece rest after : List ℕ) (n : ℕ) → n < length piece
+    → (n ≡ length piece) ⊎ IsIndicator (drop n piece) → (after ≡ rest) ⊎ (rest ≡ codes " " ++ after)
+    → (token : List ℕ) × (piece ++ rest ≡ token ++ after) × IsWidthlessToken token (take n piece)
+widthless_opening piece rest after n less ends (inl same) =
+    (piece, ap (λ (t : List ℕ). piece ++ t) (sym same), widthless_end piece n ends)
+widthless_opening piece rest after n less ends (inr blank) = (
+  piece ++ codes " ",
+  ap (λ (t : List ℕ). piece ++ t) blank ∙ sym (append_assoc piece (codes " ") after),
+  widthless_count piece n less ends,
+)

@@ -1,6 +1,6 @@
 -- `IsWidthless`: one text is another without some of its encoding indicators that state a width (`_0` to `_3`, and
 -- `_i`). A blank after such an indicator may be left out, too.
-use Rattle.std.specs.Prelude.{◌≡◌, ◌⊎◌, ℕ, ◌≤◌, List, [], ◌++◌, length, slice_index, codes}
+use Rattle.std.specs.Prelude.{◌≡◌, ◌⊎◌, ℕ, ◌≤◌, List, ◌++◌, length, slice_index, codes}
 use Rattle.cbor_screen.specs.Tokens.{InTokens}
 
 -- an indicator of EDN that states a width: `_` (95), and a digit from 0 to 3 or `i` (105)

@@ -1,33 +1,20 @@
-//! Colours texts of EDN and dumps for a terminal: writes an escape sequence before and after each
-//! token.
-ghost use Rattle.std.specs.Prelude.{◌≡◌, ℕ, ◌≤◌, ◌<◌, ◌++◌, List, length, take, slice_range};
-ghost use Rattle.std.specs.Prelude.{OnOk, IfOk};
-ghost use Rattle.cbor_screen.specs.Colored.{IsColored, Lacks, in_color};
+//! Colours texts for a terminal: writes an escape sequence before and after each token. The marks of
+//! a text say where its tokens are.
+ghost use Rattle.std.specs.Prelude.{◌≡◌, ℕ, ◌++◌, List, OnOk};
+ghost use Rattle.cbor_marks.specs.Lines.{Lacks};
+ghost use Rattle.cbor_marks.specs.Remaining.{rest_of};
+ghost use Rattle.cbor_screen.specs.Colored.{IsColored, in_color, in_color_of};
 ghost use Rattle.cbor_screen.specs.Sgr.{without_sgr};
 
-use crate::kind::Kind;
-use crate::token::Language;
+use crate::sgr;
+use cbor_marks::{Kind, Marked};
 use std::alloc::AllocError;
-
-/// Where the first line of a text ends: before its line feed, or at the text's end.
-pub(crate) fn line_end(text: &[u8]) -> usize
-    ensures within { result ≤ length text.now }
-    ensures line { Lacks 10 (take result text.now) }
-{
-    let mut at = 0;
-    'line: while at < text.len() {
-        if text[at] == b'\n' {
-            return at;
-        }
-        at += 1;
-    }
-    at
-}
 
 /// Appends a token in the colour of its kind, and what ends that colour.
 ///
 /// ```rust
-/// use cbor_screen::{Kind, push_in_color};
+/// use cbor_marks::Kind;
+/// use cbor_screen::push_in_color;
 ///
 /// let mut out = Vec::new(alloc);
 /// push_in_color(&mut out, Kind::Fault, b"^^")?;
@@ -36,72 +23,56 @@ pub(crate) fn line_end(text: &[u8]) -> usize
 pub fn push_in_color(out: &mut Vec<u8>, kind: Kind, token: &[u8]) -> Result<(), AllocError>
     ensures { OnOk result (out.new.items ≡ out.old.items ++ in_color kind token.now) }
 {
-    out.extend_from_slice(kind.start())?;
+    out.extend_from_slice(sgr::start(kind))?;
     out.extend_from_slice(token)?;
-    out.extend_from_slice(kind.end())
+    out.extend_from_slice(sgr::end(kind))
 }
 
-/// Appends a line, which has no line feed, with its tokens in colours.
-fn push_line(out: &mut Vec<u8>, line: &[u8], language: Language) -> Result<(), AllocError>
-    requires { Lacks 10 line.now }
-    ensures { OnOk result ((added : List ℕ)
-        × (out.new.items ≡ out.old.items ++ added) × IsColored line.now added) }
+/// Appends a piece in the colour of its kind, if it is a token.
+pub(crate) fn push_piece(
+    out: &mut Vec<u8>,
+    kind: Option<Kind>,
+    piece: &[u8],
+) -> Result<(), AllocError>
+    ensures { OnOk result (out.new.items ≡ out.old.items ++ in_color_of kind piece.now) }
 {
-    let mut at = 0;
-    'tokens: while at < line.len() {
-        let rest = &line[at..];
-        let token = language.token(rest);
-        push_in_color(out, token.kind, &rest[..token.end])?;
-        at += token.end;
+    match kind {
+        Some(kind) => push_in_color(out, kind, piece),
+        None => out.extend_from_slice(piece),
     }
-    Ok(())
-}
-
-/// Appends the first line of a text, which is not empty, with its tokens in colours, and its line
-/// feed. Returns how long it is.
-fn push_first_line(out: &mut Vec<u8>, text: &[u8], language: Language) -> Result<usize, AllocError>
-    requires { 0 < length text.now }
-    ensures some { IfOk result (λ len. 0 < len) }
-    ensures within { IfOk result (λ len. len ≤ length text.now) }
-    ensures colored { IfOk result (λ len. (added : List ℕ)
-        × (out.new.items ≡ out.old.items ++ added) × IsColored (take len text.now) added) }
-{
-    let end = line_end(text);
-    push_line(out, &text[..end], language)?;
-    if end == text.len() {
-        return Ok(end);
-    }
-    out.extend_from_slice(&text[end..][..1])?;
-    Ok(end + 1)
 }
 
 /// Appends a text with its tokens in colours. Each colour ends before the line does, so lines can
 /// be cut apart.
 ///
 /// ```rust
-/// use cbor_screen::{Language, push_colored};
+/// use cbor_marks::{Kind, Marked, Marks};
+/// use cbor_screen::push_colored;
 ///
+/// let marks = Marks::new(alloc);
+/// marks.mark(Kind::Key, 1, 2);
+/// marks.mark(Kind::Number, 4, 8);
+/// let mut list = Vec::new(alloc);
+/// marks.take(&mut list)?;
 /// let mut out = Vec::new(alloc);
-/// push_colored(&mut out, b"01 # unsigned(1)\n", Language::Dump)?;
-/// let wanted = b"\x1b[33m01 \x1b[0m\x1b[90m# unsigned(1)\x1b[0m\n";
+/// push_colored(&mut out, Marked::new(b"{1: true}\n", &list))?;
+/// let wanted = b"{\x1b[1;34m1\x1b[0m: \x1b[36mtrue\x1b[0m}\n";
 /// assert_eq!(rt; out.as_slice(), wanted.as_slice());
 /// ```
-pub fn push_colored(out: &mut Vec<u8>, text: &[u8], language: Language) -> Result<(), AllocError>
+pub fn push_colored(out: &mut Vec<u8>, text: Marked<'_>) -> Result<(), AllocError>
     // The text in spans, each in its colour between a sequence and the one that ends it. None that
     // has a colour has a line feed.
     ensures colored { OnOk result ((added : List ℕ)
-        × (out.new.items ≡ out.old.items ++ added) × IsColored text.now added) }
+        × (out.new.items ≡ out.old.items ++ added) × IsColored (rest_of text.entry) added) }
 
     // Without the sequences it is the same text, if that has no ESC.
     ensures same { OnOk result ((added : List ℕ)
         × (out.new.items ≡ out.old.items ++ added)
-        × (Lacks 27 text.now → without_sgr added ≡ text.now)) }
+        × (Lacks 27 (rest_of text.entry) → without_sgr added ≡ rest_of text.entry)) }
 {
-    let mut at = 0;
-    'lines: while at < text.len() {
-        let rest = &text[at..];
-        let len = push_first_line(out, rest, language)?;
-        at += len;
+    let mut rest = text;
+    'pieces: while let Some((kind, piece)) = rest.next_piece() {
+        push_piece(out, kind, piece)?;
     }
     Ok(())
 }

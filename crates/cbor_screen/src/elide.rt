@@ -1,13 +1,13 @@
 //! Cuts long strings in EDN. The first characters stay; `...` and a note with the length of the
-//! whole string follow.
+//! whole string follow. The marks of a text say where its strings are.
 ghost use Rattle.std.specs.Prelude.{◌≡◌, ℕ, ◌+◌, ◌≤◌, ◌<◌, ◌++◌, List, length, take, drop, codes};
 ghost use Rattle.std.specs.Fmt.{decimal};
-ghost use Rattle.std.specs.Prelude.{OnOk, IfOk, IfSome};
+ghost use Rattle.std.specs.Prelude.{OnOk, IfSome};
+ghost use Rattle.cbor_marks.specs.Remaining.{rest_of};
 ghost use Rattle.cbor_screen.specs.Elided.{IsElided, IsElidedToken};
 
-use crate::color::line_end;
-use crate::quoted::content_end;
-use crate::token::edn_token;
+use crate::indicator::indicator_start;
+use cbor_marks::{Kind, Marked, MarkedText};
 use std::alloc::AllocError;
 
 /// What is left out of a token.
@@ -19,6 +19,20 @@ struct Cut {
     len: usize,
     /// How many bytes the string has.
     bytes: usize,
+}
+
+/// Where the content ends of a string in quotes that begins at a place: before its last quote. None
+/// if that is missing.
+fn content_end(token: &[u8], opening: usize) -> Option<usize>
+    requires { 0 < opening }
+    ensures { IfSome result (λ end. (opening ≤ end) × (end < length token.now)) }
+{
+    let end = indicator_start(token);
+    if end > opening && token[end - 1] == token[opening - 1] {
+        Some(end - 1)
+    } else {
+        None
+    }
 }
 
 /// What is left out of a token, if it is a string of more than this many bytes, with its quotes.
@@ -34,14 +48,16 @@ fn cut_of(token: &[u8], most: usize) -> Option<Cut>
     } else {
         return None;
     };
-    let end = content_end(token, opening, token[opening - 1]);
+    let Some(end) = content_end(token, opening) else {
+        return None;
+    };
     let content = &token[opening..end];
     let (kept, bytes) = if opening == 1 {
         measure(content, most)
     } else {
         (most.saturating_mul(2), content.len() / 2)
     };
-    if bytes <= most || kept >= content.len() || end == token.len() {
+    if bytes <= most || kept >= content.len() {
         return None;
     }
     Some(Cut {
@@ -101,93 +117,93 @@ fn escape(content: &[u8]) -> (usize, usize)
     }
 }
 
-/// Appends a token with a part left out.
-fn push_cut(out: &mut Vec<u8>, token: &[u8], cut: Cut) -> Result<(), AllocError>
+/// Appends a token with a part left out, and how many bytes the string has.
+fn push_cut(out: &mut MarkedText, kind: Kind, token: &[u8], cut: Cut) -> Result<(), AllocError>
     requires { cut.from + cut.len ≤ length token.now }
-    ensures { OnOk result (out.new.items ≡ out.old.items ++ take cut.from token.now ++ codes "..."
-        ++ drop (cut.from + cut.len) token.now
+    ensures { OnOk result (out.new.text.items ≡ out.old.text.items ++ take cut.from token.now
+        ++ codes "..." ++ drop (cut.from + cut.len) token.now
         ++ codes " /" ++ decimal cut.bytes ++ codes " bytes/") }
 {
-    out.extend_from_slice(&token[..cut.from])?;
-    out.extend_from_slice(b"...")?;
-    out.extend_from_slice(&token[cut.from + cut.len..])?;
-    out.extend_from_slice(b" /")?;
+    let start = out.text.len();
+    out.text.extend_from_slice(&token[..cut.from])?;
+    out.text.extend_from_slice(b"...")?;
+    out.text.extend_from_slice(&token[cut.from + cut.len..])?;
+    out.mark_from(kind, start)?;
+    let before = out.text.len();
+    out.text.extend_from_slice(b" /")?;
     let mut digits = itoa::Buffer::new();
-    out.extend_from_slice(digits.format(cut.bytes).as_bytes())?;
-    out.extend_from_slice(b" bytes/")
+    out.text
+        .extend_from_slice(digits.format(cut.bytes).as_bytes())?;
+    out.text.extend_from_slice(b" bytes/")?;
+    out.mark_from(Kind::Note, before.saturating_add(1))
 }
 
-/// Appends a token, cut if it is a string of more than this many bytes.
-fn push_token(out: &mut Vec<u8>, token: &[u8], most: usize) -> Result<(), AllocError>
-    ensures { OnOk result ((added : List ℕ)
-        × (out.new.items ≡ out.old.items ++ added) × IsElidedToken most token.now added) }
+/// What is left out of a piece, if it is a string of more than this many bytes.
+fn cut_of_piece(kind: Option<Kind>, piece: &[u8], most: usize) -> Option<(Kind, Cut)>
+    ensures within { IfSome result (λ found. found.1.from + found.1.len ≤ length piece.now) }
+    ensures long { IfSome result (λ _. most < length piece.now) }
+    ensures bytes { IfSome result (λ found. most < found.1.bytes) }
 {
-    match cut_of(token, most) {
-        Some(cut) => push_cut(out, token, cut)?,
-        None => out.extend_from_slice(token)?,
+    match kind {
+        Some(kind) if matches!(kind, Kind::Key | Kind::Text | Kind::Bytes) => {
+            match cut_of(piece, most) {
+                Some(cut) => Some((kind, cut)),
+                None => None,
+            }
+        }
+        _ => None,
+    }
+}
+
+/// Appends a piece, cut if it is a string of more than this many bytes.
+fn push_piece(
+    out: &mut MarkedText,
+    kind: Option<Kind>,
+    piece: &[u8],
+    most: usize,
+) -> Result<(), AllocError>
+    ensures { OnOk result ((added : List ℕ)
+        × (out.new.text.items ≡ out.old.text.items ++ added)
+        × IsElidedToken most piece.now added) }
+{
+    match cut_of_piece(kind, piece, most) {
+        Some((kind, cut)) => push_cut(out, kind, piece, cut)?,
+        None => out.push(kind, piece)?,
     }
     Ok(())
 }
 
-/// Appends a line with its long strings cut.
-fn push_line(out: &mut Vec<u8>, line: &[u8], most: usize) -> Result<(), AllocError>
-    ensures { OnOk result ((added : List ℕ)
-        × (out.new.items ≡ out.old.items ++ added) × IsElided most line.now added) }
-{
-    let mut at = 0;
-    'tokens: while at < line.len() {
-        let rest = &line[at..];
-        let end = edn_token(rest).end;
-        push_token(out, &rest[..end], most)?;
-        at += end;
-    }
-    Ok(())
-}
-
-/// Appends the first line of a text, which is not empty, with its long strings cut, and its line
-/// feed. Returns how long it was.
-fn push_first_line(out: &mut Vec<u8>, text: &[u8], most: usize) -> Result<usize, AllocError>
-    requires { 0 < length text.now }
-    ensures some { IfOk result (λ len. 0 < len) }
-    ensures within { IfOk result (λ len. len ≤ length text.now) }
-    ensures elided { IfOk result (λ len. (added : List ℕ)
-        × (out.new.items ≡ out.old.items ++ added) × IsElided most (take len text.now) added) }
-{
-    let end = line_end(text);
-    push_line(out, &text[..end], most)?;
-    if end == text.len() {
-        return Ok(end);
-    }
-    out.extend_from_slice(&text[end..][..1])?;
-    Ok(end + 1)
-}
-
-/// Appends a text of EDN in which each string of more than `most` bytes is cut: after the first of
-/// its characters, as far as these are at most `most` bytes, come `...`, its quote, and a note of
-/// how many bytes it has. Such a text is not to be read back.
+/// Appends a text of EDN in which each string of more than `most` bytes is cut, and marks its
+/// tokens: after the first of its characters, as far as these are at most `most` bytes, come `...`,
+/// its quote, and a note of how many bytes it has. Such a text is not to be read back.
 ///
 /// ```rust
+/// use cbor_marks::{Kind, Marked, MarkedText, Marks};
 /// use cbor_screen::push_elided;
 ///
-/// let mut out = Vec::new(alloc);
-/// push_elided(&mut out, b"[h'3082024101', \"no\"]", 2)?;
+/// let marks = Marks::new(alloc);
+/// marks.mark(Kind::Bytes, 1, 14);
+/// marks.mark(Kind::Text, 16, 20);
+/// let mut list = Vec::new(alloc);
+/// marks.take(&mut list)?;
+/// let mut out = MarkedText::new(alloc);
+/// push_elided(&mut out, Marked::new(b"[h'3082024101', \"no\"]", &list), 2)?;
 /// let wanted = b"[h'3082...' /5 bytes/, \"no\"]";
-/// assert_eq!(rt; out.as_slice(), wanted.as_slice());
+/// assert_eq!(rt; out.text.as_slice(), wanted.as_slice());
 /// ```
-pub fn push_elided(out: &mut Vec<u8>, text: &[u8], most: usize) -> Result<(), AllocError>
+pub fn push_elided(out: &mut MarkedText, text: Marked<'_>, most: usize) -> Result<(), AllocError>
     // The text in tokens; some that are longer than `most` have a part left out.
     ensures elided { OnOk result ((added : List ℕ)
-        × (out.new.items ≡ out.old.items ++ added) × IsElided most text.now added) }
+        × (out.new.text.items ≡ out.old.text.items ++ added)
+        × IsElided most (rest_of text.entry) added) }
 
     // A text of at most that many bytes is as it was.
-    ensures short { length text.now ≤ most
-        → OnOk result (out.new.items ≡ out.old.items ++ text.now) }
+    ensures short { length (rest_of text.entry) ≤ most
+        → OnOk result (out.new.text.items ≡ out.old.text.items ++ rest_of text.entry) }
 {
-    let mut at = 0;
-    'lines: while at < text.len() {
-        let rest = &text[at..];
-        let len = push_first_line(out, rest, most)?;
-        at += len;
+    let mut rest = text;
+    'pieces: while let Some((kind, piece)) = rest.next_piece() {
+        push_piece(out, kind, piece, most)?;
     }
     Ok(())
 }

@@ -2,6 +2,7 @@
 //! lines are the same.
 
 use cbor_inspect::{Form, Show};
+use cbor_marks::Marks;
 use cbor_page::{Heading, push_data, push_page};
 use cbor_places::Piece;
 use std::test::Fail;
@@ -23,7 +24,9 @@ fn crate_example(rt: HostRuntime) -> Result<(), Fail> {
 #[test]
 fn push_data_example(rt: HostRuntime) -> Result<(), Fail> {
     let alloc = rt.alloc();
-    let show = Show::new(alloc, Form::Pretty);
+    let marks = Marks::new(alloc);
+    let mut show = Show::new(alloc, Form::Pretty);
+    show.marks = Some(&marks);
     let data = Piece {
         begins: 0,
         bytes: b"\x01",

@@ -1,8 +1,9 @@
 //! Tests that are the examples of `cbor_screen`'s doc comments. `checks/examples` checks that the
 //! lines are the same.
 
+use cbor_marks::{Kind, Marked, MarkedText, Marks};
 use cbor_screen::{
-    DumpStyle, Kind, Language, push_colored, push_dump, push_elided, push_in_color,
+    DumpStyle, push_colored, push_colored_dump, push_dump, push_elided, push_in_color,
     push_partial_dump, push_without_widths,
 };
 use std::test::Fail;
@@ -11,8 +12,8 @@ use std::test::Fail;
 fn crate_example(rt: HostRuntime) -> Result<(), Fail> {
     let alloc = rt.alloc();
     let mut out = Vec::new(alloc);
-    push_colored(&mut out, b"{1: true}\n", Language::Edn)?;
-    let wanted = b"{\x1b[1;34m1\x1b[0m: \x1b[36mtrue\x1b[0m}\n";
+    push_colored_dump(&mut out, b"18 2a # unsigned(42)\n")?;
+    let wanted = b"\x1b[33m18 2a \x1b[0m\x1b[90m# unsigned(42)\x1b[0m\n";
     assert_eq!(rt; out.as_slice(), wanted.as_slice());
     Ok(())
 }
@@ -29,8 +30,23 @@ fn push_in_color_example(rt: HostRuntime) -> Result<(), Fail> {
 #[test]
 fn push_colored_example(rt: HostRuntime) -> Result<(), Fail> {
     let alloc = rt.alloc();
+    let marks = Marks::new(alloc);
+    marks.mark(Kind::Key, 1, 2);
+    marks.mark(Kind::Number, 4, 8);
+    let mut list = Vec::new(alloc);
+    marks.take(&mut list)?;
     let mut out = Vec::new(alloc);
-    push_colored(&mut out, b"01 # unsigned(1)\n", Language::Dump)?;
+    push_colored(&mut out, Marked::new(b"{1: true}\n", &list))?;
+    let wanted = b"{\x1b[1;34m1\x1b[0m: \x1b[36mtrue\x1b[0m}\n";
+    assert_eq!(rt; out.as_slice(), wanted.as_slice());
+    Ok(())
+}
+
+#[test]
+fn push_colored_dump_example(rt: HostRuntime) -> Result<(), Fail> {
+    let alloc = rt.alloc();
+    let mut out = Vec::new(alloc);
+    push_colored_dump(&mut out, b"01 # unsigned(1)\n")?;
     let wanted = b"\x1b[33m01 \x1b[0m\x1b[90m# unsigned(1)\x1b[0m\n";
     assert_eq!(rt; out.as_slice(), wanted.as_slice());
     Ok(())
@@ -39,19 +55,30 @@ fn push_colored_example(rt: HostRuntime) -> Result<(), Fail> {
 #[test]
 fn push_elided_example(rt: HostRuntime) -> Result<(), Fail> {
     let alloc = rt.alloc();
-    let mut out = Vec::new(alloc);
-    push_elided(&mut out, b"[h'3082024101', \"no\"]", 2)?;
+    let marks = Marks::new(alloc);
+    marks.mark(Kind::Bytes, 1, 14);
+    marks.mark(Kind::Text, 16, 20);
+    let mut list = Vec::new(alloc);
+    marks.take(&mut list)?;
+    let mut out = MarkedText::new(alloc);
+    push_elided(&mut out, Marked::new(b"[h'3082024101', \"no\"]", &list), 2)?;
     let wanted = b"[h'3082...' /5 bytes/, \"no\"]";
-    assert_eq!(rt; out.as_slice(), wanted.as_slice());
+    assert_eq!(rt; out.text.as_slice(), wanted.as_slice());
     Ok(())
 }
 
 #[test]
 fn push_without_widths_example(rt: HostRuntime) -> Result<(), Fail> {
     let alloc = rt.alloc();
-    let mut out = Vec::new(alloc);
-    push_without_widths(&mut out, b"[_0 1.5_3, 1_0, [_ \"a\"_0]]")?;
-    assert_eq!(rt; out.as_slice(), b"[1.5, 1, [_ \"a\"]]".as_slice());
+    let marks = Marks::new(alloc);
+    marks.mark(Kind::Opening, 0, 3);
+    marks.mark(Kind::Number, 4, 9);
+    marks.mark(Kind::Closing, 9, 10);
+    let mut list = Vec::new(alloc);
+    marks.take(&mut list)?;
+    let mut out = MarkedText::new(alloc);
+    push_without_widths(&mut out, Marked::new(b"[_0 1.5_3]", &list))?;
+    assert_eq!(rt; out.text.as_slice(), b"[1.5]".as_slice());
     Ok(())
 }
 

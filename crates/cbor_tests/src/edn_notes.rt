@@ -37,6 +37,7 @@ fn texts_that_no_comment_has(rt: HostRuntime) {
     let noted = NotedStyle {
         style: EdnStyle::PRETTY,
         notes: &notes,
+        marks: None,
     };
     let mut out = String::new(rt.alloc());
     let bytes = b"\x86\x01\x02\x03\x04\x05\x06";

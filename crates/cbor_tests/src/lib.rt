@@ -17,6 +17,8 @@ mod doc_inputs;
 #[cfg(test)]
 mod doc_inspect;
 #[cfg(test)]
+mod doc_marks;
+#[cfg(test)]
 mod doc_messages;
 #[cfg(test)]
 mod doc_names;

@@ -90,6 +90,7 @@ fn show_of<'a>(alloc: Global, case: &Case) -> Result<Show<'a>, Error> {
         names: None,
         steps: steps_of(alloc, case.path)?,
         one: false,
+        marks: None,
     })
 }
 

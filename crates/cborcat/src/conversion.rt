@@ -89,6 +89,7 @@ impl<'a> Conversion<'a> {
     /// A conversion of an input that begins with these bytes.
     pub fn new(run: &'a mut Runner<'_>, origin: &'a Origin<'a>, first: Vec<u8>) -> Conversion<'a> {
         let (rt, job, tables, cddl) = (run.rt, run.job, run.tables, run.cddl);
+        let screen = Screen::new(rt, job, run.marks);
         let came = first.len();
         let mut first = first;
         let skipped = job.offset.min(came);
@@ -117,7 +118,7 @@ impl<'a> Conversion<'a> {
             found: false,
             passed: 0,
             number: 0,
-            screen: Screen::new(rt, job),
+            screen,
             out: Vec::new(rt.alloc()),
         }
     }
@@ -316,10 +317,11 @@ impl<'a> Conversion<'a> {
 
     /// Shows some items, and tells what follows them.
     fn show_some(&mut self) -> End {
-        match show_of(self.rt.alloc(), self.job, self.tables) {
-            Ok(show) => self.stream.show(&show, &mut self.out),
-            Err(_) => End::Memory,
-        }
+        let Ok(mut show) = show_of(self.rt.alloc(), self.job, self.tables) else {
+            return End::Memory;
+        };
+        show.marks = self.screen.edn_marks();
+        self.stream.show(&show, &mut self.out)
     }
 
     /// Shows some items as dumps, and tells what follows them.
@@ -342,6 +344,7 @@ impl<'a> Conversion<'a> {
             origin: self.origin,
             set,
             tables: self.tables,
+            marks: self.screen.edn_marks(),
         };
         let asked = (self.came, self.job.show.one || self.job.item.is_some());
         let (end, status) = show_each(&encoding, &mut self.stream, asked, &mut self.out);
@@ -356,6 +359,7 @@ impl<'a> Conversion<'a> {
             job: self.job,
             origin: self.origin,
             tables: self.tables,
+            marks: self.screen.edn_marks(),
         };
         let asked = (self.came, self.job.show.one || self.job.item.is_some());
         let (end, status) = show_each(&plain, &mut self.stream, asked, &mut self.out);

@@ -11,8 +11,8 @@ use cbor_diff::{Change, Comparison, Difference, differences};
 use cbor_grammar::Error;
 use cbor_inputs::Input;
 use cbor_inspect::{End, Form, Show, Style, show_items, skip_items};
+use cbor_marks::Marks;
 use cbor_places::{Entered, Piece};
-use cbor_screen::Language;
 use cborcat_arguments::Job;
 use std::alloc::AllocError;
 use std::fs::File;
@@ -25,6 +25,8 @@ pub struct Diff<'a> {
     pub rt: &'a HostRuntime,
     pub job: &'a Job<'a>,
     pub tables: Option<Tables<'a>>,
+    /// Where the tokens are marked of what is shown.
+    pub marks: &'a Marks,
 }
 
 impl Diff<'_> {
@@ -145,7 +147,7 @@ impl Diff<'_> {
         sides: (&[u8], &[u8]),
     ) -> Result<Written, Error> {
         let alloc = self.rt.alloc();
-        let screen = Screen::new(self.rt, self.job);
+        let screen = Screen::new(self.rt, self.job, self.marks);
         let mut path = String::new(alloc);
         if difference.number > 0 {
             write!(path, "{}:", difference.number)?;
@@ -176,13 +178,14 @@ impl Diff<'_> {
             names: None,
             steps: Vec::new(self.rt.alloc()),
             one: false,
+            marks: screen.edn_marks(),
         };
         let mut text = Vec::new(self.rt.alloc());
         if show_items(&show, item, &mut text).end == End::Memory {
             return Err(Error::Memory);
         }
         let _ = text.pop();
-        screen.push(line, &text, Language::Edn)?;
+        screen.push_edn(line, &text)?;
         Ok(())
     }
 }

@@ -124,6 +124,7 @@ impl ShowsItem for Dumps<'_> {
             names: shown.names,
             steps: shown.steps,
             one: shown.one,
+            marks: None,
         };
         match show_items(&show, item.bytes, &mut parts).end {
             End::Memory => return Err(Error::Memory),

@@ -9,6 +9,7 @@ use crate::shown::show_of;
 use crate::status::Status;
 use cbor_grammar::Error;
 use cbor_inspect::{End, Form, show_items};
+use cbor_marks::Marks;
 use cbor_messages::not_encoded;
 use cbor_places::Piece;
 use cbor_reencode::{ReencodeError, reencoded};
@@ -25,6 +26,8 @@ pub struct Encoding<'a> {
     pub set: RuleSet,
     /// The names that are shown.
     pub tables: Option<Tables<'a>>,
+    /// Where the tokens of EDN are marked, if they are to be.
+    pub marks: Option<&'a Marks>,
 }
 
 impl ShowsItem for Encoding<'_> {
@@ -39,7 +42,8 @@ impl ShowsItem for Encoding<'_> {
             let bytes = again.as_slice();
             return dumps.show_one(Piece { begins: 0, bytes }, out);
         }
-        let show = show_of(self.rt.alloc(), self.job, self.tables)?;
+        let mut show = show_of(self.rt.alloc(), self.job, self.tables)?;
+        show.marks = self.marks;
         match show_items(&show, &again, out).end {
             End::Memory => Err(Error::Memory),
             End::Lost { .. } => Ok(report_lost(

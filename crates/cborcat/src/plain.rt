@@ -11,7 +11,8 @@ use cbor_grammar::Error;
 use cbor_grammar::head::ItemHead;
 use cbor_grammar::strings::StringKind;
 use cbor_inspect::{End, RawError, raw_content, show_items};
-use cbor_json::{JsonError, JsonStyle, bytes_to_json, bytes_to_json_named};
+use cbor_json::{JsonError, JsonStyle, KeyName, NamedJson, bytes_to_json_named};
+use cbor_marks::Marks;
 use cbor_messages::not_json;
 use cbor_names::notes;
 use cbor_places::{Around, Piece};
@@ -28,6 +29,8 @@ pub struct Plain<'a> {
     pub origin: &'a Origin<'a>,
     /// The names that stand in place of keys, if they do.
     pub tables: Option<Tables<'a>>,
+    /// Where the tokens of JSON are marked, if they are to be.
+    pub marks: Option<&'a Marks>,
 }
 
 impl ShowsItem for Plain<'_> {
@@ -77,6 +80,9 @@ impl Plain<'_> {
 
     /// Writes an item as JSON, and a line feed.
     fn write_json(self, item: Piece, out: &mut Vec<u8>) -> Result<Status, Error> {
+        if let Some(marks) = self.marks {
+            marks.begin(out.len());
+        }
         match self.json(item.bytes) {
             Ok(text) => {
                 out.extend_from_slice(text.as_bytes())?;
@@ -99,11 +105,11 @@ impl Plain<'_> {
         };
         let tables = match self.tables {
             Some(tables) if self.job.shows_names() && tables.may_name(bytes) => tables,
-            _ => return bytes_to_json(alloc, bytes, style),
+            _ => return bytes_to_json_named(alloc, bytes, named(style, &[], self.marks)),
         };
         let found = notes(alloc, bytes, tables.names, tables.outer)?;
         let names = key_names(alloc, &found, bytes.len())?;
-        bytes_to_json_named(alloc, bytes, style, &names)
+        bytes_to_json_named(alloc, bytes, named(style, &names, self.marks))
     }
 
     /// Writes the content of a string.
@@ -149,6 +155,19 @@ impl Plain<'_> {
             "cborcat: {name}: byte {at} of the part at {part}: {what}\n    at {path}"
         );
         Ok(Status::Bad)
+    }
+}
+
+/// How JSON with these names is written, and where its tokens are marked, if they are to be.
+fn named<'a>(
+    style: JsonStyle,
+    names: &'a [KeyName<'a>],
+    marks: Option<&'a Marks>,
+) -> NamedJson<'a> {
+    NamedJson {
+        style,
+        names,
+        marks,
     }
 }
 

@@ -12,6 +12,7 @@ use crate::recognized::{data_of, form_of, say_notation};
 use crate::status::{Next, Status};
 use cbor_inputs::{Input, looks_like};
 use cbor_inspect::Form;
+use cbor_marks::Marks;
 use cborcat_arguments::{Job, View};
 use std::fs::File;
 use std::io;
@@ -46,12 +47,14 @@ pub fn run<'a>(rt: &'a HostRuntime, job: &'a Job<'_>) -> u8 {
     let Some(mut target) = open(rt, asked) else {
         return Status::Trouble.number();
     };
+    let marks = Marks::new(rt.alloc());
     let mut run = Runner {
         rt: &*rt,
         job: &*job,
         target: &mut target,
         tables,
         cddl: cddl.as_ref(),
+        marks: &marks,
         status: Status::Fine,
     };
     run.inputs();
@@ -87,6 +90,8 @@ pub struct Runner<'a> {
     pub tables: Option<Tables<'a>>,
     /// The CDDL that items have to fit.
     pub cddl: Option<&'a Cddl<'a>>,
+    /// Where the tokens are marked of what is shown.
+    pub marks: &'a Marks,
     /// How it went so far.
     pub status: Status,
 }
@@ -103,6 +108,7 @@ impl Runner<'_> {
             rt: self.rt,
             job: self.job,
             tables: self.tables,
+            marks: self.marks,
         };
         let status = diff.run(self.target);
         self.ended(status);

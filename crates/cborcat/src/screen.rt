@@ -4,24 +4,17 @@
 
 use crate::output::{Target, Written, write};
 use cbor_grammar::Error;
-use cbor_inspect::Form;
+use cbor_marks::{Kind, Marked, MarkedText, Marks};
 use cbor_messages::Excerpt;
 use cbor_places::{Leaves, PartialText};
-use cbor_screen::{Kind, Language, push_colored, push_elided, push_in_color, push_without_widths};
+use cbor_screen::{
+    push_colored, push_colored_dump, push_elided, push_in_color, push_without_widths,
+};
 use cbor_tokens::{is_shown, push_shown};
 use cborcat_arguments::{Color, Job};
 use std::alloc::{AllocError, Global};
 use std::env;
 use std::io::IsTerminal;
-
-/// What a form is written in, if that has colours.
-pub fn language_of(form: Form) -> Option<Language> {
-    match form {
-        Form::Pretty | Form::Diag => Some(Language::Edn),
-        Form::Hex => Some(Language::Dump),
-        Form::Digits | Form::Bytes => None,
-    }
-}
 
 /// Says which part of an input a message is about. The mark below what is wrong has a colour if
 /// standard error is shown colours.
@@ -76,38 +69,48 @@ pub struct Screen<'a> {
     widthless: bool,
     /// The length of the longest strings of EDN that are not cut, if others are.
     most: Option<usize>,
+    /// Where the tokens are marked of a text that is to be shown.
+    pub marks: &'a Marks,
 }
 
 impl<'a> Screen<'a> {
     /// How the arguments ask for the output to be shown.
-    pub fn new(rt: &'a HostRuntime, job: &Job) -> Screen<'a> {
+    pub fn new(rt: &'a HostRuntime, job: &Job, marks: &'a Marks) -> Screen<'a> {
         let terminal = job.output.is_none() && rt.stdout().is_terminal();
         Screen {
             rt,
             colors: has_colors(rt, job.color, terminal),
             widthless: job.widthless,
             most: job.elide,
+            marks,
         }
     }
 
-    /// Writes lines of a text.
-    pub fn write(
-        self,
-        target: &mut Target,
-        text: &[u8],
-        language: Language,
-    ) -> Result<Written, AllocError> {
-        if !self.changes(language) {
+    /// Where the tokens of EDN and JSON are marked, if they are shown in another way than they are
+    /// written.
+    pub fn edn_marks(self) -> Option<&'a Marks> {
+        if self.colors || self.widthless || self.most.is_some() {
+            Some(self.marks)
+        } else {
+            None
+        }
+    }
+
+    /// Writes a text of EDN or JSON. Its tokens are marked, if they are to be.
+    pub fn write_edn(self, target: &mut Target, text: &[u8]) -> Result<Written, AllocError> {
+        if self.edn_marks().is_none() {
             return Ok(write(self.rt, target, text));
         }
-        let mut rest = text;
+        let mut marks = Vec::new(self.rt.alloc());
+        self.marks.take(&mut marks)?;
+        let mut rest = Marked::new(text, &marks);
         for _ in 0..u64::MAX {
-            if rest.is_empty() {
+            if rest.rest().is_empty() {
                 break;
             }
-            let (lines, after) = rest.split_at(lines_len(rest).min(rest.len()));
-            rest = after;
-            match self.write_lines(target, lines, language)? {
+            let mut shown = Vec::new(self.rt.alloc());
+            self.push_marked(&mut shown, rest.take_lines(BLOCK))?;
+            match write(self.rt, target, &shown) {
                 Written::Whole => {}
                 end => return Ok(end),
             }
@@ -115,78 +118,92 @@ impl<'a> Screen<'a> {
         Ok(Written::Whole)
     }
 
-    /// Whether anything of a text is shown in another way than it is.
-    fn changes(self, language: Language) -> bool {
-        self.colors || self.widthless || self.most.is_some() || language == Language::Dump
-    }
-
-    /// Writes some lines.
-    fn write_lines(
-        self,
-        target: &mut Target,
-        lines: &[u8],
-        language: Language,
-    ) -> Result<Written, AllocError> {
-        let mut shown = Vec::new(self.rt.alloc());
-        self.push(&mut shown, lines, language)?;
-        Ok(write(self.rt, target, &shown))
-    }
-
-    /// Appends some lines as they are shown. In comments of a dump, which are all that has such
-    /// characters, what no terminal and no log is given as it is is escaped.
-    pub fn push(
-        self,
-        out: &mut Vec<u8>,
-        lines: &[u8],
-        language: Language,
-    ) -> Result<(), AllocError> {
-        let alloc = self.rt.alloc();
-        let mut escaped = String::new(alloc);
-        let mut widthless = Vec::new(alloc);
-        let mut elided = Vec::new(alloc);
-        let mut shown = lines;
-        if language == Language::Dump {
-            if !is_shown(true, shown)
-                && let Ok(text) = str::from_utf8(lines)
-            {
-                push_shown(&mut escaped, text)?;
-                shown = escaped.as_bytes();
+    /// Writes a text of dumps.
+    pub fn write_dump(self, target: &mut Target, text: &[u8]) -> Result<Written, AllocError> {
+        let mut rest = text;
+        for _ in 0..u64::MAX {
+            if rest.is_empty() {
+                break;
             }
-        } else {
-            if self.widthless {
-                push_without_widths(&mut widthless, shown)?;
-                shown = widthless.as_slice();
-            }
-            if let Some(most) = self.most {
-                push_elided(&mut elided, shown, most)?;
-                shown = elided.as_slice();
+            let (lines, after) = rest.split_at(lines_len(rest).min(rest.len()));
+            rest = after;
+            let mut shown = Vec::new(self.rt.alloc());
+            self.push_dump(&mut shown, lines)?;
+            match write(self.rt, target, &shown) {
+                Written::Whole => {}
+                end => return Ok(end),
             }
         }
+        Ok(Written::Whole)
+    }
+
+    /// Appends a text of EDN as it is shown. Its tokens are marked, if they are to be.
+    pub fn push_edn(self, out: &mut Vec<u8>, text: &[u8]) -> Result<(), AllocError> {
+        if self.edn_marks().is_none() {
+            return out.extend_from_slice(text);
+        }
+        let mut marks = Vec::new(self.rt.alloc());
+        self.marks.take(&mut marks)?;
+        self.push_marked(out, Marked::new(text, &marks))
+    }
+
+    /// The same of a text with its marks.
+    fn push_marked(self, out: &mut Vec<u8>, text: Marked<'_>) -> Result<(), AllocError> {
+        let alloc = self.rt.alloc();
+        let (mut widthless, mut elided) = (MarkedText::new(alloc), MarkedText::new(alloc));
+        let mut shown = text;
+        if self.widthless {
+            push_without_widths(&mut widthless, shown)?;
+            shown = widthless.marked();
+        }
+        if let Some(most) = self.most {
+            push_elided(&mut elided, shown, most)?;
+            shown = elided.marked();
+        }
         if self.colors {
-            push_colored(out, shown, language)
+            push_colored(out, shown)
+        } else {
+            out.extend_from_slice(shown.rest())
+        }
+    }
+
+    /// Appends some lines of a dump as they are shown. In its comments, which are all that has such
+    /// characters, what no terminal and no log is given as it is is escaped.
+    fn push_dump(self, out: &mut Vec<u8>, lines: &[u8]) -> Result<(), AllocError> {
+        let mut escaped = String::new(self.rt.alloc());
+        let mut shown = lines;
+        if !is_shown(true, shown)
+            && let Ok(text) = str::from_utf8(lines)
+        {
+            push_shown(&mut escaped, text)?;
+            shown = escaped.as_bytes();
+        }
+        if self.colors {
+            push_colored_dump(out, shown)
         } else {
             out.extend_from_slice(shown)
         }
     }
 
-    /// Writes the text of an item that is not whole. What it says is wrong has the colour of faults.
-    pub fn write_partial(
+    /// Writes the dump of an item that is not whole. What it says is wrong has the colour of
+    /// faults.
+    pub fn write_partial_dump(
         self,
         target: &mut Target,
         partial: &PartialText,
-        language: Language,
     ) -> Result<Written, AllocError> {
         let (text, said) = (partial.text.as_bytes(), partial.said);
         let mut shown = Vec::new(self.rt.alloc());
-        self.push(&mut shown, text.get(..said.start).unwrap_or(text), language)?;
+        self.push_dump(&mut shown, text.get(..said.start).unwrap_or(text))?;
         self.push_kind(&mut shown, Kind::Fault, said.bytes(text))?;
-        self.push(&mut shown, text.get(said.end..).unwrap_or(b""), language)?;
+        self.push_dump(&mut shown, text.get(said.end..).unwrap_or(b""))?;
         Ok(write(self.rt, target, &shown))
     }
 
     /// Appends the lines of the items that come next, about a block of them.
     pub fn push_leaves(self, lines: &mut Vec<u8>, leaves: &mut Leaves) -> Result<(), Error> {
         let mut text = String::new(self.rt.alloc());
+        self.marks.begin(0);
         for _ in 0..u64::MAX {
             if lines.len() >= BLOCK {
                 break;
@@ -198,8 +215,8 @@ impl<'a> Screen<'a> {
             leaves.push_path(&mut text, leaf)?;
             self.push_path(lines, &text)?;
             text.clear();
-            leaves.push_item(&mut text, leaf)?;
-            self.push(lines, text.as_bytes(), Language::Edn)?;
+            leaves.push_item(&mut text, leaf, self.edn_marks())?;
+            self.push_edn(lines, text.as_bytes())?;
             lines.push(b'\n')?;
         }
         Ok(())

@@ -22,5 +22,6 @@ pub fn show_of<'a>(
         names,
         steps: steps_of(alloc, job.path)?,
         one: job.show.one || job.item.is_some(),
+        marks: None,
     })
 }

@@ -19,6 +19,7 @@ use cbor_edn::{
     push_bytes_to_edn_partial,
 };
 use cbor_grammar::Error;
+use cbor_marks::Marks;
 use std::alloc::{AllocError, Global};
 
 /// What the call of a row gives; none if it is no call of this subject.
@@ -97,7 +98,7 @@ fn front_text(
 }
 
 /// The style of these words, which change the style of a line; none if one is no such word.
-fn style_of(words: &str) -> Option<EdnStyle> {
+pub fn style_of(words: &str) -> Option<EdnStyle> {
     let mut style = EdnStyle::LINE;
     for word in words.split_whitespace() {
         match word {
@@ -146,7 +147,7 @@ fn note_of(word: &str) -> Option<Note<'_>> {
 }
 
 /// The notes of a row.
-fn notes_of<'a>(alloc: Global, words: &'a str) -> Result<Vec<Note<'a>>, AllocError> {
+pub fn notes_of<'a>(alloc: Global, words: &'a str) -> Result<Vec<Note<'a>>, AllocError> {
     let mut notes: Vec<Note<'a>> = Vec::new(alloc);
     for word in words.split("; ") {
         if let Some(note) = note_of(word) {
@@ -154,6 +155,19 @@ fn notes_of<'a>(alloc: Global, words: &'a str) -> Result<Vec<Note<'a>>, AllocErr
         }
     }
     Ok(notes)
+}
+
+/// A style with these notes, and with where the tokens are marked, if they are.
+pub fn noted_style<'a>(
+    style: EdnStyle,
+    notes: &'a [Note<'a>],
+    marks: Option<&'a Marks>,
+) -> NotedStyle<'a> {
+    NotedStyle {
+        style,
+        notes,
+        marks,
+    }
 }
 
 /// The text of an item, or of the item at the front, with the notes of a row.
@@ -164,7 +178,7 @@ fn noted(alloc: Global, row: &Row) -> Result<String, AllocError> {
     } else {
         EdnStyle::PRETTY
     };
-    let noted = NotedStyle { style, notes };
+    let noted = noted_style(style, notes, None);
     let mut out = String::new(alloc);
     if row.call == "push_bytes_to_edn_noted_partial" {
         let used = push_bytes_to_edn_noted_partial(alloc, &row.bytes, noted, &mut out);

@@ -10,7 +10,7 @@
 
 use crate::row::Row;
 use cbor_json::{
-    Clash, JsonError, JsonStyle, KeyName, Loss, bytes_to_json, bytes_to_json_named,
+    Clash, JsonError, JsonStyle, KeyName, Loss, NamedJson, bytes_to_json, bytes_to_json_named,
     push_bytes_to_json_partial,
 };
 use std::alloc::{AllocError, Global};
@@ -44,6 +44,15 @@ fn style_of(words: &str) -> Option<JsonStyle> {
     }
 }
 
+/// How JSON with these names is written.
+fn named_json<'a>(style: JsonStyle, names: &'a [KeyName<'a>]) -> NamedJson<'a> {
+    NamedJson {
+        style,
+        names,
+        marks: None,
+    }
+}
+
 /// The JSON with the names that the row has.
 fn named(alloc: Global, row: &Row) -> Result<String, AllocError> {
     let mut style = JsonStyle::PLAIN;
@@ -57,7 +66,7 @@ fn named(alloc: Global, row: &Row) -> Result<String, AllocError> {
             None => style = style_of(word).unwrap_or(style),
         }
     }
-    match bytes_to_json_named(alloc, &row.bytes, style, &names) {
+    match bytes_to_json_named(alloc, &row.bytes, named_json(style, &names)) {
         Ok(text) => Ok(text),
         Err(error) => error_text(alloc, error),
     }

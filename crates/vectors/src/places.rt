@@ -120,5 +120,9 @@ fn noted<'a>(row: &Row) -> NotedStyle<'a> {
         style = EdnStyle::PRETTY;
         style.columns = columns;
     }
-    NotedStyle { style, notes: &[] }
+    NotedStyle {
+        style,
+        notes: &[],
+        marks: None,
+    }
 }

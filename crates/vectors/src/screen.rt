@@ -1,18 +1,24 @@
 //! Runs the test rows about what a screen shows, and returns each result as text. The calls:
 //!
-//! - `push_colored edn` and `push_colored dump` colour a text. An escape character is `\e` in the
+//! - `push_colored dump` colours a dump, and `push_colored edn STYLE` the EDN of an item.
+//!   `push_colored elide=MOST STYLE` cuts its strings first. An escape character is `\e` in the
 //!   result.
-//! - `push_elided MOST` and `push_without_widths` shorten EDN.
+//! - `push_elided MOST STYLE` and `push_without_widths STYLE` shorten the EDN of an item. STYLE is
+//!   that of `bytes_to_edn`, and the notes of `push_bytes_to_edn_noted` may follow it after `; `.
+//!   The item stands in its row in that style.
 //! - `push_dump` gives the dump of items, with the words `embedded`, `elide=MOST`, and `names` or
 //!   `names=TYPE` by the tables of [`tables`].
 //! - `push_partial_dump` does so, with the same words, for bytes in which an item is truncated or
 //!   malformed.
 
+use crate::edn::{noted_style, notes_of, style_of};
 use crate::row::Row;
 use crate::texts::{lines_text, number_of, refused_text, text_of};
+use cbor_edn::{EdnError, edn_item_to_bytes, push_bytes_to_edn_noted};
+use cbor_marks::{MarkedText, Marks};
 use cbor_names::{Definition, Key, Names, Part, Shape, What};
 use cbor_screen::{
-    DumpStyle, Language, push_colored, push_dump, push_elided, push_partial_dump,
+    DumpStyle, push_colored, push_colored_dump, push_dump, push_elided, push_partial_dump,
     push_without_widths,
 };
 use std::alloc::{AllocError, Global};
@@ -32,29 +38,83 @@ pub fn answer(alloc: Global, row: &Row) -> Result<Option<String>, AllocError> {
     Ok(Some(found?))
 }
 
-/// A text in colours.
-fn colored(alloc: Global, row: &Row) -> Result<String, AllocError> {
-    let language = match row.argument {
-        "dump" => Language::Dump,
-        _ => Language::Edn,
+/// The first word of some words, and the others.
+fn first_word(words: &str) -> (&str, &str) {
+    words.split_once(" ").unwrap_or((words, ""))
+}
+
+/// The EDN of the item of a row, with the marks of its tokens, in the style of these words. None if
+/// it stands in the row in another way.
+fn edn_of(alloc: Global, row: &Row, words: &str) -> Result<Option<MarkedText>, AllocError> {
+    let (style, _) = words.split_once("; ").unwrap_or((words, ""));
+    let Some(style) = style_of(style) else {
+        return Ok(None);
     };
+    let bytes = match edn_item_to_bytes(alloc, row.text()) {
+        Ok(bytes) => bytes,
+        Err(EdnError::Memory) => return Err(AllocError),
+        Err(_) => return Ok(None),
+    };
+    let notes = notes_of(alloc, words)?;
+    let marks = Marks::new(alloc);
+    let noted = noted_style(style, &notes, Some(&marks));
+    let mut text = String::new(alloc);
+    let written = push_bytes_to_edn_noted(alloc, &bytes, noted, &mut text);
+    if written.is_err() || text.as_bytes() != row.input.as_slice() {
+        return Ok(None);
+    }
+    let mut marked = MarkedText::new(alloc);
+    marked.push(None, text.as_bytes())?;
+    marks.take(&mut marked.marks)?;
+    Ok(Some(marked))
+}
+
+/// What a call says of a row whose item is written in another way than it stands there.
+fn other_text(alloc: Global) -> Result<String, AllocError> {
+    String::from_str(alloc, "the item is written in another way")
+}
+
+/// A text in colours: a dump, or EDN.
+fn colored(alloc: Global, row: &Row) -> Result<String, AllocError> {
+    let (form, words) = first_word(row.argument);
     let mut out = Vec::new(alloc);
-    push_colored(&mut out, &row.input, language)?;
+    if form == "dump" {
+        push_colored_dump(&mut out, &row.input)?;
+    } else {
+        let Some(text) = edn_of(alloc, row, words)? else {
+            return other_text(alloc);
+        };
+        match form.strip_prefix("elide=") {
+            None => push_colored(&mut out, text.marked())?,
+            Some(most) => {
+                let mut cut = MarkedText::new(alloc);
+                push_elided(&mut cut, text.marked(), number_of(most))?;
+                push_colored(&mut out, cut.marked())?;
+            }
+        }
+    }
     text_of(&out).replace(alloc, "\x1b", "\\e")
 }
 
 /// EDN with its long strings cut.
 fn elided(alloc: Global, row: &Row) -> Result<String, AllocError> {
-    let mut out = Vec::new(alloc);
-    push_elided(&mut out, &row.input, number_of(row.argument))?;
-    String::from_str(alloc, text_of(&out))
+    let (most, words) = first_word(row.argument);
+    let Some(text) = edn_of(alloc, row, words)? else {
+        return other_text(alloc);
+    };
+    let mut out = MarkedText::new(alloc);
+    push_elided(&mut out, text.marked(), number_of(most))?;
+    String::from_str(alloc, text_of(&out.text))
 }
 
 /// EDN without widths.
 fn widthless(alloc: Global, row: &Row) -> Result<String, AllocError> {
-    let mut out = Vec::new(alloc);
-    push_without_widths(&mut out, &row.input)?;
-    String::from_str(alloc, text_of(&out))
+    let Some(text) = edn_of(alloc, row, row.argument)? else {
+        return other_text(alloc);
+    };
+    let mut out = MarkedText::new(alloc);
+    push_without_widths(&mut out, text.marked())?;
+    String::from_str(alloc, text_of(&out.text))
 }
 
 /// The dumps of the items that the bytes are, in the style that the words of the row say.

@@ -1,6 +1,6 @@
--- For `skip.rt` and `skip/containers.rt`: how skipping the parts of a container (`skip_parts`) goes on if it ends, or if
--- its next part is whole, is cut or has a fault. The same for the open containers (`skip_open`), where a part may also
--- open one more. Only how much is still to come matters, not what was read before.
+-- For `skip.rt` and `skip/containers.rt`: how skipping the parts of a container (`skip_parts`) goes on if it ends, or
+-- if its next part is whole, is cut or has a fault. The same for the open containers (`skip_open`), where a part may
+-- also open one more. Only how much is still to come matters, not what was read before.
 use Rattle.std.proofs.Common.{◌≡◌, ℕ, zero, suc, ◌-◌, ◌<◌, List, [], ◌∷◌, ◌++◌, length, Some, None, Ok, Err, refl, sym}
 use Rattle.std.proofs.Common.{ap, subst, ◌∙◌, append_assoc, inl, inr, arith}
 use Rattle.std.specs.Prelude.{option_map}

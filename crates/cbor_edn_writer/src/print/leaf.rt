@@ -15,6 +15,7 @@ use crate::print::place::EdnPlace;
 use crate::print::text::push_part;
 use cbor_grammar::strings::StringContent;
 use cbor_grammar::{IntegerWidth, Simple};
+use cbor_marks::Kind;
 use cbor_notation_writer::parts::Leaf;
 use cbor_notation_writer::scalars;
 use std::alloc::AllocError;
@@ -32,7 +33,12 @@ pub(super) fn push_leaf(
     match leaf {
         Leaf::Integer(value, width) => push_integer(out, value, width, place),
         Leaf::Negative(value, width) => push_negative(out, value, width, place),
-        Leaf::Float(bits, width) => push_float(out, bits, width, place.style.widths),
+        Leaf::Float(bits, width) => {
+            let start = out.len();
+            let result = push_float(out, bits, width, place.style.widths);
+            place.mark(Kind::Number, start, out);
+            result
+        }
         Leaf::Simple(value, takes_two) => push_simple(out, value, takes_two, place),
     }
 }
@@ -48,7 +54,9 @@ fn push_integer(
     ensures { Writes result out.old out.new
         (Noted place.now (number value (marked place.now.style.widths value width))) }
 {
+    let start = out.len();
     scalars::push_number(out, value, shown_width(place.style.widths, value, width))?;
+    place.mark(Kind::Number, start, out);
     push_integer_note(out, value, false, place)
 }
 
@@ -63,7 +71,9 @@ fn push_negative(
     ensures { Writes result out.old out.new (Noted place.now
         (codes "-" ++ number (value + 1) (marked place.now.style.widths value width))) }
 {
+    let start = out.len();
     scalars::push_negative(out, value, shown_width(place.style.widths, value, width))?;
+    place.mark(Kind::Number, start, out);
     push_integer_note(out, value, true, place)
 }
 
@@ -77,7 +87,9 @@ fn push_simple(
 ) -> Result<(), AllocError>
     ensures { Writes result out.old out.new (Noted place.now (simple_text value)) }
 {
+    let start = out.len();
     scalars::push_simple(out, Simple(value))?;
+    place.mark(Kind::Number, start, out);
     push_simple_note(out, value, takes_two, place)
 }
 
@@ -92,6 +104,6 @@ pub(super) fn push_string(
     ensures { Writes result out.old out.new (Noted place.now
         (quoted_string (kind_of content.entry) (borrowed_chunk width content.entry))) }
 {
-    push_part(out, content, width)?;
+    push_part(out, content, width, place)?;
     push_string_note(out, content, place)
 }

@@ -32,18 +32,25 @@ impl Line {
     }
 }
 
-/// What is known of the line of an item at this place, which comes after the text `out`, if that is
-/// more than was known of the line of what the item is in.
+/// Whether more is to be known of the line of an item with this head at this place than of the line
+/// of what the item is in.
 #[inline(always)]
-pub(super) fn new_line(
+pub(super) fn has_new_line(place: &EdnPlace<'_>, head: ItemHead) -> bool {
+    place.line.breaks && has_parts(place, head)
+}
+
+/// What is known of the line of an item at this place, which comes after the text `out`.
+#[inline(always)]
+pub(super) fn line_at(
     place: &EdnPlace<'_>,
     out: &String,
     front: Front<'_>,
-) -> Result<Option<Line>, AllocError> {
-    if !place.line.breaks || !has_parts(place, front.head) {
-        return Ok(None);
+) -> Result<Line, AllocError> {
+    if has_new_line(place, front.head) {
+        line_of(place, out, front)
+    } else {
+        Ok(place.line)
     }
-    Ok(Some(line_of(place, out, front)?))
 }
 
 /// Whether an item with this head may have parts that take lines.
@@ -59,9 +66,14 @@ fn has_parts(place: &EdnPlace<'_>, head: ItemHead) -> bool {
     }
 }
 
-/// The line of an item with parts that is not in a container on one line.
+/// The line of an item with parts that is not in a container on one line, and that comes after the
+/// text `out`.
 #[inline(never)]
-fn line_of(place: &EdnPlace<'_>, out: &String, front: Front<'_>) -> Result<Line, AllocError> {
+pub(super) fn line_of(
+    place: &EdnPlace<'_>,
+    out: &String,
+    front: Front<'_>,
+) -> Result<Line, AllocError> {
     match front.head {
         ItemHead::Tag(..) => Ok(behind(place, 1)),
         ItemHead::String(StringKind::Bytes, Argument::Number(len, width))

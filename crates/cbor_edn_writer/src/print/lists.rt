@@ -11,9 +11,11 @@ ghost use Rattle.cbor_edn_writer.specs.EdnLeaves.{edn_opening, edn_closing};
 ghost use Rattle.cbor_grammar.specs.NotationText.{number, indicator};
 
 use crate::print::numbers::{longer, push_indicator, push_length_mark};
+use crate::print::place::EdnPlace;
 use cbor_grammar::IntegerWidth;
 use cbor_grammar::argument::Argument;
 use cbor_grammar::layout::ContainerStyle;
+use cbor_marks::Kind;
 use cbor_notation_writer::members;
 use cbor_notation_writer::parts::Container;
 use cbor_notation_writer::scalars::push_number;
@@ -76,16 +78,50 @@ fn push_long_count(
 }
 
 /// Writes a tag up to its content.
-pub(super) fn push_tag(out: &mut String, tag: u64, width: IntegerWidth) -> Result<(), AllocError>
+pub(super) fn push_tag(
+    out: &mut String,
+    tag: u64,
+    width: IntegerWidth,
+    place: &EdnPlace<'_>,
+) -> Result<(), AllocError>
     ensures { AppendsText result out.old out.new (number tag width ++ codes "(") }
 {
+    let start = out.len();
     push_number(out, tag, width)?;
+    place.mark(Kind::Tag, start, out);
     out.push('(')
+}
+
+/// Writes what is after the item below a tag.
+#[inline(always)]
+pub(super) fn push_tag_end(out: &mut String, place: &EdnPlace<'_>) -> Result<(), AllocError>
+    ensures { AppendsText result out.old out.new (codes ")") }
+{
+    let start = out.len();
+    let result = out.push(')');
+    place.mark(Kind::Closing, start, out);
+    result
 }
 
 /// Writes what is before the members of a list.
 #[inline(always)]
 pub(super) fn push_opening(
+    out: &mut String,
+    container: Container,
+    style: ContainerStyle,
+    place: &EdnPlace<'_>,
+) -> Result<(), AllocError>
+    ensures { AppendsText result out.old out.new (edn_opening container style) }
+{
+    let start = out.len();
+    let result = push_open(out, container, style);
+    place.mark(Kind::Opening, start, out);
+    result
+}
+
+/// The same, without a mark.
+#[inline(always)]
+fn push_open(
     out: &mut String,
     container: Container,
     style: ContainerStyle,
@@ -112,6 +148,22 @@ pub(super) fn push_opening(
 /// Writes what is after the members of a list.
 #[inline(always)]
 pub(super) fn push_closing(
+    out: &mut String,
+    container: Container,
+    style: ContainerStyle,
+    place: &EdnPlace<'_>,
+) -> Result<(), AllocError>
+    ensures { AppendsText result out.old out.new (edn_closing container style) }
+{
+    let start = out.len();
+    let result = push_close(out, container, style);
+    place.mark(Kind::Closing, start, out);
+    result
+}
+
+/// The same, without a mark.
+#[inline(always)]
+fn push_close(
     out: &mut String,
     container: Container,
     style: ContainerStyle,

@@ -17,6 +17,7 @@ use crate::print::place::EdnPlace;
 use crate::print::text::push_no_parts;
 use cbor_grammar::IntegerWidth;
 use cbor_grammar::argument::Argument;
+use cbor_grammar::head::ItemHead;
 use cbor_grammar::layout::{ContainerStyle, Content, Layout};
 use cbor_grammar::strings::{StringContent, StringKind};
 use cbor_notation_writer::dialect::Dialect;
@@ -35,11 +36,16 @@ impl<'a> Dialect for NotedEdn<'a> {
     ghost leaves = { edn_leaves };
 
     #[inline(always)]
+    fn moves(_place: &EdnPlace<'a>, _head: ItemHead) -> bool {
+        true
+    }
+
+    #[inline(always)]
     fn at(
         place: &EdnPlace<'a>,
         out: &String,
         front: Front<'_>,
-    ) -> Result<Option<EdnPlace<'a>>, AllocError> {
+    ) -> Result<EdnPlace<'a>, AllocError> {
         place.noted(out, front)
     }
 
@@ -139,7 +145,7 @@ impl<'a> Dialect for NotedEdn<'a> {
         place: &EdnPlace<'a>,
     ) -> Result<(), AllocError> {
         push_before(out, place)?;
-        push_no_parts(out, kind)
+        push_no_parts(out, kind, place)
     }
 
     #[inline(always)]
@@ -150,7 +156,7 @@ impl<'a> Dialect for NotedEdn<'a> {
         place: &EdnPlace<'a>,
     ) -> Result<(), AllocError> {
         push_before(out, place)?;
-        push_opening(out, container, style)
+        push_opening(out, container, style, place)
     }
 
     #[inline(always)]
@@ -181,7 +187,7 @@ impl<'a> Dialect for NotedEdn<'a> {
         place: &EdnPlace<'a>,
     ) -> Result<(), AllocError> {
         push_before(out, place)?;
-        push_tag(out, tag, shown_width(place.style.widths, tag, width))
+        push_tag(out, tag, shown_width(place.style.widths, tag, width), place)
     }
 
     #[inline(always)]

@@ -15,6 +15,7 @@ use crate::print::elements::elements_text;
 use crate::print::place::EdnPlace;
 use crate::print::same::is_noted;
 use cbor_grammar::strings::StringContent;
+use cbor_marks::Kind;
 use cbor_notes::{
     date_of_epoch, datetime_of_epoch, epoch_of_date, epoch_of_datetime, ipv4_text, ipv6_text,
     mac_text,
@@ -30,7 +31,12 @@ pub(crate) fn push_before(out: &mut String, place: &EdnPlace<'_>) -> Result<(), 
     ensures { AppendsText result out.old out.new (note_before place.now) }
 {
     match place.found {
-        Some(note) if place.style.notes => push_comment_before(out, note.before),
+        Some(note) if place.style.notes => {
+            let start = out.len();
+            let result = push_comment_before(out, note.before);
+            place.mark(Kind::Note, start, out);
+            result
+        }
         _ => Ok(()),
     }
 }
@@ -41,7 +47,12 @@ pub(super) fn push_after(out: &mut String, place: &EdnPlace<'_>) -> Result<(), A
     ensures { AppendsText result out.old out.new (note_after place.now) }
 {
     match place.found {
-        Some(note) if place.style.notes => push_comment_after(out, note.after),
+        Some(note) if place.style.notes => {
+            let start = out.len();
+            let result = push_comment_after(out, note.after);
+            place.mark(Kind::Note, start, out);
+            result
+        }
         _ => Ok(()),
     }
 }
@@ -57,7 +68,12 @@ pub(super) fn push_integer_note(
     ensures { Writes result out.old out.new (NoteAfter place.now) }
 {
     match place.tag {
-        Some(tag) if place.style.notes => push_time(out, tag, (value, negative), place.alloc),
+        Some(tag) if place.style.notes => {
+            let start = out.len();
+            let result = push_time(out, tag, (value, negative), place.alloc);
+            place.mark(Kind::Note, start, out);
+            result
+        }
         _ => Ok(()),
     }
 }
@@ -73,7 +89,10 @@ pub(super) fn push_simple_note(
     ensures { Writes result out.old out.new (NoteAfter place.now) }
 {
     if takes_two && value < 32 && place.style.notes {
-        return push_note(out, "two bytes");
+        let start = out.len();
+        let result = push_note(out, "two bytes");
+        place.mark(Kind::Note, start, out);
+        return result;
     }
     Ok(())
 }
@@ -90,14 +109,17 @@ pub(super) fn push_string_note(
     if !place.style.notes {
         return Ok(());
     }
-    match (content, place.tag) {
+    let start = out.len();
+    let result = match (content, place.tag) {
         (StringContent::Bytes(bytes), Some(tag)) if is_noted(tag) => {
             push_bytes_note(out, tag, bytes, place.alloc)
         }
         (StringContent::Bytes(bytes), _) => push_characters(out, bytes, place),
         (StringContent::Text(text), Some(tag)) => push_text_note(out, tag, text, place.alloc),
         (StringContent::Text(_), None) => Ok(()),
-    }
+    };
+    place.mark(Kind::Note, start, out);
+    result
 }
 
 /// Writes a note after an item, unless it would end early or begin another comment.

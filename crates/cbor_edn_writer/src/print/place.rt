@@ -1,7 +1,7 @@
 //! `EdnPlace`: where an item is in an EDN text (its level, the tag around it, its line), with the
 //! style and the note on the item. The place and the item decide what is written. Also finds the
 //! note of an item.
-ghost use Rattle.std.specs.Prelude.{◌≡◌, ◌≤◌, ◌||◌, IfOk, unwrap_or};
+ghost use Rattle.std.specs.Prelude.{◌≡◌, ◌≤◌, ◌||◌, IfOk};
 ghost use Rattle.cbor_grammar.specs.WellFormed.{deepest};
 ghost use Rattle.cbor_grammar.specs.NotationText.{indent_of, style_indent};
 ghost use Rattle.cbor_edn_writer.specs.EdnLeaves.{edn_leaves, is_encoded, style_on};
@@ -12,11 +12,12 @@ ghost use Rattle.cbor_edn_writer.specs.EdnLeaves.{behind_in as behind_members};
 ghost use Rattle.cbor_edn_writer.specs.Written.{IsOutermost};
 
 use crate::note::Note;
-use crate::print::line::{Line, new_line};
-use crate::style::EdnStyle;
+use crate::print::line::{Line, line_at, line_of};
+use crate::style::{EdnStyle, NotedStyle};
 use cbor_grammar::IntegerWidth;
 use cbor_grammar::argument::Argument;
 use cbor_grammar::layout::{ContainerStyle, Layout};
+use cbor_marks::{Kind, Marks};
 use cbor_notation_writer::parts::{Container, Front};
 use std::alloc::{AllocError, Global};
 
@@ -45,14 +46,17 @@ pub(crate) struct EdnPlace<'a> {
     pub(crate) found: Option<&'a Note<'a>>,
     /// What is known of the line of the item.
     pub(crate) line: Line,
+    /// Where the tokens of the text are marked.
+    pub(crate) marks: Option<&'a Marks>,
 }
 
 impl<'a> EdnPlace<'a> {
     /// The place of the outermost item of a text.
-    pub(crate) fn new(alloc: Global, style: EdnStyle, notes: &'a [Note<'a>]) -> EdnPlace<'a>
-        ensures outermost { IsOutermost style notes.now result }
+    pub(crate) fn new(alloc: Global, noted: NotedStyle<'a>) -> EdnPlace<'a>
+        ensures outermost { IsOutermost noted.entry.style noted.entry.notes.now result }
         ensures indent { indent_of result.layout ≡ 0 }
     {
+        let style = noted.style;
         EdnPlace {
             alloc,
             level: 1,
@@ -63,44 +67,47 @@ impl<'a> EdnPlace<'a> {
             },
             style,
             tag: None,
-            notes,
+            notes: noted.notes,
             behind: 0,
             here: 0,
             passed: 0,
             found: None,
             line: Line::outermost(style),
+            marks: noted.marks,
         }
     }
 
-    /// The same place with what is known of the line of the item, which comes after the text `out`.
-    /// `None` if that stays the same.
+    /// Marks the token that was written from this place of the text on, if tokens are marked.
+    #[inline(always)]
+    pub(crate) fn mark(&self, kind: Kind, start: usize, out: &String) {
+        if let Some(marks) = self.marks {
+            marks.mark_from(kind, out, start);
+        }
+    }
+
+    /// The same place with what is known of the line of an item with parts, which comes after the
+    /// text `out`.
     #[inline(always)]
     pub(crate) fn laid_out(
         &self,
         out: &String,
         front: Front<'_>,
-    ) -> Result<Option<EdnPlace<'a>>, AllocError>
-        ensures { IfOk result (λ moved. LaidOut self.now (unwrap_or moved self.now)) }
+    ) -> Result<EdnPlace<'a>, AllocError>
+        ensures { IfOk result (λ moved. LaidOut self.now moved) }
     {
-        match new_line(self, out, front)? {
-            Some(line) => Ok(Some(EdnPlace { line, ..*self })),
-            None => Ok(None),
-        }
+        let line = line_of(self, out, front)?;
+        Ok(EdnPlace { line, ..*self })
     }
 
     /// The same place with the note on the item, too.
     #[inline(always)]
-    pub(crate) fn noted(
-        &self,
-        out: &String,
-        front: Front<'_>,
-    ) -> Result<Option<EdnPlace<'a>>, AllocError>
-        ensures { IfOk result (λ moved. LaidOut self.now (unwrap_or moved self.now)) }
+    pub(crate) fn noted(&self, out: &String, front: Front<'_>) -> Result<EdnPlace<'a>, AllocError>
+        ensures { IfOk result (λ moved. LaidOut self.now moved) }
     {
         let here = self.behind.saturating_add(front.bytes.len() as u64);
         let place = self.with_note(here);
-        let line = new_line(&place, out, front)?.unwrap_or(self.line);
-        Ok(Some(EdnPlace { line, ..place }))
+        let line = line_at(&place, out, front)?;
+        Ok(EdnPlace { line, ..place })
     }
 
     /// The same place with the note on the item. `here` is the number of the outermost bytes from

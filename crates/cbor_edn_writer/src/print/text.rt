@@ -10,10 +10,12 @@ ghost use Rattle.cbor_edn_writer.specs.EdnLeaves.{quoted_string};
 ghost use Rattle.cbor_tokens.specs.Escapes.{escaped_text};
 
 use crate::print::numbers::push_length_mark;
+use crate::print::place::EdnPlace;
 use cbor_bytes::quoted::push_quoted;
 use cbor_grammar::IntegerWidth;
 use cbor_grammar::encoding::Encoding;
 use cbor_grammar::strings::{StringContent, StringKind};
+use cbor_marks::Kind;
 use cbor_tokens::push_escaped;
 use std::alloc::AllocError;
 
@@ -22,23 +24,46 @@ pub(super) fn push_part(
     out: &mut String,
     content: StringContent<'_>,
     width: IntegerWidth,
+    place: &EdnPlace<'_>,
 ) -> Result<(), AllocError>
     ensures { AppendsText result out.old out.new
         (quoted_string (kind_of content.entry) (borrowed_chunk width content.entry)) }
 {
+    let start = out.len();
     match content {
-        StringContent::Bytes(bytes) => push_bytes(out, bytes, width),
-        StringContent::Text(text) => push_text(out, text, width),
+        StringContent::Bytes(bytes) => {
+            let result = push_bytes(out, bytes, width);
+            place.mark(Kind::Bytes, start, out);
+            result
+        }
+        StringContent::Text(text) => {
+            let result = push_text(out, text, width);
+            place.mark(Kind::Text, start, out);
+            result
+        }
     }
 }
 
 /// Writes an indefinite-length string that has no chunks.
-pub(super) fn push_no_parts(out: &mut String, kind: StringKind) -> Result<(), AllocError>
+pub(super) fn push_no_parts(
+    out: &mut String,
+    kind: StringKind,
+    place: &EdnPlace<'_>,
+) -> Result<(), AllocError>
     ensures { AppendsText result out.old out.new (no_chunks kind) }
 {
+    let start = out.len();
     match kind {
-        StringKind::Bytes => out.push_str("''_"),
-        StringKind::Text => out.push_str("\"\"_"),
+        StringKind::Bytes => {
+            let result = out.push_str("''_");
+            place.mark(Kind::Bytes, start, out);
+            result
+        }
+        StringKind::Text => {
+            let result = out.push_str("\"\"_");
+            place.mark(Kind::Text, start, out);
+            result
+        }
     }
 }
 

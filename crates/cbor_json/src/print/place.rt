@@ -10,6 +10,7 @@ ghost use Rattle.cbor_json.specs.Written.{IsOutermost};
 use crate::style::JsonStyle;
 use cbor_grammar::encoding::Encoding;
 use cbor_grammar::layout::Layout;
+use cbor_marks::{Kind, Marks};
 use cbor_notation_writer::parts::Container;
 use std::alloc::Global;
 
@@ -77,7 +78,7 @@ impl Role {
 
 /// Where an item is.
 #[derive(Clone, Copy)]
-pub(crate) struct JsonPlace {
+pub(crate) struct JsonPlace<'a> {
     /// The allocator of the parts of keys.
     pub(crate) alloc: Global,
     /// The level of the item; the outermost is at level 1.
@@ -92,6 +93,8 @@ pub(crate) struct JsonPlace {
     pub(crate) encoding: Encoding,
     /// The tag right above the item.
     pub(crate) tag: Option<u64>,
+    /// Where the tokens of the text are marked.
+    pub(crate) marks: Option<&'a Marks>,
 }
 
 /// How the bytes are written below this tag.
@@ -107,9 +110,9 @@ fn encoding_below(tag: u64, encoding: Encoding) -> Encoding
     }
 }
 
-impl JsonPlace {
+impl<'a> JsonPlace<'a> {
     /// The beginning of a text.
-    pub(crate) fn new(alloc: Global, style: JsonStyle) -> JsonPlace
+    pub(crate) fn new(alloc: Global, style: JsonStyle, marks: Option<&'a Marks>) -> JsonPlace<'a>
         ensures outermost { IsOutermost style result }
         ensures indent { indent_of result.layout ≡ 0 }
     {
@@ -121,14 +124,53 @@ impl JsonPlace {
             role: Role::Value,
             encoding: Encoding::Base64Url,
             tag: None,
+            marks,
+        }
+    }
+
+    /// Marks the token that was written from this place of the text on, if tokens are marked. What
+    /// is in a key is no token.
+    #[inline(always)]
+    pub(crate) fn mark(&self, kind: Kind, start: usize, out: &String) {
+        match (self.marks, self.role) {
+            (None, _) | (_, Role::InKey) => {}
+            (Some(marks), Role::Key) => marks.mark_from(Kind::Key, out, start),
+            (Some(marks), _) => marks.mark_from(kind, out, start),
+        }
+    }
+
+    /// Marks the end of the token that was marked last.
+    #[inline(always)]
+    pub(crate) fn mark_end(&self, out: &String) {
+        match (self.marks, self.role) {
+            (None, _) | (_, Role::InKey) => {}
+            (Some(marks), _) => marks.extend(out.len()),
+        }
+    }
+
+    /// Says that what is marked next is in a text of its own, which comes after this many bytes of
+    /// this text. Returns where this text begins.
+    pub(crate) fn begin_after(&self, before: usize) -> usize {
+        let Some(marks) = self.marks else {
+            return 0;
+        };
+        let begins = marks.begins();
+        marks.begin(begins.saturating_add(before));
+        begins
+    }
+
+    /// Says that what is marked next is in the text that begins there.
+    pub(crate) fn begin(&self, begins: usize) {
+        if let Some(marks) = self.marks {
+            marks.begin(begins);
         }
     }
 
     /// In a container, or in a byte string.
     #[inline(always)]
-    pub(crate) fn inside(self, container: Container, layout: Layout) -> JsonPlace
+    pub(crate) fn inside(self, container: Container, layout: Layout) -> JsonPlace<'a>
         requires { self.level ≤ deepest }
-        ensures { result ≡ json_leaves.inside container layout self }
+        ensures { result ≡ json_leaves.inside container layout self.entry }
     {
         JsonPlace {
             level: self.level + 1,
@@ -141,9 +183,9 @@ impl JsonPlace {
 
     /// Right below this tag.
     #[inline(always)]
-    pub(crate) fn below(self, tag: u64) -> JsonPlace
+    pub(crate) fn below(self, tag: u64) -> JsonPlace<'a>
         requires { self.level ≤ deepest }
-        ensures { result ≡ json_leaves.below tag self }
+        ensures { result ≡ json_leaves.below tag self.entry }
     {
         JsonPlace {
             level: self.level + 1,

@@ -29,6 +29,7 @@ use cbor_grammar::IntegerWidth;
 use cbor_grammar::encoding::Encoding;
 use cbor_grammar::layout::Content;
 use cbor_grammar::strings::StringContent;
+use cbor_marks::Kind;
 use cbor_tokens::{push_escaped, push_hex};
 use std::alloc::{AllocError, Global};
 
@@ -61,7 +62,7 @@ fn wants_bytes(tag: Option<u64>) -> bool
 }
 
 /// What the bytes of a byte string there are written as.
-pub(crate) fn content_at(place: &JsonPlace, bytes: &[u8]) -> Content
+pub(crate) fn content_at(place: &JsonPlace<'_>, bytes: &[u8]) -> Content
     ensures { result ≡ content_there place.now bytes.now }
 {
     let may_be_item = place.style.embedded && !wants_bytes(place.tag) && is_value(place.role);
@@ -99,7 +100,7 @@ fn is_negative_tag(tag: Option<u64>) -> bool
 }
 
 /// Writes bytes as the digits that are asked for there.
-fn push_digits(out: &mut String, bytes: &[u8], place: &JsonPlace) -> Result<(), AllocError>
+fn push_digits(out: &mut String, bytes: &[u8], place: &JsonPlace<'_>) -> Result<(), AllocError>
     ensures { AppendsText result out.old out.new (digits_in place.now.encoding bytes.now) }
 {
     match place.encoding {
@@ -118,7 +119,11 @@ fn push_upper_hex(out: &mut String, bytes: &[u8], alloc: Global) -> Result<(), A
 }
 
 /// Writes the bytes of a value as digits.
-fn push_value_digits(out: &mut String, bytes: &[u8], place: &JsonPlace) -> Result<(), AllocError>
+fn push_value_digits(
+    out: &mut String,
+    bytes: &[u8],
+    place: &JsonPlace<'_>,
+) -> Result<(), AllocError>
     ensures { AppendsText result out.old out.new
         (value_digits place.now.tag place.now.encoding bytes.now) }
 {
@@ -133,7 +138,7 @@ fn push_value_digits(out: &mut String, bytes: &[u8], place: &JsonPlace) -> Resul
 }
 
 /// Writes the bytes of a value as a JSON string of digits.
-fn push_bytes(out: &mut String, bytes: &[u8], place: &JsonPlace) -> Result<(), AllocError>
+fn push_bytes(out: &mut String, bytes: &[u8], place: &JsonPlace<'_>) -> Result<(), AllocError>
     ensures { AppendsText result out.old out.new
         (in_quotes (value_digits place.now.tag place.now.encoding bytes.now)) }
 {
@@ -181,14 +186,14 @@ fn push_edn_text(out: &mut String, text: &str, alloc: Global) -> Result<(), Allo
 }
 
 /// Whether a byte string there is a big number that is written by its digits.
-fn is_big(place: &JsonPlace, bytes: &[u8]) -> bool
+fn is_big(place: &JsonPlace<'_>, bytes: &[u8]) -> bool
     ensures { result ≡ is_big_number place.now Bytes bytes.now }
 {
     is_value(place.role) && is_big_tag(place.tag) && bytes.len() <= 1024
 }
 
 /// Writes a big number by its digits.
-fn push_big(out: &mut String, bytes: &[u8], place: &JsonPlace) -> Result<(), AllocError>
+fn push_big(out: &mut String, bytes: &[u8], place: &JsonPlace<'_>) -> Result<(), AllocError>
     ensures { Writes result out.old out.new (BigText (is_negative_tag place.now.tag) bytes.now) }
 {
     let negative = is_negative_tag(place.tag);
@@ -204,14 +209,23 @@ pub(super) fn push_string(
     out: &mut String,
     content: StringContent<'_>,
     width: IntegerWidth,
-    place: &JsonPlace,
+    place: &JsonPlace<'_>,
 ) -> Result<(), AllocError>
     ensures { Writes result out.old out.new (StringAt place.now
         (kind_of content.entry) (borrowed_chunk width content.entry)) }
 {
+    let start = out.len();
     match content {
-        StringContent::Bytes(bytes) if is_big(place, bytes) => push_big(out, bytes, place),
-        _ => push_plain_string(out, content, width, place),
+        StringContent::Bytes(bytes) if is_big(place, bytes) => {
+            let result = push_big(out, bytes, place);
+            place.mark(Kind::Number, start, out);
+            result
+        }
+        _ => {
+            let result = push_plain_string(out, content, width, place);
+            place.mark(Kind::Text, start, out);
+            result
+        }
     }
 }
 
@@ -220,7 +234,7 @@ fn push_plain_string(
     out: &mut String,
     content: StringContent<'_>,
     width: IntegerWidth,
-    place: &JsonPlace,
+    place: &JsonPlace<'_>,
 ) -> Result<(), AllocError>
     ensures { AppendsText result out.old out.new (string_at place.now place.now.role
         (kind_of content.entry) (borrowed_chunk width content.entry)) }
@@ -243,7 +257,7 @@ pub(super) fn push_part(
     out: &mut String,
     content: StringContent<'_>,
     width: IntegerWidth,
-    place: &JsonPlace,
+    place: &JsonPlace<'_>,
 ) -> Result<(), AllocError>
     ensures { AppendsText result out.old out.new (part_at place.now place.now.role
         (kind_of content.entry) (borrowed_chunk width content.entry)) }

@@ -10,6 +10,7 @@ use cbor_edn_writer::{NotedStyle, PartPlace, push_note_before, push_part_to_edn}
 use cbor_grammar::argument::Argument;
 use cbor_grammar::layout::ContainerStyle;
 use cbor_grammar::{Error, IntegerWidth};
+use cbor_marks::Kind;
 use cbor_notation_writer::members::{push_closing, push_end, push_start};
 use cbor_notation_writer::scalars::push_number;
 use cbor_tokens::push_hex;
@@ -45,8 +46,26 @@ impl PartialEdn<'_> {
         self.push_opening(out, part.open, style)?;
         self.push_parts(out, spot, part, style)?;
         let said = self.push_item(out, spot.of_part(part), indent_in(part.open, indent))?;
+        let start = out.len();
         push_closer(out, part.open, style)?;
+        self.mark(Kind::Closing, start, out);
         Ok(said)
+    }
+
+    /// Marks the token that was written from this place of the text on, if tokens are marked.
+    fn mark(&self, kind: Kind, start: usize, out: &String) {
+        if let Some(marks) = self.noted.marks {
+            marks.mark_from(kind, out, start);
+        }
+    }
+
+    /// Marks the part that was written last as a key, if it is one: that before this one.
+    fn mark_key(&self, container: Open, index: usize) {
+        if let Some(marks) = self.noted.marks
+            && is_value(container, index)
+        {
+            marks.mark_key();
+        }
     }
 
     /// How a container is laid out.
@@ -67,14 +86,19 @@ impl PartialEdn<'_> {
         container: Open,
         style: ContainerStyle,
     ) -> Result<(), AllocError> {
+        let start = out.len();
         match container {
             Open::Array { count, .. } => {
                 out.push('[')?;
-                push_count(out, count, style)
+                push_count(out, count, style)?;
+                self.mark(Kind::Opening, start, out);
+                Ok(())
             }
             Open::Key { count, .. } | Open::Value { count, .. } => {
                 out.push('{')?;
-                push_count(out, count, style)
+                push_count(out, count, style)?;
+                self.mark(Kind::Opening, start, out);
+                Ok(())
             }
             Open::Tag { number, width } => {
                 let shown = if self.noted.style.widths {
@@ -83,6 +107,7 @@ impl PartialEdn<'_> {
                     longer(number, width)
                 };
                 push_number(out, number, shown)?;
+                self.mark(Kind::Tag, start, out);
                 out.push('(')
             }
         }
@@ -105,6 +130,7 @@ impl PartialEdn<'_> {
         };
         let count = parts_before(part.open);
         for index in 0..count {
+            self.mark_key(part.open, index);
             push_before(out, part.open, index, style)?;
             let place = PartPlace {
                 noted: self.noted,
@@ -114,6 +140,7 @@ impl PartialEdn<'_> {
             rest = push_part_to_edn(out, rest, place)?;
             push_after(out, part.open, index, style)?;
         }
+        self.mark_key(part.open, count);
         push_before(out, part.open, count, style)?;
         Ok(())
     }
@@ -133,10 +160,14 @@ impl PartialEdn<'_> {
             start: begins,
             end: out.len(),
         };
+        self.mark(Kind::Fault, begins, out);
         out.push_str(" h'")?;
         push_hex(out, shown)?;
         out.push('\'')?;
+        self.mark(Kind::Bytes, said.end, out);
+        let end = out.len();
         push_more(out, more)?;
+        self.mark(Kind::Note, end, out);
         Ok(said)
     }
 }
@@ -211,6 +242,14 @@ fn mark_of(count: Argument) -> &'static str {
     }
 }
 
+/// Whether the part at an index is the value of a key.
+fn is_value(container: Open, index: usize) -> bool {
+    match container {
+        Open::Key { .. } | Open::Value { .. } => index % 2 == 1,
+        Open::Array { .. } | Open::Tag { .. } => false,
+    }
+}
+
 /// Appends what is before the part at an index.
 fn push_before(
     out: &mut String,
@@ -222,7 +261,7 @@ fn push_before(
 {
     match container {
         Open::Tag { .. } => Ok(()),
-        Open::Key { .. } | Open::Value { .. } if index % 2 == 1 => out.push_str(": "),
+        _ if is_value(container, index) => out.push_str(": "),
         _ => push_start(out, style, index == 0),
     }
 }

@@ -69,9 +69,10 @@ impl Conversion<'_> {
     /// Adds some items, or the parts of them that the path leads to, to the page, which shows at
     /// most this many bytes. Tells what follows them.
     pub(super) fn page_items(&mut self, most: usize, one: bool) -> End {
-        let Ok(show) = show_of(self.rt.alloc(), self.job, self.tables) else {
+        let Ok(mut show) = show_of(self.rt.alloc(), self.job, self.tables) else {
             return End::Memory;
         };
+        show.marks = Some(self.screen.marks);
         for _ in 0..u64::MAX {
             let end = self.page_item(&show, most);
             if end != End::Full || one || self.job.item.is_some() || self.page.is_over {
@@ -140,7 +141,8 @@ impl Conversion<'_> {
             self.say_over(most);
             return Ok(Written::Whole);
         }
-        let show = show_of(self.rt.alloc(), self.job, self.tables)?;
+        let mut show = show_of(self.rt.alloc(), self.job, self.tables)?;
+        show.marks = Some(self.screen.marks);
         let paths = PathStart {
             number: self.page.number,
             path: "",
@@ -207,6 +209,7 @@ fn push_parts(
         names: show.names,
         steps: Vec::new(alloc),
         one: true,
+        marks: show.marks,
     };
     for part in &found {
         let span = part.span;

@@ -7,14 +7,12 @@ use crate::dumps::Dumps;
 use crate::messages::say_out_of_memory;
 use crate::naming::encoded_in;
 use crate::output::{Written, write};
-use crate::screen::language_of;
 use crate::shown::show_of;
 use crate::status::Status;
 use cbor_bytes::{Extent, extent};
 use cbor_grammar::Error;
 use cbor_inspect::{End, Form};
-use cbor_places::{Around, Entered, Leaves, PartialText, Piece, item_with, lines_at};
-use cbor_screen::Language;
+use cbor_places::{Around, Entered, Leaves, Piece, item_with, lines_at};
 use cborcat_arguments::View;
 
 impl Conversion<'_> {
@@ -28,18 +26,18 @@ impl Conversion<'_> {
             View::Items => self.write_items(),
             View::Index(_) => Ok(write(self.rt, self.target, &self.out)),
             View::Html(_) => Ok(Written::Whole),
-            View::Json => Ok(self.screen.write(self.target, &self.out, Language::Edn)?),
+            View::Json => Ok(self.screen.write_edn(self.target, &self.out)?),
             View::Raw => Ok(write(self.rt, self.target, &self.out)),
         }
     }
 
     /// Writes what was made of items.
     fn write_items(&mut self) -> Result<Written, Error> {
-        let style = self.job.show.style;
-        let Some(language) = language_of(style.form) else {
-            return Ok(write(self.rt, self.target, &self.out));
-        };
-        Ok(self.screen.write(self.target, &self.out, language)?)
+        match self.job.show.style.form {
+            Form::Pretty | Form::Diag => Ok(self.screen.write_edn(self.target, &self.out)?),
+            Form::Hex => Ok(self.screen.write_dump(self.target, &self.out)?),
+            Form::Digits | Form::Bytes => Ok(write(self.rt, self.target, &self.out)),
+        }
     }
 
     /// Writes a line for each item of these that holds no other.
@@ -170,33 +168,24 @@ impl Conversion<'_> {
             End::Cut => String::from_str(alloc, "truncated")?,
             _ => return Ok(Written::Whole),
         };
-        let Some(shown) = self.partial_text(&said)? else {
-            return Ok(Written::Whole);
-        };
-        let language = language_of(self.job.show.style.form).unwrap_or(Language::Edn);
-        Ok(self.screen.write_partial(self.target, &shown, language)?)
-    }
-
-    /// What is shown of the item at the front of the bytes that are left, which is not whole;
-    /// `None` if it is nothing.
-    fn partial_text(&self, said: &str) -> Result<Option<PartialText>, Error> {
-        let style = self.job.show.style;
         let bytes = self.stream.rest();
         if bytes.is_empty() {
-            return Ok(None);
+            return Ok(Written::Whole);
         }
-        let text = match style.form {
+        match self.job.show.style.form {
             Form::Pretty | Form::Diag => {
-                let show = show_of(self.rt.alloc(), self.job, self.tables)?;
-                show.partial(self.rt.alloc(), bytes, said)?
+                let mut show = show_of(alloc, self.job, self.tables)?;
+                show.marks = self.screen.edn_marks();
+                let partial = show.partial(alloc, bytes, &said)?;
+                Ok(self.screen.write_edn(self.target, partial.text.as_bytes())?)
             }
             Form::Hex => {
                 let dumps = Dumps::new(self.rt, self.job, self.origin, self.tables);
-                dumps.partial(bytes, said)?
+                let partial = dumps.partial(bytes, &said)?;
+                Ok(self.screen.write_partial_dump(self.target, &partial)?)
             }
-            Form::Digits | Form::Bytes => return Ok(None),
-        };
-        Ok(Some(text))
+            Form::Digits | Form::Bytes => Ok(Written::Whole),
+        }
     }
 
     /// Writes what is said of a byte of an item that is not whole.

@@ -1,4 +1,5 @@
--- Skipping parts goes on after each of them, and stops where a part does. A part is skipped once what its head opens is.
+-- Skipping parts goes on after each of them, and stops where a part does. A part is skipped once all that its head
+-- opens is.
 use Rattle.std.proofs.Common.{◌≡◌, ℕ, ◌+◌, ◌-◌, List, length, Some, refl, sym, ap, subst, arith}
 use Rattle.std.specs.Prelude.{Option}
 use Rattle.std.proofs.lemmas.List.{length-append}

@@ -43,77 +43,57 @@ push_front-returns-then-level-gt-DEEPEST-clause-refused g t c =
     c.no_level_left.ensures.gives
     (too_deep level c.args.bytes.now (omega (arith, c.level.ensures, c.if-level-gt-DEEPEST.true)))
 
-pub push_front-returns-in_err-head-clause-refused : goal.push_front-returns-in_err-head-clause-refused
-push_front-returns-in_err-head-clause-refused g t c =
-    let e = c.in_err-head.field-0.0 in
+pub push_front-returns-in_err-front-clause-refused : goal.push_front-returns-in_err-front-clause-refused
+push_front-returns-in_err-front-clause-refused g t c =
+    let e = c.in_err-front.field-0.0 in
     passed c.from_residual.result e _ c.from_residual.ensures.1
     (head_fails (g.D.Dialect.leaves.level c.args.place.now) c.args.bytes.now e
     (omega (arith, c.level.ensures, c.if-level-gt-DEEPEST.false))
-    (fails_is e _ (read_head c.args.bytes.now) refl c.in_err-head.ensures.gives))
+    (fails_is e _ (read_head c.args.bytes.now) refl c.in_err-front.ensures.gives))
 
-pub push_front-returns-in-String : goal.push_front-returns-in-String
-push_front-returns-in-String g t c =
+pub push_front-returns-then-moves : goal.push_front-returns-then-moves
+push_front-returns-then-moves g t c = record {
+  printed = c.push_moved.ensures.printed;
+  refused = c.push_moved.ensures.refused;
+  begun = c.push_moved.ensures.begun;
+}
+
+pub push_front-returns : goal.push_front-returns
+push_front-returns g t c =
     let so = front_so g.D.Dialect.leaves c.args.place.now c.args.bytes.now c.level.ensures
-    c.if-level-gt-DEEPEST.false c.place_of-here.ensures c.in_ok-moved.ensures.place c.in_ok-moved.ensures.level
-    (rw c.in-String.is at c.in_ok-head.ensures.gives) c.push_string_front.result (λ rest. rest.now) _ _
-    c.push_string_front.ensures.printed c.push_string_front.ensures.refused in
-    record { printed = so.0; refused = so.1; begun = c.push_string_front.ensures.begun }
+    c.if-level-gt-DEEPEST.false refl (c.moves.ensures.stays c.if-moves.false) refl c.in_ok-front.ensures.gives
+    c.push_here.result (λ rest. rest.now) _ _ c.push_here.ensures.printed c.push_here.ensures.refused in
+    record { printed = so.0; refused = so.1; begun = c.push_here.ensures.begun }
 
-pub push_front-returns-in-Array : goal.push_front-returns-in-Array
-push_front-returns-in-Array g t c =
-    let so = front_so g.D.Dialect.leaves c.args.place.now c.args.bytes.now c.level.ensures
-    c.if-level-gt-DEEPEST.false c.place_of-here.ensures c.in_ok-moved.ensures.place c.in_ok-moved.ensures.level
-    (rw c.in-Array.is at c.in_ok-head.ensures.gives) c.push_array_front.result (λ rest. rest.now) _ _
-    c.push_array_front.ensures.printed c.push_array_front.ensures.refused in
-    record { printed = so.0; refused = so.1; begun = c.push_array_front.ensures.begun }
+pub push_moved-returns : goal.push_moved-returns
+push_moved-returns g t c =
+    let so = front_so g.D.Dialect.leaves c.args.place.now c.args.bytes.now refl c.requires.level refl
+    c.in_ok-here.ensures.place c.in_ok-here.ensures.level c.requires.head c.push_here.result (λ rest. rest.now) _ _
+    c.push_here.ensures.printed c.push_here.ensures.refused in
+    record { printed = so.0; refused = so.1; begun = c.push_here.ensures.begun }
 
-pub push_front-returns-in-Map : goal.push_front-returns-in-Map
-push_front-returns-in-Map g t c =
-    let so = front_so g.D.Dialect.leaves c.args.place.now c.args.bytes.now c.level.ensures
-    c.if-level-gt-DEEPEST.false c.place_of-here.ensures c.in_ok-moved.ensures.place c.in_ok-moved.ensures.level
-    (rw c.in-Map.is at c.in_ok-head.ensures.gives) c.push_map_front.result (λ rest. rest.now) _ _
-    c.push_map_front.ensures.printed c.push_map_front.ensures.refused in
-    record { printed = so.0; refused = so.1; begun = c.push_map_front.ensures.begun }
+pub push_here-leaf-requires-in-Float : goal.push_here-leaf-requires-in-Float
+push_here-leaf-requires-in-Float g t c =
+    float_fits c.args.bytes.now c.args.front.1.now c.in-Float.bits c.in-Float.width
+    (λ i. omega (arith, c.type_inv.bytes i)) (rw c.in-Float.is at c.requires.head)
 
-pub push_front-returns-in-Tag : goal.push_front-returns-in-Tag
-push_front-returns-in-Tag g t c =
-    let so = front_so g.D.Dialect.leaves c.args.place.now c.args.bytes.now c.level.ensures
-    c.if-level-gt-DEEPEST.false c.place_of-here.ensures c.in_ok-moved.ensures.place c.in_ok-moved.ensures.level
-    (rw c.in-Tag.is at c.in_ok-head.ensures.gives) c.push_tag_front.result (λ rest. rest.now) _ _
-    c.push_tag_front.ensures.printed c.push_tag_front.ensures.refused in
-    record { printed = so.0; refused = so.1; begun = c.push_tag_front.ensures.begun }
+pub push_here-returns-in_ok-leaf-in-Integer-clause-printed
+    : goal.push_here-returns-in_ok-leaf-in-Integer-clause-printed
+push_here-returns-in_ok-leaf-in-Integer-clause-printed g t c =
+    let w = c.in_ok-leaf-in-Integer.ensures in rw c.in-Integer.is (_, refl, w.0, w.1, w.2)
 
-pub push_front-leaf-requires-in-Float : goal.push_front-leaf-requires-in-Float
-push_front-leaf-requires-in-Float g t c =
-    float_fits c.args.bytes.now c.in_ok-head.rest.now c.in-Float.bits c.in-Float.width
-    (λ i. omega (arith, c.type_inv.bytes i)) (rw c.in-Float.is at c.in_ok-head.ensures.gives)
+pub push_here-returns-in_ok-leaf-in-Negative-clause-printed
+    : goal.push_here-returns-in_ok-leaf-in-Negative-clause-printed
+push_here-returns-in_ok-leaf-in-Negative-clause-printed g t c =
+    let w = c.in_ok-leaf-in-Negative.ensures in rw c.in-Negative.is (_, refl, w.0, w.1, w.2)
 
-pub push_front-returns-in_ok-leaf-in-Integer-clause-printed
-    : goal.push_front-returns-in_ok-leaf-in-Integer-clause-printed
-push_front-returns-in_ok-leaf-in-Integer-clause-printed g t c =
-    leaf_written g.D.Dialect.leaves c.args.place.now c.args.bytes.now c.level.ensures c.if-level-gt-DEEPEST.false
-    c.place_of-here.ensures c.in_ok-moved.ensures.place c.in_ok-moved.ensures.level
-    (rw c.in-Integer.is at c.in_ok-head.ensures.gives) _ _ _ refl c.in_ok-leaf-in-Integer.ensures
+pub push_here-returns-in_ok-leaf-in-Float-clause-printed : goal.push_here-returns-in_ok-leaf-in-Float-clause-printed
+push_here-returns-in_ok-leaf-in-Float-clause-printed g t c =
+    let w = c.in_ok-leaf-in-Float.ensures in rw c.in-Float.is (_, refl, w.0, w.1, w.2)
 
-pub push_front-returns-in_ok-leaf-in-Negative-clause-printed
-    : goal.push_front-returns-in_ok-leaf-in-Negative-clause-printed
-push_front-returns-in_ok-leaf-in-Negative-clause-printed g t c =
-    leaf_written g.D.Dialect.leaves c.args.place.now c.args.bytes.now c.level.ensures c.if-level-gt-DEEPEST.false
-    c.place_of-here.ensures c.in_ok-moved.ensures.place c.in_ok-moved.ensures.level
-    (rw c.in-Negative.is at c.in_ok-head.ensures.gives) _ _ _ refl c.in_ok-leaf-in-Negative.ensures
-
-pub push_front-returns-in_ok-leaf-in-Float-clause-printed : goal.push_front-returns-in_ok-leaf-in-Float-clause-printed
-push_front-returns-in_ok-leaf-in-Float-clause-printed g t c =
-    leaf_written g.D.Dialect.leaves c.args.place.now c.args.bytes.now c.level.ensures c.if-level-gt-DEEPEST.false
-    c.place_of-here.ensures c.in_ok-moved.ensures.place c.in_ok-moved.ensures.level
-    (rw c.in-Float.is at c.in_ok-head.ensures.gives) _ _ _ refl c.in_ok-leaf-in-Float.ensures
-
-pub push_front-returns-in_ok-leaf-in-Simple-clause-printed
-    : goal.push_front-returns-in_ok-leaf-in-Simple-clause-printed
-push_front-returns-in_ok-leaf-in-Simple-clause-printed g t c =
-    leaf_written g.D.Dialect.leaves c.args.place.now c.args.bytes.now c.level.ensures c.if-level-gt-DEEPEST.false
-    c.place_of-here.ensures c.in_ok-moved.ensures.place c.in_ok-moved.ensures.level
-    (rw c.in-Simple.is at c.in_ok-head.ensures.gives) _ _ _ refl c.in_ok-leaf-in-Simple.ensures
+pub push_here-returns-in_ok-leaf-in-Simple-clause-printed : goal.push_here-returns-in_ok-leaf-in-Simple-clause-printed
+push_here-returns-in_ok-leaf-in-Simple-clause-printed g t c =
+    let w = c.in_ok-leaf-in-Simple.ensures in rw c.in-Simple.is (_, refl, w.0, w.1, w.2)
 
 -- ---- an array
 

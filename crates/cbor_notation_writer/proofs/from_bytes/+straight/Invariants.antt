@@ -16,31 +16,37 @@ use Rattle.cbor_notation_writer.proofs.from_bytes.+straight.Given as goal
 
 -- Each level is deeper than the one before.
 abbrev pub decreases-push_front : goal.decreases-push_front
-decreases-push_front g l = (130 - g.D.Dialect.leaves.level l.place.now) * 6
+decreases-push_front g l = (130 - g.D.Dialect.leaves.level l.place.now) * 7
+
+abbrev pub decreases-push_moved : goal.decreases-push_moved
+decreases-push_moved g l = (129 - g.D.Dialect.leaves.level l.place.now) * 7 + 6
+
+abbrev pub decreases-push_here : goal.decreases-push_here
+decreases-push_here g l = (129 - g.D.Dialect.leaves.level l.place.now) * 7 + 5
 
 abbrev pub decreases-push_array_front : goal.decreases-push_array_front
-decreases-push_array_front g l = (129 - g.D.Dialect.leaves.level l.place.now) * 6 + 1
+decreases-push_array_front g l = (129 - g.D.Dialect.leaves.level l.place.now) * 7 + 1
 
 abbrev pub decreases-push_map_front : goal.decreases-push_map_front
-decreases-push_map_front g l = (129 - g.D.Dialect.leaves.level l.place.now) * 6 + 1
+decreases-push_map_front g l = (129 - g.D.Dialect.leaves.level l.place.now) * 7 + 1
 
 abbrev pub decreases-push_tag_front : goal.decreases-push_tag_front
-decreases-push_tag_front g l = (129 - g.D.Dialect.leaves.level l.place.now) * 6 + 1
+decreases-push_tag_front g l = (129 - g.D.Dialect.leaves.level l.place.now) * 7 + 1
 
 abbrev pub decreases-push_string_front : goal.decreases-push_string_front
-decreases-push_string_front g l = (129 - g.D.Dialect.leaves.level l.place.now) * 6 + 4
+decreases-push_string_front g l = (129 - g.D.Dialect.leaves.level l.place.now) * 7 + 4
 
 abbrev pub decreases-push_definite : goal.decreases-push_definite
-decreases-push_definite g l = (129 - g.D.Dialect.leaves.level l.place.now) * 6 + 3
+decreases-push_definite g l = (129 - g.D.Dialect.leaves.level l.place.now) * 7 + 3
 
 abbrev pub decreases-push_content : goal.decreases-push_content
-decreases-push_content g l = (129 - g.D.Dialect.leaves.level l.place.now) * 6 + 2
+decreases-push_content g l = (129 - g.D.Dialect.leaves.level l.place.now) * 7 + 2
 
 abbrev pub decreases-push_embedded : goal.decreases-push_embedded
-decreases-push_embedded g l = (129 - g.D.Dialect.leaves.level l.place.now) * 6 + 1
+decreases-push_embedded g l = (129 - g.D.Dialect.leaves.level l.place.now) * 7 + 1
 
 abbrev pub decreases-push_sequence : goal.decreases-push_sequence
-decreases-push_sequence g l = (129 - g.D.Dialect.leaves.level l.place.now) * 6 + 1
+decreases-push_sequence g l = (129 - g.D.Dialect.leaves.level l.place.now) * 7 + 1
 
 abbrev pub decreases-push_array_front-items : goal.decreases-push_array_front-items
 decreases-push_array_front-items g l = length l.rest

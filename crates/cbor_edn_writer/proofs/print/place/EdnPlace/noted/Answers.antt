@@ -5,7 +5,7 @@ use Rattle.cbor_edn_writer.proofs.print.place.EdnPlace.noted.Goals as goal
 
 pub returns : goal.returns
 returns c =
-    let line = c.unwrap_or-line.result in
+    let line = c.in_ok-line.line in
     let found = c.with_note-place.ensures in
     let moved = ap (λ (x : EdnPlace). record x { line = line }) found.3 in
     (line, inr (c.saturating_add-here.result, (found.0, found.1, found.2, moved)))
