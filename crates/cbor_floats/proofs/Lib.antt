@@ -4,5 +4,6 @@ pub mod Halves
 pub mod Readings
 pub mod Rounding
 pub mod Shorter
+pub mod Singles
 pub mod Usual
 pub mod Values

@@ -59,7 +59,7 @@ fields_fit s exponent fraction =
       | inr a ↦ rw a (round-fits binary64 s (half_units exponent fraction) (2 ^ 24))
     ]
 
-half_fits : (n : ℕ) → T (fits binary64 (half_value n))
+pub half_fits : (n : ℕ) → T (fits binary64 (half_value n))
 unfolding half_value
 half_fits n = fields_fit (nat_le 32768 n) (n % 32768 / 1024) (n % 1024)
 

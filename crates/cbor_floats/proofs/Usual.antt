@@ -1,13 +1,15 @@
 -- For `is_usual` and `is_shortest` in `float.rt`: bits that are not those of the usual NaN encode their number
--- (`IsEncodingOf`) if and only if it is not NaN. A single or a double that encodes its number is the shortest encoding
--- (`IsShortest`) if and only if no half, and for a double no single, encodes the number.
+-- (`IsEncodingOf`) if and only if it is not NaN. A single that encodes its number is the shortest encoding
+-- (`IsShortest`) if and only if no half encodes the number, and a double if and only if no single does.
 use Rattle.std.proofs.Common.{◌≡◌, ◌^◌, ◌<◌, ℕ, Bool, true, false, not, Option, Some, None, MatchOption, is_none}
 use Rattle.std.proofs.Common.{is_some, IsTrue, refl, sym, ap, ◌∙◌, subst, arith, lit<, true≢false}
-use lib.Ieee.{Float, nan, is_nan}
+use lib.Ieee.{Float, nan, is_nan, binary32, to_bits}
 use Rattle.cbor_floats.specs.Value.{value_of, width_of, size_of, bits_of, usual_nan, IsEncodingOf, IsShortest}
 use Rattle.cbor_floats.specs.declared.float.EncodedFloat.{EncodedFloat}
 use Rattle.cbor_floats.specs.declared.float.EncodedFloat.TheVariants.{Half, Single, Double}
+use Rattle.cbor_floats.specs.declared.float.Width.TheVariants.{SixtyFour}
 use Rattle.cbor_floats.proofs.Halves.{nan_is_nan}
+use Rattle.cbor_floats.proofs.Singles.{half_in_single}
 
 nan_says : is_nan nan ≡ true
 unfolding is_nan
@@ -64,41 +66,36 @@ shortest_single self b x o r e v enc h q =
         none h (Double bits) l k = omega arith
     at (Some bits) r enc h q = (λ t. absurd (true≢false (sym t ∙ q)), λ k. absurd (k.shortest (Half bits) (lit< tt) h))
 
-pub shortest_double : (self : EncodedFloat) (b : ℕ) (x : Float) (o p : Option ℕ) (r : Bool) → self ≡ Double b
+-- no shorter width has the number if no single has it, since each half is a single
+pub unless_single : (x : Float) → ((bits : ℕ) → ¬ (IsEncodingOf (Single bits) x)) → (other : EncodedFloat)
+    → size_of (width_of other) < 64 → ¬ (IsEncodingOf other x)
+unless_single x none (Half bits) l h = none (to_bits binary32 x) (half_in_single bits x h)
+unless_single x none (Single bits) l h = none bits h
+unless_single x none (Double bits) l h = omega arith
+
+pub shortest_double : (self : EncodedFloat) (b : ℕ) (x : Float) (o : Option ℕ) (r : Bool) → self ≡ Double b
     → x ≡ value_of self → IsEncodingOf self (value_of self)
-    → Found Half x o → is_none o ≡ true → Found Single x p → r ≡ is_none p → Says r (IsShortest self (value_of self))
-shortest_double self b x o p r e v enc h n k q =
-    let y = v ∙ ap value_of e in
+    → Found Single x o → r ≡ is_none o → Says r (IsShortest self (value_of self))
+shortest_double self b x o r e v enc h q =
     subst (λ (z : EncodedFloat). Says r (IsShortest z (value_of z))) (sym e)
-    (at o p r (subst (λ (z : EncodedFloat). IsEncodingOf z (value_of z)) e enc)
-    (subst (λ (z : Float). Found Half z o) y h) n (subst (λ (z : Float). Found Single z p) y k) q)
+    (at o r (subst (λ (z : EncodedFloat). IsEncodingOf z (value_of z)) e enc)
+    (subst (λ (z : Float). Found Single z o) (v ∙ ap value_of e) h) q)
   where
-    at : (o p : Option ℕ) (r : Bool) → IsEncodingOf (Double b) (value_of (Double b))
-        → Found Half (value_of (Double b)) o → is_none o ≡ true → Found Single (value_of (Double b)) p → r ≡ is_none p
-        → Says r (IsShortest (Double b) (value_of (Double b)))
-    at (Some bits) p r enc h n k q = absurd (true≢false (sym n))
-    at None None r enc h n k q = (λ _. record { encodes = enc; shortest = none h k }, λ _. q)
-      where
-        none : ((bits : ℕ) → ¬ (IsEncodingOf (Half bits) (value_of (Double b))))
-            → ((bits : ℕ) → ¬ (IsEncodingOf (Single bits) (value_of (Double b))))
-            → (other : EncodedFloat) → size_of (width_of other) < 64 → ¬ (IsEncodingOf other (value_of (Double b)))
-        none h k (Half bits) l i = h bits i
-        none h k (Single bits) l i = k bits i
-        none h k (Double bits) l i = omega arith
-    at None (Some bits) r enc h n k q = (
+    at : (o : Option ℕ) (r : Bool) → IsEncodingOf (Double b) (value_of (Double b))
+        → Found Single (value_of (Double b)) o → r ≡ is_none o → Says r (IsShortest (Double b) (value_of (Double b)))
+    at None r enc h q = (
+      λ _. record { encodes = enc; shortest = unless_single (value_of (Double b)) h },
+      λ _. q,
+    )
+    at (Some bits) r enc h q = (
       λ t. absurd (true≢false (sym t ∙ q)),
-      λ i. absurd (i.shortest (Single bits) (lit< tt) k),
+      λ i. absurd (i.shortest (Single bits) (lit< tt) h),
     )
 
--- a half has the number of a double
-pub not_shortest : (self : EncodedFloat) (b : ℕ) (x : Float) (o : Option ℕ) (r : Bool) → self ≡ Double b
-    → x ≡ value_of self → Found Half x o → is_none o ≡ false → r ≡ false
-    → Says r (IsShortest self (value_of self))
-not_shortest self b x o r e v h n q =
-    subst (λ (z : EncodedFloat). Says r (IsShortest z (value_of z))) (sym e)
-    (at o (subst (λ (z : Float). Found Half z o) (v ∙ ap value_of e) h) n)
-  where
-    at : (o : Option ℕ) → Found Half (value_of (Double b)) o → is_none o ≡ false
-        → Says r (IsShortest (Double b) (value_of (Double b)))
-    at None h n = absurd (true≢false n)
-    at (Some bits) h n = (λ t. absurd (true≢false (sym t ∙ q)), λ i. absurd (i.shortest (Half bits) (lit< tt) h))
+-- a number that no single has, as a double
+pub double_shortest : (x : Float) (f : EncodedFloat) → width_of f ≡ SixtyFour → IsEncodingOf f x
+    → ((bits : ℕ) → ¬ (IsEncodingOf (Single bits) x)) → IsShortest f x
+double_shortest x f width enc none = record {
+  encodes = enc;
+  shortest = λ other l. unless_single x none other (subst (λ w. size_of (width_of other) < size_of w) width l);
+}

@@ -70,14 +70,15 @@ impl EncodedFloat {
     pub fn shortest(x: f64) -> EncodedFloat
         ensures { IsShortest result x }
     {
-        if let Some(bits) = half_of(x) {
-            EncodedFloat::Half(bits)
-        } else if let Some(bits) = single_of(x) {
-            EncodedFloat::Single(bits)
-        } else {
-            EncodedFloat::double(x)
+        let Some(single) = single_of(x) else {
+            return EncodedFloat::double(x);
+        };
+        match half_of(x) {
+            Some(half) => EncodedFloat::Half(half),
+            None => EncodedFloat::Single(single),
         }
     }
+
     /// Whether the number is encoded as these bits in this width. For a NaN, only the usual bits
     /// are: 7e00, 7fc00000 and 7ff8000000000000.
     pub fn is_usual(self) -> bool
@@ -96,13 +97,11 @@ impl EncodedFloat {
     pub fn is_shortest(self) -> bool
         ensures { IsTrue result ↔ IsShortest self (value_of self) }
     {
-        let x = self.value();
-        let no_half = half_of(x).is_none();
         self.is_usual()
             && match self {
                 EncodedFloat::Half(_) => true,
-                EncodedFloat::Single(_) => no_half,
-                EncodedFloat::Double(_) => no_half && single_of(x).is_none(),
+                EncodedFloat::Single(_) => half_of(self.value()).is_none(),
+                EncodedFloat::Double(_) => single_of(self.value()).is_none(),
             }
     }
 }
