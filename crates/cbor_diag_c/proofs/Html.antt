@@ -5,7 +5,7 @@ use Rattle.std.proofs.Common.{subst, ◌∙◌, arith, append-nil, length-append
 use Rattle.std.proofs.lemmas.List.{drop_all, take_all}
 use Rattle.cbor_grammar.specs.Item.{Item}
 use Rattle.cbor_grammar.specs.Facts.{IsItem}
-use Rattle.cbor_edn_writer.specs.declared.note.Note.{Note}
+use Rattle.cbor_notes.specs.declared.note.Note.{Note}
 use Rattle.cbor_edn_writer.specs.declared.style.EdnStyle.{EdnStyle}
 use Rattle.cbor_edn_writer.specs.Written.{IsNotedText, pretty_style}
 use Rattle.cbor_paths.specs.declared.step.Step.{Step}

@@ -7,7 +7,8 @@ use cbor_bytes::{Extent, extent};
 use cbor_grammar::argument::Argument;
 use cbor_grammar::head::ItemHead;
 use cbor_grammar::strings::StringKind;
-use cbor_paths::{Found, Mark, Members, Picture, Step, bytes_from, follow, lost_at};
+use cbor_notes::Note;
+use cbor_paths::{Found, Members, Picture, Step, bytes_from, follow, lost_at};
 use cbor_trace::{Span, head_at};
 use std::alloc::{AllocError, Global};
 
@@ -30,22 +31,21 @@ pub(crate) struct Target {
     pub what: What,
 }
 
-/// The marks of the item in this span, at their places in it.
-fn marks_in<'n>(
+/// The notes on the item in this span and on items in it, at their places in the item.
+fn notes_in<'n>(
     alloc: Global,
-    marks: &'n [Mark<'n>],
+    notes: &'n [Note<'n>],
     span: Span,
-) -> Result<Vec<Mark<'n>>, AllocError> {
+) -> Result<Vec<Note<'n>>, AllocError> {
     let mut list = Vec::new(alloc);
-    let first = marks.partition_point(|mark| mark.place < span.start);
-    for mark in marks.iter().skip(first) {
-        if mark.place >= span.end {
+    let first = notes.partition_point(|note| note.start < span.start);
+    for note in notes.iter().skip(first) {
+        if note.start >= span.end {
             break;
         }
-        list.push(Mark {
-            place: mark.place.saturating_sub(span.start),
-            name: mark.name,
-            encoded: mark.encoded,
+        list.push(Note {
+            start: note.start.saturating_sub(span.start),
+            ..*note
         })?;
     }
     Ok(list)
@@ -64,11 +64,10 @@ fn found_at(
     step: (&[Step], Picture),
 ) -> Result<Vec<Found>, AllocError> {
     let (steps, picture) = step;
-    let marks = marks_in(alloc, picture.marks, from.span)?;
+    let notes = notes_in(alloc, picture.notes, from.span)?;
     let named = Picture {
-        marks: &marks,
-        tagged: picture.tagged,
-        embedded: picture.embedded,
+        notes: &notes,
+        ..picture
     };
     follow(alloc, from.span.bytes(bytes), steps, named)
 }
@@ -82,11 +81,10 @@ fn lost_in(
     step: (&[Step], Picture),
 ) -> Result<Option<Span>, AllocError> {
     let (steps, picture) = step;
-    let marks = marks_in(alloc, picture.marks, from.span)?;
+    let notes = notes_in(alloc, picture.notes, from.span)?;
     let named = Picture {
-        marks: &marks,
-        tagged: picture.tagged,
-        embedded: picture.embedded,
+        notes: &notes,
+        ..picture
     };
     let lost = lost_at(alloc, from.span.bytes(bytes), steps, named)?;
     let start = from.span.start.saturating_add(lost.start);

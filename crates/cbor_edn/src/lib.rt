@@ -18,7 +18,8 @@ pub use cbor_edn_grammar::literal::Literal;
 pub use cbor_edn_grammar::message::Message;
 pub use cbor_edn_reader::{edn_item_to_bytes, edn_to_bytes};
 pub use cbor_edn_writer::{
-    EdnStyle, Note, NotedStyle, bytes_to_edn, bytes_to_edn_pretty, push_bytes_to_edn,
+    EdnStyle, NotedStyle, bytes_to_edn, bytes_to_edn_pretty, push_bytes_to_edn,
     push_bytes_to_edn_noted, push_bytes_to_edn_noted_partial, push_bytes_to_edn_partial,
 };
+pub use cbor_notes::Note;
 pub use read::parse_edn;

@@ -6,8 +6,8 @@ use Rattle.cbor_edn_writer.specs.EdnLeaves.{LaidOut}
 
 pub same_level : (p q : EdnPlace) → LaidOut p q → q.level ≡ p.level
 same_level p q (line, inl e) = ap (λ (x : EdnPlace). x.level) e
-same_level p q (line, inr (here, at)) = ap (λ (x : EdnPlace). x.level) at.3
+same_level p q (line, inr (start, at)) = ap (λ (x : EdnPlace). x.level) at.3
 
 pub same_layout : (p q : EdnPlace) → LaidOut p q → q.layout ≡ p.layout
 same_layout p q (line, inl e) = ap (λ (x : EdnPlace). x.layout) e
-same_layout p q (line, inr (here, at)) = ap (λ (x : EdnPlace). x.layout) at.3
+same_layout p q (line, inr (start, at)) = ap (λ (x : EdnPlace). x.layout) at.3

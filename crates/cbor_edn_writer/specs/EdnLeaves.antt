@@ -1,7 +1,7 @@
 -- EDN as a dialect of notation (`edn_leaves`): how numbers and strings are written, what is written around members,
 -- which comments stand beside an item, and which byte strings are written as the items in them.
 use Rattle.std.specs.Prelude.{◌≡◌, ◌⊎◌, ◌+◌, ◌-◌, ℕ, ◌^◌, List, [], ◌∷◌, ◌++◌, length, codes, Bool, true, false}
-use Rattle.std.specs.Prelude.{Option, Some, None, ◌&&◌, ◌||◌, if◌then◌else◌, nat_lt, nat_le, ◌==◌, not}
+use Rattle.std.specs.Prelude.{Option, Some, None, ◌&&◌, ◌||◌, if◌then◌else◌, nat_lt, nat_le, min, ◌==◌, not}
 use Rattle.std.specs.Borrow.{Bor}
 use Rattle.std.specs.List.{list_any, Contains}
 use Rattle.hex.specs.Hex.{encode_lower}
@@ -30,7 +30,7 @@ use Rattle.cbor_notation_writer.specs.Dialect.{Leaves, Texts}
 use Rattle.cbor_notation_writer.specs.declared.parts.Container.{Container}
 use Rattle.cbor_notation_writer.specs.declared.parts.Container.TheVariants.{Array, Map, Chunks, Embedded}
 use Rattle.cbor_notation_writer.specs.mirror.LayoutView.{before_member, after_member}
-use Rattle.cbor_edn_writer.specs.declared.note.Note.{Note}
+use Rattle.cbor_notes.specs.declared.note.Note.{Note}
 use Rattle.cbor_edn_writer.specs.declared.print.line.Line.{Line}
 use Rattle.cbor_edn_writer.specs.declared.print.place.EdnPlace.{EdnPlace}
 use Rattle.cbor_tokens.specs.Escapes.{escaped_text}
@@ -121,21 +121,21 @@ Beside p texts t = texts t ⊎ ((core : List ℕ) × texts core × (t ≡ note_b
 abbrev pub After : EdnPlace → Texts → Texts
 After p texts t = texts t ⊎ ((core : List ℕ) × texts core × (t ≡ note_before p ++ core))
 
--- it is one of these notes, and its item has this many of the outermost bytes from its start on
+-- it is one of these notes, and its item begins at this place of the outermost bytes
 abbrev pub IsGiven : List Note → ℕ → Option (Bor Note) → Type 0
-IsGiven notes here None = Unit {0}
-IsGiven notes here (Some n) = Contains notes n.now × (n.now.at ≡ here)
+IsGiven notes start None = Unit {0}
+IsGiven notes start (Some n) = Contains notes n.now × (n.now.start ≡ start)
 
 -- the same place with the note that is given there, or without one, and how many notes are on items before it
 abbrev pub FoundAt : EdnPlace → ℕ → EdnPlace → Type 0
-FoundAt p here q = (found : Option (Bor Note)) × IsGiven p.notes.now here found
-    × (passed : ℕ) × (q ≡ record p { found = found; here = here; passed = passed })
+FoundAt p start q = (found : Option (Bor Note)) × IsGiven p.notes.now start found
+    × (passed : ℕ) × (q ≡ record p { found = found; start = start; passed = passed })
 
 -- What the place of an item becomes, which has no note yet: it may get one, and what is known of its line. That is any,
 -- so a container may be on one line or on several.
 abbrev pub LaidOut : EdnPlace → EdnPlace → Type 0
 LaidOut p q = (line : Line) × ((q ≡ record p { line = line })
-    ⊎ ((here : ℕ) × FoundAt (record p { line = line }) here q))
+    ⊎ ((start : ℕ) × FoundAt (record p { line = line }) start q))
 
 -- How many bytes the width of an argument is, after the first byte of its head.
 abbrev pub argument_bytes : IntegerWidth → ℕ
@@ -145,15 +145,19 @@ argument_bytes width.ThirtyTwo = 4
 argument_bytes width.SixtyFour = 8
 argument_bytes w = 0
 
--- how many bytes remain after a byte string with this head, where this many remain from it on
-abbrev pub after_string : Argument → ℕ → ℕ
-after_string (Number n w) here = here - (1 + argument_bytes w) - n
-after_string Indefinite here = here
+-- a place of the bytes, which is below 2 ^ 64
+abbrev pub saturated : ℕ → ℕ
+saturated n = min n (2 ^ 64 - 1)
 
--- how many bytes of the outermost ones are behind those that the items in a container are read from
-abbrev pub behind_in : Container → EdnPlace → ℕ
-behind_in (Embedded len) p = after_string len p.here
-behind_in c p = p.behind
+-- where a byte string with this head ends that begins there
+abbrev pub end_of_string : Argument → ℕ → ℕ
+end_of_string (Number n w) start = saturated (saturated (start + (1 + argument_bytes w)) + n)
+end_of_string Indefinite start = start
+
+-- where the bytes that the items in a container are read from end
+abbrev pub end_in : Container → EdnPlace → ℕ
+end_in (Embedded len) p = end_of_string len p.start
+end_in c p = p.end
 
 -- ---- floats
 
@@ -296,8 +300,8 @@ edn_leaves = record {
     style = p.style;
     tag = None;
     notes = p.notes;
-    behind = behind_in c p;
-    here = p.here;
+    end = end_in c p;
+    start = p.start;
     passed = p.passed;
     found = None;
     line = p.line;
@@ -312,8 +316,8 @@ edn_leaves = record {
     style = p.style;
     tag = Some n;
     notes = p.notes;
-    behind = p.behind;
-    here = p.here;
+    end = p.end;
+    start = p.start;
     passed = p.passed;
     found = None;
     line = p.line;

@@ -7,7 +7,7 @@ use Rattle.cbor_grammar.specs.Item.{Item}
 use Rattle.cbor_grammar.specs.Answer.{Outcome, spelled, cut, fault}
 use Rattle.cbor_grammar.specs.Written.{encoded}
 use Rattle.cbor_notation_writer.specs.Dialect.{TextsAt}
-use Rattle.cbor_edn_writer.specs.declared.note.Note.{Note}
+use Rattle.cbor_notes.specs.declared.note.Note.{Note}
 use Rattle.cbor_edn_writer.specs.declared.print.place.EdnPlace.{EdnPlace}
 use Rattle.cbor_edn_writer.specs.declared.style.EdnStyle.{EdnStyle}
 use Rattle.cbor_edn_writer.specs.Breaks.{Nothing, BreaksApart}

@@ -6,13 +6,11 @@
 #![tactic(auto)]
 
 mod laws;
-mod note;
 mod part;
 mod print;
 mod style;
 mod write;
 
-pub use note::Note;
 pub use part::{PartPlace, push_note_before, push_part_to_edn};
 pub use style::{EdnStyle, NotedStyle};
 pub use write::{

@@ -25,6 +25,8 @@ pub struct PartPlace<'a> {
     pub level: u8,
     /// The blanks before each line of the part.
     pub indent: usize,
+    /// Where the bytes that the part is read from end in the outermost bytes.
+    pub end: usize,
 }
 
 impl<'a> PartPlace<'a> {
@@ -47,14 +49,13 @@ impl<'a> PartPlace<'a> {
                 breaks: style.lines,
                 after: 1,
             },
-            ..EdnPlace::new(*out.allocator(), self.noted)
+            ..EdnPlace::new(*out.allocator(), self.noted, self.end)
         }
     }
 }
 
 /// Appends the text of the item at the front of the bytes, and returns the bytes after it. The text
-/// so far ends where the part begins, such as after its key. The bytes go on to the end of the
-/// outermost bytes, from which the notes are counted.
+/// so far ends where the part begins, such as after its key.
 ///
 /// The errors are those of [`push_bytes_to_edn`], and after one the text may have a part of the
 /// item.
@@ -73,13 +74,12 @@ pub fn push_part_to_edn<'b>(
     }
 }
 
-/// Appends the note before the item that has this many bytes from its start to the end of the
-/// outermost bytes, and a blank; nothing if it has none.
+/// Appends the note before the item that begins at `start`, and a blank; nothing if it has none.
 pub fn push_note_before(
     out: &mut String,
     noted: NotedStyle<'_>,
-    at: usize,
+    start: usize,
 ) -> Result<(), AllocError> {
-    let outermost = EdnPlace::new(*out.allocator(), noted);
-    push_before(out, &outermost.with_note(at as u64))
+    let outermost = EdnPlace::new(*out.allocator(), noted, 0);
+    push_before(out, &outermost.with_note(start as u64))
 }

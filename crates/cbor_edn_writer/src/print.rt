@@ -20,7 +20,6 @@ ghost use Rattle.cbor_grammar.specs.NotationText.{style_indent};
 ghost use Rattle.cbor_tokens.specs.Appends.{AppendsText};
 ghost use Rattle.cbor_edn_writer.specs.EdnLeaves.{edn_leaves};
 
-use crate::note::Note;
 use crate::print::leaf::{push_leaf, push_string};
 use crate::print::line::has_new_line;
 use crate::print::lists::{push_closing, push_opening, push_tag, push_tag_end, spaced};
@@ -36,6 +35,7 @@ use cbor_grammar::strings::{StringContent, StringKind};
 use cbor_notation_writer::dialect::Dialect;
 use cbor_notation_writer::members::{push_end, push_start};
 use cbor_notation_writer::parts::{Container, Front, Leaf};
+use cbor_notes::Note;
 use std::alloc::{AllocError, Global};
 
 /// EDN where no notes of a caller are looked for. They are borrowed for `'a`.

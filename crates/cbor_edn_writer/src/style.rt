@@ -2,8 +2,8 @@
 //! byte strings as the items in them. `NotedStyle`: a style with the notes of a caller, and with
 //! where the tokens of the text are marked.
 
-use crate::note::Note;
 use cbor_marks::Marks;
+use cbor_notes::Note;
 
 /// How EDN is written: what is shown, and how it is laid out. The same bytes are read back in each
 /// style.
@@ -68,7 +68,7 @@ pub struct NotedStyle<'a> {
     /// How it is written. Without [`EdnStyle::notes`] no comment is written, and none of these
     /// notes either.
     pub style: EdnStyle,
-    /// The notes in the order of their items, so their [`Note::at`] decrease. In another order some
+    /// The notes in the order of their items, so their [`Note::start`] rise. In another order some
     /// notes are left out.
     pub notes: &'a [Note<'a>],
     /// Where the tokens of the text are marked, if they are to be.

@@ -120,21 +120,24 @@ pub fn push_bytes_to_edn(
 /// Appends to `out` the text of the one item that the bytes encode, with notes on it and on items
 /// in it. The errors are those of [`bytes_to_edn`]. After an error `out` is unchanged.
 ///
-/// The same bytes are read back, whatever the notes are.
+/// The same bytes are read back, whatever the notes are. A note is a comment, and what cannot be in
+/// one is left out: a text that begins with `*`, or that has a slash, a control character or a
+/// character beyond ASCII. The text after an item is written if the item is an integer, a float, a
+/// simple value or a definite-length string.
 ///
 /// ```rust
 /// use cbor_edn::{EdnStyle, Note, NotedStyle, push_bytes_to_edn_noted};
 ///
-/// // The key and the value of a map of 3 bytes.
+/// // The key and the value of a map.
 /// let notes = [
 ///     Note {
-///         at: 2,
+///         start: 1,
 ///         before: "alg",
 ///         after: "",
 ///         encoded: false,
 ///     },
 ///     Note {
-///         at: 1,
+///         start: 2,
 ///         before: "",
 ///         after: "ES256",
 ///         encoded: false,
@@ -219,8 +222,7 @@ pub fn push_bytes_to_edn_partial(
 }
 
 /// Appends to `out` the text of the item at the front of the bytes, with notes on it and on items
-/// in it. Returns what [`push_bytes_to_edn_partial`] returns. Each [`Note::at`] counts all of the
-/// bytes, including those after the item.
+/// in it. Returns what [`push_bytes_to_edn_partial`] returns.
 pub fn push_bytes_to_edn_noted_partial(
     alloc: Global,
     bytes: &[u8],
@@ -267,7 +269,7 @@ fn push_front<'a>(
     ensures refused { IfErr result (λ e. Fails e (read_item deepest bytes.now)) }
     ensures unchanged { OnErr result (string_bytes out.new ≡ string_bytes out.old) }
 {
-    let place = EdnPlace::new(alloc, noted);
+    let place = EdnPlace::new(alloc, noted, bytes.len());
     if noted.notes.is_empty() {
         push_outermost::<Edn<'_>>(out, bytes, &place)
     } else {

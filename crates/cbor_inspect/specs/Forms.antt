@@ -6,7 +6,7 @@ use Rattle.cbor_grammar.specs.Item.{Item}
 use Rattle.cbor_dump.specs.Dump.{dump}
 use Rattle.cbor_grammar.specs.Written.{encoded}
 use Rattle.cbor_edn_writer.specs.declared.style.EdnStyle.{EdnStyle}
-use Rattle.cbor_edn_writer.specs.declared.note.Note.{Note}
+use Rattle.cbor_notes.specs.declared.note.Note.{Note}
 use Rattle.cbor_edn_writer.specs.Written.{IsNotedText}
 use Rattle.cbor_inspect.specs.declared.form.Form.{Form}
 use Rattle.cbor_inspect.specs.declared.form.Form.TheVariants as form

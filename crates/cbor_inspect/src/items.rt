@@ -24,9 +24,10 @@ use cbor_bytes::strict::is_strict;
 use cbor_bytes::{Extent, extent};
 use cbor_diag::parse_bytes;
 use cbor_dump::push_bytes_to_hex_partial;
-use cbor_edn_writer::{EdnStyle, Note, NotedStyle};
+use cbor_edn_writer::{EdnStyle, NotedStyle};
 use cbor_grammar::Error;
 use cbor_marks::Marks;
+use cbor_notes::Note;
 use cbor_paths::{End, Picture, Shown, Step};
 use cbor_tokens::push_hex;
 use std::alloc::{AllocError, Global};
@@ -99,7 +100,7 @@ impl<'a> Show<'a> {
     /// Returns which byte strings are shown as the items in them, without names.
     pub fn picture<'m>(&self) -> Picture<'m> {
         Picture {
-            marks: &[],
+            notes: &[],
             tagged: true,
             embedded: self.style.embedded,
         }

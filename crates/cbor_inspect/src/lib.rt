@@ -30,12 +30,12 @@ mod rfc8949;
 mod steps;
 mod stream;
 
-pub use cbor_paths::{End, Found, Lost, Mark, Picture, Shown, Step, follow, lost_at, skip_items};
+pub use cbor_paths::{End, Found, Lost, Picture, Shown, Step, follow, lost_at, skip_items};
 pub use form::{Form, Style};
 pub use items::{Show, show_items};
 pub use name::{NameError, name_at};
 pub use naming::Naming;
-pub use picture::{marks_of, parts_of};
+pub use picture::parts_of;
 pub use raw::{RawError, raw_content};
 pub use rfc8949::two_byte_simple;
 pub use steps::steps_of;

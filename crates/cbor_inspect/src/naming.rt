@@ -2,7 +2,6 @@
 //! item. It returns the names of an item as notes, and finds quickly whether items can have names
 //! at all.
 
-use cbor_edn_writer::Note;
 use cbor_names::{Names, Notes, Type, notes};
 use std::alloc::{AllocError, Global};
 
@@ -67,24 +66,4 @@ impl<'a> Naming<'a> {
     pub fn notes(self, alloc: Global, bytes: &[u8]) -> Result<Notes<'a>, AllocError> {
         notes(alloc, bytes, self.names, self.outer)
     }
-}
-
-/// Notes, as EDN has them.
-pub(crate) fn edn_notes<'n>(
-    alloc: Global,
-    notes: &'n Notes<'_>,
-) -> Result<Vec<Note<'n>>, AllocError> {
-    let mut list = Vec::with_capacity(alloc, notes.len())?;
-    for index in 0..notes.len() {
-        let Some(note) = notes.get(index) else {
-            break;
-        };
-        list.push(Note {
-            at: note.at,
-            before: note.before,
-            after: note.after,
-            encoded: note.encoded,
-        })?;
-    }
-    Ok(list)
 }

@@ -4,13 +4,13 @@ ghost use Rattle.std.specs.Prelude.{◌≡◌, ◌++◌, [], List, IfOk, IfErr, 
 ghost use Rattle.std.specs.String.{string_bytes};
 ghost use Rattle.cbor_grammar.specs.Item.{Item};
 ghost use Rattle.cbor_grammar.specs.Facts.{BeginsWithItem};
-ghost use Rattle.cbor_edn_writer.specs.declared.note.Note.{Note};
+ghost use Rattle.cbor_notes.specs.declared.note.Note.{Note};
 ghost use Rattle.cbor_edn_writer.specs.Written.{IsNotedText};
 ghost use Rattle.cbor_paths.specs.Ends.{StopsSo};
 ghost use Rattle.cbor_inspect.specs.Forms.{AreBeside, IsLineOf, edn_style};
 
 use crate::items::{Show, len_of};
-use crate::naming::{Naming, edn_notes};
+use crate::naming::Naming;
 use cbor_edn_writer::{NotedStyle, push_bytes_to_edn_noted_partial};
 use cbor_paths::End;
 use std::alloc::Global;
@@ -107,7 +107,7 @@ fn push_noted(
             return Ok(used);
         }
     }
-    let Ok(notes) = edn_notes(alloc, &found) else {
+    let Ok(notes) = found.list(alloc) else {
         return Err(End::Memory);
     };
     text.clear();

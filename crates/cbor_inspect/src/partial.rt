@@ -2,7 +2,6 @@
 //! then what is wrong and some of the bytes that remain.
 
 use crate::items::Show;
-use crate::naming::edn_notes;
 use cbor_grammar::Error;
 use cbor_places::{PartialText, partial_edn};
 use std::alloc::Global;
@@ -20,7 +19,7 @@ impl Show<'_> {
             _ => return partial_edn(alloc, self.noted(&[]), bytes, said),
         };
         let found = naming.notes(alloc, bytes)?;
-        let notes = edn_notes(alloc, &found)?;
+        let notes = found.list(alloc)?;
         partial_edn(alloc, self.noted(&notes), bytes, said)
     }
 }

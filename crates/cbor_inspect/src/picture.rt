@@ -1,29 +1,9 @@
 //! `parts_of` finds the parts of an item that a path leads to, also by names that are shown, and
-//! inside byte strings that are shown as items. `marks_of` turns the notes of an item into the
-//! marks that paths use.
+//! inside byte strings that are shown as items.
 
 use crate::items::Show;
-use cbor_names::Notes;
-use cbor_paths::{Found, Lost, Mark, Picture, Step, follow, lost_at};
+use cbor_paths::{Found, Lost, Picture, Step, follow, lost_at};
 use std::alloc::{AllocError, Global};
-
-/// Returns the notes of an item of that many bytes, as paths use them.
-pub fn marks_of<'n>(
-    alloc: Global,
-    notes: &'n Notes<'_>,
-    len: usize,
-) -> Result<Vec<Mark<'n>>, AllocError> {
-    let list = notes.list(alloc)?;
-    let mut marks = Vec::with_capacity(alloc, list.len())?;
-    for note in &list {
-        marks.push(Mark {
-            place: len.saturating_sub(note.at),
-            name: note.before,
-            encoded: note.encoded,
-        })?;
-    }
-    Ok(marks)
-}
 
 /// Whether a path may lead farther with the names of an item: it leads nowhere without them, or
 /// `*` leads to several items, and it may lead farther from some.
@@ -51,10 +31,10 @@ pub fn parts_of(alloc: Global, show: &Show, item: &[u8]) -> Result<Vec<Found>, A
     if !may_need_names(&show.steps, &found) || !naming.may_name(item) {
         return Ok(found);
     }
-    let notes = naming.notes(alloc, item)?;
-    let marks = marks_of(alloc, &notes, item.len())?;
+    let names = naming.notes(alloc, item)?;
+    let notes = names.list(alloc)?;
     let named = Picture {
-        marks: &marks,
+        notes: &notes,
         ..picture
     };
     follow(alloc, item, &show.steps, named)

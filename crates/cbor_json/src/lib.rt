@@ -16,6 +16,6 @@ mod write;
 
 pub use digits::decimal;
 pub use error::{Clash, JsonError, Loss, LossKind};
-pub use named::{KeyName, NamedJson, bytes_to_json_named};
+pub use named::{NamedJson, bytes_to_json_named};
 pub use style::JsonStyle;
 pub use write::{bytes_to_json, push_bytes_to_json, push_bytes_to_json_partial};

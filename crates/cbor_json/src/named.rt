@@ -24,24 +24,16 @@ use cbor_grammar::level::DEEPEST;
 use cbor_grammar::major::Major;
 use cbor_grammar::strings::StringKind;
 use cbor_marks::Marks;
+use cbor_notes::Note;
 use std::alloc::{AllocError, Global};
 use std::collections::BTreeMap;
-
-/// The name of a key.
-#[derive(Clone, Copy, PartialEq, Eq, Debug)]
-pub struct KeyName<'a> {
-    /// The first byte of the key.
-    pub place: usize,
-    /// What is written in place of the key.
-    pub name: &'a str,
-}
 
 /// How JSON with names is written.
 #[derive(Clone, Copy)]
 pub struct NamedJson<'a> {
     pub style: JsonStyle,
-    /// The names of keys.
-    pub names: &'a [KeyName<'a>],
+    /// Notes on keys. The text before a key is its name.
+    pub names: &'a [Note<'a>],
     /// Where the tokens of the text are marked, if they are to be.
     pub marks: Option<&'a Marks>,
 }
@@ -111,10 +103,12 @@ struct Pass<'a> {
 
 impl<'a> Pass<'a> {
     /// A pass over that many bytes.
-    fn new(alloc: Global, total: usize, names: &[KeyName<'a>]) -> Result<Pass<'a>, AllocError> {
+    fn new(alloc: Global, total: usize, names: &[Note<'a>]) -> Result<Pass<'a>, AllocError> {
         let mut by_place = BTreeMap::new(alloc);
         for key in names {
-            by_place.insert(key.place, key.name)?;
+            if !key.before.is_empty() {
+                by_place.insert(key.start, key.before)?;
+            }
         }
         Ok(Pass {
             total,
@@ -365,17 +359,24 @@ impl<'a> Pass<'a> {
 }
 
 /// Returns the JSON of the one item that the bytes are, as [`bytes_to_json`] does, with names as
-/// keys: an integer that is a key of a map and stands at one of the places is written as the name
-/// that is given for it. Names for other places change nothing.
+/// keys: an integer that is a key of a map is written as the text of the note before it, if it has
+/// one. Other notes change nothing.
 ///
 /// The errors are those of [`bytes_to_json`]. In a strict style JSON keeps a key that has a name.
 ///
 /// ```rust
-/// use cbor_json::{JsonStyle, KeyName, NamedJson, bytes_to_json_named};
+/// use cbor_json::{JsonStyle, NamedJson, bytes_to_json_named};
+/// use cbor_notes::Note;
 ///
+/// let key = Note {
+///     start: 1,
+///     before: "iss",
+///     after: "",
+///     encoded: false,
+/// };
 /// let named = NamedJson {
 ///     style: JsonStyle::PLAIN,
-///     names: &[KeyName { place: 1, name: "iss" }],
+///     names: &[key],
 ///     marks: None,
 /// };
 /// let text = bytes_to_json_named(alloc, b"\xa2\x01\x61a\x02\x05", named)?;

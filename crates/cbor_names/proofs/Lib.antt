@@ -1,1 +1,1 @@
-mod FallingTo
+mod Rising

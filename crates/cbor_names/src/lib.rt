@@ -2,8 +2,7 @@
 //! the tables of COSE, CWT and similar standards, and [`with_file`] adds those of a file.
 //! docs/NAMES.md has the rules.
 //!
-//! [`notes`] gives the names and meanings of the items in an item, each with its place: how many
-//! bytes remain from there to the end.
+//! [`notes`] gives the names and meanings of the items in an item, each with its place.
 //!
 //! ```rust
 //! use cbor_names::{Definition, Key, Names, Part, Shape, notes};
@@ -15,8 +14,8 @@
 //! let notes = notes(alloc, b"\xd9\x03\xe9\xa1\x01\x07", &names, None)?;
 //! let list = notes.list(alloc)?;
 //! assert_eq!(rt; list.len(), 2);
-//! assert_eq!(rt; (list[0].at, list[0].before), (6, "Reading"));
-//! assert_eq!(rt; (list[1].at, list[1].before), (2, "sensor"));
+//! assert_eq!(rt; (list[0].start, list[0].before), (0, "Reading"));
+//! assert_eq!(rt; (list[1].start, list[1].before), (4, "sensor"));
 //! ```
 #![tactic(auto)]
 
@@ -40,7 +39,7 @@ mod walk;
 pub use file::{Fault, FileError, with_file};
 pub use known::known_names;
 pub use marks::FirstMark;
-pub use note::{Note, Notes};
+pub use note::Notes;
 pub use part::{Definition, Key, Kind, Part, Shape, What};
 pub use table::{Names, Type};
 pub use walk::notes;

@@ -1,25 +1,12 @@
-//! `Note`: the name before an item and the meaning after it, with the place of the item. `Notes`:
-//! the notes of an item, in order. Finds the name before an item, and the names of the tags,
-//! members and keys around a byte.
+//! `Notes`: the notes of an item, in order. A note is the name before an item in it and the meaning
+//! after it, with its place. Finds the name before an item, and the names of the tags, members and
+//! keys around a byte.
 
-ghost use Rattle.std.specs.Prelude.{◌≡◌, ℕ, IfOk};
-ghost use Rattle.cbor_names.specs.Falling.{AreInOrder, FallsTo, len_of};
+ghost use Rattle.std.specs.Prelude.{◌≡◌, ◌≤◌, ℕ, IfOk};
+ghost use Rattle.cbor_names.specs.Order.{AreInOrder, RiseTo, len_of};
 
+use cbor_notes::Note;
 use std::alloc::{AllocError, Global};
-
-/// What to write at an item.
-#[derive(Clone, Copy, PartialEq, Eq, Debug)]
-pub struct Note<'a> {
-    /// How many bytes remain from the first byte of the item on. For an item in a byte string these
-    /// are the bytes around the string, too, up to the end of the outermost item's bytes.
-    pub at: usize,
-    /// The name before it; empty for none.
-    pub before: &'a str,
-    /// The meaning after it; empty for none.
-    pub after: &'a str,
-    /// Whether it is a byte string that holds an encoded item.
-    pub encoded: bool,
-}
 
 /// The notes of an item, in the order of the items in it: each is at an item that begins behind the
 /// one before.
@@ -99,16 +86,17 @@ impl<'a> Found<'a> {
     }
 }
 
-/// Appends a note that is behind those before it, and returns below which place the next one is.
-fn push_next<'a>(list: &mut Vec<Note<'a>>, low: usize, note: Note<'a>) -> Result<usize, AllocError>
-    ensures { (top : ℕ) → FallsTo top list.old.items low
-        → IfOk result (λ next. FallsTo top list.new.items next) }
+/// Appends a note that is behind those before it, and returns the first place that the next one may
+/// have.
+fn push_next<'a>(list: &mut Vec<Note<'a>>, from: usize, note: Note<'a>) -> Result<usize, AllocError>
+    ensures { (len first : ℕ) → note.entry.start ≤ len → RiseTo len first list.old.items from
+        → IfOk result (λ next. RiseTo len first list.new.items next) }
 {
-    if note.at >= low {
-        return Ok(low);
+    if note.start < from || note.start == usize::MAX {
+        return Ok(from);
     }
     list.push(note)?;
-    Ok(note.at)
+    Ok(note.start + 1)
 }
 
 impl<'a> Notes<'a> {
@@ -185,9 +173,9 @@ impl<'a> Notes<'a> {
         ensures in_order { IfOk result (λ v. AreInOrder (len_of self.now) v.items) }
     {
         let mut list = Vec::with_capacity(alloc, self.found.len())?;
-        let mut low = self.len.saturating_add(1);
+        let mut from = 0;
         for found in &self.found {
-            low = push_next(&mut list, low, self.note(found))?;
+            from = push_next(&mut list, from, self.note(found))?;
         }
         Ok(list)
     }
@@ -202,10 +190,10 @@ impl<'a> Notes<'a> {
 
     /// What is written of a note that was found.
     fn note(&self, found: &Found<'a>) -> Note<'_>
-        ensures { result.at ≡ found.now.at }
+        ensures { result.start ≤ len_of self.now }
     {
         Note {
-            at: found.at,
+            start: self.len.saturating_sub(found.at),
             before: found.before,
             after: self.text(found.after),
             encoded: found.encoded,

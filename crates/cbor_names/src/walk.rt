@@ -3,7 +3,7 @@
 //! recursive call, at most 128 deep.
 
 ghost use Rattle.std.specs.Prelude.{◌≡◌, ◌+◌, ◌^◌, ◌<◌, ◌≤◌, length, IfOk};
-ghost use Rattle.cbor_names.specs.Falling.{len_of};
+ghost use Rattle.cbor_names.specs.Order.{len_of};
 
 use crate::authenticator::{Item, parts_of};
 use crate::decimal::Scaled;
@@ -414,7 +414,7 @@ impl<'a> Pass<'a> {
 /// let found = notes(alloc, b"\xa2\x01\x07\x20\x15", &names, names.of("Reading"))?;
 /// let list = found.list(alloc)?;
 /// assert_eq!(rt; list.len(), 3);
-/// assert_eq!(rt; (list[0].at, list[0].before), (5, "Reading"));
+/// assert_eq!(rt; (list[0].start, list[0].before), (0, "Reading"));
 /// assert_eq!(rt; (list[1].before, list[2].before), ("sensor", "value"));
 /// ```
 pub fn notes<'a>(

@@ -1,7 +1,8 @@
 //! Writes the texts of comments on CBOR data: numbers in groups, escaped bytes and texts, base 58,
 //! addresses, UUIDs, dates, decoded base 64, the elements of typed arrays and the names of tags. It
-//! tests whether a text is a URL, and lays out the lines of dumps in columns. It re-exports calls
-//! of `cbor_tokens`: base 32, base 64, hex digits, and the tokens of diagnostic notation.
+//! tests whether a text is a URL, and lays out the lines of dumps in columns. A [`Note`] is a text
+//! of a caller beside an item. The crate re-exports calls of `cbor_tokens`: base 32, base 64, hex
+//! digits, and the tokens of diagnostic notation.
 //!
 //! ```rust
 //! use cbor_notes::grouped;
@@ -26,6 +27,7 @@ mod examples;
 mod identifier;
 mod laws;
 mod line;
+mod note;
 mod tags;
 mod text;
 mod url_text;
@@ -42,6 +44,7 @@ pub use decoded::base64_lines;
 pub use element::{element_size, element_text, push_element_text};
 pub use identifier::uuid_lines;
 pub use line::{Line, merge, push_blanks, push_gap, put_line};
+pub use note::Note;
 pub use tags::tag_name;
 pub use text::{
     escaped_text, grouped, push_escaped_text, push_grouped, push_quoted_bytes, push_spaced_hex,

@@ -26,6 +26,6 @@ pub use end::{End, Shown};
 pub use followed::{Found, Lost, follow, lost_at};
 pub use key::is_key;
 pub use members::{At, Members};
-pub use picture::{Mark, Picture};
+pub use picture::Picture;
 pub use skip::{bytes_from, skip_items};
 pub use step::Step;

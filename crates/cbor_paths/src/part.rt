@@ -102,9 +102,9 @@ fn named(bytes: &[u8], members: Members, name: &str, picture: Picture) -> Option
 /// The item in a byte string that has this name in the picture, whatever bytes are around it.
 fn named_inside(bytes: &[u8], below: Below, name: &str, picture: Picture) -> Option<At> {
     let len = content(bytes, below)?.len();
-    for mark in picture.marks {
-        let byte = mark.place.saturating_sub(below.inner);
-        if mark.place >= below.inner && byte < len && mark.name == name {
+    for note in picture.notes {
+        let byte = note.start.saturating_sub(below.inner);
+        if note.start >= below.inner && byte < len && note.before == name {
             return inside_at(bytes, below, byte);
         }
     }
@@ -120,7 +120,7 @@ fn member(bytes: &[u8], start: usize, key: &[u8], picture: Picture) -> Option<At
     if let Some(at) = keyed(bytes, members, key) {
         return Some(at);
     }
-    if picture.marks.is_empty() {
+    if picture.notes.is_empty() {
         return None;
     }
     named(bytes, members, text_of(key)?, picture)

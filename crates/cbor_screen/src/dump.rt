@@ -17,7 +17,8 @@ mod write;
 use beside::Beside;
 use cbor_dump::push_bytes_to_hex_partial;
 use cbor_grammar::Error;
-use cbor_names::{Names, Note, Type, notes};
+use cbor_names::{Names, Type, notes};
+use cbor_notes::Note;
 use embedded::write_all;
 use measure::Measure;
 pub use partial::push_partial_dump;
@@ -132,7 +133,7 @@ fn push_lines(
     notes: &[Note<'_>],
 ) -> Result<(), Error> {
     let (style, width) = how;
-    let mut writing = Writing::new(out, width, Beside::new(notes));
+    let mut writing = Writing::new(out, width, Beside::new(item.len(), notes));
     let walk = Walk::new(*out.allocator(), item, style);
     let answer = write_all(*out.allocator(), &mut writing, walk);
     writing.give_back(out);

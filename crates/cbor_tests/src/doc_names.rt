@@ -16,8 +16,8 @@ fn of_the_crate(rt: HostRuntime) -> Result<(), AllocError> {
     let notes = notes(alloc, b"\xd9\x03\xe9\xa1\x01\x07", &names, None)?;
     let list = notes.list(alloc)?;
     assert_eq!(rt; list.len(), 2);
-    assert_eq!(rt; (list[0].at, list[0].before), (6, "Reading"));
-    assert_eq!(rt; (list[1].at, list[1].before), (2, "sensor"));
+    assert_eq!(rt; (list[0].start, list[0].before), (0, "Reading"));
+    assert_eq!(rt; (list[1].start, list[1].before), (4, "sensor"));
     Ok(())
 }
 
@@ -44,7 +44,7 @@ fn of_notes(rt: HostRuntime) -> Result<(), AllocError> {
     let found = notes(alloc, b"\xa2\x01\x07\x20\x15", &names, names.of("Reading"))?;
     let list = found.list(alloc)?;
     assert_eq!(rt; list.len(), 3);
-    assert_eq!(rt; (list[0].at, list[0].before), (5, "Reading"));
+    assert_eq!(rt; (list[0].start, list[0].before), (0, "Reading"));
     assert_eq!(rt; (list[1].before, list[2].before), ("sensor", "value"));
     Ok(())
 }

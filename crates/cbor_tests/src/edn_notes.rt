@@ -5,18 +5,18 @@ use cbor_edn::{EdnStyle, Note, NotedStyle, push_bytes_to_edn_noted};
 
 /// Places, and a text before and after the item there.
 const NOTES: [(usize, &str, &str); 6] = [
-    (6, "a/b", "a/b"),
-    (5, "a\nb", "a\nb"),
-    (4, "*a*", "*a*"),
-    (3, "", ""),
-    (2, "\u{202e}", "\u{e9}"),
-    (1, "\u{1b}[31m", "\u{7f}"),
+    (1, "a/b", "a/b"),
+    (2, "a\nb", "a\nb"),
+    (3, "*a*", "*a*"),
+    (4, "", ""),
+    (5, "\u{202e}", "\u{e9}"),
+    (6, "\u{1b}[31m", "\u{7f}"),
 ];
 
 /// A note that does not show a byte string as an item.
-fn note_of<'a>((at, before, after): (usize, &'a str, &'a str)) -> Note<'a> {
+fn note_of<'a>((start, before, after): (usize, &'a str, &'a str)) -> Note<'a> {
     Note {
-        at,
+        start,
         before,
         after,
         encoded: false,

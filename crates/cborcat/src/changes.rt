@@ -6,7 +6,7 @@ use crate::naming::Tables;
 use crate::status::Status;
 use cbor_edit::{Edit, EditError, edited};
 use cbor_grammar::Error;
-use cbor_inspect::{End, Picture, Stream, marks_of};
+use cbor_inspect::{End, Picture, Stream};
 use cbor_messages::lost_words;
 use cborcat_arguments::{Change, Job};
 use std::alloc::AllocError;
@@ -117,10 +117,10 @@ impl<'a> Changes<'a> {
         let plain = self.picture();
         match self.tables {
             Some(tables) if tables.may_name(item) => {
-                let notes = tables.naming().notes(alloc, item)?;
-                let marks = marks_of(alloc, &notes, item.len())?;
+                let names = tables.naming().notes(alloc, item)?;
+                let notes = names.list(alloc)?;
                 let named = Picture {
-                    marks: &marks,
+                    notes: &notes,
                     ..plain
                 };
                 edited(alloc, item, edit, named)
@@ -132,7 +132,7 @@ impl<'a> Changes<'a> {
     /// What is shown of items beside their bytes, without names.
     fn picture(&self) -> Picture<'static> {
         Picture {
-            marks: &[],
+            notes: &[],
             tagged: true,
             embedded: self.job.show.style.embedded,
         }
@@ -169,10 +169,10 @@ impl<'a> Changes<'a> {
         let plain = self.picture();
         match self.tables {
             Some(tables) if tables.may_name(item) => {
-                let notes = tables.naming().notes(alloc, item)?;
-                let marks = marks_of(alloc, &notes, item.len())?;
+                let names = tables.naming().notes(alloc, item)?;
+                let notes = names.list(alloc)?;
                 let named = Picture {
-                    marks: &marks,
+                    notes: &notes,
                     ..plain
                 };
                 lost_words(alloc, path, item, named)

@@ -7,7 +7,7 @@ use crate::shown::show_of;
 use crate::status::Status;
 use cbor_grammar::Error;
 use cbor_inputs::{HexFault, Input, Pasted, Refusal, looks_like, place_of_digit};
-use cbor_inspect::{End, Picture, marks_of};
+use cbor_inspect::{End, Picture};
 use cbor_messages::{Excerpt, Position, TWO_BYTES, lost_words, position_of};
 use cbor_places::{Around, Piece, Places, item_with};
 use cbor_tokens::is_shown;
@@ -266,10 +266,10 @@ fn words_of_lost(
         Some(naming) if naming.may_name(bytes) => naming,
         _ => return lost_words(alloc, path, bytes, plain),
     };
-    let notes = naming.notes(alloc, bytes)?;
-    let marks = marks_of(alloc, &notes, bytes.len())?;
+    let names = naming.notes(alloc, bytes)?;
+    let notes = names.list(alloc)?;
     let picture = Picture {
-        marks: &marks,
+        notes: &notes,
         ..plain
     };
     lost_words(alloc, path, bytes, picture)

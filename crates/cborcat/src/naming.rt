@@ -8,8 +8,7 @@ use crate::messages::{label, say};
 use crate::status::Status;
 use cbor_bytes::{Extent, extent};
 use cbor_inspect::Naming;
-use cbor_json::KeyName;
-use cbor_names::{Names, Notes, Type, known_names, notes, with_file};
+use cbor_names::{Names, Type, known_names, notes, with_file};
 use cbor_places::Piece;
 use cbor_tokens::is_shown;
 use cborcat_arguments::Job;
@@ -98,7 +97,7 @@ pub fn encoded_in(
         let (bytes, after) = rest.bytes.split_at(len.min(rest.bytes.len()));
         let end = rest.number(bytes.len());
         if naming.may_name(bytes) {
-            push_encoded(&mut places, tables, bytes, end)?;
+            push_encoded(&mut places, tables, rest.first(len))?;
         }
         rest = Piece {
             begins: end,
@@ -108,41 +107,17 @@ pub fn encoded_in(
     Ok(places)
 }
 
-/// Appends the places of those in an item that ends there.
-fn push_encoded(
-    places: &mut Vec<usize>,
-    tables: Tables,
-    item: &[u8],
-    end: usize,
-) -> Result<(), AllocError> {
+/// Appends the places of those in an item.
+fn push_encoded(places: &mut Vec<usize>, tables: Tables, item: Piece) -> Result<(), AllocError> {
     let alloc = *places.allocator();
-    let found = notes(alloc, item, tables.names, tables.outer)?;
+    let found = notes(alloc, item.bytes, tables.names, tables.outer)?;
     let list = found.list(alloc)?;
     for note in &list {
         if note.encoded {
-            places.push(end.saturating_sub(note.at))?;
+            places.push(item.number(note.start))?;
         }
     }
     Ok(())
-}
-
-/// The names in the notes of an item that takes `len` bytes, for JSON.
-pub fn key_names<'n>(
-    alloc: Global,
-    notes: &'n Notes<'_>,
-    len: usize,
-) -> Result<Vec<KeyName<'n>>, AllocError> {
-    let found = notes.list(alloc)?;
-    let mut names = Vec::with_capacity(alloc, found.len())?;
-    for note in &found {
-        if !note.before.is_empty() {
-            names.push(KeyName {
-                place: len.saturating_sub(note.at),
-                name: note.before,
-            })?;
-        }
-    }
-    Ok(names)
 }
 
 /// The names by these tables, if they are shown. Lists the types if that of `--as` is none of

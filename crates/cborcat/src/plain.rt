@@ -3,7 +3,7 @@
 
 use crate::each::ShowsItem;
 use crate::messages::{Origin, label, report_byte, report_lost};
-use crate::naming::{Tables, key_names};
+use crate::naming::Tables;
 use crate::shown::show_of;
 use crate::status::Status;
 use cbor_bytes::{Extent, extent};
@@ -11,10 +11,11 @@ use cbor_grammar::Error;
 use cbor_grammar::head::ItemHead;
 use cbor_grammar::strings::StringKind;
 use cbor_inspect::{End, RawError, raw_content, show_items};
-use cbor_json::{JsonError, JsonStyle, KeyName, NamedJson, bytes_to_json_named};
+use cbor_json::{JsonError, JsonStyle, NamedJson, bytes_to_json_named};
 use cbor_marks::Marks;
 use cbor_messages::not_json;
 use cbor_names::notes;
+use cbor_notes::Note;
 use cbor_places::{Around, Piece};
 use cbor_tokens::is_shown;
 use cbor_trace::head_at;
@@ -108,7 +109,7 @@ impl Plain<'_> {
             _ => return bytes_to_json_named(alloc, bytes, named(style, &[], self.marks)),
         };
         let found = notes(alloc, bytes, tables.names, tables.outer)?;
-        let names = key_names(alloc, &found, bytes.len())?;
+        let names = found.list(alloc)?;
         bytes_to_json_named(alloc, bytes, named(style, &names, self.marks))
     }
 
@@ -161,7 +162,7 @@ impl Plain<'_> {
 /// How JSON with these names is written, and where its tokens are marked, if they are to be.
 fn named<'a>(
     style: JsonStyle,
-    names: &'a [KeyName<'a>],
+    names: &'a [Note<'a>],
     marks: Option<&'a Marks>,
 ) -> NamedJson<'a> {
     NamedJson {

@@ -139,7 +139,7 @@ fn note_of(word: &str) -> Option<Note<'_>> {
         None => (place, false),
     };
     Some(Note {
-        at: place.parse::<usize>().unwrap_or(0),
+        start: place.parse::<usize>().unwrap_or(0),
         before,
         after,
         encoded,

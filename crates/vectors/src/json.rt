@@ -10,9 +10,10 @@
 
 use crate::row::Row;
 use cbor_json::{
-    Clash, JsonError, JsonStyle, KeyName, Loss, NamedJson, bytes_to_json, bytes_to_json_named,
+    Clash, JsonError, JsonStyle, Loss, NamedJson, bytes_to_json, bytes_to_json_named,
     push_bytes_to_json_partial,
 };
+use cbor_notes::Note;
 use std::alloc::{AllocError, Global};
 
 /// What the call of a row gives; none if it is no call of this subject.
@@ -45,7 +46,7 @@ fn style_of(words: &str) -> Option<JsonStyle> {
 }
 
 /// How JSON with these names is written.
-fn named_json<'a>(style: JsonStyle, names: &'a [KeyName<'a>]) -> NamedJson<'a> {
+fn named_json<'a>(style: JsonStyle, names: &'a [Note<'a>]) -> NamedJson<'a> {
     NamedJson {
         style,
         names,
@@ -59,9 +60,11 @@ fn named(alloc: Global, row: &Row) -> Result<String, AllocError> {
     let mut names = Vec::new(alloc);
     for word in row.argument.split(' ') {
         match word.split_once("=") {
-            Some((place, name)) => names.push(KeyName {
-                place: place.parse::<usize>().unwrap_or(usize::MAX),
-                name,
+            Some((place, name)) => names.push(Note {
+                start: place.parse::<usize>().unwrap_or(usize::MAX),
+                before: name,
+                after: "",
+                encoded: false,
             })?,
             None => style = style_of(word).unwrap_or(style),
         }

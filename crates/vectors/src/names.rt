@@ -17,7 +17,8 @@ use crate::lines::{lines_or, push_line};
 use crate::row::Row;
 use cbor_cddl::Schema;
 use cbor_cddl_names::with_schema;
-use cbor_names::{Fault, FileError, Names, Note, Type, known_names, notes, with_file};
+use cbor_names::{Fault, FileError, Names, Type, known_names, notes, with_file};
+use cbor_notes::Note;
 use std::alloc::{AllocError, Global};
 
 /// What the call of a row gives; none if it is no call of this subject.
@@ -108,7 +109,7 @@ fn said(
     let list = found.list(alloc)?;
     let mut text = String::new(alloc);
     for note in list.iter() {
-        let place = bytes.len().saturating_sub(note.at);
+        let place = note.start;
         let word = word_of(call, *note);
         if !word.is_empty() {
             push_line(&mut text, &format!(in alloc; "{place} {word}")?)?;

@@ -14,7 +14,7 @@ use Rattle.cbor_grammar.specs.NotationText.{line}
 use Rattle.cbor_edn_grammar.specs.Blank.{after_line, after_slash, after_star, after_comment, after_space, or_here}
 use Rattle.cbor_edn_grammar.specs.Blank.{after_spaces}
 use Rattle.cbor_edn_grammar.specs.Blank.{skip_blank}
-use Rattle.cbor_edn_writer.specs.declared.note.Note.{Note}
+use Rattle.cbor_notes.specs.declared.note.Note.{Note}
 use Rattle.cbor_edn_writer.specs.declared.print.place.EdnPlace.{EdnPlace}
 use Rattle.cbor_edn_writer.specs.EdnLeaves.{ends_note, IsNote, begins_note, AnyNote, is_note, comment_before}
 use Rattle.cbor_edn_writer.specs.EdnLeaves.{comment_after}

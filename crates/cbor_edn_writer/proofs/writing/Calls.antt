@@ -11,7 +11,7 @@ use Rattle.cbor_grammar.proofs.bytes.Outcomes.{found_outcome, same}
 use Rattle.cbor_grammar.proofs.straight.PublicCalls.{front_fault}
 use Rattle.cbor_edn_writer.specs.declared.style.EdnStyle.{EdnStyle}
 use Rattle.cbor_edn_writer.specs.Written.{AppendsNoted, GaveNoted}
-use Rattle.cbor_edn_writer.specs.declared.note.Note.{Note}
+use Rattle.cbor_notes.specs.declared.note.Note.{Note}
 
 pub gave_edn : (style : EdnStyle) (notes : List Note) (b rest : List ℕ) (i : Item) (old new : List ℕ) (o : Outcome)
     → IsBytes b → OneOutcome 1 b → read_item 128 b ≡ Ok (i, rest) → AppendsNoted style notes i old new

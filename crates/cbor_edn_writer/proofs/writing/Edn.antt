@@ -21,7 +21,7 @@ use Rattle.cbor_edn_grammar.specs.Edn.{bytes_of_edn}
 use Rattle.cbor_edn_grammar.specs.Reserved.{IsItem8949}
 use Rattle.cbor_edn_writer.specs.EdnLeaves.{edn_leaves, layout_of}
 use Rattle.cbor_edn_writer.specs.Written.{IsOutermost, IsNotedText, IsEdnText}
-use Rattle.cbor_edn_writer.specs.declared.note.Note.{Note}
+use Rattle.cbor_notes.specs.declared.note.Note.{Note}
 use Rattle.cbor_edn_writer.specs.declared.print.place.EdnPlace.{EdnPlace}
 use Rattle.cbor_edn_writer.specs.declared.style.EdnStyle.{EdnStyle}
 use Rattle.cbor_edn_writer.proofs.back.Items.{edn_back}

@@ -38,7 +38,7 @@ use Rattle.cbor_tokens.proofs.escaping.High.{High, high_encode}
 use Rattle.cbor_edn_writer.specs.EdnLeaves.{longer, marked, length_mark, ends_note, IsNote, AnyNote, NoteAfter, Noted}
 use Rattle.cbor_edn_writer.specs.EdnLeaves.{comment_before, text_before, note_before, note_after, Beside, After}
 use Rattle.cbor_edn_writer.specs.EdnLeaves.{FloatText, float_indicator, quoted_string}
-use Rattle.cbor_edn_writer.specs.declared.note.Note.{Note}
+use Rattle.cbor_notes.specs.declared.note.Note.{Note}
 use Rattle.cbor_edn_writer.specs.declared.print.place.EdnPlace.{EdnPlace}
 use Rattle.cbor_edn_writer.proofs.back.Blanks.{by_note, after_note}
 use Rattle.cbor_edn_writer.proofs.writing.Runs.{Runs, runs_nothing, runs_then, runs_byte, scanned, is_steady, Steady}

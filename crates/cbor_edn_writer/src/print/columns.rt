@@ -1,7 +1,6 @@
 //! Computes how many columns numbers, strings, simple values, width indicators and notes take in
 //! EDN. Some notes are written to a scratch text and counted.
 
-use crate::note::Note;
 use crate::print::notes::{are_characters, is_note, push_bytes_note, push_text_note, push_time};
 use crate::print::numbers::{longer, shown_width};
 use crate::print::same::is_noted;
@@ -10,6 +9,7 @@ use cbor_grammar::strings::StringKind;
 use cbor_grammar::{FloatWidth, IntegerWidth};
 use cbor_notation_writer::budget::digit_count;
 use ryu::Buffer;
+use cbor_notes::Note;
 use std::alloc::{AllocError, Global};
 
 /// The columns of a note between slashes, with the blank beside it; none of a text that no note may

@@ -1,7 +1,6 @@
 //! Tests whether an item fits into a number of columns on one line of EDN. It adds up the columns
 //! of the parts before they are written, and stops when there are too many.
 
-use crate::note::Note;
 use crate::print::columns::{
     after_columns, before_columns, bytes_note_columns, count_columns, float_columns,
     length_columns, negative_columns, number_columns, quoted_columns, simple_columns,
@@ -19,6 +18,7 @@ use cbor_grammar::layout::Content;
 use cbor_grammar::level::DEEPEST;
 use cbor_grammar::strings::StringKind;
 use cbor_grammar::{FloatWidth, IntegerWidth};
+use cbor_notes::Note;
 use std::alloc::{AllocError, Global};
 
 /// Whether the item at the front, which is at this place, fits into this many columns on one line.
@@ -32,7 +32,7 @@ pub(super) fn fits_in(
         style: place.style,
         level: place.level,
         notes: place.notes,
-        behind: place.behind,
+        end: place.end,
     };
     let left = Left {
         columns,
@@ -113,7 +113,8 @@ struct Walk<'a> {
     style: EdnStyle,
     level: u8,
     notes: &'a [Note<'a>],
-    behind: u64,
+    /// Where the bytes that items are read from end in the outermost bytes.
+    end: u64,
 }
 
 impl<'a> Walk<'a> {
@@ -193,9 +194,9 @@ impl<'a> Walk<'a> {
         if self.notes.is_empty() {
             return (None, 0);
         }
-        let here = self.behind.saturating_add(left.rest.len() as u64);
-        let passed = notes_before(self.notes, left.passed, here);
-        (note_at(self.notes, passed, here), passed)
+        let start = self.end.saturating_sub(left.rest.len() as u64);
+        let passed = notes_before(self.notes, left.passed, start);
+        (note_at(self.notes, passed, start), passed)
     }
 
     /// The columns of a note, if the style shows notes.
@@ -314,7 +315,7 @@ impl<'a> Walk<'a> {
             return Err(Stop::TooLong);
         };
         let inner = Walk {
-            behind: self.behind.saturating_add(left.rest.len() as u64),
+            end: self.end.saturating_sub(left.rest.len() as u64),
             ..*self
         };
         let mark = length_columns(content.len() as u64, width);

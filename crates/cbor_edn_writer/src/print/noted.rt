@@ -7,7 +7,6 @@ ghost use Rattle.cbor_grammar.specs.NotationText.{style_indent};
 ghost use Rattle.cbor_tokens.specs.Appends.{AppendsText};
 ghost use Rattle.cbor_edn_writer.specs.EdnLeaves.{edn_leaves};
 
-use crate::note::Note;
 use crate::print::Edn;
 use crate::print::leaf::{push_leaf, push_string};
 use crate::print::lists::{push_opening, push_tag};
@@ -22,6 +21,7 @@ use cbor_grammar::layout::{ContainerStyle, Content, Layout};
 use cbor_grammar::strings::{StringContent, StringKind};
 use cbor_notation_writer::dialect::Dialect;
 use cbor_notation_writer::parts::{Container, Front, Leaf};
+use cbor_notes::Note;
 use std::alloc::{AllocError, Global};
 
 /// EDN where a note of the caller is looked for at each item. It is separate from [`Edn`], since a

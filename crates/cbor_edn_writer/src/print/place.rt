@@ -7,11 +7,9 @@ ghost use Rattle.cbor_grammar.specs.NotationText.{indent_of, style_indent};
 ghost use Rattle.cbor_edn_writer.specs.EdnLeaves.{edn_leaves, is_encoded, style_on};
 ghost use Rattle.cbor_edn_writer.specs.EdnLeaves.{FoundAt, IsGiven, LaidOut};
 ghost use Rattle.cbor_edn_writer.specs.EdnLeaves.{argument_bytes as bytes_of_width};
-ghost use Rattle.cbor_edn_writer.specs.EdnLeaves.{after_string as behind_string};
-ghost use Rattle.cbor_edn_writer.specs.EdnLeaves.{behind_in as behind_members};
+ghost use Rattle.cbor_edn_writer.specs.EdnLeaves.{end_in as members_end, end_of_string as string_end};
 ghost use Rattle.cbor_edn_writer.specs.Written.{IsOutermost};
 
-use crate::note::Note;
 use crate::print::line::{Line, line_at, line_of};
 use crate::style::{EdnStyle, NotedStyle};
 use cbor_grammar::IntegerWidth;
@@ -19,6 +17,7 @@ use cbor_grammar::argument::Argument;
 use cbor_grammar::layout::{ContainerStyle, Layout};
 use cbor_marks::{Kind, Marks};
 use cbor_notation_writer::parts::{Container, Front};
+use cbor_notes::Note;
 use std::alloc::{AllocError, Global};
 
 /// Where an item is.
@@ -36,10 +35,10 @@ pub(crate) struct EdnPlace<'a> {
     pub(crate) tag: Option<u64>,
     /// The notes on items.
     pub(crate) notes: &'a [Note<'a>],
-    /// How many of the outermost bytes follow those that items are read from.
-    pub(crate) behind: u64,
-    /// How many of the outermost bytes there are from the start of the item on.
-    pub(crate) here: u64,
+    /// Where the bytes that items are read from end in the outermost bytes.
+    pub(crate) end: u64,
+    /// Where the item begins in the outermost bytes, or an item around it.
+    pub(crate) start: u64,
     /// How many of the notes are known to be on items before this one.
     pub(crate) passed: usize,
     /// The note on the item.
@@ -51,8 +50,8 @@ pub(crate) struct EdnPlace<'a> {
 }
 
 impl<'a> EdnPlace<'a> {
-    /// The place of the outermost item of a text.
-    pub(crate) fn new(alloc: Global, noted: NotedStyle<'a>) -> EdnPlace<'a>
+    /// The place of the outermost item of a text, at the front of this many bytes.
+    pub(crate) fn new(alloc: Global, noted: NotedStyle<'a>, len: usize) -> EdnPlace<'a>
         ensures outermost { IsOutermost noted.entry.style noted.entry.notes.now result }
         ensures indent { indent_of result.layout ≡ 0 }
     {
@@ -68,8 +67,8 @@ impl<'a> EdnPlace<'a> {
             style,
             tag: None,
             notes: noted.notes,
-            behind: 0,
-            here: 0,
+            end: len as u64,
+            start: 0,
             passed: 0,
             found: None,
             line: Line::outermost(style),
@@ -104,22 +103,21 @@ impl<'a> EdnPlace<'a> {
     pub(crate) fn noted(&self, out: &String, front: Front<'_>) -> Result<EdnPlace<'a>, AllocError>
         ensures { IfOk result (λ moved. LaidOut self.now moved) }
     {
-        let here = self.behind.saturating_add(front.bytes.len() as u64);
-        let place = self.with_note(here);
+        let start = self.end.saturating_sub(front.bytes.len() as u64);
+        let place = self.with_note(start);
         let line = line_at(&place, out, front)?;
         Ok(EdnPlace { line, ..place })
     }
 
-    /// The same place with the note on the item. `here` is the number of the outermost bytes from
-    /// the start of the item on.
-    pub(crate) fn with_note(&self, here: u64) -> EdnPlace<'a>
-        ensures { FoundAt self.now here result }
+    /// The same place with the note on the item that begins at `start`.
+    pub(crate) fn with_note(&self, start: u64) -> EdnPlace<'a>
+        ensures { FoundAt self.now start result }
     {
-        let passed = notes_before(self.notes, self.passed, here);
+        let passed = notes_before(self.notes, self.passed, start);
         EdnPlace {
-            here,
+            start,
             passed,
-            found: note_at(self.notes, passed, here),
+            found: note_at(self.notes, passed, start),
             ..*self
         }
     }
@@ -155,20 +153,20 @@ impl<'a> EdnPlace<'a> {
             level: self.level + 1,
             layout,
             tag: None,
-            behind: self.behind_in(container),
+            end: self.end_in(container),
             found: None,
             ..self
         }
     }
 
-    /// How many of the outermost bytes follow those that the items in a container are read from.
+    /// Where the bytes that the items in a container are read from end.
     #[inline(always)]
-    fn behind_in(self, container: Container) -> u64
-        ensures { result ≡ behind_members container self.entry }
+    fn end_in(self, container: Container) -> u64
+        ensures { result ≡ members_end container self.entry }
     {
         match container {
-            Container::Embedded(len) => after_string(len, self.here),
-            _ => self.behind,
+            Container::Embedded(len) => end_of_string(len, self.start),
+            _ => self.end,
         }
     }
 
@@ -187,16 +185,15 @@ impl<'a> EdnPlace<'a> {
     }
 }
 
-/// The number of bytes after a byte string of this length. `here` is the number of bytes from the
-/// start of the byte string on.
-fn after_string(len: Argument, here: u64) -> u64
-    ensures { result ≡ behind_string len here }
+/// Where a byte string of this length ends that begins at `start`.
+fn end_of_string(len: Argument, start: u64) -> u64
+    ensures { result ≡ string_end len start }
 {
     match len {
-        Argument::Number(count, width) => here
-            .saturating_sub(1 + argument_bytes(width))
-            .saturating_sub(count),
-        Argument::Indefinite => here,
+        Argument::Number(count, width) => start
+            .saturating_add(1 + argument_bytes(width))
+            .saturating_add(count),
+        Argument::Indefinite => start,
     }
 }
 
@@ -214,13 +211,13 @@ fn argument_bytes(width: IntegerWidth) -> u64
     }
 }
 
-/// The note at this index, if its item has `here` bytes from its start on.
+/// The note at this index, if its item begins at `start`.
 #[inline(always)]
-pub(super) fn note_at<'a>(notes: &'a [Note<'a>], index: usize, here: u64) -> Option<&'a Note<'a>>
-    ensures { IsGiven notes.now here result }
+pub(super) fn note_at<'a>(notes: &'a [Note<'a>], index: usize, start: u64) -> Option<&'a Note<'a>>
+    ensures { IsGiven notes.now start result }
 {
     match notes.get(index) {
-        Some(note) if note.at as u64 == here => Some(note),
+        Some(note) if note.start as u64 == start => Some(note),
         _ => None,
     }
 }
@@ -228,15 +225,15 @@ pub(super) fn note_at<'a>(notes: &'a [Note<'a>], index: usize, here: u64) -> Opt
 /// How many notes are checked in turn before a binary search of the others.
 const NEAR: usize = 16;
 
-/// How many notes are on items before the item with `here` bytes from its start on. The first
-/// `passed` notes are. The notes have the order of the items, so the wanted one is mostly near.
+/// How many notes are on items before the one that begins at `start`. The first `passed` notes are.
+/// The notes have the order of the items, so the wanted one is mostly near.
 #[inline(never)]
-pub(super) fn notes_before(notes: &[Note<'_>], passed: usize, here: u64) -> usize {
+pub(super) fn notes_before(notes: &[Note<'_>], passed: usize, start: u64) -> usize {
     let behind = notes.get(passed..).unwrap_or(&[]);
     let mut near = behind.iter().take(NEAR);
-    let more = match near.position(|note| note.at as u64 <= here) {
+    let more = match near.position(|note| note.start as u64 >= start) {
         Some(index) => index,
-        None => match behind.binary_search_by(|note| here.cmp(&(note.at as u64))) {
+        None => match behind.binary_search_by(|note| (note.start as u64).cmp(&start)) {
             Ok(index) | Err(index) => index,
         },
     };

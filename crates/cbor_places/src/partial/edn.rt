@@ -38,7 +38,7 @@ impl PartialEdn<'_> {
         requires start { spot.start ≤ length self.now.bytes.now }
         requires indent { indent ≤ 4 * spot.level }
     {
-        push_note_before(out, self.noted, self.bytes.len() - spot.start)?;
+        push_note_before(out, self.noted, spot.start)?;
         let Some(part) = part_at(self.bytes, spot, self.bytes.len()) else {
             return Ok(self.push_remaining(out, spot.start)?);
         };
@@ -136,6 +136,7 @@ impl PartialEdn<'_> {
                 noted: self.noted,
                 level: spot.level.saturating_add(1),
                 indent: lines_inside(style),
+                end: self.bytes.len(),
             };
             rest = push_part_to_edn(out, rest, place)?;
             push_after(out, part.open, index, style)?;

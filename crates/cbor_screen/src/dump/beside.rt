@@ -1,7 +1,7 @@
 //! `Beside`: finds the name and the meaning that a dump shows in the comment of the next head.
 //! `push_word` appends one of these to the comment.
 
-use cbor_names::Note;
+use cbor_notes::Note;
 use std::alloc::AllocError;
 
 /// The notes of the items whose heads come next.
@@ -9,23 +9,26 @@ use std::alloc::AllocError;
 pub(super) struct Beside<'n> {
     /// They are in the order of these items.
     notes: &'n [Note<'n>],
+    /// How many bytes the outermost item has.
+    len: usize,
 }
 
 impl<'n> Beside<'n> {
-    /// The notes of an item, in the order of the bytes.
-    pub(super) fn new(notes: &'n [Note<'n>]) -> Beside<'n> {
-        Beside { notes }
+    /// The notes of an item of that many bytes, in the order of the bytes.
+    pub(super) fn new(len: usize, notes: &'n [Note<'n>]) -> Beside<'n> {
+        Beside { notes, len }
     }
 
     /// The name and the meaning of the item from which on this many bytes remain; each may be
     /// empty. Notes of items before it are passed.
     pub(super) fn next(&mut self, remaining: usize) -> (&'n str, &'n str) {
+        let start = self.len.saturating_sub(remaining);
         for _ in 0..self.notes.len() {
             match self.notes.first() {
-                Some(note) if note.at > remaining => {
+                Some(note) if note.start < start => {
                     self.notes = self.notes.get(1..).unwrap_or(&[]);
                 }
-                Some(note) if note.at == remaining => return (note.before, note.after),
+                Some(note) if note.start == start => return (note.before, note.after),
                 _ => break,
             }
         }

@@ -22,7 +22,7 @@ use Rattle.cbor_grammar.specs.declared.layout.Content.TheVariants as shown
 use Rattle.cbor_bytes.proofs.reading.Levels.{head_fails, too_deep, same_read, same_fails}
 use Rattle.cbor_bytes.proofs.reading.Readings.{fails_is, float_fits, parts_read, parts_ended, none_held}
 use Rattle.cbor_bytes.proofs.reading.Readings.{member_read, pair_read, tag_read, content_read}
-use Rattle.cbor_notation_writer.proofs.straight.Fronts.{leaf_written, front_so, passed, part_refused, value_refused}
+use Rattle.cbor_notation_writer.proofs.straight.Fronts.{front_so, passed, part_refused, value_refused}
 use Rattle.cbor_notation_writer.proofs.straight.Sequences.{sequence_begun, sequence_more, sequence_style, sequence_ends}
 use Rattle.cbor_notation_writer.proofs.straight.Sequences.{begun_member, sequence_written, whole_item, nothing_written}
 use Rattle.cbor_notation_writer.proofs.straight.Sequences.{embedded_written}

@@ -8,4 +8,4 @@ returns c =
     let line = c.in_ok-line.line in
     let found = c.with_note-place.ensures in
     let moved = ap (λ (x : EdnPlace). record x { line = line }) found.3 in
-    (line, inr (c.saturating_add-here.result, (found.0, found.1, found.2, moved)))
+    (line, inr (c.saturating_sub-start.result, (found.0, found.1, found.2, moved)))
