@@ -1,7 +1,7 @@
 -- If bytes are heads with the content of strings, and breaks, and no head is a simple value below 32 in two bytes
 -- (`PlainHeads`), then an item that they encode has no simple value from 24 to 31 in it. Such bytes also satisfy
 -- `StrictHeads`.
-use Rattle.std.proofs.Common.{◌≡◌, ◌⊎◌, ℕ, ◌+◌, ◌<◌, ◌≤◌, List, [], ◌∷◌, ◌++◌, length, drop, Option, Some, None, Ok}
+use Rattle.std.proofs.Common.{◌≡◌, ℕ, ◌+◌, ◌≤◌, List, [], ◌∷◌, ◌++◌, length, drop, Option, Some, None, Ok}
 use Rattle.std.proofs.Common.{inl, inr, refl, sym, ap, subst, ◌∙◌, append_assoc, append-nil, arith}
 use Rattle.std.proofs.lemmas.List.{drop_at}
 use Rattle.cbor_grammar.specs.declared.argument.Argument.{Argument}
