@@ -22,10 +22,10 @@ ADDRESSES = {(52, 4): ipv4_text, (54, 16): ipv6_text, (260, 4): ipv4_text, (260,
 
 
 class Note(NamedTuple):
-    """A note of a caller: how many bytes there are from an item on, texts for before and after it, and whether a byte
-    string is shown as the item in it."""
+    """A note of a caller: where an item begins, texts for before and after it, and whether a byte string is shown as
+    the item in it."""
 
-    left: int
+    start: int
     before: str
     after: str
     encoded: bool
@@ -110,18 +110,18 @@ def size(item):
 
 
 class NotedWriter(Writer):
-    """A writer that knows how many bytes there are from each item on, since items are written as they come."""
+    """A writer that knows where each item begins, since items are written as they come."""
 
-    def __init__(self, left, notes=(), shown=True, **style):
+    def __init__(self, notes=(), shown=True, **style):
         super().__init__(**style)
-        self.left, self.notes, self.shown = left, tuple(notes), shown
+        self.start, self.notes, self.shown = 0, tuple(notes), shown
         self.encoded = False
 
     def note(self):
         """The note of the item that comes now. One that is passed is lost."""
-        while self.notes and self.notes[0].left > self.left:
+        while self.notes and self.notes[0].start < self.start:
             self.notes = self.notes[1:]
-        if self.notes and self.notes[0].left == self.left:
+        if self.notes and self.notes[0].start == self.start:
             note, *others = self.notes
             self.notes = tuple(others)
             return note
@@ -131,14 +131,14 @@ class NotedWriter(Writer):
         return f"/{text}/" if self.shown and text is not None and is_comment(text) else ""
 
     def item(self, item, level=1, tag=None):
-        begun, note = self.left, self.note()
-        self.left -= head_size(item)
+        begun, note = self.start, self.note()
+        self.start += head_size(item)
         self.encoded = note.encoded
         before = self.comment(note.before)
         before += before and " "
         self.wrote(before)
         text = super().item(item, level, tag)
-        self.left = begun - size(item)
+        self.start = begun + size(item)
         return before + text + self.comments(item, tag, note)
 
     def comments(self, item, tag, note):
@@ -192,7 +192,7 @@ def front_to_edn(data, words, notes=()):
     """The text of the item at the front, and its length."""
     item, end = item_at(data, 0, 1)
     shown, style = style_of(words)
-    return NotedWriter(len(data), notes, shown, **style).item(item), end
+    return NotedWriter(notes, shown, **style).item(item), end
 
 
 def bytes_to_edn(data, words, notes=()):
