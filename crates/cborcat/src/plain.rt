@@ -160,11 +160,7 @@ impl Plain<'_> {
 }
 
 /// How JSON with these names is written, and where its tokens are marked, if they are to be.
-fn named<'a>(
-    style: JsonStyle,
-    names: &'a [Note<'a>],
-    marks: Option<&'a Marks>,
-) -> NamedJson<'a> {
+fn named<'a>(style: JsonStyle, names: &'a [Note<'a>], marks: Option<&'a Marks>) -> NamedJson<'a> {
     NamedJson {
         style,
         names,

@@ -8,8 +8,8 @@ use cbor_floats::{EncodedFloat, number_text};
 use cbor_grammar::strings::StringKind;
 use cbor_grammar::{FloatWidth, IntegerWidth};
 use cbor_notation_writer::budget::digit_count;
-use ryu::Buffer;
 use cbor_notes::Note;
+use ryu::Buffer;
 use std::alloc::{AllocError, Global};
 
 /// The columns of a note between slashes, with the blank beside it; none of a text that no note may
