@@ -180,14 +180,6 @@ impl<'a> Notes<'a> {
         Ok(list)
     }
 
-    /// The note at this index, in the order of the items.
-    pub fn get(&self, index: usize) -> Option<Note<'_>> {
-        match self.found.get(index) {
-            Some(found) => Some(self.note(found)),
-            None => None,
-        }
-    }
-
     /// What is written of a note that was found.
     fn note(&self, found: &Found<'a>) -> Note<'_>
         ensures { result.start ≤ len_of self.now }

@@ -1,7 +1,6 @@
 //! Loads the names that the program uses: those of `cbor_names`, and those of the file of
 //! `--names`, which is TOML or CDDL. `Tables`: these names, with the type that `--as` gives, if
-//! any. `encoded_in` finds the byte strings that hold an item, if the names say so. `key_names`
-//! finds the names of keys, for JSON.
+//! any. `encoded_in` finds the byte strings that hold an item, if the names say so.
 
 use crate::cddl::with_cddl;
 use crate::messages::{label, say};
