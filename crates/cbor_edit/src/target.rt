@@ -67,7 +67,8 @@ fn found_at(
     let notes = notes_in(alloc, picture.notes, from.span)?;
     let named = Picture {
         notes: &notes,
-        ..picture
+        tagged: picture.tagged,
+        embedded: picture.embedded,
     };
     follow(alloc, from.span.bytes(bytes), steps, named)
 }
@@ -84,7 +85,8 @@ fn lost_in(
     let notes = notes_in(alloc, picture.notes, from.span)?;
     let named = Picture {
         notes: &notes,
-        ..picture
+        tagged: picture.tagged,
+        embedded: picture.embedded,
     };
     let lost = lost_at(alloc, from.span.bytes(bytes), steps, named)?;
     let start = from.span.start.saturating_add(lost.start);

@@ -25,6 +25,7 @@ use cbor_grammar::major::Major;
 use cbor_grammar::strings::StringKind;
 use cbor_marks::Marks;
 use cbor_notes::Note;
+use cbor_trace::Span;
 use std::alloc::{AllocError, Global};
 use std::collections::BTreeMap;
 
@@ -38,40 +39,26 @@ pub struct NamedJson<'a> {
     pub marks: Option<&'a Marks>,
 }
 
-/// Some of the bytes.
-#[derive(Clone, Copy)]
-struct Span {
-    /// The first of them.
-    place: usize,
-    len: usize,
-}
-
 /// Bytes that others take the place of.
 #[derive(Clone, Copy)]
 struct Edit {
     old: Span,
-    /// Where the others begin and end, in `Pass::made`.
-    start: usize,
-    end: usize,
+    /// Where the others are in `Pass::made`.
+    new: Span,
 }
 
 /// What is known of items before they are read.
 #[derive(Clone, Copy)]
-struct Around<'p> {
+struct Known<'p> {
     /// How many bytes follow those that are read, up to the end of the outermost item's.
     behind: usize,
     /// Their place, which is that of a value.
     place: JsonPlace<'p>,
 }
 
-/// The bytes between two places; none if there are no such bytes.
-fn between(bytes: &[u8], from: usize, to: usize) -> &[u8] {
-    bytes.get(from..to).unwrap_or(b"")
-}
-
-impl<'p> Around<'p> {
+impl<'p> Known<'p> {
     /// One level below, and right below this tag, if any.
-    fn below(self, tag: Option<u64>) -> Around<'p>
+    fn below(self, tag: Option<u64>) -> Known<'p>
         requires { self.place.level ≤ deepest }
         ensures { result.place.level ≡ self.entry.place.level + 1 }
     {
@@ -80,7 +67,7 @@ impl<'p> Around<'p> {
             tag,
             ..self.place
         };
-        Around { place, ..self }
+        Known { place, ..self }
     }
 }
 
@@ -121,11 +108,11 @@ impl<'a> Pass<'a> {
     }
 
     /// Where the first of these bytes are, those before the rest.
-    fn span(&self, around: Around<'_>, bytes: &[u8], rest: &[u8]) -> Span {
-        let left = bytes.len().saturating_add(around.behind);
+    fn span(&self, known: Known<'_>, bytes: &[u8], rest: &[u8]) -> Span {
+        let end = self.total.saturating_sub(known.behind);
         Span {
-            place: self.total.saturating_sub(left),
-            len: bytes.len().saturating_sub(rest.len()),
+            start: end.saturating_sub(bytes.len()),
+            end: end.saturating_sub(rest.len()),
         }
     }
 
@@ -142,35 +129,36 @@ impl<'a> Pass<'a> {
         push_head(&mut self.made, major, len as u64, IntegerWidth::Unknown)?;
         self.made.extend_from_slice(content)?;
         let end = self.made.len();
-        self.added = self.added.saturating_add(end.saturating_sub(start));
-        self.taken = self.taken.saturating_add(old.len);
-        Ok(Edit { old, start, end })
+        let new = Span { start, end };
+        self.added = self.added.saturating_add(new.len());
+        self.taken = self.taken.saturating_add(old.len());
+        Ok(Edit { old, new })
     }
 
     /// The bytes after the item at the front; `None` if there is none.
     #[cycle(item)]
     fn item<'b>(
         &mut self,
-        around: Around<'_>,
+        known: Known<'_>,
         bytes: &'b [u8],
     ) -> Result<Option<&'b [u8]>, AllocError>
-        requires from { 1 ≤ around.place.level }
-        requires to { around.place.level ≤ deepest + 1 }
+        requires from { 1 ≤ known.place.level }
+        requires to { known.place.level ≤ deepest + 1 }
     {
-        if around.place.level > DEEPEST {
+        if known.place.level > DEEPEST {
             return Ok(None);
         }
         let Ok((head, rest)) = read_head(bytes) else {
             return Ok(None);
         };
         match head {
-            ItemHead::Array(count) => self.members(around.below(None), count, rest),
-            ItemHead::Map(count) => self.pairs(around.below(None), count, rest),
-            ItemHead::Tag(tag, _) => self.item(around.below(Some(tag)), rest),
+            ItemHead::Array(count) => self.members(known.below(None), count, rest),
+            ItemHead::Map(count) => self.pairs(known.below(None), count, rest),
+            ItemHead::Tag(tag, _) => self.item(known.below(Some(tag)), rest),
             ItemHead::String(StringKind::Bytes, Argument::Number(len, _)) => {
-                self.byte_string(around, bytes, (len, rest))
+                self.byte_string(known, bytes, (len, rest))
             }
-            _ => Ok(after_front(bytes, around.place.level)),
+            _ => Ok(after_front(bytes, known.place.level)),
         }
     }
 
@@ -178,7 +166,7 @@ impl<'a> Pass<'a> {
     #[cycle(item)]
     fn members<'b>(
         &mut self,
-        inside: Around<'_>,
+        inside: Known<'_>,
         count: Argument,
         bytes: &'b [u8],
     ) -> Result<Option<&'b [u8]>, AllocError>
@@ -202,7 +190,7 @@ impl<'a> Pass<'a> {
     #[cycle(item)]
     fn pairs<'b>(
         &mut self,
-        inside: Around<'_>,
+        inside: Known<'_>,
         count: Argument,
         bytes: &'b [u8],
     ) -> Result<Option<&'b [u8]>, AllocError>
@@ -226,19 +214,15 @@ impl<'a> Pass<'a> {
     }
 
     /// The bytes after the key at the front.
-    fn key<'b>(
-        &mut self,
-        around: Around<'_>,
-        bytes: &'b [u8],
-    ) -> Result<Option<&'b [u8]>, AllocError>
-        requires from { 1 ≤ around.place.level }
-        requires to { around.place.level ≤ deepest + 1 }
+    fn key<'b>(&mut self, known: Known<'_>, bytes: &'b [u8]) -> Result<Option<&'b [u8]>, AllocError>
+        requires from { 1 ≤ known.place.level }
+        requires to { known.place.level ≤ deepest + 1 }
     {
-        let Some(rest) = after_front(bytes, around.place.level) else {
+        let Some(rest) = after_front(bytes, known.place.level) else {
             return Ok(None);
         };
-        let old = self.span(around, bytes, rest);
-        if let Some(name) = self.name_of(old.place, bytes) {
+        let old = self.span(known, bytes, rest);
+        if let Some(name) = self.name_of(old.start, bytes) {
             let text = name.as_bytes();
             let edit = self.make(old, (Major::Text, text.len()), text)?;
             self.edits.push(edit)?;
@@ -258,24 +242,24 @@ impl<'a> Pass<'a> {
     #[cycle(item)]
     fn byte_string<'b>(
         &mut self,
-        around: Around<'_>,
+        known: Known<'_>,
         bytes: &'b [u8],
         inner: (u64, &'b [u8]),
     ) -> Result<Option<&'b [u8]>, AllocError>
-        requires from { 1 ≤ around.place.level }
-        requires to { around.place.level ≤ deepest }
+        requires from { 1 ≤ known.place.level }
+        requires to { known.place.level ≤ deepest }
     {
         let (len, rest) = inner;
         let Ok((content, after)) = split_at(rest, len) else {
             return Ok(None);
         };
-        let inside = Around {
-            behind: around.behind.saturating_add(after.len()),
-            ..around.below(None)
+        let inside = Known {
+            behind: known.behind.saturating_add(after.len()),
+            ..known.below(None)
         };
-        let may_be_item = matches!(content_at(&around.place, content), Content::Item);
+        let may_be_item = matches!(content_at(&known.place, content), Content::Item);
         if may_be_item && is_item(content, inside.place.level) {
-            let head = self.span(around, bytes, rest);
+            let head = self.span(known, bytes, rest);
             self.embedded(inside, content, head)?;
         }
         Ok(Some(after))
@@ -283,18 +267,20 @@ impl<'a> Pass<'a> {
 
     /// The item that is the content of a byte string with this head.
     #[cycle(item)]
-    fn embedded(&mut self, inside: Around<'_>, content: &[u8], head: Span) -> Result<(), AllocError>
+    fn embedded(&mut self, inside: Known<'_>, content: &[u8], head: Span) -> Result<(), AllocError>
         requires from { 1 ≤ inside.place.level }
         requires to { inside.place.level ≤ deepest + 1 }
     {
         let index = self.edits.len();
         let (added, taken) = (self.added, self.taken);
         // The edit of the head stands before those of the content, which decide the new length.
-        let none = Span { len: 0, ..head };
+        let none = Span {
+            start: head.start,
+            end: head.start,
+        };
         self.edits.push(Edit {
             old: none,
-            start: 0,
-            end: 0,
+            new: none,
         })?;
         let _ = self.item(inside, content)?;
         if self.edits.len() == index.saturating_add(1) {
@@ -315,11 +301,15 @@ impl<'a> Pass<'a> {
         let mut edited = Vec::with_capacity(alloc, bytes.len())?;
         let mut at = 0;
         for edit in &self.edits {
-            edited.extend_from_slice(between(bytes, at, edit.old.place))?;
-            edited.extend_from_slice(between(&self.made, edit.start, edit.end))?;
-            at = edit.old.place.saturating_add(edit.old.len);
+            let kept = Span {
+                start: at,
+                end: edit.old.start,
+            };
+            edited.extend_from_slice(kept.bytes(bytes))?;
+            edited.extend_from_slice(edit.new.bytes(&self.made))?;
+            at = edit.old.end;
         }
-        edited.extend_from_slice(between(bytes, at, bytes.len()))?;
+        edited.extend_from_slice(bytes.get(at..).unwrap_or(b""))?;
         Ok(edited)
     }
 
@@ -328,16 +318,16 @@ impl<'a> Pass<'a> {
         // From `to` on, the edited bytes are those from `from` on.
         let (mut to, mut from) = (0usize, 0usize);
         for edit in &self.edits {
-            let begins = to.saturating_add(edit.old.place.saturating_sub(from));
-            let ends = begins.saturating_add(edit.end.saturating_sub(edit.start));
+            let begins = to.saturating_add(edit.old.start.saturating_sub(from));
+            let ends = begins.saturating_add(edit.new.len());
             if place < begins {
                 break;
             }
             if place < ends {
-                return edit.old.place;
+                return edit.old.start;
             }
             to = ends;
-            from = edit.old.place.saturating_add(edit.old.len);
+            from = edit.old.end;
         }
         from.saturating_add(place.saturating_sub(to))
     }
@@ -395,11 +385,11 @@ pub fn bytes_to_json_named(
         return marked_json(alloc, bytes, style, named.marks);
     }
     let mut pass = Pass::new(alloc, bytes.len(), named.names)?;
-    let around = Around {
+    let known = Known {
         behind: 0,
         place: JsonPlace::new(alloc, style, None),
     };
-    let edited = match pass.item(around, bytes)? {
+    let edited = match pass.item(known, bytes)? {
         Some([]) => pass.edited(alloc, bytes)?,
         // No item, or one and more bytes: the error says which.
         _ => Vec::from_slice(alloc, bytes)?,

@@ -1,6 +1,6 @@
 //! Makes the lines of a long string in a dump that shows only the first bytes of long strings.
 
-use crate::dump::lines::{Lines, Piece};
+use crate::dump::lines::{CutLine, Lines};
 use cbor_dump::comment::Comment;
 use cbor_dump::context::DumpContext;
 use cbor_dump::width::{PIECE, SHORT_TEXT, text_cut};
@@ -41,9 +41,9 @@ pub(super) fn push_cut<L: Lines>(
         let left = most.saturating_sub(at);
         let len = cut.line_len(at);
         if len > left {
-            return lines.piece(depth, &cut.last(at, left));
+            return lines.cut_line(depth, &cut.last(at, left));
         }
-        lines.piece(depth, &cut.whole(at, len))?;
+        lines.cut_line(depth, &cut.whole(at, len))?;
         at = at.saturating_add(len);
     }
     Ok(())
@@ -89,14 +89,14 @@ impl<'a> Cut<'a> {
     }
 
     /// A line that is shown whole. In base 64 it says all that is shown of the string.
-    fn whole(&self, at: usize, len: usize) -> Piece<'a> {
+    fn whole(&self, at: usize, len: usize) -> CutLine<'a> {
         let bytes = self.bytes(at, len);
         let comment = match self.elements {
             Some((tag, _)) => Comment::Element(tag, bytes),
             None => self.comment(at, len),
         };
         let goes_on = self.elements.is_none() && self.is_in_base_64();
-        Piece {
+        CutLine {
             bytes,
             comment,
             goes_on,
@@ -106,10 +106,10 @@ impl<'a> Cut<'a> {
 
     /// The last line, with at most `left` bytes: whole characters, and no part of an
     /// element.
-    fn last(&self, at: usize, left: usize) -> Piece<'a> {
+    fn last(&self, at: usize, left: usize) -> CutLine<'a> {
         let cut = Some(self.content.as_bytes().len());
         if self.elements.is_some() {
-            return Piece {
+            return CutLine {
                 bytes: b"",
                 comment: Comment::Note("..."),
                 goes_on: false,
@@ -120,7 +120,7 @@ impl<'a> Cut<'a> {
             StringContent::Bytes(_) => left,
             StringContent::Text(_) => self.text(at).floor_char_boundary(left),
         };
-        Piece {
+        CutLine {
             bytes: self.bytes(at, len),
             comment: self.comment(at, len),
             goes_on: true,

@@ -21,7 +21,7 @@ pub(super) fn at_most(number: usize, most: usize) -> usize
 
 /// A line of a string that is cut.
 #[derive(Clone, Copy)]
-pub(super) struct Piece<'a> {
+pub(super) struct CutLine<'a> {
     /// The bytes that it shows.
     pub bytes: &'a [u8],
     /// What it says of them.
@@ -53,7 +53,7 @@ pub(super) trait Lines {
     ) -> Result<(), AllocError>;
 
     /// Takes a line of the content of a string that is cut.
-    fn piece(&mut self, depth: usize, piece: &Piece<'_>) -> Result<(), AllocError>;
+    fn cut_line(&mut self, depth: usize, line: &CutLine<'_>) -> Result<(), AllocError>;
 
     /// Takes the line of a break.
     fn end(&mut self, depth: usize) -> Result<(), AllocError>;

@@ -1,7 +1,7 @@
 //! `Measure`: finds how wide the column of hex digits of a dump has to be. It implements `Lines`,
 //! but writes nothing.
 
-use crate::dump::lines::{Lines, MOST_DEPTH, Piece, at_most};
+use crate::dump::lines::{CutLine, Lines, MOST_DEPTH, at_most};
 use cbor_dump::context::DumpContext;
 use cbor_dump::width::{Reach, longest_piece};
 use cbor_grammar::Tag;
@@ -61,9 +61,9 @@ impl Lines for Measure {
         Ok(())
     }
 
-    fn piece(&mut self, depth: usize, piece: &Piece<'_>) -> Result<(), AllocError> {
-        let dots = if piece.cut.is_some() { 3 } else { 0 };
-        let digits = piece.bytes.len().saturating_mul(2).saturating_add(dots);
+    fn cut_line(&mut self, depth: usize, line: &CutLine<'_>) -> Result<(), AllocError> {
+        let dots = if line.cut.is_some() { 3 } else { 0 };
+        let digits = line.bytes.len().saturating_mul(2).saturating_add(dots);
         self.reach
             .line(at_most(depth, MOST_DEPTH), at_most(digits, MOST_DIGITS));
         Ok(())

@@ -3,7 +3,7 @@
 ghost use Rattle.std.specs.Prelude.{◌≤◌, length};
 
 use crate::dump::beside::{Beside, push_word};
-use crate::dump::lines::{Lines, MOST_DEPTH, Piece, at_most};
+use crate::dump::lines::{CutLine, Lines, MOST_DEPTH, at_most};
 use crate::dump::walk::has_level_left;
 use cbor_dump::comment::Comment;
 use cbor_dump::context::DumpContext;
@@ -149,7 +149,7 @@ impl<'n> Writing<'n> {
     }
 
     /// Writes the last line of a string that is cut, with the comment that is said.
-    fn line_cut(&mut self, depth: usize, bytes: &[u8]) -> Result<(), AllocError> {
+    fn last_line(&mut self, depth: usize, bytes: &[u8]) -> Result<(), AllocError> {
         let blanks = depth.saturating_mul(3);
         let digits = bytes.len().saturating_mul(2).saturating_add(3);
         let width = self.walk.writer.width;
@@ -201,20 +201,20 @@ impl Lines for Writing<'_> {
         self.walk.writer.string_content(context, content)
     }
 
-    fn piece(&mut self, depth: usize, piece: &Piece<'_>) -> Result<(), AllocError> {
+    fn cut_line(&mut self, depth: usize, line: &CutLine<'_>) -> Result<(), AllocError> {
         self.said.clear();
-        piece.comment.push(&mut self.said)?;
-        if piece.goes_on {
+        line.comment.push(&mut self.said)?;
+        if line.goes_on {
             let quote = self.said.pop().unwrap_or('"');
             self.said.push_str("...")?;
             self.said.push(quote)?;
         }
-        match piece.cut {
+        match line.cut {
             Some(len) => {
                 write!(self.said, " /{len} bytes/")?;
-                self.line_cut(depth, piece.bytes)
+                self.last_line(depth, line.bytes)
             }
-            None => self.line_said(depth, HexStyle::Content, piece.bytes),
+            None => self.line_said(depth, HexStyle::Content, line.bytes),
         }
     }
 
