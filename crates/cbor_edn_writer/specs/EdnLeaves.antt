@@ -137,6 +137,11 @@ abbrev pub LaidOut : EdnPlace → EdnPlace → Type 0
 LaidOut p q = (line : Line) × ((q ≡ record p { line = line })
     ⊎ ((start : ℕ) × FoundAt (record p { line = line }) start q))
 
+-- The same where notes are given, and this many bytes are left from the item on: the item begins that many before the
+-- end, and the note that it may get is given for that place.
+abbrev pub NotedAt : EdnPlace → ℕ → EdnPlace → Type 0
+NotedAt p left q = (line : Line) × FoundAt (record p { line = line }) (p.end - left) q
+
 -- How many bytes the width of an argument is, after the first byte of its head.
 abbrev pub argument_bytes : IntegerWidth → ℕ
 argument_bytes width.Eight = 1

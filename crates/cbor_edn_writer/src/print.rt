@@ -18,6 +18,7 @@ mod text;
 ghost use Rattle.std.specs.Prelude.{◌<◌, ◌^◌};
 ghost use Rattle.cbor_grammar.specs.NotationText.{style_indent};
 ghost use Rattle.cbor_tokens.specs.Appends.{AppendsText};
+ghost use Rattle.cbor_notation_writer.specs.Dialect.{anywhere};
 ghost use Rattle.cbor_edn_writer.specs.EdnLeaves.{edn_leaves};
 
 use crate::print::leaf::{push_leaf, push_string};
@@ -47,6 +48,8 @@ impl<'a> Dialect for Edn<'a> {
     type Place = EdnPlace<'a>;
 
     ghost leaves = { edn_leaves };
+
+    ghost becomes = { anywhere edn_leaves };
 
     #[inline(always)]
     fn moves(place: &EdnPlace<'a>, head: ItemHead) -> bool {

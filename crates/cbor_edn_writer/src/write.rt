@@ -16,7 +16,7 @@ ghost use Rattle.cbor_edn_grammar.specs.Edn.{bytes_of_edn};
 ghost use Rattle.cbor_edn_grammar.specs.Reserved.{IsItem8949};
 ghost use Rattle.cbor_edn_writer.specs.Written.{IsEdnText, AppendsEdn, GaveEdn, line_style};
 ghost use Rattle.cbor_edn_writer.specs.Written.{pretty_style};
-ghost use Rattle.cbor_edn_writer.specs.Written.{IsNotedText, AppendsNoted, GaveNoted};
+ghost use Rattle.cbor_edn_writer.specs.Written.{IsNotedFrom, AppendsNoted, GaveNoted};
 
 use crate::print::Edn;
 use crate::print::noted::NotedEdn;
@@ -99,9 +99,9 @@ pub fn push_bytes_to_edn(
 ) -> cbor_grammar::Result<()>
     // The text of the item that the bytes encode, if and only if they encode one.
     ensures ok { OnOk result ((i : Item) × IsItem bytes.now i
-        × AppendsEdn style i (string_bytes out.old) (string_bytes out.new)) }
+        × AppendsEdn bytes.now style i (string_bytes out.old) (string_bytes out.new)) }
     ensures every_item { (i : Item) → IsItem bytes.now i → MatchResult result
-        (λ _. AppendsEdn style i (string_bytes out.old) (string_bytes out.new))
+        (λ _. AppendsEdn bytes.now style i (string_bytes out.old) (string_bytes out.new))
         (λ e. e ≡ Error.Memory) }
 
     // Each error, if and only if the bytes have it.
@@ -160,11 +160,11 @@ pub fn push_bytes_to_edn_noted(
 ) -> cbor_grammar::Result<()>
     // The text of the item that the bytes encode, if and only if they encode one.
     ensures ok { OnOk result ((i : Item) × IsItem bytes.now i
-        × AppendsNoted noted.entry.style noted.entry.notes.now i (string_bytes out.old)
-        (string_bytes out.new)) }
+        × AppendsNoted bytes.now noted.entry.style noted.entry.notes.now i
+        (string_bytes out.old) (string_bytes out.new)) }
     ensures every_item { (i : Item) → IsItem bytes.now i → MatchResult result
-        (λ _. AppendsNoted noted.entry.style noted.entry.notes.now i (string_bytes out.old)
-        (string_bytes out.new))
+        (λ _. AppendsNoted bytes.now noted.entry.style noted.entry.notes.now i
+        (string_bytes out.old) (string_bytes out.new))
         (λ e. e ≡ Error.Memory) }
 
     // Each error, if and only if the bytes have it.
@@ -200,13 +200,13 @@ pub fn push_bytes_to_edn_partial(
 ) -> cbor_grammar::Result<Option<usize>>
     // Each of the three results, only if it is true.
     ensures found { IfOk result (λ o. IfSome o (λ n. (i : Item) × BeginsWithItem bytes.now i n
-        × AppendsEdn style i (string_bytes out.old) (string_bytes out.new))) }
+        × AppendsEdn bytes.now style i (string_bytes out.old) (string_bytes out.new))) }
     ensures cut { result ≡ Ok None → IsCut bytes.now }
     ensures fault { RefusedSo result (HasFault bytes.now) }
 
     // Bytes begin in exactly one of the three ways, and that one is returned.
     ensures exact { (o : Outcome) → BeginsSo bytes.now o
-        → GaveEdn style result (string_bytes out.old) (string_bytes out.new) o }
+        → GaveEdn bytes.now style result (string_bytes out.old) (string_bytes out.new) o }
     ensures one_of_three { BeginsInOneWay bytes.now }
 
     // Nothing is appended without an item.
@@ -231,15 +231,15 @@ pub fn push_bytes_to_edn_noted_partial(
 ) -> cbor_grammar::Result<Option<usize>>
     // Each of the three results, only if it is true.
     ensures found { IfOk result (λ o. IfSome o (λ n. (i : Item) × BeginsWithItem bytes.now i n
-        × AppendsNoted noted.entry.style noted.entry.notes.now i (string_bytes out.old)
-        (string_bytes out.new))) }
+        × AppendsNoted bytes.now noted.entry.style noted.entry.notes.now i
+        (string_bytes out.old) (string_bytes out.new))) }
     ensures cut { result ≡ Ok None → IsCut bytes.now }
     ensures fault { RefusedSo result (HasFault bytes.now) }
 
     // Bytes begin in exactly one of the three ways, and that one is returned.
     ensures exact { (o : Outcome) → BeginsSo bytes.now o
-        → GaveNoted noted.entry.style noted.entry.notes.now result (string_bytes out.old)
-        (string_bytes out.new) o }
+        → GaveNoted bytes.now noted.entry.style noted.entry.notes.now result
+        (string_bytes out.old) (string_bytes out.new) o }
     ensures one_of_three { BeginsInOneWay bytes.now }
 
     // Nothing is appended without an item.
@@ -264,8 +264,8 @@ fn push_front<'a>(
     alloc: Global,
 ) -> cbor_grammar::Result<&'a [u8]>
     ensures written { IfOk result (λ rest.
-        Written (IsNotedText noted.entry.style noted.entry.notes.now) (read_item deepest bytes.now)
-        rest.now (string_bytes out.old) (string_bytes out.new)) }
+        Written (IsNotedFrom bytes.now noted.entry.style noted.entry.notes.now)
+        (read_item deepest bytes.now) rest.now (string_bytes out.old) (string_bytes out.new)) }
     ensures refused { IfErr result (λ e. Fails e (read_item deepest bytes.now)) }
     ensures unchanged { OnErr result (string_bytes out.new ≡ string_bytes out.old) }
 {
@@ -285,8 +285,8 @@ fn push_only(
     alloc: Global,
 ) -> cbor_grammar::Result<()>
     ensures ok { OnOk result ((i : Item) × IsItem bytes.now i
-        × AppendsNoted noted.entry.style noted.entry.notes.now i (string_bytes out.old)
-        (string_bytes out.new)) }
+        × AppendsNoted bytes.now noted.entry.style noted.entry.notes.now i
+        (string_bytes out.old) (string_bytes out.new)) }
     ensures refused { RefusedSo result (IsNoItem bytes.now) }
     ensures unchanged { OnErr result (string_bytes out.new ≡ string_bytes out.old) }
 {

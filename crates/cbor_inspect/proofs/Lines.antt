@@ -21,6 +21,7 @@ use Rattle.cbor_edn_grammar.specs.Reserved.{NoneReserved}
 use Rattle.cbor_edn_writer.specs.Written.{IsNotedText}
 use Rattle.cbor_edn_writer.proofs.back.Lines.{AreTextsOf, lines_of, lines_back}
 use Rattle.cbor_edn_writer.proofs.back.Lines as edn
+use Rattle.cbor_edn_writer.proofs.writing.Edn.{text_from}
 use Rattle.cbor_inspect.specs.declared.form.Form.{Form}
 use Rattle.cbor_inspect.specs.declared.form.Form.TheVariants as form
 use Rattle.cbor_inspect.specs.declared.items.Show.{Show}
@@ -133,7 +134,14 @@ text_lines show is_edn whole (i ∷ is) b rest written (front, after, splits, s,
     record {
       texts = text ∷ lines.texts;
       whole = joined ∙ ap (λ t. t ++ others) line.3 ∙ ap (λ t. (text ++ 10 ∷ []) ++ t) lines.whole;
-      each = ((noted.place, noted.outermost.level, noted.written), lines.each);
+      each = (
+        (
+          noted.place,
+          noted.outermost.level,
+          text_from line.0 noted.place noted.bytes i text noted.written,
+        ),
+        lines.each,
+      );
     }
 
 pub items_read_back : (show : Show) (input rest written : List ℕ)

@@ -11,6 +11,7 @@ pub(crate) mod text;
 ghost use Rattle.std.specs.Prelude.{◌<◌, ◌^◌};
 ghost use Rattle.cbor_grammar.specs.NotationText.{style_indent};
 ghost use Rattle.cbor_tokens.specs.Appends.{AppendsText};
+ghost use Rattle.cbor_notation_writer.specs.Dialect.{anywhere};
 ghost use Rattle.cbor_json.specs.JsonLeaves.{json_leaves};
 
 use crate::print::leaf::push_leaf;
@@ -42,6 +43,8 @@ impl<'a> Dialect for Json<'a> {
     type Place = JsonPlace<'a>;
 
     ghost leaves = { json_leaves };
+
+    ghost becomes = { anywhere json_leaves };
 
     #[inline(always)]
     fn moves(_place: &JsonPlace<'a>, _head: ItemHead) -> bool {

@@ -8,3 +8,4 @@ pub mod Texts
 pub mod ChunkTexts
 pub mod Wrote
 pub mod DiagTexts
+pub mod Located

@@ -1,7 +1,8 @@
 -- `Leaves`: a dialect of notation. It has the texts of numbers, strings and tags, and what is written before, between
--- and after members. `TextsAt`: the texts that an item has in a dialect. `Writes`: one of some texts was appended.
-use Rattle.std.specs.Prelude.{◌≡◌, ℕ, zero, suc, List, [], ◌∷◌, ◌++◌, length, Bool, true, false, Option, Some}
-use Rattle.std.specs.Prelude.{None, Result, MatchResult, nat_lt, if◌then◌else◌}
+-- and after members. `TextsAt`: the texts that an item has in a dialect. `located`: the same dialect, where a place
+-- also has the bytes there. `Writes`: one of some texts was appended.
+use Rattle.std.specs.Prelude.{◌≡◌, ℕ, zero, suc, List, [], ◌∷◌, ◌++◌, length, take, Bool, true, false, Option, Some}
+use Rattle.std.specs.Prelude.{None, Result, Ok, Err, MatchResult, nat_lt, if◌then◌else◌}
 use Rattle.std.specs.Io.{StartsWith}
 use Rattle.std.specs.List.{flat_map}
 use Rattle.std.specs.String.{string_bytes}
@@ -24,6 +25,7 @@ use Rattle.cbor_grammar.specs.Item as spec
 use Rattle.cbor_grammar.specs.Item.{Chunk, Atom, string, chunked_string, Item, atom, array, tagged, Items, no_items}
 use Rattle.cbor_grammar.specs.Item.{item, Pairs, no_pairs, pair, item_count, pair_count}
 use Rattle.cbor_grammar.specs.NotationText.{members_layout, sequence_size}
+use Rattle.cbor_grammar.specs.Reading.{Read, read_head, read_item}
 use Rattle.cbor_grammar.specs.WellFormed.{levels_left}
 use Rattle.cbor_notation_writer.specs.declared.parts.Container.{Container}
 use Rattle.cbor_notation_writer.specs.declared.parts.Container.TheVariants.{Array, Map, Chunks, Embedded}
@@ -219,3 +221,56 @@ TextsOf {Place} d (suc left) p i t = (q : Place) × d.At p q × TextWith d left 
 -- the texts of an item there
 abbrev pub TextsAt : {Place : Type 0} → Leaves Place → Writer Place
 TextsAt d p = TextsOf d (levels_left (d.level p)) p
+
+-- ---- items at their places in the bytes
+
+-- what the place of an item becomes, once its head is read, where this many bytes are left from the item on
+abbrev pub Becomes : Type 0 → Type 1
+Becomes Place = Place → ℕ → Place → Type 0
+
+-- the same wherever the item begins
+abbrev pub anywhere : {Place : Type 0} → Leaves Place → Becomes Place
+anywhere d p left q = d.At p q
+
+-- the bytes after what was read
+abbrev pub after_read : {X : Type 0} → Read X → List ℕ
+after_read (Ok x) = x.1
+after_read (Err e) = []
+
+-- the bytes that the members of a container are read from, of those after its head
+abbrev pub bytes_in : Container → List ℕ → List ℕ
+bytes_in (Embedded (Number n w)) b = take n b
+bytes_in c b = b
+
+-- a place with the bytes there
+abbrev pub with_bytes : {Place : Type 0} → Place → List ℕ → Place × List ℕ
+with_bytes p b = (p, b)
+
+-- The same dialect, where a place also has the bytes from the item on, and those after its head once that is read. So
+-- what the place of an item becomes depends on where the item begins.
+abbrev pub located : {Place : Type 0} → Leaves Place → Becomes Place → Leaves (Place × List ℕ)
+located {Place} d becomes = record {
+  At = λ (p : Place × List ℕ) (q : Place × List ℕ).
+      becomes p.0 (length p.1) q.0 × (q.1 ≡ after_read (read_head p.1));
+  level = λ (p : Place × List ℕ). d.level p.0;
+  layout = λ (p : Place × List ℕ). d.layout p.0;
+  style = λ (p : Place × List ℕ). d.style p.0;
+  content = λ (p : Place × List ℕ). d.content p.0;
+  joins = λ (p : Place × List ℕ). d.joins p.0;
+  inside = λ c l (p : Place × List ℕ). (d.inside c l p.0, bytes_in c p.1);
+  next = λ (p : Place × List ℕ). (d.next p.0, after_read (read_item (levels_left (d.level p.0)) p.1));
+  value = λ k (p : Place × List ℕ). (d.value k p.0, after_read (read_item (levels_left (d.level p.0)) p.1));
+  below = λ n (p : Place × List ℕ). (d.below n p.0, p.1);
+  leaf = λ (p : Place × List ℕ). d.leaf p.0;
+  string = λ (p : Place × List ℕ). d.string p.0;
+  part = λ (p : Place × List ℕ). d.part p.0;
+  no_parts = λ (p : Place × List ℕ). d.no_parts p.0;
+  opening = λ (p : Place × List ℕ). d.opening p.0;
+  closing = λ (p : Place × List ℕ). d.closing p.0;
+  rest = λ (p : Place × List ℕ). d.rest p.0;
+  tag = λ (p : Place × List ℕ). d.tag p.0;
+  tag_end = λ (p : Place × List ℕ). d.tag_end p.0;
+  start = d.start;
+  end = d.end;
+  colon = d.colon;
+}

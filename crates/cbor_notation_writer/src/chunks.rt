@@ -9,7 +9,7 @@ ghost use Rattle.cbor_grammar.specs.NotationText.{style_indent};
 ghost use Rattle.cbor_grammar.specs.Reading.{Fails};
 ghost use Rattle.cbor_grammar.specs.WellFormed.{deepest};
 ghost use Rattle.cbor_grammar.specs.mirror.AtLevel.{read_behind};
-ghost use Rattle.cbor_notation_writer.specs.Dialect.{Writes};
+ghost use Rattle.cbor_notation_writer.specs.Dialect.{Writes, located};
 ghost use Rattle.cbor_notation_writer.specs.mirror.Straight.{Written, TextsHere, IsLaidOut};
 ghost use Rattle.cbor_notation_writer.specs.mirror.Straight.{BeforeChunk, AfterChunks};
 
@@ -33,7 +33,8 @@ pub(crate) fn push_chunks_front<'a, D: Dialect>(
 ) -> cbor_grammar::Result<&'a [u8]>
     requires level { D.leaves.level place.now ≤ deepest }
     requires indent { IsLaidOut D.leaves place.now }
-    ensures printed { IfOk result (λ rest. Written (TextsHere D.leaves place.now)
+    ensures printed { IfOk result (λ rest. Written (TextsHere (located D.leaves D.becomes)
+        (place.now, bytes.now))
         (read_behind (D.leaves.level place.now)
         (ItemHead.String kind Argument.Indefinite) bytes.now)
         rest.now (string_bytes out.old) (string_bytes out.new)) }
@@ -57,7 +58,8 @@ fn push_joined_front<'a, D: Dialect>(
 ) -> cbor_grammar::Result<&'a [u8]>
     requires joins { D.leaves.joins place.now StringKind.Bytes ≡ true }
     requires level { D.leaves.level place.now ≤ deepest }
-    ensures printed { IfOk result (λ rest. Written (TextsHere D.leaves place.now)
+    ensures printed { IfOk result (λ rest. Written (TextsHere (located D.leaves D.becomes)
+        (place.now, bytes.now))
         (read_behind (D.leaves.level place.now)
         (ItemHead.String StringKind.Bytes Argument.Indefinite) bytes.now)
         rest.now (string_bytes out.old) (string_bytes out.new)) }
@@ -90,7 +92,8 @@ fn push_parts_front<'a, D: Dialect>(
     requires parts { D.leaves.joins place.now kind ≡ false }
     requires level { D.leaves.level place.now ≤ deepest }
     requires indent { IsLaidOut D.leaves place.now }
-    ensures printed { IfOk result (λ rest. Written (TextsHere D.leaves place.now)
+    ensures printed { IfOk result (λ rest. Written (TextsHere (located D.leaves D.becomes)
+        (place.now, bytes.now))
         (read_behind (D.leaves.level place.now)
         (ItemHead.String kind Argument.Indefinite) bytes.now)
         rest.now (string_bytes out.old) (string_bytes out.new)) }

@@ -6,6 +6,7 @@ ghost use Rattle.std.specs.Prelude.{◌≡◌, ◌+◌, ◌≤◌};
 ghost use Rattle.cbor_grammar.specs.WellFormed.{deepest};
 ghost use Rattle.cbor_grammar.specs.mirror.StringView.{kind_of};
 ghost use Rattle.cbor_tokens.specs.Appends.{AppendsText};
+ghost use Rattle.cbor_notation_writer.specs.Dialect.{anywhere};
 ghost use Rattle.cbor_notation_writer.specs.mirror.LayoutView.{IsIndented, content_there};
 ghost use Rattle.cbor_notation_writer.specs.mirror.DiagLeaves.{diag_leaves};
 
@@ -33,6 +34,8 @@ impl Dialect for Diag {
     type Place = NotationContext;
 
     ghost leaves = { diag_leaves };
+
+    ghost becomes = { anywhere diag_leaves };
 
     #[inline(always)]
     fn moves(_place: &NotationContext, _head: ItemHead) -> bool {

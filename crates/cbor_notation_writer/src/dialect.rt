@@ -4,7 +4,7 @@
 //! item.
 
 ghost use Rattle.std.specs.Prelude.{◌≡◌, ◌+◌, ◌<◌, ◌≤◌, ◌^◌, ℕ, List, Option, Ok, IfOk, IfSome};
-ghost use Rattle.std.specs.Prelude.{false, is_some};
+ghost use Rattle.std.specs.Prelude.{false, is_some, length};
 ghost use Rattle.std.specs.Io.{StartsWith};
 ghost use Rattle.std.specs.String.{string_bytes};
 ghost use Rattle.cbor_grammar.specs.Embedded.{sequence_at};
@@ -18,7 +18,7 @@ ghost use Rattle.cbor_grammar.specs.WellFormed.{deepest, levels_left};
 ghost use Rattle.cbor_grammar.specs.mirror.AtLevel.{body_read};
 ghost use Rattle.cbor_grammar.specs.mirror.StringView.{kind_of, borrowed_chunk};
 ghost use Rattle.cbor_tokens.specs.Appends.{AppendsText};
-ghost use Rattle.cbor_notation_writer.specs.Dialect.{Leaves, Writes};
+ghost use Rattle.cbor_notation_writer.specs.Dialect.{Leaves, Becomes, Writes};
 ghost use Rattle.cbor_notation_writer.specs.mirror.LeafView.{atom_of, FitsLeaf};
 
 use crate::parts::{Container, Front, Leaf};
@@ -37,14 +37,17 @@ pub trait Dialect {
 
     ghost leaves: { Leaves Self.Place };
 
+    ghost becomes: { Becomes Self.Place };
+
     /// Whether the place of an item may change once its head is read. If not, it stays the same.
     fn moves(place: &Self::Place, head: ItemHead) -> bool
-        ensures stays { result ≡ false → leaves.At place.now place.now };
+        ensures stays { result ≡ false → (left : ℕ) → becomes place.now left place.now };
 
     /// The place of an item, once its head is read, where it may change. The bytes of the item are
     /// those of the input, or of the byte string that embeds it. `out` has the text before it.
     fn at(place: &Self::Place, out: &String, front: Front<'_>) -> Result<Self::Place, AllocError>
-        ensures place { IfOk result (λ moved. leaves.At place.now moved) }
+        ensures place { IfOk result (λ moved.
+            becomes place.now (length front.entry.bytes.now) moved) }
         ensures level { IfOk result (λ moved. leaves.level moved ≡ leaves.level place.now) }
         ensures layout { IfOk result (λ moved. leaves.layout moved ≡ leaves.layout place.now) };
 

@@ -12,7 +12,8 @@ ghost use Rattle.std.specs.String.{string_bytes};
 ghost use Rattle.cbor_grammar.specs.declared.layout.Content.TheVariants as shown;
 ghost use Rattle.cbor_grammar.specs.Reading.{Fails, read_head as head_read};
 ghost use Rattle.cbor_grammar.specs.WellFormed.{deepest};
-ghost use Rattle.cbor_notation_writer.specs.Dialect.{Writes, TextsAt};
+ghost use Rattle.cbor_notation_writer.specs.Dialect.{Writes, TextsAt, located};
+ghost use Rattle.cbor_grammar.specs.mirror.StringView.{borrowed_chunk};
 ghost use Rattle.cbor_grammar.specs.mirror.AtLevel.{read_at, read_behind};
 ghost use Rattle.cbor_notation_writer.specs.mirror.Straight.{Written, TextsHere, IsLaidOut};
 ghost use Rattle.cbor_notation_writer.specs.mirror.Straight.{chunk, ContentThere, StringThere};
@@ -45,7 +46,8 @@ pub fn push_front<'a, D: Dialect>(
 ) -> cbor_grammar::Result<&'a [u8]>
     requires level { D.leaves.level place.now ≤ deepest + 1 }
     requires indent { IsLaidOut D.leaves place.now }
-    ensures printed { IfOk result (λ rest. Written (TextsAt D.leaves place.now)
+    ensures printed { IfOk result (λ rest. Written (TextsAt (located D.leaves D.becomes)
+        (place.now, bytes.now))
         (read_at (D.leaves.level place.now) bytes.now)
         rest.now (string_bytes out.old) (string_bytes out.new)) }
     ensures refused { IfErr result
@@ -75,7 +77,8 @@ fn push_moved<'a, D: Dialect>(
     requires level { D.leaves.level place.now ≤ deepest }
     requires indent { IsLaidOut D.leaves place.now }
     requires head { head_read bytes.now ≡ Ok (front.0, front.1.now) }
-    ensures printed { IfOk result (λ rest. Written (TextsAt D.leaves place.now)
+    ensures printed { IfOk result (λ rest. Written (TextsAt (located D.leaves D.becomes)
+        (place.now, bytes.now))
         (read_at (D.leaves.level place.now) bytes.now)
         rest.now (string_bytes out.old) (string_bytes out.new)) }
     ensures refused { IfErr result
@@ -99,7 +102,8 @@ fn push_here<'a, D: Dialect>(
     requires level { D.leaves.level place.now ≤ deepest }
     requires indent { IsLaidOut D.leaves place.now }
     requires head { head_read bytes.now ≡ Ok (front.0, front.1.now) }
-    ensures printed { IfOk result (λ rest. Written (TextsHere D.leaves place.now)
+    ensures printed { IfOk result (λ rest. Written (TextsHere (located D.leaves D.becomes)
+        (place.now, front.entry.1.now))
         (read_behind (D.leaves.level place.now) front.entry.0 front.entry.1.now)
         rest.now (string_bytes out.old) (string_bytes out.new)) }
     ensures refused { IfErr result (λ e. Fails e (read_behind (D.leaves.level place.now)
@@ -142,7 +146,8 @@ fn push_array_front<'a, D: Dialect>(
 ) -> cbor_grammar::Result<&'a [u8]>
     requires level { D.leaves.level place.now ≤ deepest }
     requires indent { IsLaidOut D.leaves place.now }
-    ensures printed { IfOk result (λ rest. Written (TextsHere D.leaves place.now)
+    ensures printed { IfOk result (λ rest. Written (TextsHere (located D.leaves D.becomes)
+        (place.now, bytes.now))
         (read_behind (D.leaves.level place.now) (ItemHead.Array count) bytes.now)
         rest.now (string_bytes out.old) (string_bytes out.new)) }
     ensures refused { IfErr result (λ e. Fails e (read_behind (D.leaves.level place.now)
@@ -179,7 +184,8 @@ fn push_map_front<'a, D: Dialect>(
 ) -> cbor_grammar::Result<&'a [u8]>
     requires level { D.leaves.level place.now ≤ deepest }
     requires indent { IsLaidOut D.leaves place.now }
-    ensures printed { IfOk result (λ rest. Written (TextsHere D.leaves place.now)
+    ensures printed { IfOk result (λ rest. Written (TextsHere (located D.leaves D.becomes)
+        (place.now, bytes.now))
         (read_behind (D.leaves.level place.now) (ItemHead.Map count) bytes.now)
         rest.now (string_bytes out.old) (string_bytes out.new)) }
     ensures refused { IfErr result (λ e. Fails e (read_behind (D.leaves.level place.now)
@@ -219,7 +225,8 @@ fn push_tag_front<'a, D: Dialect>(
 ) -> cbor_grammar::Result<&'a [u8]>
     requires level { D.leaves.level place.now ≤ deepest }
     requires indent { IsLaidOut D.leaves place.now }
-    ensures printed { IfOk result (λ rest. Written (TextsHere D.leaves place.now)
+    ensures printed { IfOk result (λ rest. Written (TextsHere (located D.leaves D.becomes)
+        (place.now, bytes.now))
         (read_behind (D.leaves.level place.now) (ItemHead.Tag head.0 head.1) bytes.now)
         rest.now (string_bytes out.old) (string_bytes out.new)) }
     ensures refused { IfErr result (λ e. Fails e (read_behind (D.leaves.level place.now)
@@ -243,7 +250,8 @@ fn push_string_front<'a, D: Dialect>(
 ) -> cbor_grammar::Result<&'a [u8]>
     requires level { D.leaves.level place.now ≤ deepest }
     requires indent { IsLaidOut D.leaves place.now }
-    ensures printed { IfOk result (λ rest. Written (TextsHere D.leaves place.now)
+    ensures printed { IfOk result (λ rest. Written (TextsHere (located D.leaves D.becomes)
+        (place.now, bytes.now))
         (read_behind (D.leaves.level place.now) (ItemHead.String head.0 head.1) bytes.now)
         rest.now (string_bytes out.old) (string_bytes out.new)) }
     ensures refused { IfErr result (λ e. Fails e (read_behind (D.leaves.level place.now)
@@ -271,7 +279,8 @@ fn push_definite<D: Dialect>(
 ) -> Result<(), AllocError>
     requires level { D.leaves.level place.now ≤ deepest }
     requires indent { IsLaidOut D.leaves place.now }
-    ensures { Writes result out.old out.new (StringThere D.leaves place.now width content.entry) }
+    ensures { Writes result out.old out.new (StringThere (located D.leaves D.becomes)
+        (place.now, (borrowed_chunk width content.entry).bytes) width content.entry) }
 {
     match content {
         StringContent::Bytes(bytes) => push_content::<D>(out, bytes, width, place),
@@ -290,8 +299,8 @@ pub fn push_content<D: Dialect>(
 ) -> Result<(), AllocError>
     requires level { D.leaves.level place.now ≤ deepest }
     requires indent { IsLaidOut D.leaves place.now }
-    ensures { Writes result out.old out.new (ContentThere D.leaves (D.leaves.content place.now
-        bytes.now) place.now (chunk width bytes.now)) }
+    ensures { Writes result out.old out.new (ContentThere (located D.leaves D.becomes)
+        (D.leaves.content place.now bytes.now) (place.now, bytes.now) (chunk width bytes.now)) }
 {
     match D::content(place, bytes) {
         Content::Bytes => D::string(out, StringContent::Bytes(bytes), width, place),
@@ -311,8 +320,8 @@ fn push_embedded<D: Dialect>(
 ) -> Result<(), AllocError>
     requires level { D.leaves.level place.now ≤ deepest }
     requires indent { IsLaidOut D.leaves place.now }
-    ensures { Writes result out.old out.new (ContentThere D.leaves shown.Item place.now
-        (chunk width bytes.now)) }
+    ensures { Writes result out.old out.new (ContentThere (located D.leaves D.becomes) shown.Item
+        (place.now, bytes.now) (chunk width bytes.now)) }
 {
     let container = Container::Embedded(Argument::Number(bytes.len() as u64, width));
     let style = ContainerStyle::Compact;
@@ -351,8 +360,8 @@ fn push_sequence<D: Dialect>(
 ) -> Result<(), AllocError>
     requires level { D.leaves.level place.now ≤ deepest }
     requires indent { IsLaidOut D.leaves place.now }
-    ensures { Writes result out.old out.new (ContentThere D.leaves shown.Sequence place.now
-        (chunk width bytes.now)) }
+    ensures { Writes result out.old out.new (ContentThere (located D.leaves D.becomes) shown.Sequence
+        (place.now, bytes.now) (chunk width bytes.now)) }
 {
     let container = Container::Embedded(Argument::Number(bytes.len() as u64, width));
     let style = D::sequence_style(place, bytes);

@@ -15,7 +15,7 @@ ghost use Rattle.cbor_grammar.specs.Notation.{IsNotation};
 ghost use Rattle.cbor_grammar.specs.NotationText.{indent_of};
 ghost use Rattle.cbor_grammar.specs.Reading.{Fails, read_item};
 ghost use Rattle.cbor_grammar.specs.WellFormed.{deepest};
-ghost use Rattle.cbor_notation_writer.specs.Dialect.{TextsAt};
+ghost use Rattle.cbor_notation_writer.specs.Dialect.{TextsAt, located};
 ghost use Rattle.cbor_notation_writer.specs.mirror.Straight.{Printed, Written, IsLaidOut, text_in};
 
 use crate::context::NotationContext;
@@ -36,7 +36,8 @@ pub fn push_outermost<'a, D: Dialect>(
 ) -> cbor_grammar::Result<&'a [u8]>
     requires level { D.leaves.level place.now ≡ 1 }
     requires indent { IsLaidOut D.leaves place.now }
-    ensures written { IfOk result (λ rest. Written (TextsAt D.leaves place.now)
+    ensures written { IfOk result (λ rest. Written (TextsAt (located D.leaves D.becomes)
+        (place.now, bytes.now))
         (read_item deepest bytes.now) rest.now (string_bytes out.old) (string_bytes out.new)) }
     ensures refused { IfErr result (λ e. Fails e (read_item deepest bytes.now)) }
     ensures unchanged { OnErr result (string_bytes out.new ≡ string_bytes out.old) }

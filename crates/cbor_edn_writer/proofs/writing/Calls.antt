@@ -14,14 +14,14 @@ use Rattle.cbor_edn_writer.specs.Written.{AppendsNoted, GaveNoted}
 use Rattle.cbor_notes.specs.declared.note.Note.{Note}
 
 pub gave_edn : (style : EdnStyle) (notes : List Note) (b rest : List ℕ) (i : Item) (old new : List ℕ) (o : Outcome)
-    → IsBytes b → OneOutcome 1 b → read_item 128 b ≡ Ok (i, rest) → AppendsNoted style notes i old new
-    → IsOutcome 1 b o → GaveNoted style notes (Ok (Some (length b - length rest))) old new o
+    → IsBytes b → OneOutcome 1 b → read_item 128 b ≡ Ok (i, rest) → AppendsNoted b style notes i old new
+    → IsOutcome 1 b o → GaveNoted b style notes (Ok (Some (length b - length rest))) old new o
 gave_edn style notes b rest i old new o fits one e written h =
     (i, same b (spelled i (length b - length rest)) o one (found_outcome 1 128 b i rest refl fits e) h, written)
 
 pub gave_fault : (style : EdnStyle) (notes : List Note) (b : List ℕ) (e : Error) (old new : List ℕ) (o : Outcome)
     → IsBytes b → OneOutcome 1 b → e ≢ refusal.CutShort → Fails e (read_item 128 b) → IsOutcome 1 b o
-    → GaveNoted style notes (Err e) old new o
+    → GaveNoted b style notes (Err e) old new o
 gave_fault style notes b refusal.Memory old new o fits one no_cut h is = tt
 gave_fault style notes b e old new o fits one no_cut h is =
     same b (fault e) o one (front_fault b e fits no_cut h (λ x. absurd cc)) is

@@ -5,7 +5,7 @@
 ghost use Rattle.std.specs.Prelude.{◌<◌, ◌^◌};
 ghost use Rattle.cbor_grammar.specs.NotationText.{style_indent};
 ghost use Rattle.cbor_tokens.specs.Appends.{AppendsText};
-ghost use Rattle.cbor_edn_writer.specs.EdnLeaves.{edn_leaves};
+ghost use Rattle.cbor_edn_writer.specs.EdnLeaves.{NotedAt, edn_leaves};
 
 use crate::print::Edn;
 use crate::print::leaf::{push_leaf, push_string};
@@ -34,6 +34,8 @@ impl<'a> Dialect for NotedEdn<'a> {
     type Place = EdnPlace<'a>;
 
     ghost leaves = { edn_leaves };
+
+    ghost becomes = { NotedAt };
 
     #[inline(always)]
     fn moves(_place: &EdnPlace<'a>, _head: ItemHead) -> bool {

@@ -1,11 +1,11 @@
 //! `EdnPlace`: where an item is in an EDN text (its level, the tag around it, its line), with the
 //! style and the note on the item. The place and the item decide what is written. Also finds the
 //! note of an item.
-ghost use Rattle.std.specs.Prelude.{◌≡◌, ◌≤◌, ◌||◌, IfOk};
+ghost use Rattle.std.specs.Prelude.{◌≡◌, ◌≤◌, ◌||◌, IfOk, length};
 ghost use Rattle.cbor_grammar.specs.WellFormed.{deepest};
 ghost use Rattle.cbor_grammar.specs.NotationText.{indent_of, style_indent};
 ghost use Rattle.cbor_edn_writer.specs.EdnLeaves.{edn_leaves, is_encoded, style_on};
-ghost use Rattle.cbor_edn_writer.specs.EdnLeaves.{FoundAt, IsGiven, LaidOut};
+ghost use Rattle.cbor_edn_writer.specs.EdnLeaves.{FoundAt, IsGiven, LaidOut, NotedAt};
 ghost use Rattle.cbor_edn_writer.specs.EdnLeaves.{argument_bytes as bytes_of_width};
 ghost use Rattle.cbor_edn_writer.specs.EdnLeaves.{end_in as members_end, end_of_string as string_end};
 ghost use Rattle.cbor_edn_writer.specs.Written.{IsOutermost};
@@ -52,7 +52,7 @@ pub(crate) struct EdnPlace<'a> {
 impl<'a> EdnPlace<'a> {
     /// The place of the outermost item of a text, at the front of this many bytes.
     pub(crate) fn new(alloc: Global, noted: NotedStyle<'a>, len: usize) -> EdnPlace<'a>
-        ensures outermost { IsOutermost noted.entry.style noted.entry.notes.now result }
+        ensures outermost { IsOutermost noted.entry.style noted.entry.notes.now len result }
         ensures indent { indent_of result.layout ≡ 0 }
     {
         let style = noted.style;
@@ -101,7 +101,7 @@ impl<'a> EdnPlace<'a> {
     /// The same place with the note on the item, too.
     #[inline(always)]
     pub(crate) fn noted(&self, out: &String, front: Front<'_>) -> Result<EdnPlace<'a>, AllocError>
-        ensures { IfOk result (λ moved. LaidOut self.now moved) }
+        ensures { IfOk result (λ moved. NotedAt self.now (length front.entry.bytes.now) moved) }
     {
         let start = self.end.saturating_sub(front.bytes.len() as u64);
         let place = self.with_note(start);

@@ -9,13 +9,13 @@ use Rattle.cbor_edn_writer.proofs.write.push_bytes_to_edn.Goals as goal
 pub returns-clause-every_item : goal.returns-clause-every_item
 returns-clause-every_item c =
     every_shown c.args.bytes.now c.push_only.result
-    (λ _ i. AppendsEdn c.args.style i (string_bytes c.args.out.now) (string_bytes c.push_only.new.out))
+    (λ _ i. AppendsEdn c.args.bytes.now c.args.style i (string_bytes c.args.out.now) (string_bytes c.push_only.new.out))
     (one_outcome 1 128 c.args.bytes.now refl (λ i. omega (arith, c.type_inv.bytes i))) c.push_only.ensures.ok
     c.push_only.ensures.refused
 
 pub returns-clause-every_refusal : goal.returns-clause-every_refusal
 returns-clause-every_refusal c =
     every_refusal c.args.bytes.now c.push_only.result
-    (λ _ i. AppendsEdn c.args.style i (string_bytes c.args.out.now) (string_bytes c.push_only.new.out))
+    (λ _ i. AppendsEdn c.args.bytes.now c.args.style i (string_bytes c.args.out.now) (string_bytes c.push_only.new.out))
     (one_outcome 1 128 c.args.bytes.now refl (λ i. omega (arith, c.type_inv.bytes i))) c.push_only.ensures.ok
     c.push_only.ensures.refused

@@ -10,12 +10,14 @@ use Rattle.cbor_notation_writer.proofs.straight.Fronts.{leaf_written}
 use Rattle.cbor_grammar.specs.Item.{atom, array, no_items, item, no_pairs, pair}
 use Rattle.cbor_grammar.specs.Reading.{items_in, pairs_in, joined, joined_pairs}
 use Rattle.cbor_grammar.specs.WellFormed.{levels_left}
+use Rattle.cbor_grammar.specs.mirror.AtLevel.{read_at}
 use Rattle.cbor_grammar.specs.mirror.Lengths.{left_of}
 use Rattle.cbor_grammar.proofs.bytes.Shorter.{item_shorter}
 use Rattle.cbor_bytes.proofs.reading.Levels.{same_read}
 use Rattle.cbor_bytes.proofs.reading.Readings.{parts_read, parts_ended, none_held, member_read, pair_read}
 use Rattle.cbor_notation_writer.specs.declared.parts.Container.TheVariants.{Array}
-use Rattle.cbor_notation_writer.specs.Dialect.{TextsOf}
+use Rattle.cbor_notation_writer.specs.Dialect.{TextsOf, anywhere}
+use Rattle.cbor_notation_writer.proofs.straight.Located.{written_plain}
 use Rattle.cbor_notation_writer.proofs.straight.Texts.{no_items_written, one_item_written, reached_none, reached_more}
 use Rattle.cbor_notation_writer.proofs.straight.Texts.{width_left}
 use Rattle.cbor_json.specs.JsonLeaves.{json_leaves, is_value}
@@ -72,7 +74,8 @@ push_item-returns-in-Ok-clause-written t c =
     quiet_front c.args.place.now c.args.bytes.now c.in_ok-head.inner.now h
     c.args.place.now.level refl c.requires.level (omega (arith, c.if-place-gt-DEEPEST.false)) c.requires.value
     (λ i. omega (arith, c.type_inv.bytes i)) c.in_ok-head.ensures.gives gave (λ rest. rest.now) _ _ quiet
-    c.in-Ok.ensures.printed
+    (written_plain json_leaves (anywhere json_leaves) (λ p left q at. at) gave (λ rest. rest.now) c.args.place.now
+    c.args.bytes.now (read_at c.args.place.now.level c.args.bytes.now) _ _ c.in-Ok.ensures.printed)
 
 pub push_item-returns-in_ok-leaf-in-Integer-clause-written :
     goal.push_item-returns-in_ok-leaf-in-Integer-clause-written

@@ -9,7 +9,7 @@ use Rattle.cbor_grammar.specs.mirror.StringView.{borrowed_chunk}
 use Rattle.cbor_tokens.proofs.texts.Appending.{begins_same}
 use Rattle.cbor_bytes.proofs.reading.Readings.{fails_then, ok_then}
 use Rattle.cbor_bytes.proofs.reading.ChunksRead.{none_read, one_read, all_read, not_read}
-use Rattle.cbor_notation_writer.specs.Dialect.{joined}
+use Rattle.cbor_notation_writer.specs.Dialect.{joined, located}
 use Rattle.cbor_notation_writer.proofs.straight.ChunkTexts.{joined_more, joined_written}
 use Rattle.cbor_notation_writer.proofs.chunks.push_joined_front.Goals as goal
 
@@ -56,7 +56,8 @@ returns-in_default-clause-printed g c =
     let whole = all_read Bytes c.args.bytes.now c.chunks.rest.now after i.read
     (rw c.in_default.is at c.in_ok-chunk.ensures.gives) c.in_ok-chunk.ensures.shorter in
     let w = c.in_ok-string.ensures in
-    let text = joined_written g.D.Dialect.leaves c.args.place.now (string_bytes c.args.out.now)
+    let text = joined_written (located g.D.Dialect.leaves g.D.Dialect.becomes)
+    (c.args.place.now, c.args.bytes.now) (string_bytes c.args.out.now)
     (string_bytes c.string.new.out) cs c.deref.result.now c.requires.joins
     (c.deref.ensures.value ∙ i.together)
     (w.0, w.1, w.2 ∙ ap (λ x. x ++ w.0) i.same) in

@@ -1,11 +1,12 @@
 -- What is appended from bytes is the text of a string in chunks, or reading the chunks fails the same.
-use Rattle.std.proofs.Common.{◌+◌, subst, ◌∙◌, arith}
+use Rattle.std.proofs.Common.{subst, arith}
 use Rattle.std.proofs.lemmas.Result.{err_from_is_err_and}
 use Rattle.std.specs.String.{string_bytes}
 use Rattle.cbor_grammar.specs.Item.{atom, chunked_string}
 use Rattle.cbor_grammar.specs.mirror.StringView.{borrowed_chunk}
 use Rattle.cbor_tokens.proofs.texts.Appending.{begins_same, begins_after_member}
 use Rattle.cbor_bytes.proofs.reading.Readings.{fails_then, ok_then}
+use Rattle.cbor_notation_writer.specs.Dialect.{located, with_bytes}
 use Rattle.cbor_notation_writer.proofs.straight.ChunkTexts.{no_chunks_written, one_chunk_written, chunks_written}
 use Rattle.cbor_bytes.proofs.reading.ChunksRead.{none_read, one_read, all_read, not_read}
 use Rattle.cbor_notation_writer.proofs.chunks.push_parts_front.Goals as goal
@@ -15,7 +16,8 @@ chunks-init g c =
     let old = string_bytes c.args.out.now in
     record {
       read = none_read c.args.kind c.args.bytes.now;
-      written = no_chunks_written g.D.Dialect.leaves c.args.place.now c.args.kind c.chunks_style-style.result old;
+      written = no_chunks_written (located g.D.Dialect.leaves g.D.Dialect.becomes)
+          (c.args.place.now, c.args.bytes.now) c.args.kind c.chunks_style-style.result old;
       begun = begins_same old;
       room = omega arith;
     }
@@ -29,10 +31,10 @@ returns-in_err-chunk-clause-refused g c =
 
 pub returns-in_default-clause-printed : goal.returns-in_default-clause-printed
 returns-in_default-clause-printed g c =
-    let d = g.D.Dialect.leaves in
+    let d = located g.D.Dialect.leaves g.D.Dialect.becomes in
     let i = c.chunks.invariant in
     let kind = c.args.kind in
-    let place = c.args.place.now in
+    let place = with_bytes c.args.place.now c.args.bytes.now in
     let after = c.in_ok-chunk.after.now in
     let cs = i.read.chunks in
     let whole = all_read kind c.args.bytes.now c.chunks.rest.now after i.read
@@ -47,10 +49,10 @@ returns-in_default-clause-printed g c =
 
 pub chunks-preserved : goal.chunks-preserved
 chunks-preserved g c =
-    let d = g.D.Dialect.leaves in
+    let d = located g.D.Dialect.leaves g.D.Dialect.becomes in
     let i = c.chunks.invariant in
     let kind = c.args.kind in
-    let place = c.args.place.now in
+    let place = with_bytes c.args.place.now c.args.bytes.now in
     let after = c.in_ok-chunk.after.now in
     let chunk = borrowed_chunk c.in-Some.width c.in-Some.content in
     let old = string_bytes c.args.out.now in

@@ -16,7 +16,7 @@ use Rattle.cbor_grammar.proofs.bytes.Shorter.{item_shorter}
 use Rattle.cbor_tokens.proofs.texts.Appending.{cut_back, begins_through, begins_still, begins_two}
 use Rattle.cbor_tokens.proofs.texts.Appending.{begins_after_member}
 use Rattle.cbor_notation_writer.specs.declared.parts.Container.TheVariants.{Array, Map}
-use Rattle.cbor_notation_writer.specs.Dialect.{embedding}
+use Rattle.cbor_notation_writer.specs.Dialect.{embedding, located, with_bytes}
 use Rattle.cbor_notation_writer.specs.mirror.Straight.{TextsBelow, chunk, ContentThere}
 use Rattle.cbor_grammar.specs.declared.layout.Content.TheVariants as shown
 use Rattle.cbor_bytes.proofs.reading.Levels.{head_fails, too_deep, same_read, same_fails}
@@ -26,6 +26,8 @@ use Rattle.cbor_notation_writer.proofs.straight.Fronts.{front_so, passed, part_r
 use Rattle.cbor_notation_writer.proofs.straight.Sequences.{sequence_begun, sequence_more, sequence_style, sequence_ends}
 use Rattle.cbor_notation_writer.proofs.straight.Sequences.{begun_member, sequence_written, whole_item, nothing_written}
 use Rattle.cbor_notation_writer.proofs.straight.Sequences.{embedded_written}
+use Rattle.cbor_notation_writer.proofs.straight.Located.{known_there, next_there, value_there, embedded_there}
+use Rattle.cbor_notation_writer.proofs.straight.Located.{string_moved}
 use Rattle.cbor_notation_writer.proofs.straight.Texts.{texts_below, reached_none, reached_more}
 use Rattle.cbor_notation_writer.proofs.straight.Texts.{no_items_written, one_item_written, array_closed}
 use Rattle.cbor_notation_writer.proofs.straight.Texts.{no_pairs_written, pair_text, one_pair_written, map_closed}
@@ -60,15 +62,24 @@ push_front-returns-then-moves g t c = record {
 
 pub push_front-returns : goal.push_front-returns
 push_front-returns g t c =
-    let so = front_so g.D.Dialect.leaves c.args.place.now c.args.bytes.now c.level.ensures
-    c.if-level-gt-DEEPEST.false refl (c.moves.ensures.stays c.if-moves.false) refl c.in_ok-front.ensures.gives
+    let d = g.D.Dialect.leaves in
+    let place = c.args.place.now in
+    let bytes = c.args.bytes.now in
+    let stays = c.moves.ensures.stays c.if-moves.false (length bytes) in
+    let known = known_there d g.D.Dialect.becomes place place bytes _ _ stays c.in_ok-front.ensures.gives in
+    let so = front_so (located d g.D.Dialect.becomes) (place, bytes) bytes c.level.ensures
+    c.if-level-gt-DEEPEST.false refl known refl c.in_ok-front.ensures.gives
     c.push_here.result (λ rest. rest.now) _ _ c.push_here.ensures.printed c.push_here.ensures.refused in
     record { printed = so.0; refused = so.1; begun = c.push_here.ensures.begun }
 
 pub push_moved-returns : goal.push_moved-returns
 push_moved-returns g t c =
-    let so = front_so g.D.Dialect.leaves c.args.place.now c.args.bytes.now refl c.requires.level refl
-    c.in_ok-here.ensures.place c.in_ok-here.ensures.level c.requires.head c.push_here.result (λ rest. rest.now) _ _
+    let d = g.D.Dialect.leaves in
+    let place = c.args.place.now in
+    let bytes = c.args.bytes.now in
+    let known = known_there d g.D.Dialect.becomes place _ bytes _ _ c.in_ok-here.ensures.place c.requires.head in
+    let so = front_so (located d g.D.Dialect.becomes) (place, bytes) bytes refl c.requires.level refl known
+    c.in_ok-here.ensures.level c.requires.head c.push_here.result (λ rest. rest.now) _ _
     c.push_here.ensures.printed c.push_here.ensures.refused in
     record { printed = so.0; refused = so.1; begun = c.push_here.ensures.begun }
 
@@ -100,15 +111,17 @@ push_here-returns-in_ok-leaf-in-Simple-clause-printed g t c =
 pub push_array_front-items-init : goal.push_array_front-items-init
 push_array_front-items-init g t c =
     let d = g.D.Dialect.leaves in
+    let there = located d g.D.Dialect.becomes in
     let place = c.args.place.now in
+    let x = with_bytes place c.args.bytes.now in
     let count = c.args.count in
+    let inside = c.inside-inner.ensures.place ∙ ap (λ x. d.inside (Array count) x place) c.members_layout.ensures in
     record {
       found = no_items;
       so_far = ap (λ a. parts_read (levels_left (d.level place + 1)) (items_in no_items a) c.args.bytes.now)
           (none_held count);
-      written = no_items_written d (TextsBelow d place) place _ c.inside-inner.result (Array count) _ _ _
-          (c.inside-inner.ensures.place ∙ ap (λ x. d.inside (Array count) x place) c.members_layout.ensures)
-          c.in_ok-opening.ensures;
+      written = no_items_written there (TextsBelow there x) x _ (c.inside-inner.result, c.args.bytes.now) (Array count)
+          _ _ _ (ap (λ p. (p, c.args.bytes.now)) inside) c.in_ok-opening.ensures;
       reached = reached_none count;
       level = c.inside-inner.ensures.level;
       layout = c.inside-inner.ensures.layout ∙ c.members_layout.ensures;
@@ -129,7 +142,8 @@ push_array_front-returns-in-Some-clause-printed g t c =
     let read = sym i.so_far ∙ parts_ended left (items_in i.found (left_of count held)) c.items.rest.now after _
     (ap (λ x. Some (array i.found x)) (width_left count held)) (sym c.in-Some.ensures) in
     let same = c.array_style-style.ensures.style left i.found width after read in
-    let text = array_closed d place c.items.inner _ count i.found held _ _ _ c.items.rest.now after same i.written
+    let text = array_closed (located d g.D.Dialect.becomes) (place, c.args.bytes.now)
+    (c.items.inner, c.items.rest.now) _ count i.found held _ _ _ c.items.rest.now after same i.written
     i.reached c.in-Some.ensures c.in_ok-closing.ensures in
     (array i.found width, read, text.0, text.1, text.2)
 
@@ -150,7 +164,10 @@ push_array_front-items-smaller g t c =
 pub push_array_front-items-preserved : goal.push_array_front-items-preserved
 push_array_front-items-preserved g t c =
     let d = g.D.Dialect.leaves in
+    let there = located d g.D.Dialect.becomes in
     let place = c.args.place.now in
+    let x = with_bytes place c.args.bytes.now in
+    let now = c.items.inner in
     let i = c.items.invariant in
     let p = c.in_ok-rest.ensures.printed in
     let count = c.args.count in
@@ -164,9 +181,10 @@ push_array_front-items-preserved g t c =
     record {
       found = joined i.found (item p.0 no_items);
       so_far = sym (member_read left i.found count held rest after p.0 (sym c.in_default.ensures) read) ∙ i.so_far;
-      written = one_item_written d (TextsBelow d place) place _ c.items.inner c.pass.new.place (Array count) _ _ _ _ _ _
-          i.found p.0 held p.2 i.written c.in_ok-start.ensures (texts_below d c.items.inner level p.0 p.2 i.level p.3)
-          p.4 c.in_ok-end.ensures c.pass.ensures.place;
+      written = one_item_written there (TextsBelow there x) x _ (now, rest) (c.pass.new.place, after) (Array count)
+          _ _ _ _ _ _ i.found p.0 held p.2 i.written c.in_ok-start.ensures
+          (texts_below there (now, rest) level p.0 p.2 i.level p.3) p.4 c.in_ok-end.ensures
+          (next_there d g.D.Dialect.becomes now c.pass.new.place rest after p.0 c.pass.ensures.place p.1);
       reached = reached_more count held rest c.in_default.ensures;
       level = c.pass.ensures.level ∙ i.level;
       layout = c.pass.ensures.layout ∙ i.layout;
@@ -179,15 +197,17 @@ push_array_front-items-preserved g t c =
 pub push_map_front-pairs-init : goal.push_map_front-pairs-init
 push_map_front-pairs-init g t c =
     let d = g.D.Dialect.leaves in
+    let there = located d g.D.Dialect.becomes in
     let place = c.args.place.now in
+    let x = with_bytes place c.args.bytes.now in
     let count = c.args.count in
+    let inside = c.inside-inner.ensures.place ∙ ap (λ x. d.inside (Map count) x place) c.members_layout.ensures in
     record {
       found = no_pairs;
       so_far = ap (λ a. parts_read (levels_left (d.level place + 1)) (pairs_in no_pairs a) c.args.bytes.now)
           (none_held count);
-      written = no_pairs_written d (TextsBelow d place) place _ c.inside-inner.result (Map count) _ _ _
-          (c.inside-inner.ensures.place ∙ ap (λ x. d.inside (Map count) x place) c.members_layout.ensures)
-          c.in_ok-opening.ensures;
+      written = no_pairs_written there (TextsBelow there x) x _ (c.inside-inner.result, c.args.bytes.now) (Map count)
+          _ _ _ (ap (λ p. (p, c.args.bytes.now)) inside) c.in_ok-opening.ensures;
       reached = reached_none count;
       level = c.inside-inner.ensures.level;
       layout = c.inside-inner.ensures.layout ∙ c.members_layout.ensures;
@@ -208,7 +228,8 @@ push_map_front-returns-in-Some-clause-printed g t c =
     let read = sym i.so_far ∙ parts_ended left (pairs_in i.found (left_of count held)) c.pairs.rest.now after _
     (ap (λ x. Some (spec.map i.found x)) (width_left count held)) (sym c.in-Some.ensures) in
     let same = c.map_style-style.ensures.style left i.found width after read in
-    let text = map_closed d place c.pairs.inner _ count i.found held _ _ _ c.pairs.rest.now after same i.written
+    let text = map_closed (located d g.D.Dialect.becomes) (place, c.args.bytes.now)
+    (c.pairs.inner, c.pairs.rest.now) _ count i.found held _ _ _ c.pairs.rest.now after same i.written
     i.reached c.in-Some.ensures c.in_ok-closing.ensures in
     (spec.map i.found width, read, text.0, text.1, text.2)
 
@@ -246,7 +267,10 @@ push_map_front-pairs-smaller g t c =
 pub push_map_front-pairs-preserved : goal.push_map_front-pairs-preserved
 push_map_front-pairs-preserved g t c =
     let d = g.D.Dialect.leaves in
+    let becomes = g.D.Dialect.becomes in
+    let there = located d becomes in
     let place = c.args.place.now in
+    let x = with_bytes place c.args.bytes.now in
     let i = c.pairs.invariant in
     let k = c.in_ok-value.ensures.printed in
     let v = c.in_ok-rest.ensures.printed in
@@ -256,25 +280,28 @@ push_map_front-pairs-preserved g t c =
     let level = d.level place + 1 in
     let left = levels_left level in
     let now = c.pairs.inner in
-    let there = c.pass_key.new.place in
+    let beside = c.pass_key.new.place in
     let rest = c.pairs.rest.now in
     let mid = c.in_ok-value.value.now in
     let after = c.in_ok-rest.rest.now in
     let deep = c.pass_key.ensures.level ∙ i.level in
     let key = same_read (d.level now) level rest mid k.0 i.level k.1 in
-    let value = same_read (d.level there) level mid after v.0 deep v.1 in
+    let value = same_read (d.level beside) level mid after v.0 deep v.1 in
     let first = item_shorter left rest k.0 mid key in
     let second = item_shorter left mid v.0 after value in
     let passed = c.pass_key.ensures.place (levels_left (d.level now)) k.0 k.1 in
-    let one = pair_text d (TextsBelow d place) l now there k.0 v.0 k.2 v.2 _ _ _ _
-    (texts_below d now level k.0 k.2 i.level k.3) k.4 passed c.in_ok-colon.ensures
-    (texts_below d there level v.0 v.2 deep v.3) v.4 in
+    let to_value = value_there d becomes now beside rest mid k.0 passed k.1 in
+    let to_next = next_there d becomes beside c.pass.new.place mid after v.0 c.pass.ensures.place v.1 in
+    let one = pair_text there (TextsBelow there x) l (now, rest) (beside, mid) k.0 v.0 k.2 v.2 _ _ _ _
+    (texts_below there (now, rest) level k.0 k.2 i.level k.3) k.4 to_value c.in_ok-colon.ensures
+    (texts_below there (beside, mid) level v.0 v.2 deep v.3) v.4 in
     record {
       found = joined_pairs i.found (pair k.0 v.0 no_pairs);
       so_far = sym (pair_read left i.found count held rest mid after k.0 v.0 (sym c.in_default.ensures) key value)
           ∙ i.so_far;
-      written = one_pair_written d (TextsBelow d place) place _ now there c.pass.new.place (Map count) l _ _ _ _ _
-          i.found k.0 v.0 held i.written c.in_ok-start.ensures one c.in_ok-end.ensures passed c.pass.ensures.place;
+      written = one_pair_written there (TextsBelow there x) x _ (now, rest) (beside, mid) (c.pass.new.place, after)
+          (Map count) l _ _ _ _ _ i.found k.0 v.0 held i.written c.in_ok-start.ensures one c.in_ok-end.ensures to_value
+          to_next;
       reached = reached_more count held rest c.in_default.ensures;
       level = c.pass.ensures.level ∙ deep;
       layout = c.pass.ensures.layout ∙ (c.pass_key.ensures.layout ∙ i.layout);
@@ -300,7 +327,9 @@ push_tag_front-returns-clause-printed g t c =
     let tag = c.args.head.0 in
     let width = c.args.head.1 in
     let level = d.level place + 1 in
-    let text = tag_written d place c.below.result tag width p.0 p.2 _ _ _ _ c.in_ok-tag.ensures c.below.ensures.place
+    let bytes = c.args.bytes.now in
+    let text = tag_written (located d g.D.Dialect.becomes) (place, bytes) (c.below.result, bytes) tag width p.0 p.2
+    _ _ _ _ c.in_ok-tag.ensures (ap (λ x. (x, bytes)) c.below.ensures.place)
     c.below.ensures.level p.3 p.4 c.in_ok-tag_end.ensures in (
       spec.tagged tag width p.0,
       tag_read (levels_left level) tag width c.args.bytes.now c.in_ok-rest.rest.now p.0
@@ -319,15 +348,21 @@ push_string_front-returns-in_ok-push_definite-in-Number-clause-printed g t c =
     let content = c.in_ok-content-in-Number.content in
     let read = content_read c.in-Number.count w content c.args.bytes.now c.in_ok-content-in-Number.rest.now _
     c.in_ok-content-in-Number.ensures.kind (c.in_ok-content-in-Number.ensures.gives w) in
-    let text = string_written g.D.Dialect.leaves c.args.place.now w content _ _
-    c.in_ok-push_definite-in-Number.ensures in
+    let d = g.D.Dialect.leaves in
+    let place = c.args.place.now in
+    let bytes = c.args.bytes.now in
+    let h = c.in_ok-push_definite-in-Number.ensures in
+    let moved = string_moved d g.D.Dialect.becomes place _ _ w content bytes _ h.0
+    (λ i. omega (arith, c.type_inv.bytes i)) (c.in_ok-content-in-Number.ensures.gives w) h.1 in
+    let text = string_written (located d g.D.Dialect.becomes) (place, bytes) w content _ _ (h.0, moved, h.2) in
     rw c.in-Number.is (atom (string (kind_of content) (borrowed_chunk w content)), read, text.0, text.1, text.2)
 
 -- ---- an embedded item
 
 pub push_embedded-returns-then-is_empty : goal.push_embedded-returns-then-is_empty
 push_embedded-returns-then-is_empty g t c =
-    nothing_written c.closing.result g.D.Dialect.leaves c.args.place.now (chunk c.args.width c.args.bytes.now) _ _ _
+    nothing_written c.closing.result (located g.D.Dialect.leaves g.D.Dialect.becomes)
+    (c.args.place.now, c.args.bytes.now) (chunk c.args.width c.args.bytes.now) _ _ _
     (eqb-true (length c.args.bytes.now) 0 (sym c.is_empty.ensures ∙ c.if-is_empty.true)) c.in_ok-opening.ensures
     c.closing.ensures
 
@@ -343,10 +378,14 @@ push_embedded-returns-then-is_empty-2 g t c =
     let some = eqb-false (length bytes) 0 (sym c.is_empty.ensures ∙ c.if-is_empty.false) in
     let none = eqb-true (length rest) 0 (sym c.is_empty-in-Ok.ensures ∙ c.if-is_empty-2.true) in
     let read = same_read (d.level c.inside.result) level bytes rest p.0 c.inside.ensures.level p.1 in
-    let there = c.inside.ensures.place ∙ ap (λ x. d.inside (embedding b) x place) c.layout.ensures in
-    embedded_written c.closing-then-is_empty-2.result d place c.inside.result b p.0 p.2 _ _ _ _ (omega (arith, some))
-    (whole_item (levels_left level) bytes rest p.0 read none) c.in_ok-opening-2.ensures there
-    (texts_below d c.inside.result level p.0 p.2 c.inside.ensures.level p.3) p.4 c.closing-then-is_empty-2.ensures
+    let becomes = g.D.Dialect.becomes in
+    let there = located d becomes in
+    let inside = c.inside.ensures.place ∙ ap (λ x. d.inside (embedding b) x place) c.layout.ensures in
+    let first = embedded_there d becomes place c.inside.result c.args.width bytes (d.layout place) inside in
+    embedded_written c.closing-then-is_empty-2.result there (place, bytes) (c.inside.result, bytes) b p.0 p.2 _ _ _ _
+    (omega (arith, some)) (whole_item (levels_left level) bytes rest p.0 read none) c.in_ok-opening-2.ensures first
+    (texts_below there (c.inside.result, bytes) level p.0 p.2 c.inside.ensures.level p.3) p.4
+    c.closing-then-is_empty-2.ensures
 
 pub push_embedded-truncate-requires : goal.push_embedded-truncate-requires
 push_embedded-truncate-requires g t c =
@@ -369,13 +408,17 @@ push_embedded-truncate-requires-in_default g t c =
 pub push_sequence-items-init : goal.push_sequence-items-init
 push_sequence-items-init g t c =
     let d = g.D.Dialect.leaves in
+    let there = located d g.D.Dialect.becomes in
     let place = c.args.place.now in
-    let b = chunk c.args.width c.args.bytes.now in
+    let bytes = c.args.bytes.now in
+    let b = chunk c.args.width bytes in
+    let inside = c.inside-inner.ensures.place ∙ ap (λ x. d.inside (embedding b) x place) c.members_layout.ensures in
     record {
       found = no_items;
       so_far = sequence_begun (levels_left (d.level place + 1)) c.args.bytes.now;
-      written = no_items_written d (TextsBelow d place) place _ c.inside-inner.result (embedding b) _ _ _
-          (c.inside-inner.ensures.place ∙ ap (λ x. d.inside (embedding b) x place) c.members_layout.ensures)
+      written = no_items_written there (TextsBelow there (place, bytes)) (place, bytes) _
+          (c.inside-inner.result, bytes) (embedding b) _ _ _
+          (embedded_there d g.D.Dialect.becomes place c.inside-inner.result c.args.width bytes _ inside)
           c.in_ok-opening.ensures;
       level = c.inside-inner.ensures.level;
       layout = c.inside-inner.ensures.layout ∙ c.members_layout.ensures;
@@ -391,7 +434,10 @@ push_sequence-items-smaller g t c =
 pub push_sequence-items-preserved : goal.push_sequence-items-preserved
 push_sequence-items-preserved g t c =
     let d = g.D.Dialect.leaves in
+    let there = located d g.D.Dialect.becomes in
     let place = c.args.place.now in
+    let x = with_bytes place c.args.bytes.now in
+    let now = c.items.inner in
     let i = c.items.invariant in
     let p = c.in-Ok.ensures.printed in
     let level = d.level place + 1 in
@@ -403,9 +449,10 @@ push_sequence-items-preserved g t c =
     record {
       found = joined i.found (item p.0 no_items);
       so_far = sequence_more left i.found p.0 rest after _ read i.so_far;
-      written = one_item_written d (TextsBelow d place) place _ c.items.inner c.pass.new.place _ _ _ _ _ _ _ i.found p.0
-          c.items.held p.2 i.written c.in_ok-start.ensures (texts_below d c.items.inner level p.0 p.2 i.level p.3) p.4
-          c.in_ok-end-in-Ok.ensures c.pass.ensures.place;
+      written = one_item_written there (TextsBelow there x) x _ (now, rest) (c.pass.new.place, after) _ _ _ _ _ _ _
+          i.found p.0 c.items.held p.2 i.written c.in_ok-start.ensures
+          (texts_below there (now, rest) level p.0 p.2 i.level p.3) p.4 c.in_ok-end-in-Ok.ensures
+          (next_there d g.D.Dialect.becomes now c.pass.new.place rest after p.0 c.pass.ensures.place p.1);
       level = c.pass.ensures.level ∙ i.level;
       layout = c.pass.ensures.layout ∙ i.layout;
       begun = begins_after_member _ _ _ _ _ _ p.2 _ i.begun c.in_ok-start.ensures p.4 c.in_ok-end-in-Ok.ensures;
@@ -425,7 +472,9 @@ push_sequence-returns-in_default g t c =
     let old = string_bytes c.args.out.now in
     let b = chunk c.args.width c.args.bytes.now in
     let l = c.sequence_style-style.result in
-    let first = d.inside (embedding b) (members_layout l) place in
+    let there = located d g.D.Dialect.becomes in
+    let x = with_bytes place c.args.bytes.now in
+    let first = there.inside (embedding b) (members_layout l) x in
     let i = c.items.invariant in
     let level = d.level place + 1 in
     let left = levels_left level in
@@ -443,8 +492,8 @@ push_sequence-returns-in_default g t c =
     c.in_ok-start.ensures c.in-Err.ensures.begun)).1 in
     let e = c.in_ok-closing-in_default.ensures in
     let ended : mid ≡ out ++ e.0 = e.2 ∙ ap (λ x. x ++ e.0) back in
-    wrote_last c.rest.result old mid new (d.rest place (embedding b) rest) (ContentThere d shown.Sequence place b)
+    wrote_last c.rest.result old mid new (d.rest place (embedding b) rest) (ContentThere there shown.Sequence x b)
     (begins_still old out e.0 mid i.begun ended)
-    (λ r is last. sequence_written d place first c.items.inner l b i.found rest old out mid new c.items.held same whole
-    i.written refl (e.0, e.1, ended) (r, is, last))
+    (λ r is last. sequence_written there x first (c.items.inner, rest) l b i.found rest old out mid new c.items.held same
+    whole i.written refl (e.0, e.1, ended) (r, is, last))
     c.rest.ensures

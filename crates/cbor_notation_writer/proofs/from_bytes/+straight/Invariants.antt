@@ -8,6 +8,7 @@ use Rattle.cbor_grammar.specs.NotationText.{members_layout}
 use Rattle.cbor_grammar.specs.Reading.{items_in, pairs_in}
 use Rattle.cbor_grammar.specs.WellFormed.{levels_left}
 use Rattle.cbor_grammar.specs.mirror.Lengths.{left_of}
+use Rattle.cbor_notation_writer.specs.Dialect.{located, with_bytes}
 use Rattle.cbor_notation_writer.specs.mirror.Straight.{TextsBelow}
 use Rattle.cbor_bytes.proofs.reading.Readings.{parts_read}
 use Rattle.cbor_notation_writer.proofs.straight.Sequences.{SoFar}
@@ -62,13 +63,15 @@ abbrev pub invariant-push_array_front-items : goal.invariant-push_array_front-it
 invariant-push_array_front-items g l =
     let d = g.D.Dialect.leaves in
     let left = levels_left (d.level l.place + 1) in
-    let first = d.inside l.container (members_layout l.style) l.place in
+    let there = located d g.D.Dialect.becomes in
+    let place = with_bytes l.place l.bytes in
+    let first = there.inside l.container (members_layout l.style) place in
     record {
       found : Items;
       so_far : parts_read left (items_in found (left_of l.count l.held)) l.rest
           ≡ parts_read left (items_in no_items l.count) l.bytes;
-      written : ItemsWritten d (TextsBelow d l.place) l.place first l.container l.style (string_bytes l.fn.out)
-          (string_bytes l.out) found l.inner l.held;
+      written : ItemsWritten there (TextsBelow there place) place first l.container l.style (string_bytes l.fn.out)
+          (string_bytes l.out) found (l.inner, l.rest) l.held;
       reached : Reached l.count l.held;
       level : d.level l.inner ≡ d.level l.place + 1;
       layout : d.layout l.inner ≡ members_layout l.style;
@@ -81,13 +84,15 @@ abbrev pub invariant-push_map_front-pairs : goal.invariant-push_map_front-pairs
 invariant-push_map_front-pairs g l =
     let d = g.D.Dialect.leaves in
     let left = levels_left (d.level l.place + 1) in
-    let first = d.inside l.container (members_layout l.style) l.place in
+    let there = located d g.D.Dialect.becomes in
+    let place = with_bytes l.place l.bytes in
+    let first = there.inside l.container (members_layout l.style) place in
     record {
       found : Pairs;
       so_far : parts_read left (pairs_in found (left_of l.count l.held)) l.rest
           ≡ parts_read left (pairs_in no_pairs l.count) l.bytes;
-      written : PairsWritten d (TextsBelow d l.place) l.place first l.container l.style (string_bytes l.fn.out)
-          (string_bytes l.out) found l.inner l.held;
+      written : PairsWritten there (TextsBelow there place) place first l.container l.style (string_bytes l.fn.out)
+          (string_bytes l.out) found (l.inner, l.rest) l.held;
       reached : Reached l.count l.held;
       level : d.level l.inner ≡ d.level l.place + 1;
       layout : d.layout l.inner ≡ members_layout l.style;
@@ -100,12 +105,14 @@ abbrev pub invariant-push_sequence-items : goal.invariant-push_sequence-items
 invariant-push_sequence-items g l =
     let d = g.D.Dialect.leaves in
     let left = levels_left (d.level l.place + 1) in
-    let first = d.inside l.container (members_layout l.style) l.place in
+    let there = located d g.D.Dialect.becomes in
+    let place = with_bytes l.place l.bytes in
+    let first = there.inside l.container (members_layout l.style) place in
     record {
       found : Items;
       so_far : SoFar left found l.rest (sequence_at left l.bytes);
-      written : ItemsWritten d (TextsBelow d l.place) l.place first l.container l.style (string_bytes l.fn.out)
-          (string_bytes l.out) found l.inner l.held;
+      written : ItemsWritten there (TextsBelow there place) place first l.container l.style (string_bytes l.fn.out)
+          (string_bytes l.out) found (l.inner, l.rest) l.held;
       level : d.level l.inner ≡ d.level l.place + 1;
       layout : d.layout l.inner ≡ members_layout l.style;
       begun : StartsWith (string_bytes l.out) (string_bytes l.fn.out);
