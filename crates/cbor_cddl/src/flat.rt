@@ -176,8 +176,8 @@ impl Schema {
         Ok(writer.out)
     }
 
-    /// The schema that the bytes encode; it has no labels. The bytes are checked: each index is that
-    /// of a part that is there.
+    /// The schema that the bytes encode; it has no labels. The bytes are checked: each index is
+    /// that of a part that is there.
     pub fn from_flat(alloc: Global, bytes: &[u8]) -> Result<Schema, Unread> {
         let mut reader = Reader::new(bytes)?;
         let sizes = reader.sizes;

@@ -1,5 +1,5 @@
--- Notes in order that end before `next` (`RiseTo`) are in order (`Rise`). If a note at `next` or behind is appended, they
--- end before the place after that note.
+-- Notes in order that end before `next` (`RiseTo`) are in order (`Rise`). If a note at `next` or behind is appended,
+-- they end before the place after that note.
 use Rattle.std.proofs.Common.{ℕ, ◌+◌, ◌≤◌, List, [], ◌∷◌, ◌++◌, arith}
 use Rattle.cbor_notes.specs.declared.note.Note.{Note}
 use Rattle.cbor_names.specs.Order.{Rise, RiseTo}

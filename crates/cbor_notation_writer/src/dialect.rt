@@ -35,8 +35,10 @@ pub trait Dialect {
     /// Where an item is. This decides how the item is written, besides the item itself.
     type Place: Copy;
 
+    // The texts that the dialect has.
     ghost leaves: { Leaves Self.Place };
 
+    // What the place of an item becomes, by how many bytes are left from the item on.
     ghost becomes: { Becomes Self.Place };
 
     /// Whether the place of an item may change once its head is read. If not, it stays the same.

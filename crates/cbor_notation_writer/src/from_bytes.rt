@@ -320,8 +320,8 @@ fn push_embedded<D: Dialect>(
 ) -> Result<(), AllocError>
     requires level { D.leaves.level place.now ≤ deepest }
     requires indent { IsLaidOut D.leaves place.now }
-    ensures { Writes result out.old out.new (ContentThere (located D.leaves D.becomes) shown.Item
-        (place.now, bytes.now) (chunk width bytes.now)) }
+    ensures { Writes result out.old out.new (ContentThere (located D.leaves D.becomes)
+        shown.Item (place.now, bytes.now) (chunk width bytes.now)) }
 {
     let container = Container::Embedded(Argument::Number(bytes.len() as u64, width));
     let style = ContainerStyle::Compact;
@@ -360,8 +360,8 @@ fn push_sequence<D: Dialect>(
 ) -> Result<(), AllocError>
     requires level { D.leaves.level place.now ≤ deepest }
     requires indent { IsLaidOut D.leaves place.now }
-    ensures { Writes result out.old out.new (ContentThere (located D.leaves D.becomes) shown.Sequence
-        (place.now, bytes.now) (chunk width bytes.now)) }
+    ensures { Writes result out.old out.new (ContentThere (located D.leaves D.becomes)
+        shown.Sequence (place.now, bytes.now) (chunk width bytes.now)) }
 {
     let container = Container::Embedded(Argument::Number(bytes.len() as u64, width));
     let style = D::sequence_style(place, bytes);

@@ -1,5 +1,5 @@
-//! Colours texts for a terminal: writes an escape sequence before and after each token. The marks of
-//! a text say where its tokens are.
+//! Colours texts for a terminal: writes an escape sequence before and after each token. The marks
+//! of a text say where its tokens are.
 ghost use Rattle.std.specs.Prelude.{◌≡◌, ℕ, ◌++◌, List, OnOk};
 ghost use Rattle.cbor_marks.specs.Lines.{Lacks};
 ghost use Rattle.cbor_marks.specs.Remaining.{rest_of};

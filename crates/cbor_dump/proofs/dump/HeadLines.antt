@@ -1,6 +1,6 @@
 -- Unless a head is that of a simple value, the bytes that `read_head` took are `head_bytes` of the head, and there are
--- at most 24 of them. The bytes that `read_chunk` took are `encoded_head` of the length and width of the chunk, and then
--- its content.
+-- at most 24 of them. The bytes that `read_chunk` took are `encoded_head` of the length and width of the chunk, and
+-- then its content.
 use Rattle.std.proofs.Common.{◌≡◌, ◌≢◌, ℕ, ◌+◌, ◌-◌, ◌≤◌, List, [], ◌∷◌, ◌++◌, length, take, Ok, Some, refl, sym, ap}
 use Rattle.std.proofs.Common.{◌∙◌, arith}
 use Rattle.std.specs.Int.{w16, w32, w64, to_be_bytes}

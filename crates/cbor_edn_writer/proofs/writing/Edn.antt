@@ -90,7 +90,8 @@ module _ (style : EdnStyle) (notes : List Note) (p : EdnPlace) (b : List ℕ)
       )
 
   pub edn_so : {A E : Type 0} (r : Result A E) (f : A → List ℕ) (old new : List ℕ) → length notes ≡ 0
-      → IfOk r (λ x. Written (TextsAt (located edn_leaves (anywhere edn_leaves)) (p, b)) (read_item 128 b) (f x) old new)
+      → IfOk r (λ x. Written (TextsAt (located edn_leaves (anywhere edn_leaves)) (p, b)) (read_item 128 b) (f x) old
+      new)
       → IfOk r (λ x. Written (IsNotedFrom b style notes) (read_item 128 b) (f x) old new)
   edn_so (Ok x) f old new none (i, is, t, text, written) =
       let plain = texts_plain edn_leaves (anywhere edn_leaves) (λ p left q at. at) (levels_left p.level) (p, b) i t

@@ -7,7 +7,8 @@ ghost use Rattle.cbor_grammar.specs.NotationText.{indent_of, style_indent};
 ghost use Rattle.cbor_edn_writer.specs.EdnLeaves.{edn_leaves, is_encoded, style_on};
 ghost use Rattle.cbor_edn_writer.specs.EdnLeaves.{FoundAt, IsGiven, LaidOut, NotedAt};
 ghost use Rattle.cbor_edn_writer.specs.EdnLeaves.{argument_bytes as bytes_of_width};
-ghost use Rattle.cbor_edn_writer.specs.EdnLeaves.{end_in as members_end, end_of_string as string_end};
+ghost use Rattle.cbor_edn_writer.specs.EdnLeaves.{end_in as members_end};
+ghost use Rattle.cbor_edn_writer.specs.EdnLeaves.{end_of_string as string_end};
 ghost use Rattle.cbor_edn_writer.specs.Written.{IsOutermost};
 
 use crate::print::line::{Line, line_at, line_of};

@@ -1,7 +1,7 @@
 -- What is written of an item at its place in the bytes (`located`) is a text of the dialect (`written_plain`,
 -- `content_plain`). Also the places of the members of a container, by the bytes that were read before them.
-use Rattle.std.proofs.Common.{◌≡◌, ℕ, zero, suc, ◌+◌, Bool, true, false, List, [], ◌∷◌, length, take, Option, Some, None}
-use Rattle.std.proofs.Common.{Result, Ok, Err, IfOk, refl, sym, ap, subst, ◌∙◌}
+use Rattle.std.proofs.Common.{◌≡◌, ℕ, zero, suc, ◌+◌, Bool, true, false, List, [], ◌∷◌, length, take, Option, Some}
+use Rattle.std.proofs.Common.{None, Result, Ok, Err, IfOk, refl, sym, ap, subst, ◌∙◌}
 use Rattle.std.proofs.Math.Seq.{take-length}
 use Rattle.std.proofs.lemmas.List.{take_at}
 use Rattle.cbor_grammar.specs.declared.layout.Content.{Content}
@@ -26,8 +26,8 @@ use Rattle.cbor_grammar.proofs.bytes.Chunks.{content_takes}
 use Rattle.cbor_grammar.proofs.bytes.Heads.{IsBytes}
 use Rattle.cbor_notation_writer.specs.declared.parts.Container.{Container}
 use Rattle.cbor_notation_writer.specs.declared.parts.Container.TheVariants.{Array, Map}
-use Rattle.cbor_notation_writer.specs.Dialect.{Leaves, Becomes, Writer, located, after_read, embedding, count_of, style_at}
-use Rattle.cbor_notation_writer.specs.Dialect.{ItemTexts, PairTexts, ChunkTexts, ItemsText, PairsText, OneText}
+use Rattle.cbor_notation_writer.specs.Dialect.{Leaves, Becomes, Writer, located, after_read, embedding, count_of}
+use Rattle.cbor_notation_writer.specs.Dialect.{style_at, ItemTexts, PairTexts, ChunkTexts, ItemsText, PairsText, OneText}
 use Rattle.cbor_notation_writer.specs.Dialect.{EmbeddedText, ContentText, ChunksText, ChunkedText, AtomText}
 use Rattle.cbor_notation_writer.specs.Dialect.{TextWith, TextsOf, TextsAt, Wrote}
 use Rattle.cbor_notation_writer.specs.mirror.Straight.{Written, TextsBelow, ContentThere, StringThere, chunk}

@@ -121,7 +121,8 @@ impl Conversion<'_> {
         let name = label(self.origin.name);
         let megabytes = weight(most) / 1_000_000;
         let _ = eprintln!(self.rt;
-            "cborcat: {name}: more than {most} bytes: the page would have more than {megabytes} MB\n  \
+            "cborcat: {name}: more than {most} bytes: \
+             the page would have more than {megabytes} MB\n  \
              show a part with -p, begin at another item with --offset, or allow more with --limit"
         );
         self.ended(Status::Trouble);

@@ -494,6 +494,6 @@ push_sequence-returns-in_default g t c =
     let ended : mid ≡ out ++ e.0 = e.2 ∙ ap (λ x. x ++ e.0) back in
     wrote_last c.rest.result old mid new (d.rest place (embedding b) rest) (ContentThere there shown.Sequence x b)
     (begins_still old out e.0 mid i.begun ended)
-    (λ r is last. sequence_written there x first (c.items.inner, rest) l b i.found rest old out mid new c.items.held same
-    whole i.written refl (e.0, e.1, ended) (r, is, last))
+    (λ r is last. sequence_written there x first (c.items.inner, rest) l b i.found rest old out mid new c.items.held
+    same whole i.written refl (e.0, e.1, ended) (r, is, last))
     c.rest.ensures

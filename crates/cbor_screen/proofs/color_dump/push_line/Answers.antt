@@ -1,7 +1,8 @@
 use Rattle.std.proofs.Common.{[], ◌++◌, take, drop, vec_items, arith, sym}
 use Rattle.std.proofs.lemmas.List.{append-nil, length-drop, take_rest}
 use Rattle.cbor_screen.specs.Colored.{in_color_of}
-use Rattle.cbor_screen.proofs.Pieces.{colored_none, colored_one, colored_more, colored_whole, lacks_part, any_kind, joined}
+use Rattle.cbor_screen.proofs.Pieces.{colored_none, colored_one, colored_more, colored_whole, lacks_part, any_kind}
+use Rattle.cbor_screen.proofs.Pieces.{joined}
 use Rattle.cbor_screen.proofs.color_dump.push_line.Goals as goal
 
 pub tokens-init : goal.tokens-init
