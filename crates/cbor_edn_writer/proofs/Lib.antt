@@ -1,3 +1,4 @@
 pub mod writing
 pub mod back
 pub mod Places
+pub mod Comments

@@ -5,3 +5,4 @@ pub mod Texts
 pub mod Edn
 pub mod Appended
 pub mod Heads
+pub mod Elements

@@ -1,7 +1,8 @@
 -- EDN as a dialect of notation (`edn_leaves`): how numbers and strings are written, what is written around members,
 -- which comments stand beside an item, and which byte strings are written as the items in them.
 use Rattle.std.specs.Prelude.{◌≡◌, ◌⊎◌, ◌+◌, ◌-◌, ℕ, ◌^◌, List, [], ◌∷◌, ◌++◌, length, codes, Bool, true, false}
-use Rattle.std.specs.Prelude.{Option, Some, None, ◌&&◌, ◌||◌, if◌then◌else◌, nat_lt, nat_le, min, ◌==◌, not}
+use Rattle.std.specs.Prelude.{Option, Some, None, option_and_then, ◌&&◌, ◌||◌, if◌then◌else◌, nat_lt, nat_le, min}
+use Rattle.std.specs.Prelude.{◌==◌, not}
 use Rattle.std.specs.Borrow.{Bor}
 use Rattle.std.specs.List.{list_any, Contains}
 use Rattle.hex.specs.Hex.{encode_lower}
@@ -34,6 +35,7 @@ use Rattle.cbor_notes.specs.declared.note.Note.{Note}
 use Rattle.cbor_edn_writer.specs.declared.print.line.Line.{Line}
 use Rattle.cbor_edn_writer.specs.declared.print.place.EdnPlace.{EdnPlace}
 use Rattle.cbor_tokens.specs.Escapes.{escaped_text}
+use Rattle.cbor_edn_writer.specs.OwnNotes.{is_noted, time_note, text_note, IsBytesNote, IsSimpleNote}
 use Rattle.cbor_edn_writer.specs.Same.{is_empty, is_strict, is_sequence}
 
 -- ---- widths
@@ -69,19 +71,6 @@ abbrev pub begins_note : List ℕ → Bool
 begins_note [] = false
 begins_note (b ∷ note) = not (b == 42)
 
--- a note between slashes, or nothing; and what is after an item, which is nothing where no notes are written
-abbrev pub AnyNote : Texts
-AnyNote t = (t ≡ [])
-    ⊎ ((note : List ℕ) × IsNote note × (t ≡ codes " /" ++ (note ++ codes "/")) × (begins_note note ≡ true))
-
-abbrev pub NoteAfter : EdnPlace → Texts
-NoteAfter p t = (t ≡ []) ⊎ ((p.style.notes ≡ true) × AnyNote t)
-
-abbrev pub Noted : EdnPlace → List ℕ → Texts
-Noted p core t = (note : List ℕ) × NoteAfter p note × (t ≡ core ++ note)
-
--- ---- notes of an item's own
-
 -- a text that a note may have
 abbrev pub is_note : List ℕ → Bool
 is_note note = begins_note note && not (list_any ends_note note)
@@ -92,6 +81,25 @@ comment_before note = if is_note note then codes "/" ++ (note ++ codes "/ ") els
 
 abbrev pub comment_after : List ℕ → List ℕ
 comment_after note = if is_note note then codes " /" ++ (note ++ codes "/") else []
+
+-- What the writer itself says of an item, if it says something: this, or one of what a predicate allows. It stands
+-- after the item in a style with notes.
+abbrev pub Said : Type 1
+Said = Option (List ℕ) → Type 0
+
+abbrev pub own_comment : Option (List ℕ) → List ℕ
+own_comment None = []
+own_comment (Some said) = comment_after said
+
+abbrev pub NoteAfter : EdnPlace → Said → Texts
+NoteAfter p says t =
+    ((p.style.notes ≡ false) × (t ≡ []))
+    ⊎ ((p.style.notes ≡ true) × (said : Option (List ℕ)) × says said × (t ≡ own_comment said))
+
+abbrev pub Noted : EdnPlace → Said → List ℕ → Texts
+Noted p says core t = (note : List ℕ) × NoteAfter p says note × (t ≡ core ++ note)
+
+-- ---- a caller's notes
 
 -- what the note that was found says: what to write before an item, and after one, and whether a byte string is shown
 -- as the items in it
@@ -106,6 +114,11 @@ text_after (Some n) = comment_after n.now.after.now
 abbrev pub is_encoded : Option (Bor Note) → Bool
 is_encoded None = false
 is_encoded (Some n) = n.now.encoded
+
+-- whether it has a text after the item
+abbrev pub has_after : Option (Bor Note) → Bool
+has_after None = false
+has_after (Some n) = is_note n.now.after.now
 
 -- comments are written in a style with notes
 abbrev pub note_before : EdnPlace → List ℕ
@@ -203,11 +216,21 @@ FloatText all bits w t = NumberText all bits w t ⊎ BitsText bits w t
 
 -- ---- what holds no item
 
+-- of an integer its date
+abbrev pub says_time : EdnPlace → Bool → ℕ → Said
+says_time p below_zero n said = said ≡ option_and_then (λ tag. time_note tag below_zero n) p.tag
+
+-- of a text the seconds or days since 1970, and of bytes what their tag makes of them, or their characters
+abbrev pub says_string : EdnPlace → StringKind → List ℕ → Said
+says_string p kind.Bytes b said = IsBytesNote p.tag (has_after p.found) b said
+says_string p kind.Text b said = said ≡ option_and_then (λ tag. text_note tag b) p.tag
+
 abbrev pub EdnLeaf : EdnPlace → Atom → Texts
-EdnLeaf p (integer n w) t = Noted p (number n (marked p.style.widths n w)) t
-EdnLeaf p (negative n w) t = Noted p (codes "-" ++ number (n + 1) (marked p.style.widths n w)) t
+EdnLeaf p (integer n w) t = Noted p (says_time p false n) (number n (marked p.style.widths n w)) t
+EdnLeaf p (negative n w) t =
+    Noted p (says_time p true n) (codes "-" ++ number (n + 1) (marked p.style.widths n w)) t
 EdnLeaf p (float bits w) t = FloatText p.style.widths bits w t
-EdnLeaf p (simple n) t = Noted p (simple_text n) t
+EdnLeaf p (simple n) t = Noted p (IsSimpleNote n) (simple_text n) t
 EdnLeaf p other t = ⊥
 
 -- a string between quotes, and the width of its length
@@ -258,11 +281,6 @@ edn_closing (Embedded len) l = last_line l ++ (codes ">>" ++ embedded_mark len)
 abbrev pub begins_container : List ℕ → Bool
 begins_container [] = false
 begins_container (b ∷ bs) = nat_le 0x80 b && nat_lt b 0xe0
-
--- below these tags a byte string is an address, a UUID, a big number or a typed array
-abbrev pub is_noted : ℕ → Bool
-is_noted tag = (tag == 2) || (tag == 3) || (tag == 37) || (tag == 52) || (tag == 54)
-    || (nat_le 64 tag && nat_le tag 87) || (tag == 260)
 
 abbrev pub item_if : Bool → Content
 item_if shows = if shows then shown.Item else shown.Bytes
@@ -329,7 +347,7 @@ edn_leaves = record {
     marks = p.marks;
   };
   leaf = λ p a. Beside p (EdnLeaf p a);
-  string = λ p kind c. Beside p (Noted p (quoted_string kind c));
+  string = λ p kind c. Beside p (Noted p (says_string p kind c.bytes) (quoted_string kind c));
   part = λ p kind c t. t ≡ quoted_string kind c;
   no_parts = λ p kind. After p (λ t. t ≡ no_chunks kind);
   opening = λ p c l. After p (λ t. t ≡ edn_opening c l);

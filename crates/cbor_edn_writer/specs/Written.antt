@@ -36,13 +36,14 @@ pub record IsOutermost (style : EdnStyle) (notes : List Note) (len : ℕ) (place
   pub end : place.end ≡ len
 
 -- The texts of the item at the front of these bytes, there. Each part is what `edn_leaves` says. If there are notes,
--- the note at an item is the one that is given for the place where the item begins (`NotedAt`).
+-- what is written of one stands at an item that begins where the note is given for (`NotedAt`).
 abbrev pub TextsFrom : List Note → EdnPlace → List ℕ → Item → Texts
 TextsFrom [] p bytes i t = TextsAt edn_leaves p i t
 TextsFrom (n ∷ ns) p bytes i t = TextsAt (located edn_leaves NotedAt) (p, bytes) i t
 
--- The text is one that EDN has for the item, where these are the notes on it and on items in it: each part of it is
--- what `edn_leaves` says, and each note stands at the item that begins at its place in bytes that begin with the item.
+-- The text is one that EDN has for the item, where these are a caller's notes on it and on items in it: each part of it
+-- is what `edn_leaves` says. What is written of such a note stands at an item that begins at the note's place, in bytes
+-- that begin with the outermost item.
 -- It is read back as the bytes of the item, all widths included, if no simple value from 24 to 31 is in it. No
 -- character in it is hidden. Where it has lines, line feeds are in no quotes and in no comment.
 pub record IsNotedText (style : EdnStyle) (notes : List Note) (i : Item) (text : List ℕ) : Type 0 where

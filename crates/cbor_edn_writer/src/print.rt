@@ -11,6 +11,7 @@ mod measure;
 pub(crate) mod noted;
 pub(crate) mod notes;
 mod numbers;
+mod own_notes;
 pub(crate) mod place;
 mod same;
 mod text;

@@ -4,7 +4,7 @@
 use Rattle.std.proofs.Common.{◌≡◌, ◌⊎◌, inl, inr, ℕ, zero, suc, ◌≤◌, List, [], ◌∷◌, ◌++◌, length, codes, replicate}
 use Rattle.std.proofs.Common.{Bool, true, false, Option, Some, None, ◌==◌, ◌&&◌, ◌||◌, if◌then◌else◌, not}
 use Rattle.std.proofs.Common.{refl, sym, ap, subst, ◌∙◌, append_assoc, append-nil, arith}
-use Rattle.std.proofs.lemmas.Bool.{or_parts, and_parts, not-true}
+use Rattle.std.proofs.lemmas.Bool.{or_parts}
 use Rattle.std.proofs.lemmas.Bool.Decides.{nat_tests}
 use Rattle.std.specs.Borrow.{Bor}
 use Rattle.std.specs.List.{list_any}
@@ -16,13 +16,13 @@ use Rattle.cbor_edn_grammar.specs.Blank.{after_spaces}
 use Rattle.cbor_edn_grammar.specs.Blank.{skip_blank}
 use Rattle.cbor_notes.specs.declared.note.Note.{Note}
 use Rattle.cbor_edn_writer.specs.declared.print.place.EdnPlace.{EdnPlace}
-use Rattle.cbor_edn_writer.specs.EdnLeaves.{ends_note, IsNote, begins_note, AnyNote, is_note, comment_before}
-use Rattle.cbor_edn_writer.specs.EdnLeaves.{comment_after}
+use Rattle.cbor_edn_writer.specs.EdnLeaves.{ends_note, begins_note, comment_before}
 use Rattle.cbor_edn_writer.specs.EdnLeaves.{text_before, text_after, note_before, note_after, Beside, After}
 use Rattle.cbor_edn_grammar.specs.Strings.{is_sign_of, joins}
 use Rattle.cbor_grammar.specs.Item.{Item}
 use Rattle.cbor_edn_writer.proofs.back.Reads.{ends_item, is_ended, Follows, begins_item, IsBegun, ReadsAs, AreNotes}
 use Rattle.cbor_edn_writer.proofs.back.Reads.{IsStarted, ReadsNoted}
+use Rattle.cbor_edn_writer.proofs.Comments.{IsNote, AnyNote, by_note, comment_after_note}
 use Rattle.cbor_edn_grammar.proofs.Words.{skip_none}
 
 -- ---- a blank, however its end is looked for
@@ -245,22 +245,6 @@ notes_follow notes rest (a, b, first, second, is) h =
 
 pub no_notes : AreNotes []
 no_notes = ([], [], inl refl, inl refl, refl)
-
--- what is written of a note's text, by whether it may be one
-pub by_note : (P : List ℕ → Type 0) (note t : List ℕ) → P [] → (IsNote note → begins_note note ≡ true → P t)
-    → P (if is_note note then t else [])
-by_note P note t none some = either (is_note note) refl
-  where
-    either : (test : Bool) → is_note note ≡ test → P (if test then t else [])
-    either false e = none
-    either true e =
-        let parts = and_parts (begins_note note) (not (list_any ends_note note)) e in
-        some (not-true (list_any ends_note note) parts.1) parts.0
-
-pub comment_after_note : (note : List ℕ) → AnyNote (comment_after note)
-comment_after_note note =
-    by_note AnyNote note (codes " /" ++ (note ++ codes "/")) (inl refl)
-    (λ is begins. inr (note, is, refl, begins))
 
 -- blanks are passed, and what is before the item is one
 abbrev pub IsBefore : List ℕ → Type 0

@@ -38,8 +38,9 @@ use Rattle.cbor_edn_grammar.specs.declared.close.Close.TheVariants.{Bracket, Ang
 use Rattle.cbor_edn_writer.specs.declared.print.place.EdnPlace.{EdnPlace}
 use Rattle.cbor_edn_grammar.specs.Blank.{skip_blank}
 use Rattle.cbor_edn_grammar.specs.Edn.{bytes_of_edn}
-use Rattle.cbor_edn_writer.specs.EdnLeaves.{edn_leaves, marked, begins_container, is_noted, item_if, content_below}
-use Rattle.cbor_edn_writer.specs.EdnLeaves.{content_under, is_encoded, note_before, After, EdnLeaf, Noted}
+use Rattle.cbor_edn_writer.specs.EdnLeaves.{edn_leaves, marked, begins_container, item_if, content_below}
+use Rattle.cbor_edn_writer.specs.EdnLeaves.{content_under, is_encoded, note_before, After, EdnLeaf, Noted, says_string}
+use Rattle.cbor_edn_writer.specs.OwnNotes.{is_noted}
 use Rattle.cbor_edn_writer.specs.EdnLeaves.{quoted_string, spaced}
 use Rattle.cbor_edn_grammar.specs.Items.{item_turn, read_item}
 use Rattle.cbor_edn_grammar.specs.Reserved.{NotReserved, NoneReserved, NoneReservedItems, NoneReservedPairs}
@@ -106,8 +107,8 @@ strict_content embedded level (Some tag) b = strict_below embedded level tag b
 string_text : (left : ℕ) (p : EdnPlace) (kind : StringKind) (c : Chunk) (t : List ℕ) → IsChunk kind c
     → edn_leaves.string p kind c t → ReadsNoted (suc left) (atom (string kind c)) t
 string_text left p kind c t well h =
-    beside_reads (suc left) p (atom (string kind c)) (Noted p (quoted_string kind c)) t
-    (λ core is. string_reads left p kind c core well is) h
+    beside_reads (suc left) p (atom (string kind c)) (Noted p (says_string p kind c.bytes) (quoted_string kind c)) t
+    (λ core is. string_reads left p (says_string p kind c.bytes) kind c core well is) h
 
 -- the members of a list, without what is round them
 abbrev edn_list : ContainerStyle → List (List ℕ) → List ℕ

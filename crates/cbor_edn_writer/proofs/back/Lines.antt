@@ -16,7 +16,8 @@ use Rattle.cbor_edn_writer.specs.declared.print.place.EdnPlace.{EdnPlace}
 use Rattle.cbor_edn_writer.specs.declared.style.EdnStyle.{EdnStyle}
 use Rattle.cbor_edn_grammar.specs.Blank.{skip_blank, is_apart}
 use Rattle.cbor_edn_grammar.specs.Edn.{bytes_of_edn}
-use Rattle.cbor_edn_writer.specs.EdnLeaves.{AnyNote, edn_leaves}
+use Rattle.cbor_edn_writer.specs.EdnLeaves.{edn_leaves}
+use Rattle.cbor_edn_writer.proofs.Comments.{AnyNote}
 use Rattle.cbor_edn_grammar.specs.Items.{item_turn, read_item}
 use Rattle.cbor_edn_writer.specs.Lines.{AreEdnLines}
 use Rattle.cbor_edn_grammar.specs.Lists.{after_close, ends_line, separated_by, closed_by, separated, members_or_close}

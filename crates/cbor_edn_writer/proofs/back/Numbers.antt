@@ -21,7 +21,8 @@ use Rattle.cbor_grammar.specs.declared.width.FloatWidth.{FloatWidth}
 use Rattle.cbor_edn_grammar.specs.Reading.{Read, ◌>>=◌, after_byte}
 use Rattle.cbor_edn_writer.specs.declared.print.place.EdnPlace.{EdnPlace}
 use Rattle.cbor_edn_grammar.specs.Blank.{after_space, skip_blank}
-use Rattle.cbor_edn_writer.specs.EdnLeaves.{marked, EdnLeaf, NoteAfter, AnyNote, Noted, FloatText}
+use Rattle.cbor_edn_writer.specs.EdnLeaves.{marked, Said, EdnLeaf, Noted, FloatText}
+use Rattle.cbor_edn_writer.proofs.Comments.{note_is_any}
 use Rattle.cbor_edn_grammar.specs.Float.{is_float}
 use Rattle.cbor_edn_grammar.specs.Items.{other_item, read_item, read_number, number_or_tag, read_tagged, number_item}
 use Rattle.cbor_edn_grammar.specs.Items.{name_item, read_simple, is_simple, simple_number}
@@ -250,22 +251,19 @@ simple_core left n lt free =
 -- ---- leaves
 
 -- a text with a note after it, or nothing
-pub noted_reads : (left : ℕ) (p : EdnPlace) (i found : Item) (core t : List ℕ) → IsBegun core
+pub noted_reads : (left : ℕ) (p : EdnPlace) (says : Said) (i found : Item) (core t : List ℕ) → IsBegun core
     → ((rest : List ℕ) → Follows rest → read_item left (core ++ rest) ≡ Some (found, rest))
-    → encoded found ≡ encoded i → Noted p core t → ReadsAs left i t
-noted_reads left p i found core t begun read same h = record {
+    → encoded found ≡ encoded i → Noted p says core t → ReadsAs left i t
+noted_reads left p says i found core t begun read same h = record {
   item = found;
   core = core;
   note = h.0;
   parts = h.2;
-  is_note = any_note h.1;
+  is_note = note_is_any p says h.0 h.1;
   begun = begun;
   read = read;
   same = same;
 }
-  where
-    any_note : NoteAfter p h.0 → AnyNote h.0
-    any_note h = elim h [ inl none ↦ inl none | inr some ↦ some.1 ]
 
 module _ (float_reads : (left : ℕ) (all : Bool) (bits : ℕ) (w : FloatWidth) (t : List ℕ) → FitsFloat w bits
     → FloatText all bits w t → ReadsAs (suc left) (atom (float bits w)) t) where
@@ -274,19 +272,19 @@ module _ (float_reads : (left : ℕ) (all : Bool) (bits : ℕ) (w : FloatWidth) 
   leaf_reads left p (integer n w) t well free h =
       let m = marked p.style.widths n w in
       let lt = below_limit n w well in
-      noted_reads (suc left) p (atom (integer n w)) (atom (integer n (read_width m))) (number n m) t
+      noted_reads (suc left) p _ (atom (integer n w)) (atom (integer n (read_width m))) (number n m) t
       (subst IsBegun (append-nil (number n m)) (number_begun (number n m) [] (number_starts n m (omega (arith, lt)))))
       (λ rest f. integer_back left n m rest (marked_fits n w p.style.widths well) lt f.ended)
       (read_encoded 0 n w p.style.widths well) h
   leaf_reads left p (negative n w) t well free h =
       let m = marked p.style.widths n w in
       let lt = below_limit n w well in
-      noted_reads (suc left) p (atom (negative n w)) (atom (negative n (read_width m))) (45 ∷ number (n + 1) m) t refl
+      noted_reads (suc left) p _ (atom (negative n w)) (atom (negative n (read_width m))) (45 ∷ number (n + 1) m) t refl
       (λ rest f. negative_back left n m rest (marked_fits n w p.style.widths well) lt f.ended)
       (read_encoded 1 n w p.style.widths well) h
   leaf_reads left p (float bits w) t well free h = float_reads left p.style.widths bits w t well h
   leaf_reads left p (simple n) t well free h =
       let core = simple_core left n well free in
-      noted_reads (suc left) p (atom (simple n)) (atom (simple n)) (simple_text n) t core.0 core.1 refl h
+      noted_reads (suc left) p _ (atom (simple n)) (atom (simple n)) (simple_text n) t core.0 core.1 refl h
   leaf_reads left p (string kind c) t well free h = absurd h
   leaf_reads left p (chunked_string kind cs) t well free h = absurd h

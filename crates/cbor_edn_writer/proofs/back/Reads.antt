@@ -5,7 +5,7 @@ use Rattle.std.proofs.Common.{◌≡◌, ℕ, List, [], ◌∷◌, ◌++◌, tru
 pub use Rattle.cbor_edn_grammar.proofs.Ends.{ends_item, is_ended, Follows, begins_item, IsBegun}
 use Rattle.cbor_grammar.specs.Item.{Item}
 use Rattle.cbor_grammar.specs.Written.{encoded}
-use Rattle.cbor_edn_writer.specs.EdnLeaves.{AnyNote}
+use Rattle.cbor_edn_writer.proofs.Comments.{AnyNote}
 use Rattle.cbor_edn_grammar.specs.Blank.{skip_blank}
 use Rattle.cbor_edn_grammar.specs.Items.{read_item}
 

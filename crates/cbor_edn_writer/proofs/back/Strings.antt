@@ -1,6 +1,6 @@
 -- In EDN, a string is read back with the same encoding: its content, and the width of its length if that is longer than
 -- needed (`string_reads`). A chunk is read back too (`part_reads`), and so is a string of no chunks (`no_parts_reads`).
-use Rattle.std.proofs.Common.{◌≡◌, inl, inr, ℕ, suc, ◌^◌, ◌==◌, ◌&&◌, List, [], ◌∷◌, ◌++◌, length, codes, not}
+use Rattle.std.proofs.Common.{◌≡◌, inl, ℕ, suc, ◌^◌, ◌==◌, ◌&&◌, List, [], ◌∷◌, ◌++◌, length, codes, not}
 use Rattle.std.proofs.Common.{Option, Some, None, is_some, Bool, true, false, if◌then◌else◌, refl, sym, ap, ◌∙◌}
 use Rattle.std.proofs.Common.{append_assoc, append-nil, arith}
 use Rattle.std.specs.Prelude.{nat_lt}
@@ -22,7 +22,8 @@ use Rattle.cbor_edn_grammar.specs.declared.opening.Base.TheVariants.{Hex}
 use Rattle.cbor_edn_grammar.specs.declared.opening.Opening.{Opening}
 use Rattle.cbor_edn_grammar.specs.declared.opening.Opening.TheVariants.{Quote, Apostrophe, Digits}
 use Rattle.cbor_edn_writer.specs.declared.print.place.EdnPlace.{EdnPlace}
-use Rattle.cbor_edn_writer.specs.EdnLeaves.{longer, length_mark, AnyNote, NoteAfter, Noted, quoted_string}
+use Rattle.cbor_edn_writer.specs.EdnLeaves.{longer, length_mark, Said, Noted, quoted_string}
+use Rattle.cbor_edn_writer.proofs.Comments.{note_is_any}
 use Rattle.cbor_tokens.specs.Escapes.{escaped_text}
 use Rattle.cbor_edn_grammar.specs.Items.{kind_from, read_embedded, read_item}
 use Rattle.cbor_edn_grammar.specs.Quoted.{quoted}
@@ -226,20 +227,14 @@ string_found left text rest bytes kind w i begins content is =
     ∙ ap (λ r. r >>= λ c. string_item c.0.0 c.0.1 c.0.2 >>= λ i. Some (i, c.1)) content
     ∙ ap (λ r. r >>= λ i. Some (i, rest)) is
 
-note_after : (p : EdnPlace) (note : List ℕ) → NoteAfter p note → AnyNote note
-note_after p note h = elim h [
-  | inl none ↦ inl none
-  | inr some ↦ some.1
-]
-
-pub string_reads : (left : ℕ) (p : EdnPlace) (kind : StringKind) (c : Chunk) (t : List ℕ) → IsChunk kind c
-    → Noted p (quoted_string kind c) t → ReadsAs (suc left) (atom (string kind c)) t
-string_reads left p kind c t is noted = record {
+pub string_reads : (left : ℕ) (p : EdnPlace) (says : Said) (kind : StringKind) (c : Chunk) (t : List ℕ)
+    → IsChunk kind c → Noted p says (quoted_string kind c) t → ReadsAs (suc left) (atom (string kind c)) t
+string_reads left p says kind c t is noted = record {
   item = atom (string kind (as_read c));
   core = quoted_string kind c;
   note = noted.0;
   parts = noted.2;
-  is_note = note_after p noted.0 noted.1;
+  is_note = note_is_any p says noted.0 noted.1;
   begun = part_begun kind c;
   read = λ rest follows.
       string_found left (quoted_string kind c ++ rest) rest c.bytes kind (Some (longer (length c.bytes) c.width))

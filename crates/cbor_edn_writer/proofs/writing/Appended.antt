@@ -1,7 +1,7 @@
 -- If calls that append EDN run one after the other, all that they append is one text of the dialect: a part with a note
 -- after it (`Noted`), with a note before it (`After`), with both (`Beside`) or without notes, or a float with its width
 -- (`FloatText`). After an error, the text begins with the old one.
-use Rattle.std.proofs.Common.{◌≡◌, ◌≢◌, List, ◌++◌, ℕ, Bool, Result, Ok, Err, ap, subst, refl, ◌∙◌, inl}
+use Rattle.std.proofs.Common.{◌≡◌, ◌≢◌, List, ◌++◌, ℕ, Bool, true, Option, Result, Ok, Err, ap, subst, refl, ◌∙◌, inl}
 use Rattle.std.proofs.Common.{inr, append_assoc}
 use Rattle.std.specs.Float.Ieee.{Float}
 use Rattle.cbor_floats.specs.Decimal.{IsTextOf}
@@ -15,16 +15,23 @@ use Rattle.cbor_grammar.specs.declared.width.IntegerWidth.TheVariants.{SixtyFour
 use Rattle.cbor_grammar.specs.NotationText.{indicator}
 use Rattle.cbor_tokens.proofs.texts.Appending.{begins_through, begins_still, begins_same, appends_after}
 use Rattle.cbor_notation_writer.specs.Dialect.{Texts, Wrote}
-use Rattle.cbor_edn_writer.specs.EdnLeaves.{Noted, NoteAfter, with_gap, gap, encoded_float, float_indicator, FloatText}
+use Rattle.cbor_edn_writer.specs.EdnLeaves.{Said, own_comment, Noted, NoteAfter, with_gap, gap}
+use Rattle.cbor_edn_writer.specs.EdnLeaves.{encoded_float, float_indicator, FloatText}
 use Rattle.cbor_edn_writer.specs.EdnLeaves.{note_before, note_after, Beside, After, HasIndicator}
 use Rattle.cbor_edn_writer.specs.declared.print.place.EdnPlace.{EdnPlace}
 
+-- what the writer itself says, in a style with notes
+pub own_wrote : {T E : Type 0} (r : Result T E) (p : EdnPlace) (says : Said) (said : Option (List ℕ)) (old new : List ℕ)
+    → p.style.notes ≡ true → says said → Appends r old new (own_comment said) → Wrote r old new (NoteAfter p says)
+own_wrote (Ok x) p says said old new noted is written = (own_comment said, inr (noted, said, is, refl), written)
+own_wrote (Err e) p says said old new noted is begun = begun
+
 -- what is written, and a note after it
-pub noted : {T E : Type 0} (r : Result T E) (p : EdnPlace) (core old mid new : List ℕ) → mid ≡ old ++ core
-    → Wrote r mid new (NoteAfter p) → Wrote r old new (Noted p core)
-noted (Ok x) p core old mid new is (t, note, written) =
+pub noted : {T E : Type 0} (r : Result T E) (p : EdnPlace) (says : Said) (core old mid new : List ℕ)
+    → mid ≡ old ++ core → Wrote r mid new (NoteAfter p says) → Wrote r old new (Noted p says core)
+noted (Ok x) p says core old mid new is (t, note, written) =
     (core ++ t, (t, note, refl), written ∙ ap (λ x. x ++ t) is ∙ append_assoc old core t)
-noted (Err e) p core old mid new is begun =
+noted (Err e) p says core old mid new is begun =
     begins_through old mid new begun (begins_still old old core mid (begins_same old) is)
 
 -- a caller's note before what is written

@@ -35,12 +35,13 @@ use Rattle.cbor_grammar.proofs.bytes.Laws.{AllBytes, wide_bytes}
 use Rattle.cbor_edn_writer.specs.Breaks.{Nothing, Text, Bytes, Comment, after, BreaksApart}
 use Rattle.cbor_tokens.specs.Escapes.{is_hidden, escaped_char, unit_escape}
 use Rattle.cbor_tokens.proofs.escaping.High.{High, high_encode}
-use Rattle.cbor_edn_writer.specs.EdnLeaves.{longer, marked, length_mark, ends_note, IsNote, AnyNote, NoteAfter, Noted}
+use Rattle.cbor_edn_writer.specs.EdnLeaves.{longer, marked, length_mark, ends_note, Said, Noted}
 use Rattle.cbor_edn_writer.specs.EdnLeaves.{comment_before, text_before, note_before, note_after, Beside, After}
 use Rattle.cbor_edn_writer.specs.EdnLeaves.{FloatText, float_indicator, quoted_string}
 use Rattle.cbor_notes.specs.declared.note.Note.{Note}
 use Rattle.cbor_edn_writer.specs.declared.print.place.EdnPlace.{EdnPlace}
-use Rattle.cbor_edn_writer.proofs.back.Blanks.{by_note, after_note}
+use Rattle.cbor_edn_writer.proofs.Comments.{IsNote, AnyNote, by_note, note_is_any}
+use Rattle.cbor_edn_writer.proofs.back.Blanks.{after_note}
 use Rattle.cbor_edn_writer.proofs.writing.Runs.{Runs, runs_nothing, runs_then, runs_byte, scanned, is_steady, Steady}
 use Rattle.cbor_edn_writer.proofs.writing.Runs.{ends, steady, steady_append}
 
@@ -101,16 +102,11 @@ some_note_runs {lines} t h = elim h [
       (runs_then {v = Comment} (note_runs some.0 some.1) (scanned (codes "/") refl)))
 ]
 
-pub note_after_runs : {lines : Bool} (p : EdnPlace) (t : List ℕ) → NoteAfter p t → Runs lines Nothing Nothing t
-note_after_runs {lines} p t h = elim h [
-  | inl none ↦ subst (λ x. Runs lines Nothing Nothing x) (sym none) runs_nothing
-  | inr some ↦ some_note_runs t some.1
-]
-
-pub noted_runs : {lines : Bool} (p : EdnPlace) (core t : List ℕ) → Runs lines Nothing Nothing core → Noted p core t
-    → Runs lines Nothing Nothing t
-noted_runs {lines} p core t runs h =
-    subst (λ x. Runs lines Nothing Nothing x) (sym h.2) (runs_then runs (note_after_runs p h.0 h.1))
+pub noted_runs : {lines : Bool} (p : EdnPlace) (says : Said) (core t : List ℕ) → Runs lines Nothing Nothing core
+    → Noted p says core t → Runs lines Nothing Nothing t
+noted_runs {lines} p says core t runs h =
+    subst (λ x. Runs lines Nothing Nothing x) (sym h.2)
+    (runs_then runs (some_note_runs h.0 (note_is_any p says h.0 h.1)))
 
 -- the notes of an item's own
 note_before_runs : {lines : Bool} (p : EdnPlace) → Runs lines Nothing Nothing (note_before p)

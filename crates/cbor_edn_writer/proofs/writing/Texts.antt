@@ -38,7 +38,7 @@ use Rattle.cbor_notation_writer.specs.Dialect.{OneText, EmbeddedText, SequenceTe
 use Rattle.cbor_notation_writer.specs.Dialect.{TagText, TextWith, TextsOf, Writer, embedding, count_of, style_at}
 use Rattle.cbor_edn_writer.specs.Breaks.{Nothing}
 use Rattle.cbor_edn_writer.specs.EdnLeaves.{edn_leaves, EdnLeaf, style_on, longer, marked, spaced, count_mark, with_gap}
-use Rattle.cbor_edn_writer.specs.EdnLeaves.{gap}
+use Rattle.cbor_edn_writer.specs.EdnLeaves.{gap, says_string}
 use Rattle.cbor_edn_writer.specs.EdnLeaves.{edn_opening, edn_closing, embedded_mark, Noted, quoted_string}
 use Rattle.cbor_edn_writer.specs.declared.print.line.Line.{Line}
 use Rattle.cbor_edn_writer.specs.declared.print.place.EdnPlace.{EdnPlace}
@@ -194,12 +194,12 @@ number_apart lines n w le = steady (number n w) tt (number_steady n w le)
 
 leaf_apart : (lines : Bool) (p : EdnPlace) (a : Atom) (t : List ℕ) → WellFormedAtom a → EdnLeaf p a t → Apart lines t
 leaf_apart lines p (integer n w) t well h =
-    noted_runs p _ t (number_apart lines n (marked p.style.widths n w) (omega (arith, below_limit n w well))) h
+    noted_runs p _ _ t (number_apart lines n (marked p.style.widths n w) (omega (arith, below_limit n w well))) h
 leaf_apart lines p (negative n w) t well h =
-    noted_runs p _ t (runs_then {v = Nothing} (scanned (codes "-") refl)
+    noted_runs p _ _ t (runs_then {v = Nothing} (scanned (codes "-") refl)
     (number_apart lines (n + 1) (marked p.style.widths n w) (omega (arith, below_limit n w well)))) h
 leaf_apart lines p (float bits w) t well h = float_runs p.style.widths bits w t h
-leaf_apart lines p (simple n) t well h = noted_runs p _ t (simple_runs n well) h
+leaf_apart lines p (simple n) t well h = noted_runs p _ _ t (simple_runs n well) h
 leaf_apart lines p (string kind c) t well h = absurd h
 leaf_apart lines p (chunked_string kind cs) t well h = absurd h
 
@@ -211,8 +211,8 @@ leaf_text_apart lines p a t well h =
 string_apart : (lines : Bool) (p : EdnPlace) (kind : StringKind) (c : Chunk) (t : List ℕ) → IsChunk kind c
     → edn_leaves.string p kind c t → Apart lines t
 string_apart lines p kind c t well h =
-    beside_runs p (Noted p (quoted_string kind c)) t
-    (λ core is. noted_runs p _ core (string_runs kind c well) is) h
+    beside_runs p (Noted p (says_string p kind c.bytes) (quoted_string kind c)) t
+    (λ core is. noted_runs p _ _ core (string_runs kind c well) is) h
 
 module _ (lines : Bool) (level left : ℕ) (levels : level + left ≡ 129) (write : Writer EdnPlace)
     (below : (p : EdnPlace) (i : Item) (t : List ℕ) → AllowsLayout lines p.layout → WellFormed level i → write p i t

@@ -1,8 +1,9 @@
 //! Computes how many columns numbers, strings, simple values, width indicators and notes take in
-//! EDN. Some notes are written to a scratch text and counted.
+//! EDN.
 
-use crate::print::notes::{are_characters, is_note, push_bytes_note, push_text_note, push_time};
+use crate::print::notes::is_note;
 use crate::print::numbers::{longer, shown_width};
+use crate::print::own_notes::{are_characters, tagged_note, text_note, time_note};
 use crate::print::same::is_noted;
 use cbor_floats::{EncodedFloat, number_text};
 use cbor_grammar::strings::StringKind;
@@ -20,6 +21,11 @@ pub(super) fn note_columns(text: &str) -> usize {
     } else {
         0
     }
+}
+
+/// The columns of what the writer itself says of an item.
+fn own_columns(note: Option<String>) -> usize {
+    note.map_or(0, |note| note_columns(&note))
 }
 
 /// The columns of the note before an item.
@@ -146,9 +152,7 @@ pub(super) fn time_columns(
     let Some(tag @ (1 | 100)) = tag else {
         return Ok(0);
     };
-    let mut note = String::new(alloc);
-    push_time(&mut note, tag, number, alloc)?;
-    Ok(note.len())
+    Ok(own_columns(time_note(alloc, tag, number)?))
 }
 
 /// The columns of the note on a text right below this tag.
@@ -163,9 +167,7 @@ pub(super) fn text_note_columns(
     let Ok(text) = std::str::from_utf8(content) else {
         return Ok(0);
     };
-    let mut note = String::new(alloc);
-    push_text_note(&mut note, tag, text, alloc)?;
-    Ok(note.len())
+    Ok(own_columns(text_note(alloc, tag, text)?))
 }
 
 /// The columns of the note on a byte string right below this tag. Its characters are no note where
@@ -177,11 +179,7 @@ pub(super) fn bytes_note_columns(
     alloc: Global,
 ) -> Result<usize, AllocError> {
     match tag {
-        Some(tag) if is_noted(tag) => {
-            let mut note = String::new(alloc);
-            push_bytes_note(&mut note, tag, content, alloc)?;
-            Ok(note.len())
-        }
+        Some(tag) if is_noted(tag) => Ok(own_columns(tagged_note(alloc, tag, content)?)),
         _ if after_columns(note) > 0 => Ok(0),
         _ => Ok(characters_columns(content)),
     }

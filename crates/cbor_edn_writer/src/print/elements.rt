@@ -1,116 +1,167 @@
 //! Writes the first eight elements of a typed array (RFC 8746, section 2) as the text of a note.
 
+ghost use Rattle.std.specs.Prelude.{◌≡◌, ◌++◌, ◌*◌, ◌^◌, ◌<◌, ◌≤◌, ◌%◌, List, ℕ, length, take};
+ghost use Rattle.std.specs.Prelude.{Some, reverse, option_map, IfOk, OnOk};
+ghost use Rattle.std.specs.Int.{IsInRange};
+ghost use Rattle.std.specs.Int.Digits.{number_from_digits};
+ghost use Rattle.std.specs.String.{string_bytes};
+ghost use Rattle.cbor_notes.specs.Element.{is_little_endian as is_lowest_first};
+ghost use Rattle.cbor_edn_writer.specs.Elements as spec;
+ghost use Rattle.cbor_edn_writer.specs.Elements.{IsElementText, IsElementsNote, MoreElements};
+
 use cbor_floats::{EncodedFloat, push_number};
+use cbor_notes::element_size;
 use std::alloc::{AllocError, Global};
 
-/// The most elements that a note shows.
-const MOST: usize = 8;
+/// The most elements that a note shows after the first one.
+const MOST_MORE: usize = 7;
 
-/// What the elements of a typed array are.
-#[derive(Clone, Copy)]
-enum Element {
-    /// An unsigned integer.
-    Unsigned,
-    /// A signed integer in two's complement, with this many values.
-    Signed(u128),
-    /// A float.
-    Float,
-}
+/// The most bytes of an element that a note shows. Floats of 128 bits have more.
+const MOST_BYTES: usize = 8;
 
-/// The format of the elements of a typed array.
-#[derive(Clone, Copy)]
-struct Elements {
-    element: Element,
-    size: usize,
-    is_little_endian: bool,
-}
-
-/// The element format of the typed array with this tag. Floats of 128 bits are not shown.
-fn elements_of(tag: u64) -> Option<Elements> {
-    let (element, size) = match tag {
-        64 | 68 => (Element::Unsigned, 1),
-        65 | 69 => (Element::Unsigned, 2),
-        66 | 70 => (Element::Unsigned, 4),
-        67 | 71 => (Element::Unsigned, 8),
-        72 => (Element::Signed(1 << 8), 1),
-        73 | 77 => (Element::Signed(1 << 16), 2),
-        74 | 78 => (Element::Signed(1 << 32), 4),
-        75 | 79 => (Element::Signed(1 << 64), 8),
-        80 | 84 => (Element::Float, 2),
-        81 | 85 => (Element::Float, 4),
-        82 | 86 => (Element::Float, 8),
-        _ => return None,
-    };
-    Some(Elements {
-        element,
-        size,
-        is_little_endian: matches!(tag, 69..=71 | 77..=79 | 84..=86),
-    })
-}
-
-impl Elements {
-    /// The number that the bytes of an element encode.
-    fn number(self, bytes: &[u8]) -> u64 {
-        let mut number = 0u64;
-        if self.is_little_endian {
-            for byte in bytes.iter().rev() {
-                number = number << 8 | u64::from(*byte);
-            }
-        } else {
-            for byte in bytes {
-                number = number << 8 | u64::from(*byte);
-            }
-        }
-        number
-    }
-
-    /// Appends an element, from the number that its bytes encode.
-    fn push(self, text: &mut String, number: u64) -> Result<(), AllocError> {
-        match self.element {
-            Element::Unsigned => write!(text, "{number}"),
-            Element::Signed(count) if u128::from(number) >= count / 2 => {
-                let amount = count.saturating_sub(u128::from(number));
-                write!(text, "-{amount}")
-            }
-            Element::Signed(_) => write!(text, "{number}"),
-            Element::Float => push_number(text, self.float(number).value()),
-        }
-    }
-
-    /// The float of these bits.
-    fn float(self, bits: u64) -> EncodedFloat {
-        match self.size {
-            2 => EncodedFloat::Half((bits % (1 << 16)) as u16),
-            4 => EncodedFloat::Single((bits % (1 << 32)) as u32),
-            _ => EncodedFloat::Double(bits),
-        }
-    }
-}
-
-/// The first elements of the typed array with this tag and these bytes, and `..` for further ones.
-/// `None` for another tag, for no bytes, and for bytes that do not divide into elements.
+/// The text of the first eight elements of the typed array with this tag and these bytes, with `..`
+/// in place of further ones. `None` for another tag, for floats of 128 bits, for no bytes, and for
+/// bytes that do not divide into elements. The only error is out of memory.
 pub(super) fn elements_text(
     alloc: Global,
     tag: u64,
     bytes: &[u8],
-) -> Result<Option<String>, AllocError> {
-    let Some(elements) = elements_of(tag) else {
+) -> Result<Option<String>, AllocError>
+    ensures { IfOk result (λ found. IsElementsNote tag bytes.now (option_map string_bytes found)) }
+{
+    let Some(size) = shown_size(tag) else {
         return Ok(None);
     };
-    let size = elements.size.max(1);
     if bytes.is_empty() || bytes.len() % size != 0 {
         return Ok(None);
     }
     let mut text = String::new(alloc);
-    for (index, element) in bytes.chunks(size).enumerate() {
-        if index > 0 {
-            text.push_str(", ")?;
-        }
-        if index == MOST {
-            text.push_str("..")?;
-            break;
-        }
-        elements.push(&mut text, elements.number(element))?;
-    }
+    let (first, rest) = bytes.split_at(size);
+    push_element(&mut text, tag, first)?;
+    push_more(&mut text, tag, rest, size, MOST_MORE)?;
     Ok(Some(text))
+}
+
+/// The bytes of an element of the typed array with this tag, if a note shows such elements.
+fn shown_size(tag: u64) -> Option<usize>
+    ensures { result ≡ spec.shown_size tag }
+{
+    match element_size(tag) {
+        Some(size) if size <= MOST_BYTES => Some(size),
+        _ => None,
+    }
+}
+
+/// Appends the elements that these bytes are, of `size` bytes each, each after a comma: at most
+/// `left` of them, and `..` in place of further ones.
+fn push_more(
+    text: &mut String,
+    tag: u64,
+    bytes: &[u8],
+    size: usize,
+    left: usize,
+) -> Result<(), AllocError>
+    requires shown { spec.shown_size tag ≡ Some size }
+    requires whole { length bytes.now % size ≡ 0 }
+    ensures { OnOk result ((more : List ℕ) × MoreElements tag left bytes.now more
+        × (string_bytes text.new ≡ string_bytes text.old ++ more)) }
+{
+    if bytes.is_empty() {
+        return Ok(());
+    }
+    text.push_str(", ")?;
+    if left == 0 {
+        return text.push_str("..");
+    }
+    let (element, rest) = bytes.split_at(size);
+    push_element(text, tag, element)?;
+    push_more(text, tag, rest, size, left - 1)
+}
+
+/// Appends an element of the typed array with this tag, from its bytes.
+fn push_element(text: &mut String, tag: u64, bytes: &[u8]) -> Result<(), AllocError>
+    requires { spec.shown_size tag ≡ Some (length bytes.now) }
+    ensures { OnOk result ((element : List ℕ) × IsElementText tag bytes.now element
+        × (string_bytes text.new ≡ string_bytes text.old ++ element)) }
+{
+    let number = number_of(tag, bytes);
+    match tag {
+        64..=71 => write!(text, "{number}"),
+        72..=79 => push_signed(text, bytes.len(), number),
+        _ => push_number(text, float_of(bytes.len(), number).value()),
+    }
+}
+
+/// The number that the bytes of an element encode, in the order of the tag.
+fn number_of(tag: u64, bytes: &[u8]) -> u64
+    requires { length bytes.now ≤ 8 }
+    ensures value { result ≡ spec.number_of tag bytes.now }
+    ensures bound { result < 2 ^ (8 * length bytes.now) }
+{
+    if is_little_endian(tag) {
+        let wide = reversed(bytes);
+        number(&wide[..bytes.len()]) as u64
+    } else {
+        number(bytes) as u64
+    }
+}
+
+/// Whether the elements of the typed array with this tag begin with their lowest byte.
+fn is_little_endian(tag: u64) -> bool
+    ensures { result ≡ is_lowest_first tag }
+{
+    tag / 4 % 2 == 1
+}
+
+/// The bytes in reverse, and then zeros up to eight bytes.
+fn reversed(bytes: &[u8]) -> [u8; 8]
+    requires { length bytes.now ≤ 8 }
+    ensures { take (length bytes.now) result ≡ reverse bytes.now }
+{
+    let mut wide = [0; 8];
+    let front = &mut wide[..bytes.len()];
+    front.copy_from_slice(bytes);
+    front.reverse();
+    wide
+}
+
+/// The number that at most 16 bytes encode, the highest first.
+pub(super) fn number(bytes: &[u8]) -> u128
+    requires { length bytes.now ≤ 16 }
+    ensures value { result ≡ number_from_digits 256 bytes.now }
+    ensures bound { result < 2 ^ (8 * length bytes.now) }
+{
+    let mut number = 0;
+    for byte in bytes {
+        number = number * 256 + u128::from(*byte);
+    }
+    number
+}
+
+/// Appends a number of that many bytes in two's complement. It is negative from half of its range
+/// on.
+fn push_signed(text: &mut String, size: usize, number: u64) -> Result<(), AllocError>
+    requires size { IsInRange 1 8 size }
+    requires bound { number < 2 ^ (8 * size) }
+    ensures { OnOk result
+        (string_bytes text.new ≡ string_bytes text.old ++ spec.signed_text size number) }
+{
+    let half = 1u64 << (8 * size - 1);
+    if number < half {
+        return write!(text, "{number}");
+    }
+    let amount = half - (number - half);
+    write!(text, "-{amount}")
+}
+
+/// The float of that many bytes with these bits.
+fn float_of(size: usize, bits: u64) -> EncodedFloat
+    requires { bits < 2 ^ (8 * size) }
+    ensures { result ≡ spec.float_of size bits }
+{
+    match size {
+        2 => EncodedFloat::Half(bits as u16),
+        4 => EncodedFloat::Single(bits as u32),
+        _ => EncodedFloat::Double(bits),
+    }
 }

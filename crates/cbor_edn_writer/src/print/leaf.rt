@@ -2,12 +2,14 @@
 //! them.
 #![tactic(auto, using(cbor_tokens::proofs::texts::Appending::appending_steps))]
 
-ghost use Rattle.std.specs.Prelude.{◌+◌, ◌++◌, codes};
-ghost use Rattle.cbor_grammar.specs.mirror.StringView.{kind_of, borrowed_chunk};
+ghost use Rattle.std.specs.Prelude.{◌+◌, ◌++◌, codes, true, false};
+ghost use Rattle.cbor_grammar.specs.mirror.StringView.{kind_of, bytes_of, borrowed_chunk};
 ghost use Rattle.cbor_grammar.specs.NotationText.{number, simple_text};
 ghost use Rattle.cbor_notation_writer.specs.Dialect.{Writes};
 ghost use Rattle.cbor_notation_writer.specs.mirror.LeafView.{atom_of, FitsLeaf};
 ghost use Rattle.cbor_edn_writer.specs.EdnLeaves.{EdnLeaf, Noted, marked, quoted_string};
+ghost use Rattle.cbor_edn_writer.specs.EdnLeaves.{says_time, says_string};
+ghost use Rattle.cbor_edn_writer.specs.OwnNotes.{IsSimpleNote};
 
 use crate::print::notes::{push_integer_note, push_simple_note, push_string_note};
 use crate::print::numbers::{push_float, shown_width};
@@ -52,7 +54,8 @@ fn push_integer(
     place: &EdnPlace<'_>,
 ) -> Result<(), AllocError>
     ensures { Writes result out.old out.new
-        (Noted place.now (number value (marked place.now.style.widths value width))) }
+        (Noted place.now (says_time place.now false value)
+        (number value (marked place.now.style.widths value width))) }
 {
     let start = out.len();
     scalars::push_number(out, value, shown_width(place.style.widths, value, width))?;
@@ -68,7 +71,7 @@ fn push_negative(
     width: IntegerWidth,
     place: &EdnPlace<'_>,
 ) -> Result<(), AllocError>
-    ensures { Writes result out.old out.new (Noted place.now
+    ensures { Writes result out.old out.new (Noted place.now (says_time place.now true value)
         (codes "-" ++ number (value + 1) (marked place.now.style.widths value width))) }
 {
     let start = out.len();
@@ -85,7 +88,8 @@ fn push_simple(
     takes_two: bool,
     place: &EdnPlace<'_>,
 ) -> Result<(), AllocError>
-    ensures { Writes result out.old out.new (Noted place.now (simple_text value)) }
+    ensures { Writes result out.old out.new
+        (Noted place.now (IsSimpleNote value) (simple_text value)) }
 {
     let start = out.len();
     scalars::push_simple(out, Simple(value))?;
@@ -102,6 +106,7 @@ pub(super) fn push_string(
     place: &EdnPlace<'_>,
 ) -> Result<(), AllocError>
     ensures { Writes result out.old out.new (Noted place.now
+        (says_string place.now (kind_of content.entry) (bytes_of content.entry))
         (quoted_string (kind_of content.entry) (borrowed_chunk width content.entry))) }
 {
     push_part(out, content, width, place)?;

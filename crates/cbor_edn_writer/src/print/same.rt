@@ -3,7 +3,8 @@
 ghost use Rattle.std.specs.Prelude.{◌≡◌, ◌<◌, ◌≤◌, length, Option, IfSome, MatchOption, None, Some};
 ghost use Rattle.cbor_edn_writer.specs.EdnLeaves.{content_under as content_there};
 ghost use Rattle.cbor_edn_writer.specs.EdnLeaves.{content_below as content_right_below};
-ghost use Rattle.cbor_edn_writer.specs.EdnLeaves.{item_if as shown_if, is_noted as has_note};
+ghost use Rattle.cbor_edn_writer.specs.EdnLeaves.{item_if as shown_if};
+ghost use Rattle.cbor_edn_writer.specs.OwnNotes.{is_noted as has_note};
 ghost use Rattle.cbor_edn_writer.specs.EdnLeaves.{begins_container as is_container};
 ghost use Rattle.cbor_edn_writer.specs.Same.{is_strict as has_same, is_sequence as all_items};
 ghost use Rattle.cbor_edn_writer.specs.Same.{after_head as next_head, after_read as next_read};

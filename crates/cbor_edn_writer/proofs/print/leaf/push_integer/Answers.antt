@@ -11,7 +11,7 @@ returns c =
     let old = string_bytes c.args.out.now in
     let mid = string_bytes c.push_number.new.out in
     let w = marked c.args.place.now.style.widths c.args.value c.args.width in
-    noted c.push_integer_note.result c.args.place.now (number c.args.value w) old mid
+    noted c.push_integer_note.result c.args.place.now _ (number c.args.value w) old mid
     (string_bytes c.push_integer_note.new.out)
     (subst (λ x. mid ≡ old ++
     (number c.args.value x)) c.shown_width.ensures c.in_ok-push_number.ensures) c.push_integer_note.ensures
