@@ -1,6 +1,6 @@
 //! Steps over bytes from one head to the next, and finds the wrong byte in malformed bytes
 //! (`place_of_fault`). It does not check that the bytes are an item; `extent` does.
-ghost use Rattle.std.specs.Prelude.{◌≤◌};
+ghost use Rattle.std.specs.Prelude.{◌≡◌, ◌≢◌, ◌-◌, ◌<◌, ◌≤◌};
 
 use cbor_bytes::utf8_fault;
 use cbor_grammar::Error;
@@ -66,7 +66,12 @@ fn argument_at(bytes: &[u8], at: usize) -> u64 {
 ///
 /// assert_eq!(rt; place_of_fault(b"\x63a\xffb", Error::Utf8, 4), 2);
 /// ```
-pub fn place_of_fault(bytes: &[u8], error: Error, end: usize) -> usize {
+pub fn place_of_fault(bytes: &[u8], error: Error, end: usize) -> usize
+    // The last of these bytes, except in a text that is not UTF-8.
+    ensures last { error ≢ Error.Utf8 → result ≡ end - 1 }
+    // One of these bytes, whatever the error.
+    ensures within { 1 ≤ end → result < end }
+{
     let last = end.saturating_sub(1);
     if error != Error::Utf8 {
         return last;
