@@ -1,8 +1,10 @@
 //! `fault_of` returns why bytes are not an item: the error, the byte that shows it, the path to the
 //! truncated or malformed item, and a message.
-ghost use Rattle.std.specs.Prelude.{◌≡◌, IfOk, IfErr, IfSome, None};
+ghost use Rattle.std.specs.Prelude.{◌≡◌, ◌≢◌, ◌-◌, ◌<◌, ◌≤◌, length};
+ghost use Rattle.std.specs.Prelude.{IfOk, IfErr, IfSome, None};
 ghost use Rattle.cbor_grammar.specs.Item.{Item};
 ghost use Rattle.cbor_grammar.specs.Facts.{IsItem, IsNoItem};
+ghost use Rattle.cbor_places.specs.Fault.{IsFaultPlace};
 
 use crate::around::Around;
 use crate::piece::{ByteNumbers, Piece};
@@ -17,8 +19,14 @@ use std::fmt::Write;
 pub struct Fault {
     /// The error.
     pub error: Error,
-    /// How many bytes are before the fault. In a text that is not UTF-8 it is the first byte with
-    /// which no UTF-8 goes on, as [`place_of_fault`] finds it.
+    /// How many bytes are before the fault.
+    ///
+    /// - `CutShort`: all bytes. The fault is at their end.
+    /// - `Remaining`: the bytes of the item at the front.
+    /// - `Utf8`: the bytes before the first one that UTF-8 cannot have there, as [`place_of_fault`]
+    ///   finds it. It is before the end of the text.
+    /// - Any other error: the bytes before the wrong one. They are truncated, and with the wrong
+    ///   byte they have the error.
     pub place: usize,
     /// The path to the item that is cut or has the fault, as `cborcat -p` reads it; `/` for the
     /// outermost item, and nothing where bytes remain after an item.
@@ -27,7 +35,9 @@ pub struct Fault {
     pub message: String,
 }
 
-/// Returns why bytes are no item, or `None` if they are one. The only error is `Memory`.
+/// Returns why bytes are no item and where their fault is, or `None` if they are one. The place is
+/// the end of truncated bytes, the end of an item that bytes follow, or the wrong byte. The only
+/// error is `Memory`.
 ///
 /// ```rust
 /// use cbor_places::fault_of;
@@ -44,6 +54,9 @@ pub fn fault_of(alloc: Global, bytes: &[u8]) -> Result<Option<Fault>, Error>
     // `None` only for an item, and otherwise an error that holds for the bytes.
     ensures none { IfOk result (λ f. f ≡ None → (i : Item) × IsItem bytes.now i) }
     ensures refused { IfOk result (λ f. IfSome f (λ x. IsNoItem bytes.now x.error)) }
+    // The place is the end of the bytes or of the item, or the last byte that shows the error. In a
+    // text that is not UTF-8, it is before the end of the text.
+    ensures place { IfOk result (λ f. IfSome f (λ x. IsFaultPlace bytes.now x.error x.place)) }
     ensures memory { IfErr result (λ e. e ≡ Error.Memory) }
 {
     match extent(bytes) {
@@ -62,6 +75,7 @@ pub fn fault_of(alloc: Global, bytes: &[u8]) -> Result<Option<Fault>, Error>
 /// What is said of bytes that are cut.
 fn cut(alloc: Global, bytes: &[u8]) -> Result<Fault, Error>
     ensures error { IfOk result (λ x. x.error ≡ Error.CutShort) }
+    ensures place { IfOk result (λ x. x.place ≡ length bytes.now) }
     ensures memory { IfErr result (λ e. e ≡ Error.Memory) }
 {
     let around = Around::of_end(alloc, Piece { begins: 0, bytes })?;
@@ -74,9 +88,11 @@ fn cut(alloc: Global, bytes: &[u8]) -> Result<Fault, Error>
     })
 }
 
-/// The message for bytes whose first `end` show this error, and fewer are truncated.
+/// What is said of bytes whose first `end` show this error, and fewer are truncated.
 fn wrong(alloc: Global, bytes: &[u8], error: Error, end: usize) -> Result<Fault, Error>
     ensures error { IfOk result (λ x. x.error ≡ error) }
+    ensures last { IfOk result (λ x. error ≢ Error.Utf8 → x.place ≡ end - 1) }
+    ensures within { IfOk result (λ x. 1 ≤ end → x.place < end) }
     ensures memory { IfErr result (λ e. e ≡ Error.Memory) }
 {
     let around = Around::of_end(alloc, Piece { begins: 0, bytes }.first(end))?;
