@@ -1,7 +1,7 @@
 -- If bytes have a fault with an error, they are no item, with that error (`IsNoItem`). If the bytes that hex stands for
 -- are no item with an error, the hex is refused with it (`IsHexRefused`). If the first `end` bytes have a fault and
 -- fewer bytes are truncated, the place of the fault is `end - 1`.
-use Rattle.std.proofs.Common.{◌≡◌, ◌+◌, ◌-◌, ◌<◌, ◌≤◌, ℕ, List, take, Ok, subst, sym, arith}
+use Rattle.std.proofs.Common.{◌≡◌, ◌+◌, ◌-◌, ◌<◌, ℕ, List, take, Ok, refl}
 use Rattle.hex.specs.Hex.{decode_of}
 use Rattle.cbor_tokens.specs.Uncommented.{uncommented}
 use Rattle.cbor_grammar.specs.declared.error.Error.{Error}
@@ -10,17 +10,16 @@ use Rattle.cbor_grammar.specs.Facts.{HasFault, IsCut, IsNoItem}
 use Rattle.cbor_bytes.specs.Extent.{FaultEnds}
 use Rattle.cbor_grammar.specs.HexText.{IsHexRefused}
 use Rattle.cbor_grammar.proofs.bytes.Outcomes.{fault_refusal}
+use Rattle.cbor_places.specs.Fault.{ShowsFirst}
+use Rattle.cbor_places.proofs.FaultPlaces.{last_shows}
 
 pub refused : (b : List ℕ) (e : Error) → HasFault b e → IsNoItem b e
 refused b e h = fault_refusal 1 b e h
 
 -- the last of the bytes that have it is before none that does
 pub fault_place : (b : List ℕ) (e : Error) (end : ℕ) → FaultEnds b e end → ((n : ℕ) → n < end → IsCut (take n b))
-    → FaultEnds b e (end - 1 + 1) × ((n : ℕ) → n ≤ end - 1 → IsCut (take n b))
-fault_place b e end shown cuts =
-    let some : 1 ≤ end = shown.0 in
-    let same : end - 1 + 1 ≡ end = omega arith in
-    (subst (λ (k : ℕ). FaultEnds b e k) (sym same) shown, λ n low. cuts n (omega arith))
+    → ShowsFirst b e (end - 1 + 1)
+fault_place b e end shown cuts = last_shows b e end (end - 1) (shown, cuts) refl
 
 pub hex_refused : (text b : List ℕ) (e : Error) → decode_of (uncommented text) ≡ Ok b → IsNoItem b e
     → IsHexRefused text e

@@ -1,7 +1,7 @@
 -- The place of the error in an input that is not an item, for each form (`IsPlace`). A place is the number of bytes
 -- before it, and `no_place` stands for none. `IsFaultIn`: the number of the error and its place, for the C call
 -- `cbor_diag_fault`.
-use Rattle.std.specs.Prelude.{◌≡◌, ◌⊎◌, ℕ, ◌+◌, ◌-◌, ◌*◌, ◌^◌, ◌<◌, ◌≤◌, List, length, take, Ok, IsUtf8}
+use Rattle.std.specs.Prelude.{◌≡◌, ◌⊎◌, ℕ, ◌+◌, ◌-◌, ◌*◌, ◌^◌, ◌<◌, ◌≤◌, List, length, Ok, IsUtf8}
 use Rattle.std.specs.Str.{IsValidUpTo}
 use Rattle.hex.specs.Hex.{decode_of}
 use Rattle.cbor_tokens.specs.Uncommented.{uncommented}
@@ -9,7 +9,7 @@ use Rattle.cbor_grammar.specs.declared.error.Error.{Error}
 use Rattle.cbor_grammar.specs.declared.error.Error.TheVariants as refusal
 use Rattle.cbor_grammar.specs.Item.{Item}
 use Rattle.cbor_grammar.specs.Facts.{BeginsWithItem, IsCut}
-use Rattle.cbor_bytes.specs.Extent.{FaultEnds}
+use Rattle.cbor_places.specs.Fault.{ShowsFirst}
 use Rattle.cbor_grammar.specs.HexText.{IsKeptByte, IsHexFault}
 use Rattle.cbor_grammar.specs.Refusals.{number_of}
 use Rattle.cbor_diag.specs.declared.conversion.form.Source.{Source}
@@ -29,7 +29,7 @@ abbrev pub IsBytesPlace : List ℕ → Error → ℕ → Type 0
 IsBytesPlace b e place =
     ((e ≡ refusal.CutShort) × IsCut b × (place ≡ length b))
     ⊎ ((e ≡ refusal.Remaining) × (i : Item) × BeginsWithItem b i place × (place < length b))
-    ⊎ (FaultEnds b e (place + 1) × ((n : ℕ) → n ≤ place → IsCut (take n b)))
+    ⊎ ShowsFirst b e (place + 1)
 
 -- the first digit of byte n in hex, or the end of the text if it has no such byte
 abbrev pub IsDigitsPlace : List ℕ → ℕ → ℕ → Type 0
