@@ -1,5 +1,6 @@
 //! Writes elements of typed arrays as texts (RFC 8746, section 2), such as `unsigned(1,000)`.
 //! `element_size` returns how many bytes an element has.
+//! `big_endian_number` returns the number that bytes encode.
 
 ghost use Rattle.std.specs.Prelude.{◌≡◌, [], ◌++◌, is_some, unwrap_or, ◌-◌, ◌<◌, ◌≤◌, ◌*◌, ◌^◌};
 ghost use Rattle.std.specs.Prelude.{length, take, reverse, option_map, if◌then◌else◌, IfSome};
@@ -179,14 +180,21 @@ fn push_value(text: &mut String, kind: Kind, bytes: &[u8]) -> Result<(), AllocEr
     ensures unchanged { OnErr result (string_bytes text.new ≡ string_bytes text.old) }
 {
     match kind {
-        Kind::Unsigned => push_grouped(text, number(bytes), false),
+        Kind::Unsigned => push_grouped(text, big_endian_number(bytes), false),
         Kind::Signed => push_signed(text, bytes),
         Kind::Float => push_hex(text, bytes),
     }
 }
 
-/// The number that at most sixteen bytes encode, the highest first.
-fn number(bytes: &[u8]) -> u128
+/// Returns the number that at most 16 bytes encode, the highest byte first. The number of no bytes
+/// is 0. The number of `n` bytes is less than 256 to the power of `n`.
+///
+/// ```rust
+/// use cbor_notes::big_endian_number;
+///
+/// assert_eq!(rt; big_endian_number(b"\x30\x39"), 12_345);
+/// ```
+pub fn big_endian_number(bytes: &[u8]) -> u128
     requires { length bytes.now ≤ 16 }
     ensures value { result ≡ number_from_digits 256 bytes.now }
     ensures bound { result < 2 ^ (8 * length bytes.now) }
@@ -206,7 +214,7 @@ fn push_signed(text: &mut String, bytes: &[u8]) -> Result<(), AllocError>
         ++ spec.signed_text (length bytes.now) (number_from_digits 256 bytes.now)) }
     ensures unchanged { OnErr result (string_bytes text.new ≡ string_bytes text.old) }
 {
-    let number = number(bytes);
+    let number = big_endian_number(bytes);
     let half = 1u128 << (8 * bytes.len() - 1);
     if number < half {
         push_grouped(text, number, false)

@@ -1,8 +1,8 @@
 //! Writes the texts of comments on CBOR data: numbers in groups, escaped bytes and texts, base 58,
 //! addresses, UUIDs, dates, decoded base 64, the elements of typed arrays and the names of tags. It
-//! tests whether a text is a URL, and lays out the lines of dumps in columns. A [`Note`] is a text
-//! of a caller beside an item. The crate re-exports calls of `cbor_tokens`: base 32, base 64, hex
-//! digits, and the tokens of diagnostic notation.
+//! tests whether a text is a URL, reads big endian numbers, and lays out the lines of dumps in
+//! columns. A [`Note`] is a text of a caller beside an item. The crate re-exports calls of
+//! `cbor_tokens`: base 32, base 64, hex digits, and the tokens of diagnostic notation.
 //!
 //! ```rust
 //! use cbor_notes::grouped;
@@ -41,7 +41,7 @@ pub use cbor_tokens::{
 pub use date::{date_of_epoch, epoch_of_date};
 pub use datetime::{datetime_of_epoch, epoch_of_datetime};
 pub use decoded::base64_lines;
-pub use element::{element_size, element_text, push_element_text};
+pub use element::{big_endian_number, element_size, element_text, push_element_text};
 pub use identifier::uuid_lines;
 pub use line::{Line, merge, push_blanks, push_gap, put_line};
 pub use note::Note;

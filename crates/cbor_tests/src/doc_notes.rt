@@ -3,12 +3,13 @@
 //! standards that the comments name.
 
 use cbor_notes::{
-    Line, base32_decode, base32hex_decode, base58, base64_any_decode, base64_lines, blank_end,
-    blank_len, date_of_epoch, datetime_of_epoch, decode_hex, digits_at, digits_front, element_size,
-    element_text, epoch_of_date, epoch_of_datetime, escaped_text, grouped, ipv4_text, ipv6_text,
-    mac_text, merge, number_at, number_front, push_blanks, push_element_text, push_escaped_text,
-    push_gap, push_grouped, push_hex, push_quoted_bytes, push_spaced_hex, put_line, quoted_at,
-    quoted_bytes, quoted_front, tag_name, url_verdict, uuid_lines,
+    Line, base32_decode, base32hex_decode, base58, base64_any_decode, base64_lines,
+    big_endian_number, blank_end, blank_len, date_of_epoch, datetime_of_epoch, decode_hex,
+    digits_at, digits_front, element_size, element_text, epoch_of_date, epoch_of_datetime,
+    escaped_text, grouped, ipv4_text, ipv6_text, mac_text, merge, number_at, number_front,
+    push_blanks, push_element_text, push_escaped_text, push_gap, push_grouped, push_hex,
+    push_quoted_bytes, push_spaced_hex, put_line, quoted_at, quoted_bytes, quoted_front, tag_name,
+    url_verdict, uuid_lines,
 };
 use std::alloc::{AllocError, Global};
 use std::process::Abort;
@@ -69,6 +70,7 @@ fn of_elements(rt: &impl Abort, alloc: Global) -> Result<(), AllocError> {
     let mut text = String::new(alloc);
     assert!(rt; push_element_text(&mut text, 72, b"\xff")?);
     assert_eq!(rt; text.as_str(), "signed(-1)");
+    assert_eq!(rt; big_endian_number(b"\x30\x39"), 12_345);
     Ok(())
 }
 

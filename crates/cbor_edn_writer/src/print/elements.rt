@@ -3,14 +3,13 @@
 ghost use Rattle.std.specs.Prelude.{◌≡◌, ◌++◌, ◌*◌, ◌^◌, ◌<◌, ◌≤◌, ◌%◌, List, ℕ, length, take};
 ghost use Rattle.std.specs.Prelude.{Some, reverse, option_map, IfOk, OnOk};
 ghost use Rattle.std.specs.Int.{IsInRange};
-ghost use Rattle.std.specs.Int.Digits.{number_from_digits};
 ghost use Rattle.std.specs.String.{string_bytes};
 ghost use Rattle.cbor_notes.specs.Element.{is_little_endian as is_lowest_first};
 ghost use Rattle.cbor_edn_writer.specs.Elements as spec;
 ghost use Rattle.cbor_edn_writer.specs.Elements.{IsElementText, IsElementsNote, MoreElements};
 
 use cbor_floats::{EncodedFloat, push_number};
-use cbor_notes::element_size;
+use cbor_notes::{big_endian_number, element_size};
 use std::alloc::{AllocError, Global};
 
 /// The most elements that a note shows after the first one.
@@ -100,9 +99,9 @@ fn number_of(tag: u64, bytes: &[u8]) -> u64
 {
     if is_little_endian(tag) {
         let wide = reversed(bytes);
-        number(&wide[..bytes.len()]) as u64
+        big_endian_number(&wide[..bytes.len()]) as u64
     } else {
-        number(bytes) as u64
+        big_endian_number(bytes) as u64
     }
 }
 
@@ -123,19 +122,6 @@ fn reversed(bytes: &[u8]) -> [u8; 8]
     front.copy_from_slice(bytes);
     front.reverse();
     wide
-}
-
-/// The number that at most 16 bytes encode, the highest first.
-pub(super) fn number(bytes: &[u8]) -> u128
-    requires { length bytes.now ≤ 16 }
-    ensures value { result ≡ number_from_digits 256 bytes.now }
-    ensures bound { result < 2 ^ (8 * length bytes.now) }
-{
-    let mut number = 0;
-    for byte in bytes {
-        number = number * 256 + u128::from(*byte);
-    }
-    number
 }
 
 /// Appends a number of that many bytes in two's complement. It is negative from half of its range

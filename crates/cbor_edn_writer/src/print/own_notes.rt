@@ -9,10 +9,10 @@ ghost use Rattle.std.specs.String.{string_bytes};
 ghost use Rattle.cbor_edn_writer.specs.OwnNotes as spec;
 ghost use Rattle.cbor_edn_writer.specs.OwnNotes.{IsTaggedNote, escaped_character};
 
-use crate::print::elements::{elements_text, number};
+use crate::print::elements::elements_text;
 use cbor_notes::{
-    date_of_epoch, datetime_of_epoch, epoch_of_date, epoch_of_datetime, ipv4_text, ipv6_text,
-    mac_text,
+    big_endian_number, date_of_epoch, datetime_of_epoch, epoch_of_date, epoch_of_datetime,
+    ipv4_text, ipv6_text, mac_text,
 };
 use std::alloc::{AllocError, Global};
 use uuid::Uuid;
@@ -131,7 +131,7 @@ fn big_number(alloc: Global, negative: bool, bytes: &[u8]) -> Result<Option<Stri
     if bytes.len() > 16 {
         return Ok(None);
     }
-    let number = number(bytes);
+    let number = big_endian_number(bytes);
     if !negative {
         return Ok(Some(format!(in alloc; "{number}")?));
     }

@@ -1,7 +1,7 @@
 use Rattle.std.proofs.Common.{◌<◌, ℕ, get_or, arith}
 use Rattle.std.proofs.lemmas.List.{take_all}
 use Rattle.cbor_notes.proofs.texts.ElementLemmas.{number_below, next_number}
-use Rattle.cbor_notes.proofs.element.number.Goals as goal
+use Rattle.cbor_notes.proofs.element.big_endian_number.Goals as goal
 
 pub overflow_mul-number : goal.overflow_mul-number
 overflow_mul-number c =
