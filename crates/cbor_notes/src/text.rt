@@ -220,7 +220,7 @@ pub fn push_escaped_text(escaped: &mut String, text: &str) -> Result<(), AllocEr
         (string_bytes escaped.new ≡ string_bytes escaped.old ++ spec.escaped_text text.now) }
     ensures unchanged { OnErr result (string_bytes escaped.new ≡ string_bytes escaped.old) }
 {
-    if !may_have_escapes(text) {
+    if !may_have_control_quote_or_backslash(text) {
         return escaped.push_str(text);
     }
     let len = escaped.len();
@@ -228,9 +228,9 @@ pub fn push_escaped_text(escaped: &mut String, text: &str) -> Result<(), AllocEr
     cut_after_error(escaped, len, answer)
 }
 
-/// Whether the text may have a character that is escaped. The loop always runs to the end of the
-/// text, so that the compiler can test many bytes at once.
-fn may_have_escapes(text: &str) -> bool
+/// Whether the text may have a character that is escaped: a control character, `"` or `\`.
+/// The loop always runs to the end of the text, so that the compiler can test many bytes at once.
+fn may_have_control_quote_or_backslash(text: &str) -> bool
     ensures { result ≡ list_any begins_escape text.now }
 {
     let mut found = 0;
