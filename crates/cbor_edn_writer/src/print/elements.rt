@@ -18,6 +18,15 @@ const MOST_MORE: usize = 7;
 /// The most bytes of an element that a note shows. Floats of 128 bits have more.
 const MOST_BYTES: usize = 8;
 
+/// The elements of a typed array.
+#[derive(Clone, Copy)]
+struct Elements {
+    /// The tag of the array, which says what they are.
+    tag: u64,
+    /// The number of bytes of each.
+    size: usize,
+}
+
 /// The text of the first eight elements of the typed array with this tag and these bytes, with `..`
 /// in place of further ones. `None` for another tag, for floats of 128 bits, for no bytes, and for
 /// bytes that do not divide into elements. The only error is out of memory.
@@ -37,7 +46,7 @@ pub(super) fn elements_text(
     let mut text = String::new(alloc);
     let (first, rest) = bytes.split_at(size);
     push_element(&mut text, tag, first)?;
-    push_more(&mut text, tag, rest, size, MOST_MORE)?;
+    push_more(&mut text, Elements { tag, size }, rest, MOST_MORE)?;
     Ok(Some(text))
 }
 
@@ -51,18 +60,12 @@ fn shown_size(tag: u64) -> Option<usize>
     }
 }
 
-/// Appends the elements that these bytes are, of `size` bytes each, each after a comma: at most
-/// `left` of them, and `..` in place of further ones.
-fn push_more(
-    text: &mut String,
-    tag: u64,
-    bytes: &[u8],
-    size: usize,
-    left: usize,
-) -> Result<(), AllocError>
-    requires shown { spec.shown_size tag ≡ Some size }
-    requires whole { length bytes.now % size ≡ 0 }
-    ensures { OnOk result ((more : List ℕ) × MoreElements tag left bytes.now more
+/// Appends the elements that these bytes are, each after a comma: at most `left` of them, and `..`
+/// in place of further ones.
+fn push_more(text: &mut String, of: Elements, bytes: &[u8], left: usize) -> Result<(), AllocError>
+    requires shown { spec.shown_size of.tag ≡ Some of.size }
+    requires whole { length bytes.now % of.size ≡ 0 }
+    ensures { OnOk result ((more : List ℕ) × MoreElements of.tag left bytes.now more
         × (string_bytes text.new ≡ string_bytes text.old ++ more)) }
 {
     if bytes.is_empty() {
@@ -72,9 +75,9 @@ fn push_more(
     if left == 0 {
         return text.push_str("..");
     }
-    let (element, rest) = bytes.split_at(size);
-    push_element(text, tag, element)?;
-    push_more(text, tag, rest, size, left - 1)
+    let (element, rest) = bytes.split_at(of.size);
+    push_element(text, of.tag, element)?;
+    push_more(text, of, rest, left - 1)
 }
 
 /// Appends an element of the typed array with this tag, from its bytes.
