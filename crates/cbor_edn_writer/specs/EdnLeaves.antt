@@ -82,15 +82,17 @@ comment_before note = if is_note note then codes "/" ++ (note ++ codes "/ ") els
 abbrev pub comment_after : List ℕ → List ℕ
 comment_after note = if is_note note then codes " /" ++ (note ++ codes "/") else []
 
--- What the writer itself says of an item, if it says something: this, or one of what a predicate allows. It stands
--- after the item in a style with notes.
+-- What the writer itself may say of an item. The predicate holds for each text that it may say. It holds for `None` if
+-- the writer may say nothing.
 abbrev pub Said : Type 1
 Said = Option (List ℕ) → Type 0
 
+-- what it says, as a comment after the item
 abbrev pub own_comment : Option (List ℕ) → List ℕ
 own_comment None = []
 own_comment (Some said) = comment_after said
 
+-- In a style with notes, the comment is one that the predicate allows. In another style there is none.
 abbrev pub NoteAfter : EdnPlace → Said → Texts
 NoteAfter p says t =
     ((p.style.notes ≡ false) × (t ≡ []))
