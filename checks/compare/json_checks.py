@@ -136,7 +136,8 @@ def refusals(run, same):
     same("a part, strict", run("-t", "json", "--strict", "-p", "2/@", "-f", "hex", "-x", "a1 02 43 81 f9 7e"), (
         b"", "cborcat: -x: 2/@: the bytes at 2 are not one item\n", 1))
     same("a part, strict", run("-t", "json", "--strict", "-p", "2/@", "-f", "hex", "-x", "a1 02 42 81 f7"), (
-        b"", "cborcat: -x: byte 1 of the part at 2/@: JSON does not keep undefined\n    at 2/@/0\n", 1))
+        b"", "cborcat: -x:1:13: JSON does not keep undefined\n    at 2, in the map of 1 at 1:1\n"
+        "    a1 02 42 81 f7\n                ^^\n", 1))
     json_with, raw_with = ["-t", "json"], ["-t", "raw"]
     for wrong in ([*json_with, "--partial"], [*json_with, "--encode=core"], ["--strict"], [*raw_with, "--partial"]):
         same(f"{wrong} is wrong", run(*wrong, data=b"\1")[::2], (b"", 2))

@@ -24,6 +24,19 @@ TOKEN = """\
 ])
 """
 
+# The payload of the token as a part.
+PAYLOAD = """\
+<<{
+    /iss/ 1: "coap://as.example.com",
+    /sub/ 2: "erikw",
+    /aud/ 3: "coap://light.example.com",
+    /exp/ 4: 1444064944 /2015-10-05T17:09:04Z/,
+    /nbf/ 5: 1443944944 /2015-10-04T07:49:04Z/,
+    /iat/ 6: 1443944944 /2015-10-04T07:49:04Z/,
+    /cti/ 7: h'0b71',
+}>>
+"""
+
 SIGNED = """\
 /COSE_Sign1/ 18([
     /protected/ <<{/alg/ 1: -7 /ES256/}>>,
@@ -47,6 +60,10 @@ KEY = """\
     /y/ -3: h'60f7f1a780d8a783bfb7a2dd6b2796e8128dbbcef9d3d168db9529971a36e7b9',
 }
 """
+
+# A message, and how the map in its payload is shown.
+MESSAGE = "18([h'a10126', {4: '11'}, h'a2041a5612aeb0016161', h''])"
+CLAIMS = '{/exp/ 4: 1444064944 /2015-10-05T17:09:04Z/, /iss/ 1: "a"}'
 
 # Words, and what is written.
 SHOWN = [
@@ -100,6 +117,24 @@ SHOWN = [
     (["--no-names", "-x", "1(0)"], "1(0 /1970-01-01T00:00:00Z/)\n"),
     (["--no-notes", "-x", "18([h'a10126', {}, h'', h''])"], "18([h'a10126', {}, h'', h''])\n"),
     (["-t", "diag", "-x", "18([h'a10126', {}, h'', h''])"], "18([h'a10126', {}, h'', h''])\n"),
+    # A part has the names that it has in its item: by its key or its place, by the tags around it, in byte strings.
+    (["-p", "protected", "-x", MESSAGE], "<<{/alg/ 1: -7 /ES256/}>>\n"),
+    (["-p", "protected/alg", "-x", MESSAGE], "-7 /ES256/\n"),
+    (["-p", "1", "-x", MESSAGE], "{/kid/ 4: h'3131' /'11'/}\n"),
+    (["-p", "payload", "-x", MESSAGE], f"<<{CLAIMS}>>\n"),
+    (["-p", "payload/@", "-x", MESSAGE], f"{CLAIMS}\n"),
+    (["-p", "payload/exp", "-x", MESSAGE], "1444064944 /2015-10-05T17:09:04Z/\n"),
+    (["-p", "*", "-x", MESSAGE], f"<<{{/alg/ 1: -7 /ES256/}}>>\n{{/kid/ 4: h'3131' /'11'/}}\n<<{CLAIMS}>>\nh''\n"),
+    (["-p", "1/0", "-x", f"[0, {MESSAGE}]"], "<<{/alg/ 1: -7 /ES256/}>>\n"),
+    (["-p", "*/0", "-x", f"[{MESSAGE}, 55799({MESSAGE})]"], "<<{/alg/ 1: -7 /ES256/}>>\n" * 2),
+    (["-p", "payload/4", "-x", "61(18([h'', {}, h'a1041a5612aeb0', h'']))"], "1444064944 /2015-10-05T17:09:04Z/\n"),
+    (["-p", "0/@/0", "-x", f"55799([<<{MESSAGE}>>])"], "<<{/alg/ 1: -7 /ES256/}>>\n"),
+    (["-p", "1", "-x", "18([1, {4: '11'}, 3, 4])"], "{4: h'3131' /'11'/}\n"),
+    # The type that is given is that of the part.
+    (["--as=COSE_Key", "-p", "1", "-x", "18([h'', {1: 4}, h'', h''])"], "/COSE_Key/ {/kty/ 1: 4 /Symmetric/}\n"),
+    (["--no-names", "-p", "0", "-x", MESSAGE], "h'a10126'\n"),
+    (["-t", "diag", "-p", "0", "-x", MESSAGE], "h'a10126'\n"),
+    (["-t", "json", "--names-as-keys", "-p", "payload/@", "-x", MESSAGE], '{"exp": 1444064944, "iss": "a"}\n'),
 ]
 
 # A dump with names: each line as it is without them, but for its comment. The items in byte strings have lines with -e.
@@ -156,6 +191,9 @@ def examples(run, same, folder):
         item = run("-t", "bytes", f"{folder}/{name}")[0]
         same(f"{name} is read back", run("-t", "bytes", "-f", "diag", data=wanted.encode()), (item, "", 0))
         same(f"{name} without names", b"/alg/" in run("--no-names", f"{folder}/{name}")[0], False)
+    same("the payload of the token", run("-p", "payload", f"{folder}/cwt-signed.hex"), (PAYLOAD.encode(), "", 0))
+    part = run("-p", "authData", f"{folder}/webauthn.hex")[0].decode()
+    same("the parts of authenticator data that is a part", part.count(f"'{PARTS}\n"), 1)
     item = run("-t", "bytes", f"{folder}/webauthn.hex")[0]
     for given in ([], ["--as=WebAuthn_Attestation"]):
         shown = run(*given, f"{folder}/webauthn.hex")[0].decode()
@@ -176,6 +214,8 @@ def dumps(run, same, folder):
         same(f"a dump with {words}", run(*words, "-t", "hex", *item)[0].decode(), bare)
     same("a type", run("--as=CWT", "-t", "hex", "-x", "{4: 0}")[0].decode(),
          "a1    # /CWT/ map(1)\n   04 #   /exp/ unsigned(4)\n   00 #   unsigned(0) /1970-01-01T00:00:00Z/\n")
+    same("of a part with its names", run("-p", "1", "-t", "hex", "-x", MESSAGE)[0].decode(),
+         "a1         # map(1)\n   04      #   /kid/ unsigned(4)\n   42      #   bytes(2)\n      3131 #     \"11\"\n")
     same("of a part", run("--as=CWT", "-p", "*", "-t", "hex", "-x", "[{}, {}]")[0].decode(), "a0 # /CWT/ map(0)\n" * 2)
     same("in colours", run("--as=CWT", "--color=always", "-t", "hex", "-x", "{}")[0],
          b"\x1b[33ma0 \x1b[0m\x1b[90m# /CWT/ map(0)\x1b[0m\n")
@@ -239,7 +279,7 @@ exp = 4
 BY_RULES = [
     (["-x", "1000([7, 2])"], "/frame/ 1000([/version/ 7, /kind/ 2 /close/])\n"),
     (["-x", "1000([7, 1, h'a1016161'])"], "/frame/ 1000([/version/ 7, /kind/ 1 /open/, /held/ <<{/iss/ 1: \"a\"}>>])\n"),
-    (["-p", "held/exp", "-x", "1000([7, 1, h'a10400'])"], "0\n"),
+    (["-p", "held/exp", "-x", "1000([7, 1, h'a10400'])"], "0 /1970-01-01T00:00:00Z/\n"),
     (["--as=claims", "-x", "{1: \"a\", 4: 0}"], "/claims/ {/iss/ 1: \"a\", /exp/ 4: 0 /1970-01-01T00:00:00Z/}\n"),
     (["-t", "json", "--names-as-keys", "--as=claims", "-x", "{1: \"a\", 8: 2}"], '{"iss": "a", "8": 2}\n'),
     (["-x", "16([h'', {}, h''])"], "/COSE_Encrypt0/ 16([/protected/ h'', /unprotected/ {}, /ciphertext/ h''])\n"),

@@ -33,7 +33,7 @@ fn item_lines(alloc: Global, bytes: &[u8]) -> Result<Vec<u8>, Error>
         return Err(error);
     }
     let marks = Marks::new(alloc);
-    let mut show = Show::new(alloc, Form::Pretty);
+    let mut show = Show::new(Form::Pretty);
     show.marks = Some(&marks);
     let item = Piece { begins: 0, bytes };
     let outermost = PathStart {
@@ -98,8 +98,8 @@ const NO_NOTES: u32 = 1;
 const EMBEDDED: u32 = 2;
 
 /// What shows items with names, and marks tokens there.
-fn named_show<'a>(alloc: Global, naming: Naming<'a>, marks: &'a Marks) -> Show<'a> {
-    let mut show = Show::new(alloc, Form::Pretty);
+fn named_show<'a>(naming: Naming<'a>, marks: &'a Marks) -> Show<'a> {
+    let mut show = Show::new(Form::Pretty);
     show.marks = Some(marks);
     show.names = Some(naming);
     show
@@ -111,7 +111,7 @@ fn data_lines(alloc: Global, naming: Naming<'_>, flags: u32, input: &[u8]) -> Re
     ensures memory { IfErr result (λ e. e ≡ Error.Memory) }
 {
     let marks = Marks::new(alloc);
-    let mut show = named_show(alloc, naming, &marks);
+    let mut show = named_show(naming, &marks);
     show.style.notes = flags & NO_NOTES == 0;
     show.style.embedded = flags & EMBEDDED != 0;
     let data = Piece {

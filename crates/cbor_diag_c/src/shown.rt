@@ -22,7 +22,7 @@ fn named(alloc: Global, naming: Naming<'_>, input: &[u8]) -> Result<Vec<u8>, Err
     if let Some((error, _)) = in_bytes(input) {
         return Err(error);
     }
-    let mut show = Show::new(alloc, Form::Pretty);
+    let mut show = Show::new(Form::Pretty);
     show.names = Some(naming);
     show.one = true;
     let mut text = Vec::new(alloc);

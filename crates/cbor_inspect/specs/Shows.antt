@@ -29,7 +29,7 @@ ShowsPart show (s ∷ steps) i output =
 
 -- the path to the part that is written
 abbrev pub steps_of : Show → List Step
-steps_of show = show.steps.items
+steps_of show = show.steps.now
 
 -- what is written of an item: all of it, or the parts that the path leads to
 abbrev pub Shows : Show → Item → List ℕ → Type 0

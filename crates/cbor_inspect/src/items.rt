@@ -20,6 +20,7 @@ use crate::form::{Form, Style};
 use crate::naming::Naming;
 use crate::notation::{Work, push_notation};
 use crate::part::push_part;
+use crate::picture::NamedPart;
 use cbor_bytes::strict::is_strict;
 use cbor_bytes::{Extent, extent};
 use cbor_diag::parse_bytes;
@@ -37,7 +38,7 @@ use std::mem;
 const BLOCK: usize = 64 * 1024;
 
 /// What is written of items.
-#[derive(Drop)]
+#[derive(Clone, Copy)]
 pub struct Show<'a> {
     /// How each is written.
     pub style: Style,
@@ -45,7 +46,7 @@ pub struct Show<'a> {
     pub names: Option<Naming<'a>>,
     /// The path to the parts that are written: to one at most, but for a `*`. Nothing is written of
     /// an item without any.
-    pub steps: Vec<Step>,
+    pub steps: &'a [Step],
     /// Whether a call passes at most one item, and stops after it with `Full`.
     pub one: bool,
     /// Where the tokens of EDN are marked, if they are to be. Their places count from the begin of
@@ -56,7 +57,7 @@ pub struct Show<'a> {
 impl<'a> Show<'a> {
     /// Returns what writes whole items in a form, one after the other, with notes in pretty EDN,
     /// but without names. Its lines have 80 columns.
-    pub fn new(alloc: Global, form: Form) -> Show<'a>
+    pub fn new(form: Form) -> Show<'a>
         ensures form { result.style.form ≡ form }
         ensures whole { steps_of result ≡ [] }
         ensures bytes { result.style.embedded ≡ false }
@@ -76,9 +77,31 @@ impl<'a> Show<'a> {
         Show {
             style,
             names: None,
-            steps: Vec::new(alloc),
+            steps: &[],
             one: false,
             marks: None,
+        }
+    }
+
+    /// Returns what writes a part that [`parts_of`](crate::parts_of) found, as it is written in its
+    /// item: with the names that it has there.
+    pub fn of_part(&self, part: &NamedPart) -> Show<'a>
+        ensures whole { steps_of result ≡ [] }
+
+        // What it writes of an item is one of the texts that this one may write of it.
+        ensures form { (i : Item) (output : List ℕ)
+            → IsForm result i output → IsForm self.now i output }
+    {
+        let whole = Show {
+            steps: &[],
+            ..*self
+        };
+        match self.names {
+            Some(naming) => Show {
+                names: Some(naming.of_part(part)),
+                ..whole
+            },
+            None => whole,
         }
     }
 

@@ -7,7 +7,7 @@
 //! use cbor_inspect::{End, Form, Show, show_items};
 //!
 //! let mut out = Vec::new(alloc);
-//! let shown = show_items(&Show::new(alloc, Form::Diag), b"\x82\x01\x02", &mut out);
+//! let shown = show_items(&Show::new(Form::Diag), b"\x82\x01\x02", &mut out);
 //! assert_eq!(rt; shown.end, End::Done);
 //! assert_eq!(rt; out.as_slice(), b"[1, 2]\n".as_slice());
 //! ```
@@ -35,7 +35,7 @@ pub use form::{Form, Style};
 pub use items::{Show, show_items};
 pub use name::{NameError, name_at};
 pub use naming::Naming;
-pub use picture::parts_of;
+pub use picture::{NamedPart, parts_of};
 pub use raw::{RawError, raw_content};
 pub use rfc8949::two_byte_simple;
 pub use steps::steps_of;

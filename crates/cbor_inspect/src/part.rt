@@ -7,13 +7,14 @@ ghost use Rattle.cbor_grammar.specs.Item.{Item};
 ghost use Rattle.cbor_grammar.specs.Facts.{IsItem, BeginsWithItem};
 ghost use Rattle.cbor_paths.specs.Ends.{StopsSo};
 ghost use Rattle.cbor_paths.specs.Sequence.{ShowsEach};
+ghost use Rattle.cbor_inspect.specs.Forms.{IsForm};
 ghost use Rattle.cbor_inspect.specs.Shows.{IsPartForm};
 
 use crate::form::Form;
 use crate::items::{Show, first_len, push_front, push_text};
 use crate::notation::Work;
-use crate::picture::parts_of;
-use cbor_paths::{End, Found};
+use crate::picture::{NamedPart, parts_of};
+use cbor_paths::End;
 use cbor_tokens::push_hex;
 
 /// Appends what is written of the parts of the item at the front that the path leads to.
@@ -53,7 +54,7 @@ pub(crate) fn push_part(
 /// Appends what is written of these parts of the bytes, one after the other.
 fn push_all(
     show: &Show,
-    parts: (&[u8], &[Found]),
+    parts: (&[u8], &[NamedPart]),
     work: &mut Work,
     out: &mut Vec<u8>,
 ) -> Result<(), End>
@@ -65,7 +66,7 @@ fn push_all(
     let (bytes, found) = parts;
     let before = out.len();
     'each: for part in found {
-        if let Err(end) = push_found(show, part.span.bytes(bytes), work, out) {
+        if let Err(end) = push_found(show, (bytes, part), work, out) {
             out.truncate(before);
             return Err(end);
         }
@@ -73,24 +74,40 @@ fn push_all(
     Ok(())
 }
 
-/// Appends what is written of the part that these bytes are.
-fn push_found(show: &Show, part: &[u8], work: &mut Work, out: &mut Vec<u8>) -> Result<(), End>
+/// Appends what is written of this part of the bytes.
+fn push_found(
+    show: &Show,
+    part: (&[u8], &NamedPart),
+    work: &mut Work,
+    out: &mut Vec<u8>,
+) -> Result<(), End>
     ensures written { OnOk result ((written : List ℕ)
         × (out.new.items ≡ out.old.items ++ written)
         × (i : Item) × IsPartForm show.now.style.form show.now i written) }
     ensures unchanged { OnErr result (out.new.items ≡ out.old.items) }
 {
+    let (item, found) = part;
+    let bytes = found.span.bytes(item);
     work.text.clear();
     work.clear = 0;
     match show.style.form {
-        Form::Bytes => push_own(part, out),
-        Form::Digits => push_own_digits(part, &mut work.text, out),
-        Form::Pretty | Form::Diag | Form::Hex => {
-            match push_front(show, part, None, work, out) {
-                Ok(_) => Ok(()),
-                Err(end) => Err(end),
-            }
-        }
+        Form::Bytes => push_own(bytes, out),
+        Form::Digits => push_own_digits(bytes, &mut work.text, out),
+        Form::Pretty => push_item(&show.of_part(found), bytes, work, out),
+        Form::Diag | Form::Hex => push_item(show, bytes, work, out),
+    }
+}
+
+/// Appends what is written of the item at the front. The text is empty.
+fn push_item(show: &Show, bytes: &[u8], work: &mut Work, out: &mut Vec<u8>) -> Result<(), End>
+    requires { string_bytes work.old.text ≡ [] }
+    ensures written { OnOk result ((written : List ℕ)
+        × (out.new.items ≡ out.old.items ++ written) × (i : Item) × IsForm show.now i written) }
+    ensures unchanged { OnErr result (out.new.items ≡ out.old.items) }
+{
+    match push_front(show, bytes, None, work, out) {
+        Ok(_) => Ok(()),
+        Err(end) => Err(end),
     }
 }
 

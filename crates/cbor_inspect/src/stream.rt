@@ -112,7 +112,7 @@ impl Stream {
     /// ```rust
     /// use cbor_inspect::{End, Form, Show, Stream};
     ///
-    /// let show = Show::new(alloc, Form::Diag);
+    /// let show = Show::new(Form::Diag);
     /// let mut out = Vec::new(alloc);
     /// let mut stream = Stream::new(Vec::from_slice(alloc, b"\x01\x82\x02")?);
     /// assert_eq!(rt; stream.show(&show, &mut out), End::Cut);

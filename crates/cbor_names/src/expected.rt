@@ -1,13 +1,15 @@
 //! `Expected`: what is known of an item before it is read: its name, its type, the tag around it
-//! and the levels left. `Keys`: what is known of the keys of a map. Makes the `Expected` of a
-//! member or of the value of a key, and finds the type of the item in a byte string.
+//! and the levels left. `Keys`: what is known of the keys of a map. Makes the `Expected` of the item
+//! of a tag, of a member or of the value of a key, and finds the type of the item in a byte string.
 
 ghost use Rattle.std.specs.Prelude.{◌≡◌, ◌+◌, ◌<◌};
 
 use crate::pairs::Pairs;
 use crate::scalar::Scalar;
 use crate::table::{Inside, Names, PartRow, WhatRow};
+use crate::way::Known;
 use cbor_grammar::argument::Argument;
+use cbor_grammar::level::DEEPEST;
 
 /// What is known of an item before it is read.
 #[derive(Clone, Copy)]
@@ -90,6 +92,21 @@ impl Names {
 }
 
 impl<'a> Expected<'a> {
+    /// That of an item that no other is around, or whose place is not looked at: it has this name,
+    /// and this is known of it.
+    pub(crate) fn outermost(name: &'a str, known: Known) -> Expected<'a>
+        ensures { result.behind ≡ 0 }
+    {
+        Expected {
+            left: DEEPEST,
+            behind: 0,
+            name,
+            what: known.what,
+            tag: known.tag,
+            around: known.around,
+        }
+    }
+
     /// Whether an item without parts has no note there.
     #[inline(always)]
     pub(crate) fn says_nothing(&self) -> bool {
@@ -109,6 +126,20 @@ impl<'a> Expected<'a> {
             what: WhatRow::Any,
             tag: None,
             around: None,
+        }
+    }
+
+    /// That of the item of a tag, if this is known about it.
+    pub(crate) fn below(&self, tag: u64, what: WhatRow) -> Expected<'a>
+        requires { 0 < self.now.left }
+        ensures left { result.left + 1 ≡ self.now.left }
+        ensures behind { result.behind ≡ self.now.behind }
+    {
+        Expected {
+            what,
+            tag: Some(tag),
+            around: self.tag,
+            ..self.unknown()
         }
     }
 

@@ -2,7 +2,8 @@
 //! the tables of COSE, CWT and similar standards, and [`with_file`] adds those of a file.
 //! docs/NAMES.md has the rules.
 //!
-//! [`notes`] gives the names and meanings of the items in an item, each with its place.
+//! [`notes`] gives the names and meanings of the items in an item, each with its place. [`Way`]
+//! finds what is known of a part of it, and [`notes_of`] gives the notes of the part.
 //!
 //! ```rust
 //! use cbor_names::{Definition, Key, Names, Part, Shape, notes};
@@ -35,6 +36,7 @@ mod scalar;
 mod shape;
 mod table;
 mod walk;
+mod way;
 
 pub use file::{Fault, FileError, with_file};
 pub use known::known_names;
@@ -42,4 +44,5 @@ pub use marks::FirstMark;
 pub use note::Notes;
 pub use part::{Definition, Key, Kind, Part, Shape, What};
 pub use table::{Names, Type};
-pub use walk::notes;
+pub use walk::{notes, notes_of};
+pub use way::{Known, Way};

@@ -5,7 +5,8 @@
 ghost use Rattle.std.specs.Prelude.{◌<◌, length, IfSome};
 
 use crate::scalar::{Scalar, kind_at, scalar_at};
-use crate::table::{Inside, KeyRow, Names, Type};
+use crate::table::{Inside, KeyRow, Names, Type, WhatRow};
+use crate::way::Known;
 use cbor_bytes::head::read_head;
 use cbor_bytes::skip::after_front;
 use cbor_grammar::argument::Argument;
@@ -19,18 +20,18 @@ const ENOUGH: usize = 2;
 pub(crate) struct Pairs<'b> {
     count: Argument,
     index: usize,
-    rest: &'b [u8],
+    pub rest: &'b [u8],
 }
 
 /// A pair: the bytes from its key on, and those from its value on.
 #[derive(Clone, Copy)]
 pub(crate) struct Pair<'b> {
-    key: &'b [u8],
-    value: &'b [u8],
+    pub key: &'b [u8],
+    pub value: &'b [u8],
 }
 
 /// The bytes after the item at the front, if one is there.
-fn after_item(bytes: &[u8]) -> Option<&[u8]>
+pub(crate) fn after_item(bytes: &[u8]) -> Option<&[u8]>
     ensures { IfSome result (λ rest. length rest.now < length bytes.now) }
 {
     let Some(rest) = after_front(bytes, 1) else {
@@ -50,7 +51,7 @@ impl<'b> Pairs<'b> {
     }
 
     /// The pair at the front; `None` after the last one, and where none is whole.
-    fn next(&mut self) -> Option<Pair<'b>>
+    pub(crate) fn next(&mut self) -> Option<Pair<'b>>
         ensures { IfSome result (λ pair. length self.new.rest.now < length self.old.rest.now) }
     {
         if self.count.after_end(self.index, self.rest).is_some() {
@@ -137,6 +138,14 @@ impl Names {
         let found = self.of(ATTESTATION)?;
         self.after_signs(&found, bytes)?;
         Some(found)
+    }
+
+    /// What is known of the outermost item at the front if nothing else says it.
+    pub(crate) fn known_at(&self, bytes: &[u8]) -> Known {
+        match self.type_at(bytes) {
+            Some(found) => Known::by_tables(WhatRow::Of(found.index)),
+            None => Known::by_tables(WhatRow::Any),
+        }
     }
 
     /// Whether the outermost item at the front is known without a tag.

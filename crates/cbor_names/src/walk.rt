@@ -1,5 +1,5 @@
-//! `notes`: walks over an item and collects its notes, which are names and meanings. It reads head
-//! after head. Each container, each tag and each byte string that holds an item is read by a
+//! `notes`, `notes_of`: walk over an item and collect its notes, which are names and meanings. They
+//! read head after head. Each container, each tag and each byte string that holds an item is read by a
 //! recursive call, at most 128 deep.
 
 ghost use Rattle.std.specs.Prelude.{◌≡◌, ◌+◌, ◌^◌, ◌<◌, ◌≤◌, length, IfOk};
@@ -14,11 +14,11 @@ use crate::note::{Found, Notes};
 use crate::scalar::{Scalar, float_at, scalar_at};
 use crate::shape::{EPOCH, Fit, SELF_DESCRIBED};
 use crate::table::{Inside, Names, PartRow, Type, WhatRow};
+use crate::way::Known;
 use cbor_bytes::head::read_head;
 use cbor_bytes::strings::{read_chunk_length, split_at};
 use cbor_grammar::argument::Argument;
 use cbor_grammar::head::ItemHead;
-use cbor_grammar::level::DEEPEST;
 use cbor_grammar::strings::StringKind;
 use cbor_notes::datetime_of_epoch;
 use std::alloc::{AllocError, Global};
@@ -72,7 +72,7 @@ fn after_chunks(kind: StringKind, bytes: &[u8]) -> Result<&[u8], Stop>
 impl Names {
     /// The note of a tag, and what is known of the item below it, where this is known of what has
     /// the tag.
-    fn below<'a>(
+    pub(crate) fn below<'a>(
         &'a self,
         tag: u64,
         note: Found<'a>,
@@ -262,13 +262,7 @@ impl<'a> Pass<'a> {
         let (note, what) = self.names.below(tag, note, expected.what, bytes);
         self.notes.push(note)?;
         self.note_number(tag, expected.behind, bytes)?;
-        let inside = Expected {
-            what,
-            tag: Some(tag),
-            around: expected.tag,
-            ..expected.unknown()
-        };
-        self.item(&inside, bytes)
+        self.item(&expected.below(tag, what), bytes)
     }
 
     /// The bytes after the members of an array.
@@ -425,32 +419,36 @@ pub fn notes<'a>(
 ) -> Result<Notes<'a>, AllocError>
     ensures len { IfOk result (λ notes. len_of notes ≡ length bytes.now) }
 {
-    let known = match outer {
-        Some(outer) => Some(outer),
-        None => names.type_at(bytes),
+    notes_of(alloc, bytes, names, outer.map(Known::of))
+}
+
+/// Returns the notes of the item at the front, as [`notes`] does, if this is known of it. If it is
+/// a part, these are the notes that it has in its item, but for the name of its own place. The only
+/// error is out of memory.
+///
+/// [`Way::known_at`](crate::Way::known_at) finds what is known of a part, and has an example.
+pub fn notes_of<'a>(
+    alloc: Global,
+    bytes: &[u8],
+    names: &'a Names,
+    known: Option<Known>,
+) -> Result<Notes<'a>, AllocError>
+    ensures len { IfOk result (λ notes. len_of notes ≡ length bytes.now) }
+{
+    let known = match known {
+        Some(known) => known,
+        None => names.known_at(bytes),
     };
-    let what = match known {
-        Some(known) => WhatRow::Of(known.index),
-        None => WhatRow::Any,
-    };
-    let name = match outer {
+    let name = match known.named {
         Some(outer) if names.fit_behind_tags(&outer, bytes) == Fit::Whole => names.text(outer.name),
         _ => "",
-    };
-    let outermost = Expected {
-        left: DEEPEST,
-        behind: 0,
-        name,
-        what,
-        tag: None,
-        around: None,
     };
     let mut pass = Pass {
         alloc,
         names,
         notes: Notes::new(alloc),
     };
-    match pass.item(&outermost, bytes) {
+    match pass.item(&Expected::outermost(name, known), bytes) {
         Err(Stop::OutOfMemory) => Err(AllocError),
         _ => Ok(pass.notes.within(bytes.len())),
     }

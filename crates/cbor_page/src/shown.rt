@@ -242,7 +242,7 @@ fn push_whole(out: &mut Vec<u8>, show: &Show<'_>, piece: Piece<'_>) -> Result<Fr
 /// use cbor_places::Piece;
 ///
 /// let marks = Marks::new(alloc);
-/// let mut show = Show::new(alloc, Form::Pretty);
+/// let mut show = Show::new(Form::Pretty);
 /// show.marks = Some(&marks);
 /// let data = Piece {
 ///     begins: 0,

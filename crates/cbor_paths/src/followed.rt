@@ -20,6 +20,8 @@ pub struct Found {
     pub named: usize,
     /// Its bytes.
     pub span: Span,
+    /// Where the outermost of the tags around it begins, if it has one.
+    pub tag: Option<usize>,
 }
 
 /// Where steps lead, as far as they lead somewhere.
@@ -44,7 +46,7 @@ fn reached(
     for step in steps {
         let mut next = Vec::new(alloc);
         for at in &places {
-            push_next(&mut next, bytes, at.start, (step, picture))?;
+            push_next(&mut next, bytes, *at, (step, picture))?;
         }
         if next.is_empty() {
             break;
@@ -106,6 +108,7 @@ pub fn follow(
             found.push(Found {
                 named: at.named,
                 span,
+                tag: at.tag,
             })?;
         }
     }

@@ -1,5 +1,5 @@
 //! `Members`: goes over the members of an array, or the values of a map, in the bytes. `At`: where
-//! an item begins, and its key. `Below`: an item without the tags around it.
+//! an item begins, its key, and the tag around it. `Below`: an item without the tags around it.
 
 use crate::skip::bytes_from;
 use cbor_bytes::skip::after_front;
@@ -12,14 +12,25 @@ use cbor_trace::head_at;
 pub struct At {
     pub named: usize,
     pub start: usize,
+    /// Where the outermost of the tags around it begins that a path passed.
+    pub(crate) tag: Option<usize>,
 }
 
 impl At {
-    /// That of an item without a key.
-    pub(crate) fn new(start: usize) -> At {
+    /// Returns that of an item without a key, which begins there and has no tags around it.
+    pub fn new(start: usize) -> At {
         At {
             named: start,
             start,
+            tag: None,
+        }
+    }
+
+    /// Where the outermost of the tags around the items in this one begins.
+    pub(crate) fn tag_around(self, bytes: &[u8]) -> Option<usize> {
+        match (self.tag, head_at(bytes, self.start)) {
+            (None, Some((ItemHead::Tag(..), _))) => Some(self.start),
+            (tag, _) => tag,
         }
     }
 }
@@ -123,6 +134,9 @@ impl Members {
         };
         self.index = self.index.saturating_add(1);
         self.last = Some(start);
-        Some(At { named, start })
+        Some(At {
+            named,
+            ..At::new(start)
+        })
     }
 }

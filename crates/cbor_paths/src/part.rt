@@ -126,46 +126,50 @@ fn member(bytes: &[u8], start: usize, key: &[u8], picture: Picture) -> Option<At
     named(bytes, members, text_of(key)?, picture)
 }
 
-/// Appends each member.
+/// Appends each member of the item at a place.
 fn push_members(
     places: &mut Vec<At>,
     bytes: &[u8],
-    start: usize,
+    around: At,
     picture: Picture,
 ) -> Result<(), AllocError> {
-    let Some(below) = shown_below(bytes, start, picture) else {
+    let Some(below) = shown_below(bytes, around.start, picture) else {
         return Ok(());
     };
     let Some(mut members) = Members::new(below) else {
         return Ok(());
     };
+    let tag = around.tag_around(bytes);
     for _ in 0..bytes.len() {
         let Some(at) = members.next(bytes) else {
             break;
         };
-        places.push(at)?;
+        places.push(At { tag, ..at })?;
     }
     Ok(())
 }
 
-/// Appends where a step leads from the item that begins at a place.
+/// Appends where a step leads from the item at a place.
 pub(crate) fn push_next(
     places: &mut Vec<At>,
     bytes: &[u8],
-    start: usize,
+    around: At,
     way: (&Step, Picture),
 ) -> Result<(), AllocError> {
     let (step, picture) = way;
-    let below = Below::new(bytes, start);
+    let below = Below::new(bytes, around.start);
     let next = match (step, below) {
-        (Step::Each, _) => return push_members(places, bytes, start, picture),
-        (Step::Key(key), _) => member(bytes, start, key, picture),
+        (Step::Each, _) => return push_members(places, bytes, around, picture),
+        (Step::Key(key), _) => member(bytes, around.start, key, picture),
         (Step::Inside, Some(below)) => inside(bytes, below),
         (Step::InsideAt(byte), Some(below)) => inside_at(bytes, below, *byte),
         (_, None) => None,
     };
     if let Some(at) = next {
-        places.push(at)?;
+        places.push(At {
+            tag: around.tag_around(bytes),
+            ..at
+        })?;
     }
     Ok(())
 }

@@ -17,7 +17,7 @@ mod write;
 use beside::Beside;
 use cbor_dump::push_bytes_to_hex_partial;
 use cbor_grammar::Error;
-use cbor_names::{Names, Type, notes};
+use cbor_names::{Known, Names, notes_of};
 use cbor_notes::Note;
 use embedded::write_all;
 use measure::Measure;
@@ -30,8 +30,8 @@ use write::Writing;
 pub struct DumpStyle<'a> {
     /// The tables of the names that stand in comments, if any do.
     pub names: Option<&'a Names>,
-    /// The type of the item, if it is known.
-    pub outer: Option<Type>,
+    /// What is known of the item. `None`: its tags tell.
+    pub known: Option<Known>,
     /// Whether a byte string that is an array, a map or a tagged item is shown as that item.
     pub embedded: bool,
     /// The length in bytes of the longest string that is shown whole, if longer ones are cut.
@@ -42,7 +42,7 @@ impl DumpStyle<'_> {
     /// Neither names nor items in byte strings, and all strings whole.
     pub const PLAIN: DumpStyle<'static> = DumpStyle {
         names: None,
-        outer: None,
+        known: None,
         embedded: false,
         elide: None,
     };
@@ -108,7 +108,7 @@ fn push_named(out: &mut String, item: &[u8], how: (&DumpStyle<'_>, usize)) -> Re
     let (style, _) = how;
     match style.names {
         Some(names) => {
-            let found = notes(alloc, item, names, style.outer)?;
+            let found = notes_of(alloc, item, names, style.known)?;
             let list = found.list(alloc)?;
             push_lines(out, item, how, &list)
         }

@@ -2,16 +2,17 @@
 //! lines are the same.
 
 use cbor_inspect::{
-    End, Form, Naming, Show, Stream, name_at, raw_content, show_items, steps_of, two_byte_simple,
+    End, Form, Naming, Show, Stream, name_at, parts_of, raw_content, show_items, steps_of,
+    two_byte_simple,
 };
-use cbor_names::{Definition, Key, Names, Part, Shape};
+use cbor_names::{Definition, Key, Names, Part, Shape, known_names};
 use std::test::Fail;
 
 #[test]
 fn items_are_shown(rt: HostRuntime) -> Result<(), Fail> {
     let alloc = rt.alloc();
     let mut out = Vec::new(alloc);
-    let shown = show_items(&Show::new(alloc, Form::Diag), b"\x82\x01\x02", &mut out);
+    let shown = show_items(&Show::new(Form::Diag), b"\x82\x01\x02", &mut out);
     assert_eq!(rt; shown.end, End::Done);
     assert_eq!(rt; out.as_slice(), b"[1, 2]\n".as_slice());
     Ok(())
@@ -20,7 +21,7 @@ fn items_are_shown(rt: HostRuntime) -> Result<(), Fail> {
 #[test]
 fn items_come_in_pieces(rt: HostRuntime) -> Result<(), Fail> {
     let alloc = rt.alloc();
-    let show = Show::new(alloc, Form::Diag);
+    let show = Show::new(Form::Diag);
     let mut out = Vec::new(alloc);
     let mut stream = Stream::new(Vec::from_slice(alloc, b"\x01\x82\x02")?);
     assert_eq!(rt; stream.show(&show, &mut out), End::Cut);
@@ -63,11 +64,30 @@ fn names_are_shown(rt: HostRuntime) -> Result<(), Fail> {
     let mut names = Names::new(alloc);
     let reading = Definition::new("Reading", Shape::Map);
     names.add(reading, &[Part::new(Key::Integer(1), "sensor")])?;
-    let mut show = Show::new(alloc, Form::Pretty);
+    let mut show = Show::new(Form::Pretty);
     show.names = Some(Naming::new(&names, names.of("Reading")));
     let mut out = Vec::new(alloc);
     show_items(&show, b"\xa1\x01\x07", &mut out);
     assert_eq!(rt; out.as_slice(), b"/Reading/ {/sensor/ 1: 7}\n".as_slice());
+    Ok(())
+}
+
+#[test]
+fn parts_have_names(rt: HostRuntime) -> Result<(), Fail> {
+    let alloc = rt.alloc();
+    let names = known_names(alloc)?;
+    // 18([<<{1: -7}>>, {}, h'', h''])
+    let item = b"\xd2\x84\x43\xa1\x01\x26\xa0\x40\x40";
+    let steps = steps_of(alloc, "0/@")?;
+    let mut show = Show::new(Form::Pretty);
+    show.names = Some(Naming::new(&names, None));
+    show.steps = &steps;
+    let parts = parts_of(alloc, &show, item)?;
+    let mut out = Vec::new(alloc);
+    for part in &parts {
+        show_items(&show.of_part(part), part.span.bytes(item), &mut out);
+    }
+    assert_eq!(rt; out.as_slice(), b"{/alg/ 1: -7 /ES256/}\n".as_slice());
     Ok(())
 }
 

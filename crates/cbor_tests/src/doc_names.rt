@@ -1,7 +1,9 @@
 //! Tests that are the examples of `cbor_names`' doc comments. `checks/examples` checks that the
 //! lines are the same.
 
-use cbor_names::{Definition, Key, Names, Part, Shape, known_names, notes, with_file};
+use cbor_names::{
+    Definition, Key, Names, Part, Shape, Way, known_names, notes, notes_of, with_file,
+};
 use std::alloc::AllocError;
 use std::process::Abort;
 use std::test::Fail;
@@ -46,6 +48,21 @@ fn of_notes(rt: HostRuntime) -> Result<(), AllocError> {
     assert_eq!(rt; list.len(), 3);
     assert_eq!(rt; (list[0].start, list[0].before), (0, "Reading"));
     assert_eq!(rt; (list[1].before, list[2].before), ("sensor", "value"));
+    Ok(())
+}
+
+#[test]
+fn of_parts(rt: HostRuntime) -> Result<(), AllocError> {
+    let alloc = rt.alloc();
+    let names = known_names(alloc)?;
+    // 18([<<{1: -7}>>, {}, h'', h'']), whose part at 3 is {1: -7}
+    let bytes = b"\xd2\x84\x43\xa1\x01\x26\xa0\x40\x40";
+    let mut way = Way::new(alloc, &names, bytes)?;
+    let notes = notes_of(alloc, &bytes[3..6], &names, way.known_at(3)?)?;
+    let list = notes.list(alloc)?;
+    assert_eq!(rt; list.len(), 2);
+    assert_eq!(rt; (list[0].start, list[0].before), (1, "alg"));
+    assert_eq!(rt; (list[1].start, list[1].after), (2, "ES256"));
     Ok(())
 }
 

@@ -25,7 +25,7 @@ fn crate_example(rt: HostRuntime) -> Result<(), Fail> {
 fn push_data_example(rt: HostRuntime) -> Result<(), Fail> {
     let alloc = rt.alloc();
     let marks = Marks::new(alloc);
-    let mut show = Show::new(alloc, Form::Pretty);
+    let mut show = Show::new(Form::Pretty);
     show.marks = Some(&marks);
     let data = Piece {
         begins: 0,

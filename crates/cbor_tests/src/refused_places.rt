@@ -6,7 +6,7 @@ use crate::refused_conversions::answer;
 use cbor_diag::Error;
 use cbor_edn::EdnStyle;
 use cbor_inputs::{Input, Refusal, recognize};
-use cbor_inspect::{End, Form, Picture, Show, Stream, Style, lost_at, show_items, steps_of};
+use cbor_inspect::{End, Form, Picture, Show, Step, Stream, Style, lost_at, show_items, steps_of};
 use cbor_places::{Around, ByteNumbers, Entered, Leaves, Piece, lines_at};
 use std::alloc::Global;
 use std::test::Fail;
@@ -77,9 +77,9 @@ fn cases() -> [Case<'static>; 16] {
     ]
 }
 
-/// What is written as the case asks.
-fn show_of<'a>(alloc: Global, case: &Case) -> Result<Show<'a>, Error> {
-    Ok(Show {
+/// What is written as the case asks, of the parts that these steps lead to.
+fn show_of<'a>(case: &Case, steps: &'a [Step]) -> Show<'a> {
+    Show {
         style: Style {
             form: case.form,
             embedded: case.embedded,
@@ -88,10 +88,10 @@ fn show_of<'a>(alloc: Global, case: &Case) -> Result<Show<'a>, Error> {
             columns: 80,
         },
         names: None,
-        steps: steps_of(alloc, case.path)?,
+        steps,
         one: false,
         marks: None,
-    })
+    }
 }
 
 /// What was written, if that is all; if memory ran out, nothing may be.
@@ -105,7 +105,8 @@ fn written(end: End, out: Vec<u8>) -> Result<Vec<u8>, Error> {
 
 /// What is written of an item.
 fn shown(alloc: Global, case: &Case) -> Result<Vec<u8>, Error> {
-    let show = show_of(alloc, case)?;
+    let steps = steps_of(alloc, case.path)?;
+    let show = show_of(case, &steps);
     let mut out = Vec::new(alloc);
     let end = show_items(&show, case.input, &mut out).end;
     written(end, out)
@@ -114,7 +115,8 @@ fn shown(alloc: Global, case: &Case) -> Result<Vec<u8>, Error> {
 /// The same for an item that comes in two pieces. The first alone writes nothing. If memory
 /// runs out there, the item is written once the second is there.
 fn streamed(alloc: Global, case: &Case) -> Result<Vec<u8>, Error> {
-    let show = show_of(alloc, case)?;
+    let steps = steps_of(alloc, case.path)?;
+    let show = show_of(case, &steps);
     let (first, second) = case.input.split_at(case.input.len().saturating_sub(1));
     let mut out = Vec::new(alloc);
     let mut stream = Stream::new(Vec::from_slice(alloc, first)?);

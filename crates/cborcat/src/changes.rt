@@ -2,11 +2,10 @@
 //! before the items are shown or checked. Says why an item cannot be changed.
 
 use crate::messages::{Origin, label};
-use crate::naming::Tables;
 use crate::status::Status;
 use cbor_edit::{Edit, EditError, edited};
 use cbor_grammar::Error;
-use cbor_inspect::{End, Picture, Stream};
+use cbor_inspect::{End, Naming, Picture, Stream};
 use cbor_messages::lost_words;
 use cborcat_arguments::{Change, Job};
 use std::alloc::AllocError;
@@ -18,7 +17,7 @@ pub struct Changes<'a> {
     job: &'a Job<'a>,
     origin: &'a Origin<'a>,
     /// The names that the paths may have.
-    tables: Option<Tables<'a>>,
+    tables: Option<Naming<'a>>,
     /// The bytes that came, but for those of the items that were changed.
     stream: Stream,
     /// How many items came.
@@ -35,7 +34,7 @@ impl<'a> Changes<'a> {
         rt: &'a HostRuntime,
         job: &'a Job<'a>,
         origin: &'a Origin<'a>,
-        tables: Option<Tables<'a>>,
+        tables: Option<Naming<'a>>,
     ) -> Changes<'a> {
         Changes {
             rt,
@@ -116,8 +115,8 @@ impl<'a> Changes<'a> {
         let edit = Edit { steps, part };
         let plain = self.picture();
         match self.tables {
-            Some(tables) if tables.may_name(item) => {
-                let names = tables.naming().notes(alloc, item)?;
+            Some(naming) if naming.may_name(item) => {
+                let names = naming.notes(alloc, item)?;
                 let notes = names.list(alloc)?;
                 let named = Picture {
                     notes: &notes,
@@ -168,8 +167,8 @@ impl<'a> Changes<'a> {
         let path = (change.path, change.steps.as_slice());
         let plain = self.picture();
         match self.tables {
-            Some(tables) if tables.may_name(item) => {
-                let names = tables.naming().notes(alloc, item)?;
+            Some(naming) if naming.may_name(item) => {
+                let names = naming.notes(alloc, item)?;
                 let notes = names.list(alloc)?;
                 let named = Picture {
                     notes: &notes,

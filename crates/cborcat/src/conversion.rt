@@ -18,7 +18,6 @@ use crate::input::{MORE, block_len, read_into};
 use crate::messages::{
     Origin, label, report_end, report_few, report_long, report_lost, report_none_left, say,
 };
-use crate::naming::Tables;
 use crate::output::{Target, Written};
 use crate::plain::Plain;
 use crate::run::Runner;
@@ -26,7 +25,7 @@ use crate::screen::Screen;
 use crate::shape::shape_of;
 use crate::shown::show_of;
 use crate::status::{Next, Status};
-use cbor_inspect::{End, Form, Stream};
+use cbor_inspect::{End, Form, Naming, Stream};
 use cbor_places::Piece;
 use cbor_stats::Stats;
 use cborcat_arguments::{Job, View};
@@ -42,7 +41,7 @@ pub struct Conversion<'a> {
     target: &'a mut Target,
     origin: &'a Origin<'a>,
     /// The names that are shown.
-    tables: Option<Tables<'a>>,
+    tables: Option<Naming<'a>>,
     /// The CDDL that items have to fit.
     cddl: Option<&'a Cddl<'a>>,
     /// How it went so far.
@@ -317,9 +316,7 @@ impl<'a> Conversion<'a> {
 
     /// Shows some items, and tells what follows them.
     fn show_some(&mut self) -> End {
-        let Ok(mut show) = show_of(self.rt.alloc(), self.job, self.tables) else {
-            return End::Memory;
-        };
+        let mut show = show_of(self.job, self.tables);
         show.marks = self.screen.edn_marks();
         self.stream.show(&show, &mut self.out)
     }
@@ -370,7 +367,7 @@ impl<'a> Conversion<'a> {
     /// Says in a terminal which type the first item looks like, if names are shown and no type is
     /// given.
     fn note_shape(&self, passed: usize) {
-        let Some(Tables { outer: None, .. }) = self.tables else {
+        let Some(Naming { known: None, .. }) = self.tables else {
             return;
         };
         if !self.job.path.is_empty() || !self.rt.stderr().is_terminal() {

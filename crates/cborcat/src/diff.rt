@@ -2,7 +2,7 @@
 
 use crate::input::{block_len, read_all, read_first};
 use crate::messages::{Origin, report_end, say, say_out_of_memory};
-use crate::naming::{Tables, encoded_in};
+use crate::naming::encoded_in;
 use crate::output::{Target, Written, write};
 use crate::recognized::{Data, data_of, form_of};
 use crate::screen::Screen;
@@ -10,7 +10,7 @@ use crate::status::Status;
 use cbor_diff::{Change, Comparison, Difference, differences};
 use cbor_grammar::Error;
 use cbor_inputs::Input;
-use cbor_inspect::{End, Form, Show, Style, show_items, skip_items};
+use cbor_inspect::{End, Form, Naming, Show, Style, show_items, skip_items};
 use cbor_marks::Marks;
 use cbor_places::{Entered, Piece};
 use cborcat_arguments::Job;
@@ -24,7 +24,7 @@ use std::io::Read;
 pub struct Diff<'a> {
     pub rt: &'a HostRuntime,
     pub job: &'a Job<'a>,
-    pub tables: Option<Tables<'a>>,
+    pub tables: Option<Naming<'a>>,
     /// Where the tokens are marked of what is shown.
     pub marks: &'a Marks,
 }
@@ -176,7 +176,7 @@ impl Diff<'_> {
                 ..self.job.show.style
             },
             names: None,
-            steps: Vec::new(self.rt.alloc()),
+            steps: &[],
             one: false,
             marks: screen.edn_marks(),
         };

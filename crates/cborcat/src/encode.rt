@@ -4,11 +4,10 @@
 use crate::dumps::Dumps;
 use crate::each::ShowsItem;
 use crate::messages::{Origin, report_byte, report_lost};
-use crate::naming::Tables;
 use crate::shown::show_of;
 use crate::status::Status;
 use cbor_grammar::Error;
-use cbor_inspect::{End, Form, show_items};
+use cbor_inspect::{End, Form, Naming, show_items};
 use cbor_marks::Marks;
 use cbor_messages::not_encoded;
 use cbor_places::Piece;
@@ -25,7 +24,7 @@ pub struct Encoding<'a> {
     /// The rules that the items are to keep.
     pub set: RuleSet,
     /// The names that are shown.
-    pub tables: Option<Tables<'a>>,
+    pub tables: Option<Naming<'a>>,
     /// Where the tokens of EDN are marked, if they are to be.
     pub marks: Option<&'a Marks>,
 }
@@ -42,7 +41,7 @@ impl ShowsItem for Encoding<'_> {
             let bytes = again.as_slice();
             return dumps.show_one(Piece { begins: 0, bytes }, out);
         }
-        let mut show = show_of(self.rt.alloc(), self.job, self.tables)?;
+        let mut show = show_of(self.job, self.tables);
         show.marks = self.marks;
         match show_items(&show, &again, out).end {
             End::Memory => Err(Error::Memory),

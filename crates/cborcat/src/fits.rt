@@ -3,7 +3,6 @@
 
 use crate::cddl::Cddl;
 use crate::messages::{Origin, label, report_lost, say_byte};
-use crate::naming::Tables;
 use crate::shown::show_of;
 use crate::status::Status;
 use cbor_bytes::{Extent, extent};
@@ -11,7 +10,7 @@ use cbor_grammar::Error;
 use cbor_grammar::argument::Argument;
 use cbor_grammar::head::ItemHead;
 use cbor_grammar::strings::StringKind;
-use cbor_inspect::{Step, parts_of};
+use cbor_inspect::{Naming, Step, parts_of};
 use cbor_places::{Around, Path, Piece, item_with};
 use cbor_schema::{Misfit, Stop};
 use cbor_trace::head_at;
@@ -26,7 +25,7 @@ pub struct Fits<'a> {
     pub job: &'a Job<'a>,
     pub origin: &'a Origin<'a>,
     /// The names that the path may have.
-    pub tables: Option<Tables<'a>>,
+    pub tables: Option<Naming<'a>>,
     /// What the items have to fit.
     pub cddl: &'a Cddl<'a>,
 }
@@ -135,9 +134,7 @@ impl Fits<'_> {
                 None => Ok(Answer::Fits),
             };
         }
-        let Ok(show) = show_of(alloc, self.job, self.tables) else {
-            return Err(Stop::Memory);
-        };
+        let show = show_of(self.job, self.tables);
         let parts = parts_of(alloc, &show, item.bytes)?;
         if parts.is_empty() {
             return Ok(Answer::Lost);

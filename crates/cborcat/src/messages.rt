@@ -1,13 +1,12 @@
 //! Writes messages on standard error: what is wrong with an input, where, and what to do. `Origin`:
 //! the name, form and text of an input. Messages use them to name its bytes.
 
-use crate::naming::Tables;
 use crate::screen::say_excerpt;
 use crate::shown::show_of;
 use crate::status::Status;
 use cbor_grammar::Error;
 use cbor_inputs::{HexFault, Input, Pasted, Refusal, looks_like, place_of_digit};
-use cbor_inspect::{End, Picture};
+use cbor_inspect::{End, Naming, Picture};
 use cbor_messages::{Excerpt, Position, TWO_BYTES, lost_words, position_of};
 use cbor_places::{Around, Piece, Places, item_with};
 use cbor_tokens::is_shown;
@@ -256,13 +255,13 @@ fn report_cut(rt: &HostRuntime, origin: &Origin, left: Piece) -> Result<(), Erro
 fn words_of_lost(
     alloc: Global,
     job: &Job,
-    tables: Option<Tables<'_>>,
+    tables: Option<Naming<'_>>,
     bytes: &[u8],
 ) -> Result<String, Error> {
-    let show = show_of(alloc, job, tables)?;
-    let (names, plain) = (show.names, show.picture());
-    let path = (job.path, show.steps.as_slice());
-    let naming = match names {
+    let show = show_of(job, tables);
+    let plain = show.picture();
+    let path = (job.path, show.steps);
+    let naming = match tables {
         Some(naming) if naming.may_name(bytes) => naming,
         _ => return lost_words(alloc, path, bytes, plain),
     };
@@ -278,7 +277,7 @@ fn words_of_lost(
 /// Says where the path of an item leads nowhere, and what is there.
 pub fn report_lost(
     rt: &HostRuntime,
-    asked: (&Job, Option<Tables<'_>>),
+    asked: (&Job, Option<Naming<'_>>),
     origin: &Origin,
     bytes: &[u8],
 ) -> Status {

@@ -1,5 +1,5 @@
 //! Loads the names that the program uses: those of `cbor_names`, and those of the file of
-//! `--names`, which is TOML or CDDL. `Tables`: these names, with the type that `--as` gives, if
+//! `--names`, which is TOML or CDDL. `shown_of` returns them with the type that `--as` gives, if
 //! any. `encoded_in` finds the byte strings that hold an item, if the names say so.
 
 use crate::cddl::with_cddl;
@@ -7,7 +7,7 @@ use crate::messages::{label, say};
 use crate::status::Status;
 use cbor_bytes::{Extent, extent};
 use cbor_inspect::Naming;
-use cbor_names::{Names, Type, known_names, notes, with_file};
+use cbor_names::{Names, known_names, with_file};
 use cbor_places::Piece;
 use cbor_tokens::is_shown;
 use cborcat_arguments::Job;
@@ -51,39 +51,17 @@ pub fn tables_of(rt: &HostRuntime, job: &Job) -> Result<Names, Status> {
     }
 }
 
-/// The names that are shown.
-#[derive(Clone, Copy)]
-pub struct Tables<'a> {
-    /// The tables.
-    pub names: &'a Names,
-    /// The type of what is shown, if it is known.
-    pub outer: Option<Type>,
-}
-
-impl<'a> Tables<'a> {
-    /// The same, for `cbor_inspect`.
-    pub fn naming(self) -> Naming<'a> {
-        Naming::new(self.names, self.outer)
-    }
-
-    /// Whether items of these bytes may have names.
-    pub fn may_name(self, bytes: &[u8]) -> bool {
-        self.naming().may_name(bytes)
-    }
-}
-
 /// Where the byte strings begin in the data that hold an item by the names of these items, in
 /// order.
 pub fn encoded_in(
     alloc: Global,
-    tables: Option<Tables>,
+    tables: Option<Naming>,
     items: Piece,
 ) -> Result<Vec<usize>, AllocError> {
     let mut places = Vec::new(alloc);
-    let Some(tables) = tables else {
+    let Some(naming) = tables else {
         return Ok(places);
     };
-    let naming = tables.naming();
     let mut rest = items;
     for _ in 0..u64::MAX {
         if rest.bytes.is_empty() {
@@ -96,7 +74,7 @@ pub fn encoded_in(
         let (bytes, after) = rest.bytes.split_at(len.min(rest.bytes.len()));
         let end = rest.number(bytes.len());
         if naming.may_name(bytes) {
-            push_encoded(&mut places, tables, rest.first(len))?;
+            push_encoded(&mut places, naming, rest.first(len))?;
         }
         rest = Piece {
             begins: end,
@@ -107,9 +85,9 @@ pub fn encoded_in(
 }
 
 /// Appends the places of those in an item.
-fn push_encoded(places: &mut Vec<usize>, tables: Tables, item: Piece) -> Result<(), AllocError> {
+fn push_encoded(places: &mut Vec<usize>, naming: Naming, item: Piece) -> Result<(), AllocError> {
     let alloc = *places.allocator();
-    let found = notes(alloc, item.bytes, tables.names, tables.outer)?;
+    let found = naming.notes(alloc, item.bytes)?;
     let list = found.list(alloc)?;
     for note in &list {
         if note.encoded {
@@ -125,16 +103,16 @@ pub fn shown_of<'a>(
     rt: &HostRuntime,
     job: &Job,
     names: &'a Names,
-) -> Result<Option<Tables<'a>>, Status> {
+) -> Result<Option<Naming<'a>>, Status> {
     if !job.has_names() {
         return Ok(None);
     }
     let Some(word) = job.outer else {
-        return Ok(Some(Tables { names, outer: None }));
+        return Ok(Some(Naming::new(names, None)));
     };
     let outer = names.find(word);
     if outer.is_some() {
-        return Ok(Some(Tables { names, outer }));
+        return Ok(Some(Naming::new(names, outer)));
     }
     let Ok(list) = names.list(rt.alloc()) else {
         return Err(no_memory(rt));

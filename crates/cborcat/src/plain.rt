@@ -2,23 +2,20 @@
 //! of a string (`-t raw`). Says why an item cannot be written so.
 
 use crate::each::ShowsItem;
-use crate::messages::{Origin, label, report_byte, report_lost};
-use crate::naming::Tables;
+use crate::messages::{Origin, report_byte, report_lost};
 use crate::shown::show_of;
 use crate::status::Status;
-use cbor_bytes::{Extent, extent};
 use cbor_grammar::Error;
 use cbor_grammar::head::ItemHead;
 use cbor_grammar::strings::StringKind;
-use cbor_inspect::{End, RawError, raw_content, show_items};
+use cbor_inspect::{Naming, RawError, parts_of, raw_content};
 use cbor_json::{JsonError, JsonStyle, NamedJson, bytes_to_json_named};
 use cbor_marks::Marks;
 use cbor_messages::not_json;
-use cbor_names::notes;
 use cbor_notes::Note;
-use cbor_places::{Around, Piece};
+use cbor_places::Piece;
 use cbor_tokens::is_shown;
-use cbor_trace::head_at;
+use cbor_trace::{Span, head_at};
 use cborcat_arguments::{Job, View};
 use std::io::IsTerminal;
 
@@ -29,94 +26,113 @@ pub struct Plain<'a> {
     pub job: &'a Job<'a>,
     pub origin: &'a Origin<'a>,
     /// The names that stand in place of keys, if they do.
-    pub tables: Option<Tables<'a>>,
+    pub tables: Option<Naming<'a>>,
     /// Where the tokens of JSON are marked, if they are to be.
     pub marks: Option<&'a Marks>,
+}
+
+/// A part of an item, or all of it.
+#[derive(Clone, Copy)]
+struct PartOf<'a, 'b> {
+    item: Piece<'b>,
+    span: Span,
+    /// Its names.
+    naming: Option<Naming<'a>>,
+}
+
+impl<'b> PartOf<'_, 'b> {
+    /// Its bytes in the input.
+    fn piece(self) -> Piece<'b> {
+        Piece {
+            begins: self.item.number(self.span.start),
+            bytes: self.span.bytes(self.item.bytes),
+        }
+    }
 }
 
 impl ShowsItem for Plain<'_> {
     /// Writes an item, or the parts of it that the path leads to.
     fn show_one(&self, item: Piece, out: &mut Vec<u8>) -> Result<Status, Error> {
         if self.job.show.steps.is_empty() {
-            return self.write(item, out);
+            let whole = PartOf {
+                item,
+                span: Span {
+                    start: 0,
+                    end: item.bytes.len(),
+                },
+                naming: self.tables,
+            };
+            return self.write(whole, out);
         }
-        let mut parts = Vec::new(self.rt.alloc());
-        let show = show_of(self.rt.alloc(), self.job, self.tables)?;
-        match show_items(&show, item.bytes, &mut parts).end {
-            End::Memory => return Err(Error::Memory),
-            End::Lost { .. } => {
-                let asked = (self.job, self.tables);
-                return Ok(report_lost(self.rt, asked, self.origin, item.bytes));
-            }
-            _ => {}
+        let show = show_of(self.job, self.tables);
+        let parts = parts_of(self.rt.alloc(), &show, item.bytes)?;
+        if parts.is_empty() {
+            let asked = (self.job, self.tables);
+            return Ok(report_lost(self.rt, asked, self.origin, item.bytes));
         }
-        self.write_parts(&parts, out)
+        let mut status = Status::Fine;
+        for part in &parts {
+            let part = PartOf {
+                item,
+                span: part.span,
+                naming: show.of_part(part).names,
+            };
+            status = status.or(self.write(part, out)?);
+        }
+        Ok(status)
     }
 }
 
 impl Plain<'_> {
-    /// Writes items, one after the other. Their places are their own.
-    fn write_parts(self, parts: &[u8], out: &mut Vec<u8>) -> Result<Status, Error> {
-        let mut status = Status::Fine;
-        let mut rest = parts;
-        for _ in 0..u64::MAX {
-            let Extent::Item(len) = extent(rest) else {
-                break;
-            };
-            let (bytes, after) = rest.split_at(len.min(rest.len()));
-            status = status.or(self.write(Piece { begins: 0, bytes }, out)?);
-            rest = after;
-        }
-        Ok(status)
-    }
-
-    /// Writes an item.
-    fn write(self, item: Piece, out: &mut Vec<u8>) -> Result<Status, Error> {
+    /// Writes a part.
+    fn write(self, part: PartOf, out: &mut Vec<u8>) -> Result<Status, Error> {
         if self.job.view == View::Raw {
-            self.write_raw(item, out)
+            self.write_raw(part, out)
         } else {
-            self.write_json(item, out)
+            self.write_json(part, out)
         }
     }
 
-    /// Writes an item as JSON, and a line feed.
-    fn write_json(self, item: Piece, out: &mut Vec<u8>) -> Result<Status, Error> {
+    /// Writes a part as JSON, and a line feed.
+    fn write_json(self, part: PartOf, out: &mut Vec<u8>) -> Result<Status, Error> {
         if let Some(marks) = self.marks {
             marks.begin(out.len());
         }
-        match self.json(item.bytes) {
+        match self.json(part) {
             Ok(text) => {
                 out.extend_from_slice(text.as_bytes())?;
                 out.push(b'\n')?;
                 Ok(Status::Fine)
             }
             Err(error) => {
-                let message = not_json(self.rt.alloc(), item, error)?;
-                self.refuse(item, (message.place, &message.text))
+                let message = not_json(self.rt.alloc(), part.piece(), error)?;
+                self.refuse(part, (message.place, &message.text))
             }
         }
     }
 
-    /// The JSON of an item.
-    fn json(self, bytes: &[u8]) -> Result<String, JsonError> {
+    /// The JSON of a part.
+    fn json(self, part: PartOf) -> Result<String, JsonError> {
         let alloc = self.rt.alloc();
+        let bytes = part.piece().bytes;
         let style = JsonStyle {
             embedded: self.job.show.style.embedded,
             strict: self.job.strict,
         };
-        let tables = match self.tables {
-            Some(tables) if self.job.shows_names() && tables.may_name(bytes) => tables,
+        let naming = match part.naming {
+            Some(naming) if self.job.shows_names() && naming.may_name(bytes) => naming,
             _ => return bytes_to_json_named(alloc, bytes, named(style, &[], self.marks)),
         };
-        let found = notes(alloc, bytes, tables.names, tables.outer)?;
+        let found = naming.notes(alloc, bytes)?;
         let names = found.list(alloc)?;
         bytes_to_json_named(alloc, bytes, named(style, &names, self.marks))
     }
 
     /// Writes the content of a string.
-    fn write_raw(self, item: Piece, out: &mut Vec<u8>) -> Result<Status, Error> {
-        let head = head_below_tags(item.bytes);
-        let content = match raw_content(self.rt.alloc(), item.bytes) {
+    fn write_raw(self, part: PartOf, out: &mut Vec<u8>) -> Result<Status, Error> {
+        let bytes = part.piece().bytes;
+        let head = head_below_tags(bytes);
+        let content = match raw_content(self.rt.alloc(), bytes) {
             Ok(content) => content,
             Err(RawError::Cbor(error)) => return Err(error),
             Err(RawError::NoString) => {
@@ -124,13 +140,13 @@ impl Plain<'_> {
                 let what = format!(in self.rt.alloc();
                     "{noun} has no raw content; a byte or text string has"
                 )?;
-                return self.refuse(item, (0, &what));
+                return self.refuse(part, (0, &what));
             }
         };
         if self.job.output.is_none() && self.rt.stdout().is_terminal() {
             let is_text = matches!(head, Some(ItemHead::String(StringKind::Text, _)));
             if !(is_text && is_shown(true, &content)) {
-                let _ = self.refuse(item, (0, NO_TERMINAL))?;
+                let _ = self.refuse(part, (0, NO_TERMINAL))?;
                 return Ok(Status::Trouble);
             }
         }
@@ -138,23 +154,11 @@ impl Plain<'_> {
         Ok(Status::Fine)
     }
 
-    /// Says at which byte of an item something keeps it from being written.
-    fn refuse(self, item: Piece, message: (usize, &str)) -> Result<Status, Error> {
-        if self.job.show.steps.is_empty() {
-            report_byte(self.rt, self.origin, item, message)?;
-            return Ok(Status::Bad);
-        }
+    /// Says at which byte of a part something keeps it from being written.
+    fn refuse(self, part: PartOf, message: (usize, &str)) -> Result<Status, Error> {
         let (at, what) = message;
-        let around = Around::new(self.rt.alloc(), item, at)?;
-        let (name, part) = (label(self.origin.name), self.job.path);
-        let mut path = String::from_str(self.rt.alloc(), part)?;
-        if !around.path.is_empty() {
-            path.push('/')?;
-            path.push_str(around.path.as_str())?;
-        }
-        let _ = eprintln!(self.rt;
-            "cborcat: {name}: byte {at} of the part at {part}: {what}\n    at {path}"
-        );
+        let place = part.span.start.saturating_add(at);
+        report_byte(self.rt, self.origin, part.item, (place, what))?;
         Ok(Status::Bad)
     }
 }

@@ -6,12 +6,12 @@ use crate::conversion::Conversion;
 use crate::diff::Diff;
 use crate::input::{block_len, read_first};
 use crate::messages::{Origin, say, say_no_text, say_pasted};
-use crate::naming::{Tables, shown_of, tables_of};
+use crate::naming::{shown_of, tables_of};
 use crate::output::{Target, close, open};
 use crate::recognized::{data_of, form_of, say_notation};
 use crate::status::{Next, Status};
 use cbor_inputs::{Input, looks_like};
-use cbor_inspect::Form;
+use cbor_inspect::{Form, Naming};
 use cbor_marks::Marks;
 use cborcat_arguments::{Job, View};
 use std::fs::File;
@@ -87,7 +87,7 @@ pub struct Runner<'a> {
     /// Where the output goes.
     pub target: &'a mut Target,
     /// The names that are shown.
-    pub tables: Option<Tables<'a>>,
+    pub tables: Option<Naming<'a>>,
     /// The CDDL that items have to fit.
     pub cddl: Option<&'a Cddl<'a>>,
     /// Where the tokens are marked of what is shown.

@@ -13,11 +13,12 @@ pub fn answer(alloc: Global, row: &Row) -> Result<Option<String>, AllocError> {
     if row.call != "show_items" {
         return Ok(None);
     }
-    let mut show = Show::new(alloc, Form::Diag);
-    match steps_of(alloc, row.argument) {
-        Ok(steps) => show.steps = steps,
+    let steps = match steps_of(alloc, row.argument) {
+        Ok(steps) => steps,
         Err(error) => return Ok(Some(refused_text(alloc, error)?)),
-    }
+    };
+    let mut show = Show::new(Form::Diag);
+    show.steps = &steps;
     let mut out = Vec::new(alloc);
     let end = show_items(&show, &row.bytes, &mut out).end;
     Ok(Some(parts_text(alloc, &out, end)?))

@@ -16,7 +16,7 @@ use crate::row::Row;
 use crate::texts::{lines_text, number_of, refused_text, text_of};
 use cbor_edn::{EdnError, edn_item_to_bytes, push_bytes_to_edn_noted};
 use cbor_marks::{MarkedText, Marks};
-use cbor_names::{Definition, Key, Names, Part, Shape, What};
+use cbor_names::{Definition, Key, Known, Names, Part, Shape, What};
 use cbor_screen::{
     DumpStyle, push_colored, push_colored_dump, push_dump, push_elided, push_partial_dump,
     push_without_widths,
@@ -127,7 +127,7 @@ fn dumps(alloc: Global, row: &Row) -> Result<String, AllocError> {
             ("elide", most) => style.elide = Some(number_of(most)),
             ("names", outer) => {
                 style.names = Some(&names);
-                style.outer = names.of(outer);
+                style.known = names.of(outer).map(Known::of);
             }
             _ => {}
         }

@@ -69,9 +69,7 @@ impl Conversion<'_> {
     /// Adds some items, or the parts of them that the path leads to, to the page, which shows at
     /// most this many bytes. Tells what follows them.
     pub(super) fn page_items(&mut self, most: usize, one: bool) -> End {
-        let Ok(mut show) = show_of(self.rt.alloc(), self.job, self.tables) else {
-            return End::Memory;
-        };
+        let mut show = show_of(self.job, self.tables);
         show.marks = Some(self.screen.marks);
         for _ in 0..u64::MAX {
             let end = self.page_item(&show, most);
@@ -142,7 +140,7 @@ impl Conversion<'_> {
             self.say_over(most);
             return Ok(Written::Whole);
         }
-        let mut show = show_of(self.rt.alloc(), self.job, self.tables)?;
+        let mut show = show_of(self.job, self.tables);
         show.marks = Some(self.screen.marks);
         let paths = PathStart {
             number: self.page.number,
@@ -204,15 +202,8 @@ fn push_parts(
         0 => String::from_str(alloc, path)?,
         _ => format!(in alloc; "{number}:{path}")?,
     };
-    let found = parts_of(alloc, show, item.bytes)?;
-    let plain = Show {
-        style: show.style,
-        names: show.names,
-        steps: Vec::new(alloc),
-        one: true,
-        marks: show.marks,
-    };
-    for part in &found {
+    let parts = parts_of(alloc, show, item.bytes)?;
+    for part in &parts {
         let span = part.span;
         if page.ends_before(span.len(), most) {
             break;
@@ -223,9 +214,9 @@ fn push_parts(
             number: 0,
             path: &path,
         };
-        page.push(&plain, Piece { begins, bytes }, paths)?;
+        page.push(&show.of_part(part), Piece { begins, bytes }, paths)?;
     }
-    Ok(!found.is_empty())
+    Ok(!parts.is_empty())
 }
 
 /// The name of a file without its folders.

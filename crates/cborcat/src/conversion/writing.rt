@@ -174,7 +174,7 @@ impl Conversion<'_> {
         }
         match self.job.show.style.form {
             Form::Pretty | Form::Diag => {
-                let mut show = show_of(alloc, self.job, self.tables)?;
+                let mut show = show_of(self.job, self.tables);
                 show.marks = self.screen.edn_marks();
                 let partial = show.partial(alloc, bytes, &said)?;
                 Ok(self.screen.write_edn(self.target, partial.text.as_bytes())?)
