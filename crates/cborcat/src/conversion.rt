@@ -27,6 +27,7 @@ use crate::shown::show_of;
 use crate::status::{Next, Status};
 use cbor_inspect::{End, Form, Naming, Stream};
 use cbor_places::Piece;
+use cbor_rules::RuleSet;
 use cbor_stats::Stats;
 use cborcat_arguments::{Job, View};
 use std::alloc::AllocError;
@@ -294,10 +295,9 @@ impl<'a> Conversion<'a> {
         let before = self.stream.rest().len();
         let checks_one = one || self.has_numbered_check();
         let end = match self.job.view {
-            View::Items if self.job.check => self.stream.check(checks_one),
-            View::Items if self.job.encode.is_some() => self.show_encoded(),
-            View::Items if self.job.show.style.form == Form::Hex => self.show_dumps(),
             View::Items => self.show_some(),
+            View::Encoded(set) => self.show_encoded(set),
+            View::Check => self.stream.check(checks_one),
             View::Json | View::Raw => self.show_plain(),
             View::Paths | View::At(_) | View::Diff | View::Stats => self.stream.skip(one),
             View::Index(size) => self.index_items(size),
@@ -316,6 +316,9 @@ impl<'a> Conversion<'a> {
 
     /// Shows some items, and tells what follows them.
     fn show_some(&mut self) -> End {
+        if self.job.show.style.form == Form::Hex {
+            return self.show_dumps();
+        }
         let mut show = show_of(self.job, self.tables);
         show.marks = self.screen.edn_marks();
         self.stream.show(&show, &mut self.out)
@@ -330,11 +333,8 @@ impl<'a> Conversion<'a> {
         end
     }
 
-    /// Shows some items encoded again by the rules that are asked for, and tells what follows them.
-    fn show_encoded(&mut self) -> End {
-        let Some(set) = self.job.encode else {
-            return End::Done;
-        };
+    /// Shows some items encoded again by these rules, and tells what follows them.
+    fn show_encoded(&mut self, set: RuleSet) -> End {
         let encoding = Encoding {
             rt: self.rt,
             job: self.job,

@@ -86,10 +86,9 @@ impl ShowsItem for Plain<'_> {
 impl Plain<'_> {
     /// Writes a part.
     fn write(self, part: PartOf, out: &mut Vec<u8>) -> Result<Status, Error> {
-        if self.job.view == View::Raw {
-            self.write_raw(part, out)
-        } else {
-            self.write_json(part, out)
+        match self.job.view {
+            View::Raw => self.write_raw(part, out),
+            _ => self.write_json(part, out),
         }
     }
 

@@ -20,10 +20,9 @@ use std::io::{IsTerminal, Read};
 
 /// Does what the arguments ask for, and returns the exit status.
 pub fn run<'a>(rt: &'a HostRuntime, job: &'a Job<'_>) -> u8 {
-    if job.view == View::Items
+    if matches!(job.view, View::Items | View::Encoded(_))
         && job.show.style.form == Form::Bytes
         && job.output.is_none()
-        && !job.check
         && rt.stdout().is_terminal()
     {
         let _ = eprintln!(rt;
@@ -43,7 +42,7 @@ pub fn run<'a>(rt: &'a HostRuntime, job: &'a Job<'_>) -> u8 {
         Ok(cddl) => cddl,
         Err(status) => return status.number(),
     };
-    let asked = if job.check { None } else { job.output };
+    let asked = if job.is_check() { None } else { job.output };
     let Some(mut target) = open(rt, asked) else {
         return Status::Trouble.number();
     };
@@ -116,7 +115,7 @@ impl Runner<'_> {
 
     /// Converts each input, or compares them.
     fn inputs(&mut self) {
-        if self.job.view == View::Diff {
+        if let View::Diff = self.job.view {
             self.diff();
             return;
         }

@@ -33,11 +33,15 @@ impl Color {
 }
 
 /// What is looked for in an input.
-#[derive(Clone, Copy, PartialEq, Eq)]
+#[derive(Clone, Copy)]
 pub enum View {
     /// Its items, or a part of each.
     Items,
-    /// The same as JSON.
+    /// The same, each encoded again by these rules.
+    Encoded(RuleSet),
+    /// Whether they are whole, keep rules and fit CDDL. Nothing is shown of them.
+    Check,
+    /// Its items, or a part of each, as JSON.
     Json,
     /// The same, each a string: its content.
     Raw,
@@ -100,16 +104,12 @@ pub struct Job<'a> {
     pub strict: bool,
     /// The file that is written.
     pub output: Option<&'a str>,
-    /// Whether inputs are checked alone.
-    pub check: bool,
     /// The rules that a check asks for beyond those of RFC 8949's grammar.
     pub rules: Option<RuleSet>,
     /// The files of CDDL that each item has to fit.
     pub schemas: Vec<&'a str>,
     /// The rule of these that each item has to fit, if it is not the first.
     pub rule: Option<&'a str>,
-    /// The rules for re-encoding items.
-    pub encode: Option<RuleSet>,
     /// The files that are read; `-` for standard input.
     pub files: Vec<&'a str>,
 }
@@ -130,7 +130,7 @@ impl Job<'_> {
     /// value, behind which the word was taken for a file.
     pub fn option_before(&self, word: &str) -> Option<&'static str> {
         let is_number = word.bytes().all(|byte| byte.is_ascii_digit());
-        if self.check && self.rules.is_none() && RuleSet::named(word).is_some() {
+        if self.is_check() && self.rules.is_none() && RuleSet::named(word).is_some() {
             Some("--check")
         } else if self.elide.is_some() && is_number && !word.is_empty() {
             Some("--elide")
@@ -139,9 +139,14 @@ impl Job<'_> {
         }
     }
 
+    /// Whether inputs are checked alone.
+    pub fn is_check(&self) -> bool {
+        matches!(self.view, View::Check)
+    }
+
     /// Whether there are names: they are shown, or a path may have them.
     pub fn has_names(&self) -> bool {
-        let has_path = !self.path.is_empty() && (!self.check || !self.schemas.is_empty());
+        let has_path = !self.path.is_empty() && (!self.is_check() || !self.schemas.is_empty());
         let is_followed = has_path || !self.changes.is_empty();
         is_followed && self.names || self.shows_names()
     }
@@ -151,11 +156,11 @@ impl Job<'_> {
         let style = self.show.style;
         let has_comments = matches!(style.form, Form::Pretty | Form::Hex) && style.notes;
         let is_named = match self.view {
-            View::Items | View::Html(_) => has_comments && !self.check,
+            View::Items | View::Encoded(_) | View::Html(_) => has_comments,
             View::Json => self.names_as_keys,
             // Names say which byte strings paths enter.
             View::Paths | View::At(_) | View::Diff | View::Stats => style.notes,
-            View::Raw | View::Index(_) => false,
+            View::Check | View::Raw | View::Index(_) => false,
         };
         is_named && self.names
     }

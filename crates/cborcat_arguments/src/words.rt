@@ -152,14 +152,17 @@ fn view_of(matches: &ArgMatches) -> View {
     }
     match matches.get_str("to") {
         _ if matches.get_flag("diff") => View::Diff,
-        _ if matches.get_str("check").is_some() || has_schemas(matches) => View::Items,
+        _ if matches.get_str("check").is_some() || has_schemas(matches) => View::Check,
         Some("json") => View::Json,
         Some("raw") => View::Raw,
         Some("paths") => View::Paths,
         Some("html") => View::Html(most_of(matches)),
         Some("stats") => View::Stats,
         Some(word) if let Some(size) = index_size(word) => View::Index(size),
-        _ => View::Items,
+        _ => match matches.get_str("encode").and_then(RuleSet::named) {
+            Some(set) => View::Encoded(set),
+            None => View::Items,
+        },
     }
 }
 
@@ -170,7 +173,7 @@ fn most_of(matches: &ArgMatches) -> usize {
 
 /// Why what the arguments ask for is not to be had, if it is not.
 fn refusal(job: &Job, matches: &ArgMatches) -> Option<&'static str> {
-    let encoded = job.encode.is_some();
+    let encoded = matches.get_str("encode").is_some();
     let is_notation = matches!(job.show.style.form, Form::Pretty | Form::Diag);
     let has_width = matches.get_one::<u16>("width").is_some();
     let has_tables = job.outer.is_some() || job.tables.is_some();
@@ -187,8 +190,8 @@ fn refusal(job: &Job, matches: &ArgMatches) -> Option<&'static str> {
         }
         _ if job.rule.is_some() && job.schemas.is_empty() => Some("--rule is for --cddl"),
         View::Diff if job.files.len() != 2 => Some("--diff compares two files"),
-        _ if job.exact && job.view != View::Diff => Some("--exact is for --diff"),
-        _ if job.places && job.view != View::Paths => Some("--places is for -t paths"),
+        _ if job.exact && !matches!(job.view, View::Diff) => Some("--exact is for --diff"),
+        _ if job.places && !matches!(job.view, View::Paths) => Some("--places is for -t paths"),
         _ if job.elide.is_some() && !is_notation && job.show.style.form != Form::Hex => {
             Some("--elide cuts strings of pretty, diag, hex and paths alone")
         }
@@ -301,11 +304,9 @@ fn job_of<'a>(rt: &HostRuntime, matches: &ArgMatches<'a>) -> Asked<'a> {
         partial: matches.get_flag("partial"),
         strict: matches.get_flag("strict"),
         output: matches.get_str("output"),
-        check: check.is_some() || has_schemas(matches),
         schemas,
         rule: matches.get_str("rule"),
         rules: check.and_then(RuleSet::named),
-        encode: matches.get_str("encode").and_then(RuleSet::named),
         files,
     };
     if let Some(why) = refusal(&job, matches) {

@@ -10,12 +10,15 @@ use cbor_grammar::Error;
 use cbor_inspect::two_byte_simple;
 use cbor_messages::{TWO_BYTES, first_violation};
 use cbor_places::Piece;
+use cborcat_arguments::View;
 
 impl<'a> Conversion<'a> {
     /// Says where the first simple value below 32 in two bytes is, if it is in the bytes that were
     /// passed last.
     pub(super) fn note_simple(&mut self, passed: usize) {
-        if self.noted || self.job.check || self.job.encode.is_some() || passed == 0 {
+        // A check ends there, and a new encoding has none.
+        let is_said = matches!(self.job.view, View::Check | View::Encoded(_));
+        if self.noted || is_said || passed == 0 {
             return;
         }
         if let Some(at) = two_byte_simple(self.stream.passed(passed)) {

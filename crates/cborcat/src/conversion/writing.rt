@@ -21,11 +21,10 @@ impl Conversion<'_> {
         match self.job.view {
             View::Paths => self.write_paths(),
             View::Stats => self.count(),
-            View::Diff => Ok(Written::Whole),
+            View::Check | View::Diff | View::Html(_) => Ok(Written::Whole),
             View::At(byte) => self.write_at(byte),
-            View::Items => self.write_items(),
+            View::Items | View::Encoded(_) => self.write_items(),
             View::Index(_) => Ok(write(self.rt, self.target, &self.out)),
-            View::Html(_) => Ok(Written::Whole),
             View::Json => Ok(self.screen.write_edn(self.target, &self.out)?),
             View::Raw => Ok(write(self.rt, self.target, &self.out)),
         }
