@@ -1,7 +1,6 @@
 -- The errors of the C calls for schemas: a text of CDDL gives no schema (`IsNoSchema`), or items are not checked by a
 -- schema (`IsNotChecked`). `AreWithin`: the places of the parts of a message are within the message.
 use Rattle.std.specs.Prelude.{◌≡◌, ◌⊎◌, ℕ, ◌≤◌}
-use Rattle.cbor_grammar.specs.declared.error.Error.{Error}
 use Rattle.cbor_grammar.specs.Refusals.{number_of}
 use Rattle.cbor_diag_c.specs.Answers.{wrong_cddl, wrong_schema, too_much_work}
 use Rattle.cbor_diag_c.specs.declared.misfits.CheckError.{CheckError}
