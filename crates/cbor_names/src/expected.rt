@@ -1,6 +1,6 @@
 //! `Expected`: what is known of an item before it is read: its name, its type, the tag around it
-//! and the levels left. `Keys`: what is known of the keys of a map. Makes the `Expected` of the item
-//! of a tag, of a member or of the value of a key, and finds the type of the item in a byte string.
+//! and the levels left. `Keys`: what is known of the keys of a map. Makes the `Expected` of a tag's
+//! item, of a member or of the value of a key, and finds the type of the item in a byte string.
 
 ghost use Rattle.std.specs.Prelude.{◌≡◌, ◌+◌, ◌<◌};
 

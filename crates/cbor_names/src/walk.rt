@@ -1,6 +1,6 @@
 //! `notes`, `notes_of`: walk over an item and collect its notes, which are names and meanings. They
-//! read head after head. Each container, each tag and each byte string that holds an item is read by a
-//! recursive call, at most 128 deep.
+//! read head after head. Each container, each tag and each byte string that holds an item is read
+//! by a recursive call, at most 128 deep.
 
 ghost use Rattle.std.specs.Prelude.{◌≡◌, ◌+◌, ◌^◌, ◌<◌, ◌≤◌, length, IfOk};
 ghost use Rattle.cbor_names.specs.Order.{len_of};
