@@ -74,8 +74,7 @@ $(PROGRAM_FILES): $(DIST)/bin/%: $$(call sources,$$(BELOW) $$*)
 	install -D -m 755 crates/$*/out/$* $@
 
 $(ARCHIVE): $(call sources,$(BELOW) cbor_diag_c)
-	cd crates/cbor_diag_c && $(PROGRESS) rt lib
-	install -D -m 644 crates/cbor_diag_c/out/libcbor_diag_c.a $@
+	checks/archive $@
 
 # One object, which exports the calls of the header alone.
 $(STATIC): $(ARCHIVE)
@@ -162,8 +161,8 @@ quick:
 test:
 	@checks/tests
 
-# The gate: all proofs, tests and must-fail edits. It leaves what it built in dist/, so that make has little left to do;
-# with LEFT= it leaves nothing. One check for each processor runs at a time, and no more than there are 4 GB of free
+# The gate: all proofs, tests and must-fail edits. It leaves the programs in dist/, and the libraries that make builds the
+# rest from; with LEFT= it leaves no program. One check for each processor runs at a time, and no more than there are 4 GB of free
 # memory for; without the number rt counts on more memory for a large crate, and runs fewer at a time.
 JOBS = $(shell awk -v most="$$(nproc)" '/^MemAvailable/ { n = int($$2 / 4000000); print n < 1 ? 1 : n < most ? n : most }' \
     /proc/meminfo)
@@ -178,7 +177,7 @@ planted:
 # All that needs no proof. It takes what is in dist/ as it is.
 check: check-pages
 	@for file in $(PROGRAM_FILES) $(ARCHIVE); do \
-	    test -e $$file || { echo "$$file is not there: make gate builds it, or make"; exit 1; }; \
+	    test -e $$file || { echo "$$file is not there: make builds it, after make gate in less time"; exit 1; }; \
 	done
 	@$(MAKE) --no-print-directory -q $(PROGRAM_FILES) $(ARCHIVE) || \
 	    echo "note: files of the crates are newer than dist/: make builds it again"

@@ -5,6 +5,8 @@ import subprocess
 TOP = pathlib.Path(__file__).resolve().parent.parent
 CRATES, DIST = TOP / "crates", TOP / "dist"
 PROGRESS = TOP / "checks" / "progress"
+# Says that the libraries in the crates' out/ are those of a gate that passed, and when it began.
+PROVED = DIST / "proved"
 
 
 def kit_folder():
@@ -23,6 +25,11 @@ def below(crate, used):
     """The crates of this repository that a crate stands on, and those below them."""
     found = {name for name in used[crate] if name in used}
     return found.union(*(below(name, used) for name in found))
+
+
+def has_stamp(crate):
+    """Whether the library in the crate's out/ is one of `rt check`: those of the gate have no stamp."""
+    return CRATES.joinpath(crate, "out/rlib/stamp").exists()
 
 
 def build_words(crate, output, toolchain=None, target=None):
