@@ -16,6 +16,32 @@ MEANT_AS_VALUES = {
     ("core",): "",
 }
 
+FORMS = "pretty, diag, edn, hex, html, digits, bytes, cbor, json, raw, paths, stats, or index=SIZE"
+RULES = "rfc8949, valid, preferred, core, length-first, ctap2 or dcbor"
+
+# Wrong arguments, and what is said of them.
+WRONG = {
+    ("--nothing",): 'there is no option "--nothing": cborcat --help lists all options',
+    ("--it's",): 'there is no option "--it\'s": cborcat --help lists all options',
+    ("--colour=never",): 'there is no option "--colour": did you mean --color?',
+    ("-Z",): 'there is no option "-Z": cborcat --help lists all options',
+    ("-x",): "--text needs a value: cborcat --help says which",
+    ("--from", "--one"): "--from needs a value: cborcat --help says which",
+    ("--one=1",): "--one takes no value: leave it out",
+    ("-1", "--one"): "--one is given twice: give it once",
+    ("--check", "-c"): "--check is given twice: give it once",
+    ("-f", "xml"): '--from takes bytes, cbor, hex, diag, edn, json or base64, and not "xml"',
+    ("--from=",): '--from takes bytes, cbor, hex, diag, edn, json or base64, and not ""',
+    ("-t", "xml"): f'--to takes {FORMS}, and not "xml"',
+    ("--check=cores",): f'--check takes {RULES}, and not "cores"',
+    ("--encode=valid",): '--encode takes preferred, core, length-first, ctap2 or dcbor, and not "valid"',
+    ("--color=no",): '--color takes auto, always or never, and not "no"',
+    ("--width=19",): '--width takes a number of columns from 20 to 1000, and not "19"',
+    ("--width=1001",): '--width takes a number of columns from 20 to 1000, and not "1001"',
+    ("-x", "01", "file"): "--text and a FILE cannot be used together: leave one of them out",
+    ("--diff", "--one", "1", "2"): "--diff and --one cannot be used together: leave one of them out",
+}
+
 
 def check(run, shell, same, examples):
     """All of it: run and shell run the program, and same compares."""
@@ -39,8 +65,8 @@ def words(run, same, examples):
          (b"Usage: cborcat [OPTION]... [FILE]...\nShows C", True, "", 0))
     same("-h", run("-h")[0], out)
     same("version", run("-V"), (f"cborcat {text_of('VERSION')}".encode(), "", 0))
-    for wrong in (["--nothing"], ["-f", "xml"], ["-t", "xml"], ["-x", "01", "file"]):
-        same(f"{wrong} is wrong", run(*wrong)[2], 2)
+    for wrong, said in WRONG.items():
+        same(f"{wrong}", run(*wrong), (b"", f"cborcat: {said}\n", 2))
     for given, said in MEANT_AS_VALUES.items():
         lines, status = run(*given, cwd=examples)[1:]
         same(f"{given}", (lines.partition("\n")[2], "No such file" in lines, status), (said, True, 2))
@@ -54,7 +80,7 @@ def numbers(run, same, examples):
     long = b"\x9f" + b"\x01" * 300000 + b"\xff"
     same("--limit in base 16", [run(f"--limit={it}", data=long)[2] for it in ("0x186a0", "0x100000")], [1, 0])
     for wrong in ("", "0x", "0xg", "5b", "0x5b ", "1.5", "-1", "0x10000000000000000", "18446744073709551616"):
-        for option in ("at", "offset", "limit"):
+        for option in ("at", "offset", "limit", "elide"):
             same(f"--{option}={wrong}", run(f"--{option}={wrong}", "-x", "01"), (
                 b"", f'cborcat: --{option} takes a number of bytes, as 91 or 0x5b, and not "{wrong}"\n', 2))
 

@@ -1,5 +1,7 @@
 """What `cborcat -t stats` and `-t index=SIZE` write. Expected lines are counted by hand from the bytes of the items."""
 
+import argument_checks
+
 # Items in notation, and the lines of their statistics.
 ROWS = [
     ('[1, 20, "a"]',
@@ -55,7 +57,8 @@ def pieces(run, same):
     same("before what is no item", run("-t", "index=1", data=b"\x01\x82"), (b"0 1 1\n", said, 1))
     for word in ("index", "index=", "index=0", "index=1X", "index=-1", "index=0K", "index=99999999999999999999"):
         written, said, status = run("-t", word, "-x", "1")
-        same(word, (written, said.splitlines()[0], status), (b"", f"error: invalid value \"{word}\" for '--to <to>'", 2))
+        same(word, (written, said, status), (
+            b"", f'cborcat: --to takes {argument_checks.FORMS}, and not "{word}"\n', 2))
 
 
 def check(run, same, folder):

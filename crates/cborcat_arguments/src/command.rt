@@ -1,24 +1,14 @@
-//! Builds the `clap` command of `cborcat` from tables: the options, what each takes, and which
-//! cannot stand together. `help.rt` says what each option does.
+//! Builds the `clap` command of `cborcat` from a table of the options, and has the table of those
+//! that cannot stand together. `values.rt` says which values each option takes, and `help.rt` what
+//! it does.
 
 use crate::help::HELP;
-use crate::job::COLORS;
-use cbor_rules::{ENCODINGS, RULES};
 use clap::{Arg, ArgAction, Command};
 use std::alloc::{AllocError, Global};
 
-/// The forms of an input, some by two names.
-static FROM: [&str; 7] = ["bytes", "cbor", "hex", "diag", "edn", "json", "base64"];
-
-/// The forms of the output, some by two names; `index` also takes a size, as in `index=64M`.
-pub(crate) static TO: [&str; 12] = [
-    "pretty", "diag", "edn", "hex", "html", "digits", "bytes", "cbor", "json", "raw", "paths",
-    "stats",
-];
-
 /// What an option takes.
 #[derive(Clone, Copy, PartialEq, Eq)]
-enum Takes {
+pub(crate) enum Takes {
     /// Nothing.
     Nothing,
     /// Any text that begins with no hyphen.
@@ -46,9 +36,10 @@ enum Takes {
 }
 
 /// An option: its name, which `--` precedes, its letter, which `-` precedes, and what it takes.
-type Row<'a> = (&'a str, Option<char>, Takes);
+pub(crate) type Row<'a> = (&'a str, Option<char>, Takes);
 
-const OPTIONS: [Row<'static>; 31] = [
+/// The options.
+pub(crate) const OPTIONS: [Row<'static>; 31] = [
     ("from", Some('f'), Takes::From),
     ("text", Some('x'), Takes::Text),
     ("one", Some('1'), Takes::Nothing),
@@ -82,8 +73,8 @@ const OPTIONS: [Row<'static>; 31] = [
     ("exact", None, Takes::Nothing),
 ];
 
-/// Arguments that cannot stand together.
-const CONFLICTS: [(&str, &str); 30] = [
+/// Arguments that cannot stand together; `file` is a file that is read.
+pub(crate) const CONFLICTS: [(&str, &str); 30] = [
     ("text", "file"),
     ("encode", "check"),
     ("cddl", "to"),
@@ -123,7 +114,7 @@ pub(crate) fn command<'a>(alloc: Global) -> Result<Command<'a>, AllocError> {
         .override_help(HELP)
         .override_usage("cborcat [OPTION]... [FILE]...");
     for option in &OPTIONS {
-        command = command.arg(argument(alloc, *option)?)?;
+        command = command.arg(argument(alloc, *option))?;
     }
     let files = Arg::new(alloc, "file")
         .action(ArgAction::Append)
@@ -132,46 +123,31 @@ pub(crate) fn command<'a>(alloc: Global) -> Result<Command<'a>, AllocError> {
 }
 
 /// The argument of an option.
-fn argument<'a>(alloc: Global, option: Row<'a>) -> Result<Arg<'a>, AllocError> {
+fn argument<'a>(alloc: Global, option: Row<'a>) -> Arg<'a> {
     let (name, letter, takes) = option;
-    let mut argument = taking(Arg::new(alloc, name).long(name), takes);
-    if let Some(letter) = letter {
-        argument = argument.short(letter);
+    let argument = taking(Arg::new(alloc, name).long(name), takes);
+    match letter {
+        Some(letter) => argument.short(letter),
+        None => argument,
     }
-    for (one, other) in &CONFLICTS {
-        if *one == name {
-            argument = argument.conflicts_with(other)?;
-        }
-    }
-    Ok(argument)
 }
 
-/// The same argument, which takes this.
+/// The same argument, which takes this. Its values are checked once all arguments are known.
 fn taking(argument: Arg<'_>, takes: Takes) -> Arg<'_> {
-    if takes == Takes::Nothing {
-        return argument.action(ArgAction::SetTrue);
-    }
-    if takes == Takes::Texts {
-        let argument = argument.action(ArgAction::Append);
-        return argument.allow_hyphen_values(true);
-    }
-    let argument = argument.action(ArgAction::Set);
     match takes {
-        // The word of `--to` is looked up once the arguments are known: one of them has a size.
-        Takes::Nothing | Takes::Name | Takes::Texts | Takes::Bytes | Takes::To => argument,
-        Takes::Text => argument.allow_hyphen_values(true),
-        Takes::Length => or(argument, "32").value_parser(clap::value_parser!(usize)),
-        Takes::Columns => argument.value_parser(clap::value_parser!(u16).range(20..=1000)),
-        Takes::From => argument.value_parser(FROM.as_slice()),
-        Takes::When => argument.value_parser(COLORS.as_slice()),
-        Takes::Rules => or(argument, "rfc8949").value_parser(RULES.as_slice()),
-        Takes::Encoding => argument.value_parser(ENCODINGS.as_slice()),
+        Takes::Nothing => argument.action(ArgAction::SetTrue),
+        Takes::Texts => argument.action(ArgAction::Append).allow_hyphen_values(true),
+        Takes::Text => argument.action(ArgAction::Set).allow_hyphen_values(true),
+        Takes::Length => or(argument, "32"),
+        Takes::Rules => or(argument, "rfc8949"),
+        _ => argument.action(ArgAction::Set),
     }
 }
 
 /// The same argument, whose value may be left out; it is this one then.
 fn or<'a>(argument: Arg<'a>, value: &'a str) -> Arg<'a> {
     argument
+        .action(ArgAction::Set)
         .num_args(0..=1)
         .require_equals(true)
         .default_missing_value(value)

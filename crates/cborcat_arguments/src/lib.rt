@@ -9,6 +9,8 @@ mod changes;
 mod command;
 mod help;
 mod job;
+mod mistakes;
+mod values;
 mod words;
 
 pub use changes::Change;

@@ -2,14 +2,16 @@
 //! the help, the version or what is wrong with them.
 
 use crate::changes::{Wrong, changes_of};
-use crate::command::{TO, command};
+use crate::command::command;
 use crate::job::{Color, Job, View, Wanted};
+use crate::mistakes::{mistake_in, refusal_of};
+use crate::values::{columns_of, index_size, number_of};
 use cbor_inputs::Input;
 use cbor_inspect::{Form, Style, steps_of};
 use cbor_page::MOST;
 use cbor_rules::RuleSet;
-use clap::ArgMatches;
 use clap::error::ErrorKind;
+use clap::{ArgMatches, Error};
 use std::alloc::{AllocError, Global};
 
 /// What becomes of the arguments.
@@ -26,23 +28,38 @@ pub fn read_words<'a>(rt: &HostRuntime, words: &'a [String]) -> Asked<'a> {
     let Ok(command) = command(rt.alloc()) else {
         return out_of_memory(rt);
     };
-    match command.try_get_matches_from(words) {
-        Ok(matches) => job_of(rt, &matches),
-        Err(error) if error.kind() == ErrorKind::OutOfMemory => out_of_memory(rt),
-        Err(error) => {
-            let _ = error.print(rt);
-            if error.kind() == ErrorKind::DisplayHelp || error.kind() == ErrorKind::DisplayVersion {
-                Asked::Ended(0)
-            } else {
-                Asked::Ended(2)
-            }
-        }
+    let matches = match command.try_get_matches_from(words) {
+        Ok(matches) => matches,
+        Err(error) => return refused(rt, &error),
+    };
+    match mistake_in(rt.alloc(), &matches) {
+        Ok(Some(said)) => wrong(rt, said.as_str()),
+        Ok(None) => job_of(rt, &matches),
+        Err(AllocError) => out_of_memory(rt),
     }
 }
 
-fn out_of_memory<'a>(rt: &HostRuntime) -> Asked<'a> {
-    let _ = eprintln!(rt; "cborcat: out of memory");
+/// Prints the help, the version, or why `clap` refused the arguments.
+fn refused<'a>(rt: &HostRuntime, error: &Error) -> Asked<'a> {
+    let kind = error.kind();
+    if kind == ErrorKind::DisplayHelp || kind == ErrorKind::DisplayVersion {
+        let _ = error.print(rt);
+        return Asked::Ended(0);
+    }
+    match refusal_of(rt.alloc(), error) {
+        Ok(said) => wrong(rt, said.as_str()),
+        Err(AllocError) => out_of_memory(rt),
+    }
+}
+
+/// Prints what is wrong with the arguments.
+fn wrong<'a>(rt: &HostRuntime, said: &str) -> Asked<'a> {
+    let _ = eprintln!(rt; "cborcat: {said}");
     Asked::Ended(2)
+}
+
+fn out_of_memory<'a>(rt: &HostRuntime) -> Asked<'a> {
+    wrong(rt, "out of memory")
 }
 
 /// The form of an input that a word names.
@@ -68,64 +85,6 @@ fn form_of(word: Option<&str>) -> Form {
     }
 }
 
-/// The number that a text says: in base 16 after `0x`, and else in base 10.
-fn number_of(text: &str) -> Option<usize> {
-    let digits = match text.strip_prefix("0x") {
-        Some(digits) if !digits.is_empty() => digits,
-        _ => return text.parse::<usize>().ok(),
-    };
-    let mut number: usize = 0;
-    for digit in digits.chars() {
-        let value = digit.to_digit(16)? as usize;
-        number = number.checked_mul(16)?.checked_add(value)?;
-    }
-    Some(number)
-}
-
-/// The size that the word of an index says: a number of bytes, or of K, M or G (1,024 bytes, and
-/// 1,024 times as many each).
-fn index_size(word: &str) -> Option<usize> {
-    let text = word.strip_prefix("index=")?;
-    for (unit, shift) in [("K", 10u32), ("M", 20), ("G", 30)] {
-        if let Some(digits) = text.strip_suffix(unit) {
-            return digits.parse::<usize>().ok()?.checked_mul(1usize << shift);
-        }
-    }
-    number_of(text)
-}
-
-/// The word of `--to` that is no form, if it is none.
-fn wrong_form<'a>(matches: &ArgMatches<'a>) -> Option<&'a str> {
-    let word = matches.get_str("to")?;
-    let is_form = TO.contains(&word) || index_size(word).is_some_and(|size| size > 0);
-    if is_form { None } else { Some(word) }
-}
-
-/// Says which forms there are.
-fn say_forms(rt: &HostRuntime, word: &str) {
-    let _ = eprintln!(rt; "error: invalid value {word:?} for '--to <to>'");
-    let _ = eprint!(rt; "  [possible values: ");
-    for form in &TO {
-        let _ = eprint!(rt; "{form}, ");
-    }
-    let _ = eprintln!(rt; "index=SIZE]\n\nFor more information, try '--help'.");
-}
-
-/// The options that take a number of bytes.
-const COUNTS: [&str; 3] = ["at", "offset", "limit"];
-
-/// The option whose text is no number of bytes, if there is one, and that text.
-fn wrong_count<'a>(matches: &ArgMatches<'a>) -> Option<(&'static str, &'a str)> {
-    for option in &COUNTS {
-        if let Some(text) = matches.get_str(*option)
-            && number_of(text).is_none()
-        {
-            return Some((*option, text));
-        }
-    }
-    None
-}
-
 /// The columns of pretty notation, unless the arguments say so.
 const COLUMNS: u16 = 80;
 
@@ -136,7 +95,10 @@ fn style_of(matches: &ArgMatches) -> Style {
         embedded: matches.get_flag("embedded"),
         notes: !matches.get_flag("no-notes"),
         widths: matches.get_flag("widths"),
-        columns: matches.get_one::<u16>("width").unwrap_or(COLUMNS),
+        columns: matches
+            .get_str("width")
+            .and_then(columns_of)
+            .unwrap_or(COLUMNS),
     }
 }
 
@@ -175,7 +137,7 @@ fn most_of(matches: &ArgMatches) -> usize {
 fn refusal(job: &Job, matches: &ArgMatches) -> Option<&'static str> {
     let encoded = matches.get_str("encode").is_some();
     let is_notation = matches!(job.show.style.form, Form::Pretty | Form::Diag);
-    let has_width = matches.get_one::<u16>("width").is_some();
+    let has_width = matches.get_str("width").is_some();
     let has_tables = job.outer.is_some() || job.tables.is_some();
     match job.view {
         _ if has_tables && !job.has_names() => {
@@ -251,16 +213,6 @@ pub(crate) fn item_of(path: &str) -> (Option<usize>, &str) {
 /// What the arguments ask for.
 fn job_of<'a>(rt: &HostRuntime, matches: &ArgMatches<'a>) -> Asked<'a> {
     let alloc = rt.alloc();
-    if let Some((option, text)) = wrong_count(matches) {
-        let _ = eprintln!(rt;
-            "cborcat: --{option} takes a number of bytes, as 91 or 0x5b, and not {text:?}"
-        );
-        return Asked::Ended(2);
-    }
-    if let Some(word) = wrong_form(matches) {
-        say_forms(rt, word);
-        return Asked::Ended(2);
-    }
     let (item, path) = item_of(matches.get_str("path").unwrap_or(""));
     let (Ok(steps), Ok(files)) = (steps_of(alloc, path), files_of(alloc, matches, "file")) else {
         return out_of_memory(rt);
@@ -290,7 +242,7 @@ fn job_of<'a>(rt: &HostRuntime, matches: &ArgMatches<'a>) -> Asked<'a> {
         view: view_of(matches),
         color: Color::named(matches.get_str("color")),
         widthless: matches.get_flag("no-widths"),
-        elide: matches.get_one::<usize>("elide"),
+        elide: matches.get_str("elide").and_then(number_of),
         show,
         names: !matches.get_flag("no-names"),
         outer: matches.get_str("as"),
@@ -310,8 +262,7 @@ fn job_of<'a>(rt: &HostRuntime, matches: &ArgMatches<'a>) -> Asked<'a> {
         files,
     };
     if let Some(why) = refusal(&job, matches) {
-        let _ = eprintln!(rt; "cborcat: {why}");
-        return Asked::Ended(2);
+        return wrong(rt, why);
     }
     Asked::Job(job)
 }
