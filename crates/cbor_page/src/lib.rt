@@ -34,5 +34,5 @@ mod source;
 mod style;
 mod walk;
 
-pub use page::{Heading, MOST, push_page, weight};
+pub use page::{Heading, push_page, weight};
 pub use shown::{PathStart, push_data, push_items, push_partial};

@@ -1,14 +1,10 @@
 //! `push_page` writes a whole page: a heading, the given lines, the style and the script. `weight`
-//! estimates how long a page is, and `MOST` is how many bytes of data it may show by default.
+//! estimates how long a page is.
 
 use crate::escape::push_escaped;
 use crate::script::{SCRIPT, SCRIPT_HASH};
 use crate::style::{STYLE, STYLE_HASH};
 use std::alloc::AllocError;
-
-/// How many bytes of data a page shows, unless more are asked for: a browser takes some seconds to
-/// open what is made of them.
-pub const MOST: usize = 256 * 1024;
 
 /// About how many bytes a page has for each byte of the data.
 const OF_BYTE: usize = 80;

@@ -8,7 +8,6 @@ use crate::mistakes::{mistake_in, refusal_of};
 use crate::values::{columns_of, index_size, number_of};
 use cbor_inputs::Input;
 use cbor_inspect::{Form, Style, steps_of};
-use cbor_page::MOST;
 use cbor_rules::RuleSet;
 use clap::error::ErrorKind;
 use clap::{ArgMatches, Error};
@@ -128,9 +127,16 @@ fn view_of(matches: &ArgMatches) -> View {
     }
 }
 
+/// How many bytes of data a page shows, unless more are asked for: a browser takes some seconds to
+/// open what is made of them.
+const MOST_ON_PAGE: usize = 256 * 1024;
+
 /// How many bytes of data a page may show.
 fn most_of(matches: &ArgMatches) -> usize {
-    matches.get_str("limit").and_then(number_of).unwrap_or(MOST)
+    matches
+        .get_str("limit")
+        .and_then(number_of)
+        .unwrap_or(MOST_ON_PAGE)
 }
 
 /// Why what the arguments ask for is not to be had, if it is not.
