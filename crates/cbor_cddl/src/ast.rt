@@ -7,7 +7,7 @@ use crate::schema::{List, Occurrence, Span, Value};
 use std::alloc::Global;
 
 /// A type or a group as it is written. The parts are named by their index in [`Ast::exprs`].
-#[derive(Clone, Copy, Debug)]
+#[derive(Clone, Copy)]
 pub(crate) enum Expr {
     /// A literal.
     Literal(Value),
@@ -69,7 +69,7 @@ pub(crate) enum Expr {
 }
 
 /// The number behind a `#`.
-#[derive(Clone, Copy, Debug)]
+#[derive(Clone, Copy)]
 pub(crate) enum Number {
     None,
     /// As in `#6.32`.
@@ -79,7 +79,7 @@ pub(crate) enum Number {
 }
 
 /// A rule: a name with one of its types or groups.
-#[derive(Clone, Copy, Debug)]
+#[derive(Clone, Copy)]
 pub(crate) struct RuleText {
     pub(crate) name: Span,
     /// The names of its parameters, in [`Ast::lists`] as indices of `Name`s.

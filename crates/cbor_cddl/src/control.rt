@@ -42,14 +42,16 @@ impl Loader<'_> {
         operand: usize,
         span: Span,
     ) -> Result<usize, Fault> {
-        let node = match bytes_of(self.source, name) {
-            b".default" | b".feature" => return Ok(target),
-            bytes => match plain_control(bytes, target, operand) {
-                Some(node) => node,
-                None => match pending_control(bytes, target, operand) {
-                    Some(pending) => Node::Pending(pending),
-                    None => return Err(Fault::new(name, refused(bytes))),
-                },
+        let bytes = bytes_of(self.source, name);
+        let word = str::from_utf8(bytes).unwrap_or("");
+        if matches!(word, ".default" | ".feature") {
+            return Ok(target);
+        }
+        let node = match plain_control(word, target, operand) {
+            Some(node) => node,
+            None => match pending_control(word, target, operand) {
+                Some(pending) => Node::Pending(pending),
+                None => return Err(Fault::new(name, refused(bytes))),
             },
         };
         self.add(node, span)
@@ -57,29 +59,29 @@ impl Loader<'_> {
 }
 
 /// A control between two types.
-fn plain_control(name: &[u8], target: usize, operand: usize) -> Option<Node> {
+fn plain_control(name: &str, target: usize, operand: usize) -> Option<Node> {
     match name {
-        b".size" => Some(Node::Size {
+        ".size" => Some(Node::Size {
             target,
             sizes: operand,
         }),
-        b".bits" => Some(Node::Bits {
+        ".bits" => Some(Node::Bits {
             target,
             bits: operand,
         }),
-        b".cbor" => Some(Node::Encoded {
+        ".cbor" => Some(Node::Encoded {
             target,
             item: operand,
         }),
-        b".cborseq" => Some(Node::EncodedSequence {
+        ".cborseq" => Some(Node::EncodedSequence {
             target,
             array: operand,
         }),
-        b".and" | b".within" | b".eq" => Some(Node::Both {
+        ".and" | ".within" | ".eq" => Some(Node::Both {
             target,
             other: operand,
         }),
-        b".ne" => Some(Node::Unequal {
+        ".ne" => Some(Node::Unequal {
             target,
             other: operand,
         }),
@@ -88,7 +90,7 @@ fn plain_control(name: &[u8], target: usize, operand: usize) -> Option<Node> {
 }
 
 /// A control with a value.
-fn pending_control(name: &[u8], target: usize, operand: usize) -> Option<Pending> {
+fn pending_control(name: &str, target: usize, operand: usize) -> Option<Pending> {
     if let Some(comparison) = comparison_of(name) {
         return Some(Pending::Compared {
             target,
@@ -97,25 +99,25 @@ fn pending_control(name: &[u8], target: usize, operand: usize) -> Option<Pending
         });
     }
     match name {
-        b".plus" => Some(Pending::Plus(target, operand)),
-        b".cat" => Some(Pending::Cat(target, operand)),
-        b".det" => Some(Pending::Det(target, operand)),
-        b".regexp" | b".pcre" => Some(Pending::Pattern {
+        ".plus" => Some(Pending::Plus(target, operand)),
+        ".cat" => Some(Pending::Cat(target, operand)),
+        ".det" => Some(Pending::Det(target, operand)),
+        ".regexp" | ".pcre" => Some(Pending::Pattern {
             target,
             pattern: operand,
-            anchored: matches!(name, b".regexp"),
+            anchored: matches!(name, ".regexp"),
         }),
         _ => None,
     }
 }
 
 /// The comparison of a control.
-fn comparison_of(name: &[u8]) -> Option<Comparison> {
+fn comparison_of(name: &str) -> Option<Comparison> {
     match name {
-        b".lt" => Some(Comparison::Less),
-        b".le" => Some(Comparison::LessOrEqual),
-        b".gt" => Some(Comparison::Greater),
-        b".ge" => Some(Comparison::GreaterOrEqual),
+        ".lt" => Some(Comparison::Less),
+        ".le" => Some(Comparison::LessOrEqual),
+        ".gt" => Some(Comparison::Greater),
+        ".ge" => Some(Comparison::GreaterOrEqual),
         _ => None,
     }
 }

@@ -6,7 +6,7 @@ use std::alloc::{AllocError, AllocFailed};
 use std::fmt;
 
 /// What is wrong.
-#[derive(Clone, Copy, PartialEq, Eq, Debug)]
+#[derive(Clone, Copy, PartialEq, Eq)]
 pub enum FaultKind {
     /// Out of memory.
     Memory,
@@ -65,7 +65,7 @@ pub enum FaultKind {
 }
 
 /// What is wrong with a CDDL text, and where.
-#[derive(Clone, Copy, PartialEq, Eq, Debug)]
+#[derive(Clone, Copy, PartialEq, Eq)]
 pub struct Fault {
     /// The part of the source that is wrong.
     pub span: Span,
@@ -107,7 +107,7 @@ impl<T: Drop> From<AllocFailed<T>> for Fault {
 }
 
 /// A line and a column, both counted from 1.
-#[derive(Clone, Copy, PartialEq, Eq, Debug)]
+#[derive(Clone, Copy, PartialEq, Eq)]
 pub struct Position {
     pub line: usize,
     /// In characters.

@@ -101,7 +101,7 @@ impl Sizes {
 }
 
 /// Why bytes give no schema.
-#[derive(Clone, Copy, PartialEq, Eq, Debug)]
+#[derive(Clone, Copy, PartialEq, Eq)]
 pub enum Unread {
     /// Out of memory.
     Memory,
@@ -156,24 +156,22 @@ impl Schema {
     /// All of the schema as bytes, but its labels.
     fn all_to_flat(&self, alloc: Global) -> Result<Vec<u8>, AllocError> {
         let sizes = self.sizes();
-        let mut writer = Writer {
-            out: Vec::new(alloc),
-        };
-        writer.bytes(&MARK)?;
-        writer.sizes(sizes)?;
+        let mut writer = Writer::new(alloc);
+        writer.bytes(&MARK);
+        writer.sizes(sizes);
         for rule in &self.rules {
-            writer.rule(*rule)?;
+            writer.rule(*rule);
         }
         for index in &self.lists {
-            writer.size(*index)?;
+            writer.size(*index);
         }
         for (node, span) in self.nodes.iter().zip(&self.spans) {
-            writer.span(*span)?;
-            writer.node(*node)?;
+            writer.span(*span);
+            writer.node(*node);
         }
-        writer.bytes(&self.pool)?;
-        writer.bytes(self.source.as_bytes().get(..sizes.source).unwrap_or(b""))?;
-        Ok(writer.out)
+        writer.bytes(&self.pool);
+        writer.bytes(self.source.as_bytes().get(..sizes.source).unwrap_or(b""));
+        writer.done()
     }
 
     /// The schema that the bytes encode; it has no labels. The bytes are checked: each index is
@@ -196,11 +194,12 @@ impl Schema {
             schema.rules.push(reader.rule()?)?;
         }
         for _ in 0..sizes.lists {
-            schema.lists.push(reader.node_index()?)?;
+            schema.lists.push(reader.listed()?)?;
         }
         for _ in 0..sizes.nodes {
-            schema.spans.push(reader.span()?)?;
-            schema.nodes.push(reader.node()?)?;
+            let (span, node) = reader.node()?;
+            schema.spans.push(span)?;
+            schema.nodes.push(node)?;
         }
         schema.pool.extend_from_slice(reader.bytes(sizes.pool)?)?;
         schema.source.push_str(reader.text(sizes.source)?)?;

@@ -5,7 +5,7 @@ use crate::schema::Span;
 use std::alloc::Global;
 
 /// What a token is.
-#[derive(Clone, Copy, PartialEq, Eq, Debug)]
+#[derive(Clone, Copy, PartialEq, Eq)]
 pub(crate) enum TokenKind {
     /// A name, also of a socket.
     Name,

@@ -16,7 +16,7 @@ const MOST_INSTANCES: usize = 10_000;
 pub(crate) const DEEPEST: u32 = 400;
 
 /// What is taken of a rule.
-#[derive(Clone, Copy, PartialEq, Eq, Debug)]
+#[derive(Clone, Copy, PartialEq, Eq)]
 pub(crate) enum Mode {
     /// Its type or group.
     Plain,

@@ -15,6 +15,8 @@ struct Pruning<'a> {
     /// The nodes of the copy by their index in the schema, in the order of the copy.
     found: Vec<usize>,
     copy: Schema,
+    /// Whether memory ran out for a part of the copy.
+    failed: bool,
 }
 
 /// As many indices that are not known yet.
@@ -45,26 +47,27 @@ impl<'a> Pruning<'a> {
                 pool: Vec::from_slice(alloc, &from.pool)?,
                 root: 0,
             },
+            failed: false,
         })
     }
 
     /// The index of a node in the copy. It is copied later.
-    fn node(&mut self, index: usize) -> Result<usize, AllocError> {
+    fn node(&mut self, index: usize) -> usize {
         if let Some(Some(known)) = self.nodes.get(index) {
-            return Ok(*known);
+            return *known;
         }
         let new = self.found.len();
-        self.found.push(index)?;
+        self.failed |= self.found.push(index).is_err();
         if let Some(place) = self.nodes.get_mut(index) {
             *place = Some(new);
         }
-        Ok(new)
+        new
     }
 
     /// The index of a rule in the copy, which has it.
-    fn rule(&mut self, index: usize) -> Result<usize, AllocError> {
+    fn rule(&mut self, index: usize) -> usize {
         if let Some(Some(known)) = self.rules.get(index) {
-            return Ok(*known);
+            return *known;
         }
         let new = self.copy.rules.len();
         if let Some(place) = self.rules.get_mut(index) {
@@ -75,47 +78,47 @@ impl<'a> Pruning<'a> {
             Some(rule) => (rule.name, rule.node, rule.rank),
             None => (nowhere, 0, 0),
         };
-        let node = self.node(node)?;
-        self.copy.rules.push(Rule { name, node, rank })?;
-        Ok(new)
+        let node = self.node(node);
+        self.failed |= self.copy.rules.push(Rule { name, node, rank }).is_err();
+        new
     }
 
     /// A list in the copy, which has it.
-    fn list(&mut self, list: List) -> Result<List, AllocError> {
+    fn list(&mut self, list: List) -> List {
         let start = self.copy.lists.len();
         for index in self.from.lists.get(list.start..list.end).unwrap_or(&[]) {
-            let index = self.node(*index)?;
-            self.copy.lists.push(index)?;
+            let index = self.node(*index);
+            self.failed |= self.copy.lists.push(index).is_err();
         }
-        Ok(List {
+        List {
             start,
             end: self.copy.lists.len(),
-        })
+        }
     }
 
     /// A node as it is in the copy.
-    fn renumbered(&mut self, node: Node) -> Result<Node, AllocError> {
-        Ok(match node {
-            Node::Simples(numbers) => Node::Simples(self.node(numbers)?),
-            Node::Array(group) => Node::Array(self.node(group)?),
-            Node::Map(group) => Node::Map(self.node(group)?),
-            Node::Rule(rule) => Node::Rule(self.rule(rule)?),
-            Node::Choice(list) => Node::Choice(self.list(list)?),
-            Node::Sequence(list) => Node::Sequence(self.list(list)?),
-            Node::GroupChoice(list) => Node::GroupChoice(self.list(list)?),
+    fn renumbered(&mut self, node: Node) -> Node {
+        match node {
+            Node::Simples(numbers) => Node::Simples(self.node(numbers)),
+            Node::Array(group) => Node::Array(self.node(group)),
+            Node::Map(group) => Node::Map(self.node(group)),
+            Node::Rule(rule) => Node::Rule(self.rule(rule)),
+            Node::Choice(list) => Node::Choice(self.list(list)),
+            Node::Sequence(list) => Node::Sequence(self.list(list)),
+            Node::GroupChoice(list) => Node::GroupChoice(self.list(list)),
             Node::Tag { number, item } => Node::Tag {
                 number,
-                item: self.node(item)?,
+                item: self.node(item),
             },
             Node::AnyTag { numbers, item } => Node::AnyTag {
                 numbers: match numbers {
-                    Some(numbers) => Some(self.node(numbers)?),
+                    Some(numbers) => Some(self.node(numbers)),
                     None => None,
                 },
-                item: self.node(item)?,
+                item: self.node(item),
             },
             Node::Repeated { item, occurrence } => Node::Repeated {
-                item: self.node(item)?,
+                item: self.node(item),
                 occurrence,
             },
             Node::Entry {
@@ -124,33 +127,33 @@ impl<'a> Pruning<'a> {
                 value,
                 occurrence,
             } => Node::Entry {
-                key: self.node(key)?,
+                key: self.node(key),
                 cut,
-                value: self.node(value)?,
+                value: self.node(value),
                 occurrence,
             },
-            control => self.control(control)?,
-        })
+            control => self.control(control),
+        }
     }
 
     /// A control as it is in the copy. Other nodes lead to none.
-    fn control(&mut self, node: Node) -> Result<Node, AllocError> {
-        Ok(match node {
+    fn control(&mut self, node: Node) -> Node {
+        match node {
             Node::Size { target, sizes } => Node::Size {
-                target: self.node(target)?,
-                sizes: self.node(sizes)?,
+                target: self.node(target),
+                sizes: self.node(sizes),
             },
             Node::Bits { target, bits } => Node::Bits {
-                target: self.node(target)?,
-                bits: self.node(bits)?,
+                target: self.node(target),
+                bits: self.node(bits),
             },
             Node::Encoded { target, item } => Node::Encoded {
-                target: self.node(target)?,
-                item: self.node(item)?,
+                target: self.node(target),
+                item: self.node(item),
             },
             Node::EncodedSequence { target, array } => Node::EncodedSequence {
-                target: self.node(target)?,
-                array: self.node(array)?,
+                target: self.node(target),
+                array: self.node(array),
             },
             Node::Pattern {
                 target,
@@ -158,30 +161,30 @@ impl<'a> Pruning<'a> {
                 anchored,
                 operand,
             } => Node::Pattern {
-                target: self.node(target)?,
+                target: self.node(target),
                 pattern,
                 anchored,
-                operand: self.node(operand)?,
+                operand: self.node(operand),
             },
             Node::Compared {
                 target,
                 comparison,
                 limit,
             } => Node::Compared {
-                target: self.node(target)?,
+                target: self.node(target),
                 comparison,
                 limit,
             },
             Node::Both { target, other } => Node::Both {
-                target: self.node(target)?,
-                other: self.node(other)?,
+                target: self.node(target),
+                other: self.node(other),
             },
             Node::Unequal { target, other } => Node::Unequal {
-                target: self.node(target)?,
-                other: self.node(other)?,
+                target: self.node(target),
+                other: self.node(other),
             },
             other => other,
-        })
+        }
     }
 
     /// Copies each node that is found, until no more are.
@@ -190,7 +193,7 @@ impl<'a> Pruning<'a> {
             let Some(index) = self.found.get(self.copy.nodes.len()).copied() else {
                 break;
             };
-            let node = self.renumbered(self.from.node(index))?;
+            let node = self.renumbered(self.from.node(index));
             self.copy.nodes.push(node)?;
             self.copy.spans.push(self.from.span(index))?;
         }
@@ -203,8 +206,11 @@ impl Schema {
     /// does not need.
     pub(crate) fn pruned(&self, alloc: Global) -> Result<Schema, AllocError> {
         let mut pruning = Pruning::new(alloc, self)?;
-        pruning.copy.root = pruning.node(self.root)?;
+        pruning.copy.root = pruning.node(self.root);
         pruning.copy_found()?;
+        if pruning.failed {
+            return Err(AllocError);
+        }
         Ok(pruning.copy)
     }
 }

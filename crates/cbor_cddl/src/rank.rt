@@ -6,7 +6,7 @@ use crate::load::Loader;
 use crate::schema::{List, Node, Occurrence, Span};
 
 /// How far the walk is at a node.
-#[derive(Clone, Copy, PartialEq, Eq, Debug)]
+#[derive(Clone, Copy, PartialEq, Eq)]
 enum State {
     New,
     /// Its parts are being walked.

@@ -4,7 +4,7 @@
 use cbor_floats::Width;
 
 /// A range of bytes: of the text, or of the values of literals.
-#[derive(Clone, Copy, PartialEq, Eq, Debug)]
+#[derive(Clone, Copy, PartialEq, Eq)]
 pub struct Span {
     /// The offset of the first byte.
     pub start: usize,
@@ -13,7 +13,7 @@ pub struct Span {
 }
 
 /// A part of [`Schema::lists`]: indices of nodes, one after the other.
-#[derive(Clone, Copy, PartialEq, Eq, Debug)]
+#[derive(Clone, Copy, PartialEq, Eq)]
 pub struct List {
     /// The place of the first index.
     pub start: usize,
@@ -29,7 +29,7 @@ impl List {
 }
 
 /// How often an entry of a group occurs.
-#[derive(Clone, Copy, PartialEq, Eq, Debug)]
+#[derive(Clone, Copy, PartialEq, Eq)]
 pub struct Occurrence {
     /// At least so often.
     pub least: u64,
@@ -43,7 +43,7 @@ impl Occurrence {
 }
 
 /// How a number compares with that of a control.
-#[derive(Clone, Copy, PartialEq, Eq, Debug)]
+#[derive(Clone, Copy, PartialEq, Eq)]
 pub enum Comparison {
     /// `.lt`
     Less,
@@ -56,7 +56,7 @@ pub enum Comparison {
 }
 
 /// A value that is known when a text is loaded: a literal, or one that is computed.
-#[derive(Clone, Copy, Debug)]
+#[derive(Clone, Copy)]
 pub enum Value {
     /// An integer, which is no float.
     Integer(i128),
@@ -69,7 +69,7 @@ pub enum Value {
 }
 
 /// The bounds of floats.
-#[derive(Clone, Copy, Debug)]
+#[derive(Clone, Copy)]
 pub struct Floats {
     /// The least float.
     pub least: f64,
@@ -83,7 +83,7 @@ pub struct Floats {
 ///
 /// A type fits an item or not. A group takes members of an array, or pairs of a map. A type that
 /// stands in a group takes one member.
-#[derive(Clone, Copy, Debug)]
+#[derive(Clone, Copy)]
 pub enum Node {
     /// `any`: each item.
     Any,
@@ -196,7 +196,7 @@ pub enum Node {
 }
 
 /// What is computed once all rules are there.
-#[derive(Clone, Copy, Debug)]
+#[derive(Clone, Copy)]
 pub enum Pending {
     /// `from..to`, or `from...to`, which excludes `to`.
     Range {
@@ -225,7 +225,7 @@ pub enum Pending {
 }
 
 /// A rule as it is used: of a generic one, with these arguments.
-#[derive(Clone, Copy, Debug)]
+#[derive(Clone, Copy)]
 pub struct Rule {
     /// Where its name is in [`Schema::source`].
     pub name: Span,
@@ -237,7 +237,7 @@ pub struct Rule {
 }
 
 /// The name of a value in an enumeration, as `open` in `&(open: 1)`.
-#[derive(Clone, Copy, Debug)]
+#[derive(Clone, Copy)]
 pub struct Label {
     /// The node of the value.
     pub node: usize,

@@ -3,13 +3,15 @@
 use super::{Sizes, kind};
 use crate::schema::{Comparison, Floats, Node, Occurrence, Rule, Span, Value};
 use cbor_floats::Width;
-use std::alloc::AllocError;
+use std::alloc::{AllocError, Global};
 use std::num::f64_to_bits_with_nan;
 
-/// The bytes that are written.
+/// The bytes that are written. A failure is noted, and [`Writer::done`] looks once.
 #[derive(Drop)]
 pub(super) struct Writer {
-    pub(super) out: Vec<u8>,
+    out: Vec<u8>,
+    /// Whether memory ran out, or a number does not fit in four bytes.
+    failed: bool,
 }
 
 /// The number of a width.
@@ -32,105 +34,122 @@ fn comparison_number(comparison: Comparison) -> u8 {
 }
 
 impl Writer {
+    /// Nothing is written yet.
+    pub(super) fn new(alloc: Global) -> Writer {
+        Writer {
+            out: Vec::new(alloc),
+            failed: false,
+        }
+    }
+
+    /// The bytes, if all of them are there.
+    pub(super) fn done(self) -> Result<Vec<u8>, AllocError> {
+        if self.failed {
+            Err(AllocError)
+        } else {
+            Ok(self.out)
+        }
+    }
+
     /// Appends bytes.
-    pub(super) fn bytes(&mut self, bytes: &[u8]) -> Result<(), AllocError> {
-        self.out.extend_from_slice(bytes)
+    pub(super) fn bytes(&mut self, bytes: &[u8]) {
+        self.failed |= self.out.extend_from_slice(bytes).is_err();
     }
 
     /// Appends one byte.
-    fn byte(&mut self, byte: u8) -> Result<(), AllocError> {
+    fn byte(&mut self, byte: u8) {
         self.bytes(&[byte])
     }
 
     /// Appends an index or a length, in four bytes.
-    pub(super) fn size(&mut self, size: usize) -> Result<(), AllocError> {
+    pub(super) fn size(&mut self, size: usize) {
         match u32::try_from(size) {
             Ok(size) => self.bytes(&size.to_le_bytes()),
-            Err(_) => Err(AllocError),
+            Err(_) => self.failed = true,
         }
     }
 
     /// Appends a number in eight bytes.
-    fn number(&mut self, number: u64) -> Result<(), AllocError> {
+    fn number(&mut self, number: u64) {
         self.bytes(&number.to_le_bytes())
     }
 
     /// Appends an integer in 16 bytes.
-    fn integer(&mut self, integer: i128) -> Result<(), AllocError> {
+    fn integer(&mut self, integer: i128) {
         self.bytes(&integer.to_le_bytes())
     }
 
     /// Appends the bits of a float.
-    fn float(&mut self, float: f64) -> Result<(), AllocError> {
+    fn float(&mut self, float: f64) {
         self.number(f64_to_bits_with_nan(float))
     }
 
     /// Appends the sizes at the front.
-    pub(super) fn sizes(&mut self, sizes: Sizes) -> Result<(), AllocError> {
-        self.size(sizes.text_len)?;
-        self.size(sizes.source)?;
-        self.size(sizes.rules)?;
-        self.size(sizes.lists)?;
-        self.size(sizes.nodes)?;
-        self.size(sizes.pool)?;
+    pub(super) fn sizes(&mut self, sizes: Sizes) {
+        self.size(sizes.text_len);
+        self.size(sizes.source);
+        self.size(sizes.rules);
+        self.size(sizes.lists);
+        self.size(sizes.nodes);
+        self.size(sizes.pool);
         self.size(sizes.root)
     }
 
     /// Appends a span.
-    pub(super) fn span(&mut self, span: Span) -> Result<(), AllocError> {
-        self.size(span.start)?;
+    pub(super) fn span(&mut self, span: Span) {
+        self.size(span.start);
         self.size(span.end)
     }
 
     /// Appends an occurrence.
-    fn occurrence(&mut self, occurrence: Occurrence) -> Result<(), AllocError> {
-        self.number(occurrence.least)?;
+    fn occurrence(&mut self, occurrence: Occurrence) {
+        self.number(occurrence.least);
         self.number(occurrence.most)
     }
 
     /// Appends a rule.
-    pub(super) fn rule(&mut self, rule: Rule) -> Result<(), AllocError> {
-        self.span(rule.name)?;
-        self.size(rule.node)?;
+    pub(super) fn rule(&mut self, rule: Rule) {
+        self.span(rule.name);
+        self.size(rule.node);
         self.size(rule.rank)
     }
 
     /// Appends a value.
-    fn value(&mut self, value: Value) -> Result<(), AllocError> {
+    fn value(&mut self, value: Value) {
         match value {
             Value::Integer(integer) => {
-                self.byte(0)?;
+                self.byte(0);
                 self.integer(integer)
             }
             Value::Float(float) => {
-                self.byte(1)?;
+                self.byte(1);
                 self.float(float)
             }
             Value::Text(span) => {
-                self.byte(2)?;
+                self.byte(2);
                 self.span(span)
             }
             Value::Bytes(span) => {
-                self.byte(3)?;
+                self.byte(3);
                 self.span(span)
             }
         }
     }
 
     /// Appends the kind of a node and its only index.
-    fn one(&mut self, kind: u8, index: usize) -> Result<(), AllocError> {
-        self.byte(kind)?;
+    fn one(&mut self, kind: u8, index: usize) {
+        self.byte(kind);
         self.size(index)
     }
 
     /// Appends the kind of a node and its two indices.
-    fn two(&mut self, kind: u8, first: usize, second: usize) -> Result<(), AllocError> {
-        self.one(kind, first)?;
+    fn two(&mut self, kind: u8, first: usize, second: usize) {
+        self.one(kind, first);
         self.size(second)
     }
 
     /// Appends a node: its kind, and then its fields.
-    pub(super) fn node(&mut self, node: Node) -> Result<(), AllocError> {
+    pub(super) fn node(&mut self, node: Node) {
         match node {
             Node::Any => self.byte(kind::ANY),
             Node::Major(major) => self.bytes(&[kind::MAJOR, major]),
@@ -158,7 +177,7 @@ impl Writer {
     }
 
     /// Appends a control.
-    fn control(&mut self, node: Node) -> Result<(), AllocError> {
+    fn control(&mut self, node: Node) {
         match node {
             Node::Size { target, sizes } => self.two(kind::SIZE, target, sizes),
             Node::Bits { target, bits } => self.two(kind::BITS, target, bits),
@@ -172,9 +191,9 @@ impl Writer {
                 anchored,
                 operand,
             } => {
-                self.one(kind::PATTERN, target)?;
-                self.span(pattern)?;
-                self.byte(u8::from(anchored))?;
+                self.one(kind::PATTERN, target);
+                self.span(pattern);
+                self.byte(u8::from(anchored));
                 self.size(operand)
             }
             Node::Compared {
@@ -182,31 +201,31 @@ impl Writer {
                 comparison,
                 limit,
             } => {
-                self.one(kind::COMPARED, target)?;
-                self.byte(comparison_number(comparison))?;
+                self.one(kind::COMPARED, target);
+                self.byte(comparison_number(comparison));
                 self.value(limit)
             }
             Node::Both { target, other } => self.two(kind::BOTH, target, other),
             Node::Unequal { target, other } => self.two(kind::UNEQUAL, target, other),
-            _ => Ok(()),
+            _ => {}
         }
     }
 
     /// Appends a node with numbers of its own.
-    fn numbered(&mut self, node: Node) -> Result<(), AllocError> {
+    fn numbered(&mut self, node: Node) {
         match node {
             Node::Argument { major, argument } => {
-                self.bytes(&[kind::ARGUMENT, major])?;
+                self.bytes(&[kind::ARGUMENT, major]);
                 self.number(argument)
             }
             Node::Integers { least, most } => {
-                self.byte(kind::INTEGERS)?;
-                self.integer(least)?;
+                self.byte(kind::INTEGERS);
+                self.integer(least);
                 self.integer(most)
             }
             Node::Floats(floats) => self.floats(floats),
             Node::Tag { number, item } => {
-                self.one(kind::TAG, item)?;
+                self.one(kind::TAG, item);
                 self.number(number)
             }
             Node::AnyTag { numbers, item } => match numbers {
@@ -219,12 +238,12 @@ impl Writer {
                 value,
                 occurrence,
             } => {
-                self.two(kind::ENTRY, key, value)?;
-                self.byte(u8::from(cut))?;
+                self.two(kind::ENTRY, key, value);
+                self.byte(u8::from(cut));
                 self.occurrence(occurrence)
             }
             Node::Repeated { item, occurrence } => {
-                self.one(kind::REPEATED, item)?;
+                self.one(kind::REPEATED, item);
                 self.occurrence(occurrence)
             }
             // No loaded schema has another node.
@@ -233,10 +252,10 @@ impl Writer {
     }
 
     /// Appends the bounds of floats.
-    fn floats(&mut self, floats: Floats) -> Result<(), AllocError> {
-        self.byte(kind::FLOATS)?;
-        self.float(floats.least)?;
-        self.float(floats.most)?;
+    fn floats(&mut self, floats: Floats) {
+        self.byte(kind::FLOATS);
+        self.float(floats.least);
+        self.float(floats.most);
         self.byte(u8::from(floats.below))
     }
 }
