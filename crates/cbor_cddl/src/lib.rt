@@ -10,10 +10,12 @@
 //! ```
 //!
 //! A [`Fault`] says what is wrong with a text, and where. `Schema::to_flat` writes a schema as
-//! bytes, and `Schema::from_flat` reads them back.
+//! bytes, and `Schema::from_flat` reads them back. Crates that match items compile its patterns
+//! with `Schema::patterns`; a [`Stop`] says why they cannot match one.
 #![tactic(auto)]
 
 mod ast;
+mod compiled;
 mod compute;
 mod control;
 mod fault;
@@ -32,8 +34,10 @@ mod prelude;
 mod prune;
 mod rank;
 mod schema;
+mod stop;
 mod text;
 
+pub use compiled::Pattern;
 pub use compute::float_of;
 pub use fault::{Fault, FaultKind, Position, SaidFault, position_of};
 pub use flat::Unread;
@@ -41,4 +45,5 @@ pub use near::likeness;
 pub use schema::{
     Comparison, Floats, Label, List, Node, Occurrence, Pending, Rule, Schema, Span, Value,
 };
+pub use stop::Stop;
 pub use text::source_of;

@@ -6,10 +6,10 @@ ghost use Rattle.cbor_diag_c.specs.Schemas.{AreWithin, IsNotChecked, check_error
 
 use crate::answer::{refused, write};
 use cbor_bytes::{Extent, extent};
-use cbor_cddl::{FaultKind, Schema, Span, Unread, position_of};
+use cbor_cddl::{FaultKind, Schema, Span, Stop, Unread, position_of};
 use cbor_grammar::Error;
 use cbor_places::Piece;
-use cbor_schema::{Checker, MessageParts, Misfit, Stop};
+use cbor_schema::{Checker, MessageParts, Misfit};
 use std::alloc::{AllocError, Global};
 
 /// What C gets of an item that does not fit: places in the input, and parts of the message.

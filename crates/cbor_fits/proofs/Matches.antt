@@ -5,7 +5,7 @@ use Rattle.std.proofs.lemmas.List.{at_drop_more}
 use Rattle.regex.specs.Patterns.{find_str}
 use Rattle.regex.specs.Strings.{regex_pattern}
 use Rattle.cbor_fits.specs.Tables.{is_match_of}
-use Rattle.cbor_fits.specs.declared.tables.Pattern.{Pattern}
+use Rattle.cbor_cddl.specs.declared.compiled.Pattern.{Pattern}
 
 pub match_here : (n : ℕ) (ps : List Pattern) (i : ℕ) (t : List ℕ) (p : Pattern) → i < length ps → p ≡ get_or ps i p
     → p.node ≡ n → is_match_of n (drop i ps) t ≡ is_some (find_str (regex_pattern p.regex) t 0)

@@ -11,7 +11,7 @@ use Rattle.cbor_cddl.specs.declared.schema.Rule.{Rule}
 use Rattle.cbor_cddl.specs.declared.schema.Schema.{Schema}
 use Rattle.cbor_fits.specs.Rules.{Rules}
 use Rattle.cbor_fits.specs.Decoded.{decoded, decoded_sequence}
-use Rattle.cbor_fits.specs.declared.tables.Pattern.{Pattern}
+use Rattle.cbor_cddl.specs.declared.compiled.Pattern.{Pattern}
 use Rattle.cbor_fits.specs.declared.tables.Tables.{Tables}
 
 -- a part of a list; none of it, if not all of the part is there

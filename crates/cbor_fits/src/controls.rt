@@ -10,10 +10,10 @@ ghost use Rattle.cbor_fits.specs.Fits.{has_bits, all_bits_of, all_bits};
 ghost use Rattle.cbor_fits.specs.Fits.{has_inside, has_match, bytes_needed};
 
 use crate::read::{read_item, read_sequence};
-use crate::stop::Stop;
 use crate::tables::Tables;
 use crate::value::Datum;
 use crate::work::Work;
+use cbor_cddl::Stop;
 
 /// No byte string in memory has a bit past this one.
 const LAST_BIT: u64 = 1 << 62;

@@ -11,11 +11,10 @@ ghost use Rattle.cbor_fits.specs.Fits.{entry as entry_takes};
 
 use crate::rest::{Outcome, Rest};
 use crate::split::{Entry, Split};
-use crate::stop::Stop;
 use crate::tables::Tables;
 use crate::value::Datum;
 use crate::work::Work;
-use cbor_cddl::{List, Node, Occurrence};
+use cbor_cddl::{List, Node, Occurrence, Stop};
 
 impl Tables<'_> {
     /// What the group at an index does with what is left.

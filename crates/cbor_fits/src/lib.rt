@@ -14,13 +14,11 @@ mod rest;
 mod same;
 mod slot;
 mod split;
-mod stop;
 mod tables;
 mod types;
 mod value;
 mod verdict;
 mod work;
 
-pub use stop::Stop;
-pub use tables::{Pattern, Tables};
+pub use tables::Tables;
 pub use verdict::DEEPEST;

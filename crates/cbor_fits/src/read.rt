@@ -10,8 +10,8 @@ ghost use Rattle.cbor_fits.specs.Decoded.{decoded, decoded_sequence, items_have_
 mod datum;
 mod keys;
 
-use crate::stop::Stop;
 use crate::value::Datum;
+use cbor_cddl::Stop;
 use cbor_diag::{DataItem, parse_bytes, parse_bytes_partial};
 use cbor_grammar::Error;
 use datum::Reader;

@@ -5,18 +5,8 @@ ghost use Rattle.std.specs.Prelude.{◌≡◌, ◌+◌, length, IfOk, get_or};
 ghost use Rattle.cbor_fits.specs.Tables.{rules_of, part, node_at, body_of, is_group_within};
 ghost use Rattle.cbor_fits.specs.Tables.{is_match_of};
 
-use cbor_cddl::{List, Node, Schema, Span};
-use regex::Regex;
+use cbor_cddl::{List, Node, Pattern, Schema, Span};
 use std::alloc::{AllocError, Global};
-
-/// The pattern of a node.
-#[derive(Drop)]
-pub struct Pattern {
-    /// The node.
-    pub node: usize,
-    /// Its pattern.
-    pub regex: Regex,
-}
 
 /// A loaded schema with its patterns.
 #[derive(Drop)]

@@ -13,11 +13,10 @@ ghost use Rattle.cbor_fits.specs.Fits.{in_tag, number_fits, in_simple, fails, ta
 use crate::leaf::compares_with;
 use crate::rest::{Rest, all_pairs};
 use crate::slot::slot_of;
-use crate::stop::Stop;
 use crate::tables::Tables;
 use crate::value::Datum;
 use crate::work::{Known, Question, Work};
-use cbor_cddl::{List, Node};
+use cbor_cddl::{List, Node, Stop};
 
 /// The type that a control is about.
 fn target_of(node: Node) -> Option<usize>

@@ -4,9 +4,9 @@ ghost use Rattle.cbor_fits.specs.Tables.{rules_of};
 ghost use Rattle.cbor_fits.specs.Fits.{accepts};
 
 use crate::read::read_item;
-use crate::stop::Stop;
 use crate::tables::Tables;
 use crate::work::Work;
+use cbor_cddl::Stop;
 
 /// How deeply types and groups may be nested in each other, with the items that fit them.
 pub const DEEPEST: u32 = 700;

@@ -7,8 +7,8 @@ ghost use Rattle.cbor_fits.specs.Rules.{Rules};
 ghost use Rattle.cbor_fits.specs.Kept.{Holds, IsRight};
 
 use crate::same::same;
-use crate::stop::Stop;
 use crate::value::Datum;
+use cbor_cddl::Stop;
 use std::alloc::Global;
 
 /// The most steps of a match.

@@ -1,16 +1,16 @@
 //! `Checker`: a schema with its patterns compiled. Its call `misfit` matches an item against the
-//! schema and returns why it does not fit. `cbor_fits` decides whether it fits; `Run` finds why
-//! not.
+//! schema and returns why it does not fit. `cbor_fits` decides whether it fits; `cbor_misses` finds
+//! what it misses.
 ghost use Rattle.std.specs.Prelude.{◌≡◌, ◌<◌, Some, IfOk, IfSome, is_none, length};
 ghost use Rattle.cbor_schema.specs.Verdict.{fits};
 
 use crate::message::Misfit;
-use crate::pattern::pattern_of;
-use crate::run::Run;
-use cbor_cddl::{Fault, Node, Schema, Span};
-use cbor_fits::{DEEPEST, Pattern, Stop, Tables};
+use crate::misfit::Words;
+use cbor_cddl::{Fault, Pattern, Schema, Stop};
+use cbor_fits::{DEEPEST, Tables};
+use cbor_misses::{Prepared, best_miss, groups_of};
 use cbor_places::Piece;
-use std::alloc::{AllocError, Global};
+use std::alloc::Global;
 
 /// A schema that is ready to be matched.
 #[derive(Drop)]
@@ -22,51 +22,13 @@ pub struct Checker {
     patterns: Vec<Pattern>,
 }
 
-/// Whether a rule is a group.
-fn is_group(schema: &Schema, rule: usize) -> bool {
-    let mut rule = rule;
-    for _ in 0..schema.rules.len() {
-        let node = match schema.rules.get(rule) {
-            Some(rule) => schema.node(rule.node),
-            None => return false,
-        };
-        match node {
-            Node::Rule(next) => rule = next,
-            Node::Sequence(_) | Node::GroupChoice(_) | Node::Entry { .. } | Node::Repeated { .. } =>
-                return true,
-            _ => return false,
-        }
-    }
-    false
-}
-
-/// Which rules are groups.
-fn groups_of(alloc: Global, schema: &Schema) -> Result<Vec<bool>, AllocError> {
-    let mut groups = Vec::with_capacity(alloc, schema.rules.len())?;
-    for rule in 0..schema.rules.len() {
-        groups.push(is_group(schema, rule))?;
-    }
-    Ok(groups)
-}
-
-/// The patterns of a schema, in the order of their nodes.
-fn patterns_of(alloc: Global, schema: &Schema) -> Result<Vec<Pattern>, Fault> {
-    let mut patterns = Vec::new(alloc);
-    for node in 0..schema.nodes.len() {
-        if let Some(regex) = pattern_of(alloc, schema, node)? {
-            patterns.push(Pattern { node, regex })?;
-        }
-    }
-    Ok(patterns)
-}
-
 impl Checker {
     /// Prepares a schema. The only fault is that of a pattern.
     pub fn new(alloc: Global, schema: Schema) -> Result<Checker, Fault>
         ensures { IfOk result (λ checker. checker.schema ≡ schema) }
     {
         let groups = groups_of(alloc, &schema)?;
-        let patterns = patterns_of(alloc, &schema)?;
+        let patterns = schema.patterns(alloc)?;
         Ok(Checker {
             schema,
             groups,
@@ -102,35 +64,19 @@ impl Checker {
         Ok(Some(misfit))
     }
 
-    /// Why an item does not fit. If no reason is found, or not all are looked for because there are
-    /// too many, it is the best one so far, or the type of the root.
+    /// Why an item does not fit.
     fn explained(&self, alloc: Global, item: Piece) -> Result<Misfit, Stop> {
-        let mut run = Run::new(
+        let prepared = Prepared {
+            schema: &self.schema,
+            groups: &self.groups,
+            patterns: &self.patterns,
+        };
+        let missed = best_miss(alloc, prepared, item.bytes, DEEPEST)?;
+        let words = Words {
             alloc,
-            &self.schema,
-            &self.groups,
-            &self.patterns,
-            item.bytes,
-        )?;
-        let whole = Span {
-            start: 0,
-            end: item.bytes.len(),
+            schema: &self.schema,
+            missed: &missed,
         };
-        let Some(index) = run.items.read(whole, None)? else {
-            return Err(Stop::NoItem);
-        };
-        let root = self.schema.root;
-        let looked_for = match run.items.second_key {
-            Some(key) => run.miss_second_key(key),
-            None => run.fits(root, index, DEEPEST),
-        };
-        match looked_for {
-            Ok(_) | Err(Stop::Work) | Err(Stop::Deep) => {}
-            Err(stop) => return Err(stop),
-        }
-        if run.blame.best.is_none() {
-            run.miss_item(root, index)?;
-        }
-        run.misfit(item.begins)
+        words.misfit(item.begins)
     }
 }

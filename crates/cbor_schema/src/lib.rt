@@ -22,20 +22,10 @@
 //! ```
 #![tactic(auto)]
 
-mod arrays;
-mod blame;
 mod checker;
-mod controls;
-mod items;
-mod maps;
 mod message;
 mod misfit;
-mod order;
 mod paths;
-mod pattern;
-mod run;
-mod types;
 
-pub use cbor_fits::Stop;
 pub use checker::Checker;
 pub use message::{MessageParts, Misfit, Others};

@@ -1,14 +1,11 @@
 //! Makes the [`Misfit`] of an item: writes in words what the schema wants and what is there. For a
 //! misspelled key it also names the key that was probably meant.
 
-use crate::blame::{Best, Found, Miss, Want};
-use crate::items::Kind;
 use crate::message::{Misfit, Others};
-use crate::run::Run;
-use cbor_cddl::{Node, Span, likeness};
+use cbor_cddl::{Node, Schema, Span, Stop, likeness};
 use cbor_edn_writer::bytes_to_edn;
-use cbor_fits::Stop;
-use std::alloc::AllocError;
+use cbor_misses::{Found, Kind, Miss, Missed, Want};
+use std::alloc::{AllocError, Global};
 use std::fmt::Write;
 
 /// A text of more characters than this is cut.
@@ -17,18 +14,24 @@ const LONGEST: usize = 60;
 /// The most nodes of a group that are looked at for a key that is like another.
 const MOST_NODES: usize = 1000;
 
-impl<'a> Run<'a> {
-    /// The misfit that was found, of an item that begins at this byte of the data.
+/// What an item misses, to be said in words.
+#[derive(Clone, Copy)]
+pub(crate) struct Words<'w, 'a> {
+    pub(crate) alloc: Global,
+    pub(crate) schema: &'w Schema,
+    pub(crate) missed: &'w Missed<'a>,
+}
+
+impl Words<'_, '_> {
+    /// The misfit of an item that begins at this byte of the data.
     pub(crate) fn misfit(&self, begins: usize) -> Result<Misfit, Stop> {
-        let Some(best) = self.blame.best else {
-            return Err(Stop::NoItem);
-        };
+        let best = self.missed.best;
         let miss = best.miss;
         Ok(Misfit {
             place: miss.place,
             path: self.path(miss.index, begins)?,
-            is_inside: self.items.item(miss.index).holder.is_some(),
-            expected: self.expected(best)?,
+            is_inside: self.missed.items.item(miss.index).holder.is_some(),
+            expected: self.expected()?,
             name: self.name_text(miss.name)?,
             name_place: miss.name.start,
             found: self.found(miss)?,
@@ -52,10 +55,10 @@ impl<'a> Run<'a> {
     }
 
     /// What was wanted, each once.
-    fn expected(&self, best: Best) -> Result<String, AllocError> {
+    fn expected(&self) -> Result<String, AllocError> {
         let mut said: Vec<String> = Vec::new(self.alloc);
         let mut out = String::new(self.alloc);
-        for want in self.blame.wants(best) {
+        for want in self.missed.wants() {
             let mut one = String::new(self.alloc);
             self.push_want(&mut one, *want)?;
             if said.iter().any(|other| other.as_str() == one.as_str()) {
@@ -142,12 +145,12 @@ impl<'a> Run<'a> {
 
     /// Appends an item: a container by its size, and another one as notation.
     fn push_item(&self, out: &mut String, index: usize) -> Result<(), AllocError> {
-        let item = self.items.item(index);
+        let item = self.missed.items.item(index);
         match item.kind {
             Kind::Array => write!(out, "an array of {}", item.count),
             Kind::Map => write!(out, "a map of {}", item.count / 2),
             Kind::Tag(number) => write!(out, "tag {number}"),
-            _ => match bytes_to_edn(self.alloc, self.items.bytes(item.span)) {
+            _ => match bytes_to_edn(self.alloc, self.missed.items.bytes(item.span)) {
                 Ok(text) => push_cut(out, &text),
                 Err(cbor_grammar::Error::Memory) => Err(AllocError),
                 Err(_) => out.push_str("an item"),
@@ -157,7 +160,7 @@ impl<'a> Run<'a> {
 
     /// Appends the key of an entry of a group that is like a key.
     fn push_like(&self, out: &mut String, key: usize, group: usize) -> Result<(), AllocError> {
-        let Kind::Text(content) = self.items.item(key).kind else {
+        let Kind::Text(content) = self.missed.items.item(key).kind else {
             return Ok(());
         };
         let Some(like) = self.like_entry(group, content)? else {
@@ -194,18 +197,22 @@ impl<'a> Run<'a> {
     /// How far a literal is from the content of a text, if they are alike.
     fn distance(&self, literal: Span, content: Span) -> Option<usize> {
         let literal = self.schema.literal(literal);
-        let content = self.items.bytes(content);
+        let content = self.missed.items.bytes(content);
         likeness(literal, content)
     }
 
     /// Appends the parts of a group.
     fn push_parts(&self, nodes: &mut Vec<usize>, node: usize) -> Result<(), AllocError> {
         match self.schema.node(node) {
-            Node::Rule(rule) => nodes.push(self.rule_node(rule))?,
+            Node::Rule(rule) => {
+                if let Some(rule) = self.schema.rules.get(rule) {
+                    nodes.push(rule.node)?;
+                }
+            }
             Node::Repeated { item, .. } => nodes.push(item)?,
             Node::Sequence(list) | Node::GroupChoice(list) => {
-                for place in list.start..list.end {
-                    nodes.push(self.listed(place))?;
+                for part in self.schema.list(list) {
+                    nodes.push(*part)?;
                 }
             }
             _ => {}
@@ -216,7 +223,7 @@ impl<'a> Run<'a> {
     /// Appends a string with its length.
     fn push_sized(&self, out: &mut String, index: usize) -> Result<(), AllocError> {
         self.push_item(out, index)?;
-        let (Kind::Text(span) | Kind::Bytes(span)) = self.items.item(index).kind else {
+        let (Kind::Text(span) | Kind::Bytes(span)) = self.missed.items.item(index).kind else {
             return Ok(());
         };
         match span.end.saturating_sub(span.start) {

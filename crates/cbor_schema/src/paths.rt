@@ -1,6 +1,6 @@
 //! Writes the path to the item that does not fit, also if it is in a byte string that holds items.
 
-use crate::run::Run;
+use crate::misfit::Words;
 use cbor_bytes::{Extent, extent};
 use cbor_places::{Around, Path, Piece, item_with};
 use std::alloc::AllocError;
@@ -36,28 +36,28 @@ fn push_inside(out: &mut String, content: Piece, at: usize) -> Result<(), AllocE
     push_path(out, item, at.saturating_sub(start))
 }
 
-impl Run<'_> {
+impl Words<'_, '_> {
     /// The path to an item, as `-p` takes it; empty for the outermost item, which begins at this
     /// byte of the data.
     pub(crate) fn path(&self, index: usize, begins: usize) -> Result<String, AllocError> {
         let mut levels = Vec::new(self.alloc);
         let mut level = Some(index);
-        for _ in 0..self.items.count() {
+        for _ in 0..self.missed.items.count() {
             let Some(index) = level else {
                 break;
             };
             levels.push(index)?;
-            level = self.items.item(index).holder;
+            level = self.missed.items.item(index).holder;
         }
         let mut out = String::new(self.alloc);
-        for _ in 0..self.items.count() {
+        for _ in 0..self.missed.items.count() {
             let Some(index) = levels.pop() else {
                 break;
             };
-            let item = self.items.item(index);
-            let content = self.items.content_around(item);
-            let bytes = self.items.bytes(content);
-            let begins = begins.saturating_add(self.items.place_of(content, item));
+            let item = self.missed.items.item(index);
+            let content = self.missed.items.content_around(item);
+            let bytes = self.missed.items.bytes(content);
+            let begins = begins.saturating_add(self.missed.items.place_of(content, item));
             let piece = Piece { begins, bytes };
             let at = item.span.start.saturating_sub(content.start);
             match item.holder {

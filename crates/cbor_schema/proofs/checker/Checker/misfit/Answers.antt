@@ -3,7 +3,7 @@ use Rattle.std.proofs.Common.{◌≡◌, ℕ, List, Bool, Option, Some, Bor, ap,
 use Rattle.cbor_cddl.specs.declared.schema.Schema.{Schema}
 use Rattle.cbor_fits.specs.Fits.{accepts}
 use Rattle.cbor_fits.specs.Tables.{rules}
-use Rattle.cbor_fits.specs.declared.tables.Pattern.{Pattern}
+use Rattle.cbor_cddl.specs.declared.compiled.Pattern.{Pattern}
 use Rattle.cbor_schema.proofs.checker.Checker.misfit.Goals as goal
 
 -- the answer by equal schemas and patterns

@@ -4,8 +4,8 @@
 
 use crate::blame::{Blame, Found, Miss, Want};
 use crate::items::{Item, Items};
-use cbor_cddl::{Node, Schema, Span};
-use cbor_fits::{Pattern, Stop};
+use crate::missed::Prepared;
+use cbor_cddl::{Node, Pattern, Schema, Span, Stop};
 use regex::Matcher;
 use std::alloc::{AllocError, Global};
 use std::collections::BTreeMap;
@@ -59,11 +59,14 @@ impl<'a> Run<'a> {
     /// Nothing is matched yet.
     pub(crate) fn new(
         alloc: Global,
-        schema: &'a Schema,
-        groups: &'a [bool],
-        patterns: &'a [Pattern],
+        prepared: Prepared<'a>,
         data: &'a [u8],
     ) -> Result<Run<'a>, AllocError> {
+        let Prepared {
+            schema,
+            groups,
+            patterns,
+        } = prepared;
         let mut matchers = Vec::with_capacity(alloc, patterns.len())?;
         for pattern in patterns {
             matchers.push(pattern.regex.matcher(alloc)?)?;

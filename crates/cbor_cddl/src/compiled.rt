@@ -1,9 +1,19 @@
-//! Compiles the patterns of a schema. A `.regexp` pattern (XSD syntax) has to match a whole text,
-//! and a `.pcre` pattern may match any part.
+//! `Schema::patterns` compiles the patterns of a schema. A `.regexp` pattern (XSD syntax) has to
+//! match a whole text, and a `.pcre` pattern may match any part.
 
-use cbor_cddl::{Fault, FaultKind, Node, Schema, Span};
+use crate::fault::{Fault, FaultKind};
+use crate::schema::{Node, Schema, Span};
 use regex::{Error, Regex};
 use std::alloc::Global;
+
+/// The pattern of a node.
+#[derive(Drop)]
+pub struct Pattern {
+    /// The node.
+    pub node: usize,
+    /// Its pattern.
+    pub regex: Regex,
+}
 
 /// The regular expression of a pattern.
 fn compiled(alloc: Global, pattern: &str, anchored: bool, span: Span) -> Result<Regex, Fault> {
@@ -21,11 +31,7 @@ fn compiled(alloc: Global, pattern: &str, anchored: bool, span: Span) -> Result<
 }
 
 /// The pattern of a node, if it has one.
-pub(crate) fn pattern_of(
-    alloc: Global,
-    schema: &Schema,
-    node: usize,
-) -> Result<Option<Regex>, Fault> {
+fn pattern_of(alloc: Global, schema: &Schema, node: usize) -> Result<Option<Regex>, Fault> {
     let Node::Pattern {
         pattern,
         anchored,
@@ -39,5 +45,19 @@ pub(crate) fn pattern_of(
     match str::from_utf8(schema.literal(pattern)) {
         Ok(text) => Ok(Some(compiled(alloc, text, anchored, span)?)),
         Err(_) => Err(Fault::new(span, FaultKind::Pattern)),
+    }
+}
+
+impl Schema {
+    /// The patterns, in the order of their nodes. The only fault, but for memory, is that of a
+    /// pattern.
+    pub fn patterns(&self, alloc: Global) -> Result<Vec<Pattern>, Fault> {
+        let mut patterns = Vec::new(alloc);
+        for node in 0..self.nodes.len() {
+            if let Some(regex) = pattern_of(alloc, self, node)? {
+                patterns.push(Pattern { node, regex })?;
+            }
+        }
+        Ok(patterns)
     }
 }

@@ -4,8 +4,7 @@
 use cbor_bytes::head::read_head;
 use cbor_bytes::strings::{read_chunk_length, split_at};
 use cbor_bytes::{Extent, extent};
-use cbor_cddl::Span;
-use cbor_fits::Stop;
+use cbor_cddl::{Span, Stop};
 use cbor_floats::EncodedFloat;
 use cbor_grammar::argument::{Argument, after_break};
 use cbor_grammar::head::ItemHead;
@@ -15,7 +14,7 @@ use std::alloc::{AllocError, Global};
 
 /// What an item is.
 #[derive(Clone, Copy)]
-pub(crate) enum Kind {
+pub enum Kind {
     Integer(i128),
     Float(f64),
     Simple(u8),
@@ -31,20 +30,20 @@ pub(crate) enum Kind {
 
 /// An item.
 #[derive(Clone, Copy)]
-pub(crate) struct Item {
-    pub(crate) kind: Kind,
+pub struct Item {
+    pub kind: Kind,
     /// Where it is. A span past the data is in the joined chunks of strings.
-    pub(crate) span: Span,
+    pub span: Span,
     /// Where its parts are in `Items::parts`.
-    pub(crate) first: usize,
+    pub first: usize,
     /// How many parts it has.
-    pub(crate) count: usize,
+    pub count: usize,
     /// Where it is in the data: its first byte, or that of the string in chunks around it.
-    pub(crate) place: usize,
+    pub place: usize,
     /// How many bytes are before its content: those of its head, but none of a string in chunks.
-    pub(crate) head: usize,
+    pub head: usize,
     /// The byte string that it is in.
-    pub(crate) holder: Option<usize>,
+    pub holder: Option<usize>,
 }
 
 /// A container whose parts are being read.
@@ -59,7 +58,7 @@ struct Open {
 
 /// An item, and all parts of it.
 #[derive(Drop)]
-pub(crate) struct Items<'a> {
+pub struct Items<'a> {
     data: &'a [u8],
     /// The contents of strings in chunks.
     joined: Vec<u8>,
@@ -114,12 +113,12 @@ impl<'a> Items<'a> {
     }
 
     /// How many items there are.
-    pub(crate) fn count(&self) -> usize {
+    pub fn count(&self) -> usize {
         self.items.len()
     }
 
     /// The content of the byte string that holds an item, or all of the data.
-    pub(crate) fn content_around(&self, item: Item) -> Span {
+    pub fn content_around(&self, item: Item) -> Span {
         if let Some(holder) = item.holder
             && let Kind::Bytes(content) = self.item(holder).kind
         {
@@ -133,7 +132,7 @@ impl<'a> Items<'a> {
 
     /// Where the content of the string around an item is in the data: where that string is if its
     /// chunks were joined.
-    pub(crate) fn place_of(&self, content: Span, item: Item) -> usize {
+    pub fn place_of(&self, content: Span, item: Item) -> usize {
         self.place_inside(content, item.holder)
             .unwrap_or(content.start)
     }
@@ -144,7 +143,7 @@ impl<'a> Items<'a> {
     }
 
     /// The item at an index.
-    pub(crate) fn item(&self, index: usize) -> Item {
+    pub fn item(&self, index: usize) -> Item {
         match self.items.get(index) {
             Some(item) => *item,
             None => NOTHING,
@@ -160,7 +159,7 @@ impl<'a> Items<'a> {
     }
 
     /// The bytes of a span.
-    pub(crate) fn bytes(&self, span: Span) -> &[u8] {
+    pub fn bytes(&self, span: Span) -> &[u8] {
         let len = self.data.len();
         let found = if span.start >= len {
             let start = span.start.saturating_sub(len);

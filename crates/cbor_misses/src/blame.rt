@@ -6,8 +6,8 @@ use cbor_cddl::Span;
 use std::alloc::{AllocError, Global};
 
 /// What was wanted.
-#[derive(Clone, Copy, PartialEq, Eq, Debug)]
-pub(crate) enum Want {
+#[derive(Clone, Copy, PartialEq, Eq)]
+pub enum Want {
     /// A type, by its node.
     Type(usize),
     /// A key of a map, by its node.
@@ -21,8 +21,8 @@ pub(crate) enum Want {
 }
 
 /// What was there in its place.
-#[derive(Clone, Copy, PartialEq, Eq, Debug)]
-pub(crate) enum Found {
+#[derive(Clone, Copy)]
+pub enum Found {
     /// The item.
     Item,
     /// The string, with its length.
@@ -45,34 +45,34 @@ pub(crate) enum Found {
 
 /// How many alternatives came less far.
 #[derive(Clone, Copy)]
-pub(crate) struct LessFar {
-    pub(crate) count: usize,
+pub struct LessFar {
+    pub count: usize,
     /// The name of what they are alternatives of, in the source of the schema.
-    pub(crate) name: Span,
+    pub name: Span,
 }
 
 /// A place where an item did not fit.
 #[derive(Clone, Copy)]
-pub(crate) struct Miss {
+pub struct Miss {
     /// How many bytes fit before.
-    pub(crate) gained: usize,
+    pub gained: usize,
     /// The item there.
-    pub(crate) index: usize,
+    pub index: usize,
     /// Where that is in the data, and where it begins itself.
-    pub(crate) place: usize,
-    pub(crate) start: usize,
-    pub(crate) found: Found,
+    pub place: usize,
+    pub start: usize,
+    pub found: Found,
     /// The name of the rule or of the entry that is innermost there.
-    pub(crate) name: Span,
+    pub name: Span,
 }
 
 /// A miss, and all that was wanted there.
 #[derive(Clone, Copy)]
-pub(crate) struct Best {
-    pub(crate) miss: Miss,
+pub struct Best {
+    pub miss: Miss,
     /// What was wanted, in [`Blame::wants`].
     wants: Span,
-    pub(crate) less_far: Option<LessFar>,
+    pub less_far: Option<LessFar>,
 }
 
 /// What did not fit.

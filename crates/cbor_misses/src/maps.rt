@@ -4,12 +4,11 @@
 use crate::blame::{Found, Want};
 use crate::items::{Item, Kind};
 use crate::run::Run;
-use cbor_cddl::{List, Node, Occurrence, Span, likeness};
-use cbor_fits::Stop;
+use cbor_cddl::{List, Node, Occurrence, Span, Stop, likeness};
 use std::alloc::AllocError;
 
 /// What a group does with the pairs that are left.
-#[derive(Clone, Copy, PartialEq, Eq, Debug)]
+#[derive(Clone, Copy, PartialEq, Eq)]
 pub(crate) enum Outcome {
     /// It takes some, or none, and fits.
     Takes,

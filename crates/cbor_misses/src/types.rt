@@ -5,8 +5,7 @@
 use crate::blame::{Found, LessFar, Tried, Want};
 use crate::items::{Item, Kind};
 use crate::run::Run;
-use cbor_cddl::{Floats, List, Node, Span};
-use cbor_fits::Stop;
+use cbor_cddl::{Floats, List, Node, Span, Stop};
 use cbor_floats::{EncodedFloat, Width};
 use std::alloc::AllocError;
 

@@ -1,6 +1,6 @@
 -- Each call for a part has less depth left than the one that it is made by.
 use Rattle.std.proofs.Common.{◌+◌, ◌*◌}
-use Rattle.cbor_schema.proofs.run.Run.+fits.Given as goal
+use Rattle.cbor_misses.proofs.run.Run.+fits.Given as goal
 
 abbrev pub decreases-fits : goal.decreases-fits
 decreases-fits l = l.depth * 8

@@ -3,8 +3,7 @@
 
 use crate::blame::{Found, Want};
 use crate::run::Run;
-use cbor_cddl::{List, Node, Occurrence};
-use cbor_fits::Stop;
+use cbor_cddl::{List, Node, Occurrence, Stop};
 
 impl<'a> Run<'a> {
     /// The place behind the members that a node takes from a place on; `None` if it refuses them.

@@ -3,8 +3,7 @@
 use crate::blame::{Found, Want};
 use crate::items::{Item, Kind};
 use crate::run::{Inner, Run};
-use cbor_cddl::{Comparison, Node, Span, Value, float_of};
-use cbor_fits::Stop;
+use cbor_cddl::{Comparison, Node, Span, Stop, Value, float_of};
 
 /// How many bytes a number takes.
 fn bytes_of(number: i128) -> i128 {

@@ -5,7 +5,7 @@ use std::alloc::{AllocError, AllocFailed};
 use std::fmt;
 
 /// Why an item cannot be matched.
-#[derive(Clone, Copy, PartialEq, Eq, Debug)]
+#[derive(Clone, Copy, PartialEq, Eq)]
 pub enum Stop {
     /// Out of memory.
     Memory,
