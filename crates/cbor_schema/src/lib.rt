@@ -26,6 +26,7 @@ mod checker;
 mod message;
 mod misfit;
 mod paths;
+mod text;
 
 pub use checker::Checker;
 pub use message::{MessageParts, Misfit, Others};

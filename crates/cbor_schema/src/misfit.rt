@@ -2,14 +2,11 @@
 //! misspelled key it also names the key that was probably meant.
 
 use crate::message::{Misfit, Others};
+use crate::text::Text;
 use cbor_cddl::{Node, Schema, Span, Stop, likeness};
 use cbor_edn_writer::bytes_to_edn;
 use cbor_misses::{Found, Kind, Miss, Missed, Want};
 use std::alloc::{AllocError, Global};
-use std::fmt::Write;
-
-/// A text of more characters than this is cut.
-const LONGEST: usize = 60;
 
 /// The most nodes of a group that are looked at for a key that is like another.
 const MOST_NODES: usize = 1000;
@@ -57,118 +54,143 @@ impl Words<'_, '_> {
     /// What was wanted, each once.
     fn expected(&self) -> Result<String, AllocError> {
         let mut said: Vec<String> = Vec::new(self.alloc);
-        let mut out = String::new(self.alloc);
+        let mut out = Text::new(self.alloc);
         for want in self.missed.wants() {
-            let mut one = String::new(self.alloc);
-            self.push_want(&mut one, *want)?;
+            let mut one = Text::new(self.alloc);
+            self.push_want(&mut one, *want);
+            let one = one.done()?;
             if said.iter().any(|other| other.as_str() == one.as_str()) {
                 continue;
             }
             if !out.is_empty() {
-                out.push_str(" / ")?;
+                out.push(" / ");
             }
-            out.push_str(&one)?;
+            out.push(&one);
             said.push(one)?;
         }
-        Ok(out)
+        out.done()
     }
 
     /// Appends what was wanted.
-    fn push_want(&self, out: &mut String, want: Want) -> Result<(), AllocError> {
+    fn push_want(&self, out: &mut Text, want: Want) {
         match want {
             Want::Type(node) => self.push_type(out, node),
             Want::Key(node) => self.push_key(out, node),
-            Want::ArrayEnd(1) => out.push_str("the end of the array after 1 item"),
-            Want::ArrayEnd(count) => write!(out, "the end of the array after {count} items"),
-            Want::MapEnd => out.push_str("the end of the map"),
-            Want::OtherKey => out.push_str("each key once"),
+            Want::ArrayEnd(count) => {
+                out.push("the end of the array after ");
+                out.push_count(count, " item");
+            }
+            Want::MapEnd => out.push("the end of the map"),
+            Want::OtherKey => out.push("each key once"),
         }
     }
 
     /// Appends a key that is wanted.
-    fn push_key(&self, out: &mut String, node: usize) -> Result<(), AllocError> {
-        let Node::Text(span) = self.schema.node(node) else {
-            out.push_str("the key ")?;
-            return self.push_type(out, node);
-        };
-        out.push_str("the key \"")?;
-        out.push_str(str::from_utf8(self.schema.literal(span)).unwrap_or(""))?;
-        out.push('"')
+    fn push_key(&self, out: &mut Text, node: usize) {
+        out.push("the key ");
+        match self.schema.node(node) {
+            Node::Text(span) => {
+                out.push("\"");
+                out.push(self.literal(span));
+                out.push("\"");
+            }
+            _ => self.push_type(out, node),
+        }
+    }
+
+    /// A literal text.
+    fn literal(&self, span: Span) -> &str {
+        let bytes = self.schema.literal(span);
+        match str::from_utf8(bytes) {
+            Ok(text) => text,
+            Err(_) => "",
+        }
     }
 
     /// Appends a type as it is written.
-    fn push_type(&self, out: &mut String, node: usize) -> Result<(), AllocError> {
+    fn push_type(&self, out: &mut Text, node: usize) {
         match self.schema.node(node) {
-            Node::Array(_) => return out.push_str("an array"),
-            Node::Map(_) => return out.push_str("a map"),
-            Node::Tag { number, .. } => return write!(out, "tag {number}"),
-            Node::AnyTag { .. } => return out.push_str("a tag"),
+            Node::Array(_) => out.push("an array"),
+            Node::Map(_) => out.push("a map"),
+            Node::Tag { number, .. } => out.push_numbered("tag ", number),
+            Node::AnyTag { .. } => out.push("a tag"),
             Node::Choice(list) if list.start == list.end => {
-                return out.push_str("nothing, since the socket is empty");
+                out.push("nothing, since the socket is empty");
             }
-            _ => {}
+            _ => out.push_cut(self.schema.text(self.schema.span(node))),
         }
-        push_cut(out, self.schema.text(self.schema.span(node)))
     }
 
     /// What was there.
     fn found(&self, miss: Miss) -> Result<String, AllocError> {
-        let mut out = String::new(self.alloc);
+        let mut text = Text::new(self.alloc);
+        let out = &mut text;
         match miss.found {
-            Found::Item => self.push_item(&mut out, miss.index)?,
-            Found::Sized => self.push_sized(&mut out, miss.index)?,
+            Found::Item => self.push_item(out, miss.index),
+            Found::Sized => self.push_sized(out, miss.index),
             Found::Bit(bit) => {
-                write!(out, "bit {bit} of ")?;
-                self.push_item(&mut out, miss.index)?;
+                out.push_numbered("bit ", bit);
+                out.push(" of ");
+                self.push_item(out, miss.index);
             }
-            Found::NoCbor => out.push_str("bytes that are no CBOR")?,
-            Found::ArrayEnd(count) => write!(out, "the end of the array of {count}")?,
-            Found::Without(count) => write!(out, "a map of {count} without it")?,
-            Found::LikeKey => {
-                out.push_str("the key ")?;
-                self.push_item(&mut out, miss.index)?;
+            Found::NoCbor => out.push("bytes that are no CBOR"),
+            Found::ArrayEnd(count) => {
+                out.push_numbered("the end of the array of ", count as u64);
             }
-            Found::SecondKey => {
-                out.push_str("the key ")?;
-                self.push_item(&mut out, miss.index)?;
-                out.push_str(" for the second time")?;
+            Found::Without(count) => {
+                out.push_numbered("a map of ", count as u64);
+                out.push(" without it");
             }
-            Found::OtherKey(group) => {
-                out.push_str("the key ")?;
-                self.push_item(&mut out, miss.index)?;
-                out.push_str(", which is in no entry")?;
-                self.push_like(&mut out, miss.index, group)?;
+            Found::LikeKey | Found::SecondKey | Found::OtherKey(_) => {
+                self.push_found_key(out, miss);
             }
         }
-        Ok(out)
+        text.done()
+    }
+
+    /// Appends the key that was there.
+    fn push_found_key(&self, out: &mut Text, miss: Miss) {
+        out.push("the key ");
+        self.push_item(out, miss.index);
+        match miss.found {
+            Found::SecondKey => out.push(" for the second time"),
+            Found::OtherKey(group) => {
+                out.push(", which is in no entry");
+                self.push_like(out, miss.index, group);
+            }
+            _ => {}
+        }
     }
 
     /// Appends an item: a container by its size, and another one as notation.
-    fn push_item(&self, out: &mut String, index: usize) -> Result<(), AllocError> {
+    fn push_item(&self, out: &mut Text, index: usize) {
         let item = self.missed.items.item(index);
         match item.kind {
-            Kind::Array => write!(out, "an array of {}", item.count),
-            Kind::Map => write!(out, "a map of {}", item.count / 2),
-            Kind::Tag(number) => write!(out, "tag {number}"),
+            Kind::Array => out.push_numbered("an array of ", item.count as u64),
+            Kind::Map => out.push_numbered("a map of ", (item.count / 2) as u64),
+            Kind::Tag(number) => out.push_numbered("tag ", number),
             _ => match bytes_to_edn(self.alloc, self.missed.items.bytes(item.span)) {
-                Ok(text) => push_cut(out, &text),
-                Err(cbor_grammar::Error::Memory) => Err(AllocError),
-                Err(_) => out.push_str("an item"),
+                Ok(text) => out.push_cut(&text),
+                Err(cbor_grammar::Error::Memory) => out.fail(),
+                Err(_) => out.push("an item"),
             },
         }
     }
 
     /// Appends the key of an entry of a group that is like a key.
-    fn push_like(&self, out: &mut String, key: usize, group: usize) -> Result<(), AllocError> {
+    fn push_like(&self, out: &mut Text, key: usize, group: usize) {
         let Kind::Text(content) = self.missed.items.item(key).kind else {
-            return Ok(());
+            return;
         };
-        let Some(like) = self.like_entry(group, content)? else {
-            return Ok(());
-        };
-        out.push_str("; \"")?;
-        out.push_str(str::from_utf8(self.schema.literal(like)).unwrap_or(""))?;
-        out.push_str("\" is one")
+        match self.like_entry(group, content) {
+            Ok(Some(like)) => {
+                out.push("; \"");
+                out.push(self.literal(like));
+                out.push("\" is one");
+            }
+            Ok(None) => {}
+            Err(_) => out.fail(),
+        }
     }
 
     /// The literal key of an entry of a group that is like the content of a text.
@@ -221,27 +243,11 @@ impl Words<'_, '_> {
     }
 
     /// Appends a string with its length.
-    fn push_sized(&self, out: &mut String, index: usize) -> Result<(), AllocError> {
-        self.push_item(out, index)?;
-        let (Kind::Text(span) | Kind::Bytes(span)) = self.missed.items.item(index).kind else {
-            return Ok(());
-        };
-        match span.end.saturating_sub(span.start) {
-            1 => out.push_str(" of 1 byte"),
-            len => write!(out, " of {len} bytes"),
+    fn push_sized(&self, out: &mut Text, index: usize) {
+        self.push_item(out, index);
+        if let Kind::Text(span) | Kind::Bytes(span) = self.missed.items.item(index).kind {
+            out.push(" of ");
+            out.push_count(span.end.saturating_sub(span.start), " byte");
         }
     }
-}
-
-/// Appends a text, cut if it is long, without line ends.
-fn push_cut(out: &mut String, text: &str) -> Result<(), AllocError> {
-    let mut len = 0usize;
-    for c in text.chars() {
-        if len >= LONGEST {
-            return out.push_str("..");
-        }
-        len = len.saturating_add(1);
-        out.push(if c == '\n' || c == '\r' { ' ' } else { c })?;
-    }
-    Ok(())
 }
