@@ -1,13 +1,10 @@
 //! `Changes`: makes the changes of `--set` and `--delete` in the items of an input as they arrive,
 //! before the items are shown or checked. Says why an item cannot be changed.
 
-use crate::messages::{Origin, label};
-use crate::status::Status;
 use cbor_edit::{Edit, EditError, edited};
-use cbor_grammar::Error;
 use cbor_inspect::{End, Naming, Picture, Stream};
-use cbor_messages::lost_words;
-use cborcat_arguments::{Change, Job};
+use cborcat_arguments::{Change, Job, show_of};
+use cborcat_messages::{Origin, Status, report_change};
 use std::alloc::AllocError;
 
 /// What changes items.
@@ -98,7 +95,11 @@ impl<'a> Changes<'a> {
             match self.with(change, &bytes) {
                 Ok(next) => bytes = next,
                 Err(EditError::Memory) => return Err(AllocError),
-                Err(error) => return Ok(Err(self.refuse(change, &bytes, error))),
+                Err(error) => {
+                    let asked = (self.job, self.tables);
+                    let refused = (change, bytes.as_slice(), error);
+                    return Ok(Err(report_change(self.rt, asked, self.origin, refused)));
+                }
             }
         }
         Ok(Ok(bytes))
@@ -113,7 +114,7 @@ impl<'a> Changes<'a> {
         }
         let steps = change.steps.as_slice();
         let edit = Edit { steps, part };
-        let plain = self.picture();
+        let plain = show_of(self.job, self.tables).picture();
         match self.tables {
             Some(naming) if naming.may_name(item) => {
                 let names = naming.notes(alloc, item)?;
@@ -125,58 +126,6 @@ impl<'a> Changes<'a> {
                 edited(alloc, item, edit, named)
             }
             _ => edited(alloc, item, edit, plain),
-        }
-    }
-
-    /// What is shown of items beside their bytes, without names.
-    fn picture(&self) -> Picture<'static> {
-        Picture {
-            notes: &[],
-            tagged: true,
-            embedded: self.job.show.style.embedded,
-        }
-    }
-
-    /// Says why an item has no such change.
-    fn refuse(&self, change: &Change, item: &[u8], error: EditError) -> Status {
-        let name = label(self.origin.name);
-        let said = match error {
-            EditError::Lost => self.lost_words(change, item),
-            _ => Err(Error::TooDeep),
-        };
-        match said {
-            Ok(words) => {
-                let _ = eprintln!(self.rt; "cborcat: {name}: {words}");
-                Status::Bad
-            }
-            Err(Error::Memory) => {
-                let _ = eprintln!(self.rt; "cborcat: {name}: out of memory");
-                Status::Trouble
-            }
-            Err(error) => {
-                let path = change.path;
-                let _ = eprintln!(self.rt; "cborcat: {name}: {path}: {error}");
-                Status::Bad
-            }
-        }
-    }
-
-    /// What is said of an item in which the path of a change leads nowhere.
-    fn lost_words(&self, change: &Change, item: &[u8]) -> Result<String, Error> {
-        let alloc = self.rt.alloc();
-        let path = (change.path, change.steps.as_slice());
-        let plain = self.picture();
-        match self.tables {
-            Some(naming) if naming.may_name(item) => {
-                let names = naming.notes(alloc, item)?;
-                let notes = names.list(alloc)?;
-                let named = Picture {
-                    notes: &notes,
-                    ..plain
-                };
-                lost_words(alloc, path, item, named)
-            }
-            _ => lost_words(alloc, path, item, plain),
         }
     }
 }

@@ -7,29 +7,22 @@ mod page;
 mod writing;
 
 use self::fronts::{drop_front, first_bytes, short_items};
-use self::index::Indexed;
-use self::page::Page;
 use crate::cddl::Cddl;
 use crate::changes::Changes;
-use crate::dumps::Dumps;
-use crate::each::show_each;
-use crate::encode::Encoding;
+use crate::each::Each;
 use crate::input::{MORE, block_len, read_into};
-use crate::messages::{
-    Origin, label, report_end, report_few, report_long, report_lost, report_none_left, say,
-};
-use crate::output::{Target, Written};
-use crate::plain::Plain;
+use crate::next::Next;
+use crate::output::Target;
 use crate::run::Runner;
-use crate::screen::Screen;
-use crate::shape::shape_of;
-use crate::shown::show_of;
-use crate::status::{Next, Status};
 use cbor_inspect::{End, Form, Naming, Stream};
 use cbor_places::Piece;
-use cbor_rules::RuleSet;
 use cbor_stats::Stats;
-use cborcat_arguments::{Job, View};
+use cborcat_arguments::{Job, View, show_of};
+use cborcat_messages::{
+    Origin, Status, report_end, report_few, report_long, report_lost, report_none_left, say,
+    say_shape,
+};
+use cborcat_views::{Indexed, Page, ShowsItem, Views, Written};
 use std::alloc::AllocError;
 use std::io;
 use std::io::{IsTerminal, Read};
@@ -79,8 +72,8 @@ pub struct Conversion<'a> {
     stats: Stats,
     /// The page of the items, for `-t html`.
     page: Page,
-    /// How the output is shown.
-    screen: Screen<'a>,
+    /// How the items are shown.
+    views: Views<'a>,
     /// What is written next.
     out: Vec<u8>,
 }
@@ -89,7 +82,7 @@ impl<'a> Conversion<'a> {
     /// A conversion of an input that begins with these bytes.
     pub fn new(run: &'a mut Runner<'_>, origin: &'a Origin<'a>, first: Vec<u8>) -> Conversion<'a> {
         let (rt, job, tables, cddl) = (run.rt, run.job, run.tables, run.cddl);
-        let screen = Screen::new(rt, job, run.marks);
+        let views = Views::new(rt, job, tables, run.marks);
         let came = first.len();
         let mut first = first;
         let skipped = job.offset.min(came);
@@ -118,7 +111,7 @@ impl<'a> Conversion<'a> {
             found: false,
             passed: 0,
             number: 0,
-            screen,
+            views,
             out: Vec::new(rt.alloc()),
         }
     }
@@ -294,11 +287,12 @@ impl<'a> Conversion<'a> {
     fn show_next(&mut self, one: bool) -> End {
         let before = self.stream.rest().len();
         let checks_one = one || self.has_numbered_check();
+        let is_one = one || self.job.item.is_some();
         let end = match self.job.view {
             View::Items => self.show_some(),
-            View::Encoded(set) => self.show_encoded(set),
+            View::Encoded(set) => self.show_each(&self.views.encoding(set), is_one),
             View::Check => self.stream.check(checks_one),
-            View::Json | View::Raw => self.show_plain(),
+            View::Json | View::Raw => self.show_each(&self.views.plain(), is_one),
             View::Paths | View::At(_) | View::Diff | View::Stats => self.stream.skip(one),
             View::Index(size) => self.index_items(size),
             View::Html(most) => self.page_items(most, one),
@@ -317,49 +311,24 @@ impl<'a> Conversion<'a> {
     /// Shows some items, and tells what follows them.
     fn show_some(&mut self) -> End {
         if self.job.show.style.form == Form::Hex {
-            return self.show_dumps();
+            return self.show_each(&self.views.dumps(), self.job.show.one);
         }
         let mut show = show_of(self.job, self.tables);
-        show.marks = self.screen.edn_marks();
+        show.marks = self.views.screen.edn_marks();
         self.stream.show(&show, &mut self.out)
     }
 
-    /// Shows some items as dumps, and tells what follows them.
-    fn show_dumps(&mut self) -> End {
-        let dumps = Dumps::new(self.rt, self.job, self.origin, self.tables);
-        let asked = (self.came, self.job.show.one);
-        let (end, status) = show_each(&dumps, &mut self.stream, asked, &mut self.out);
-        self.ended(status);
-        end
-    }
-
-    /// Shows some items encoded again by these rules, and tells what follows them.
-    fn show_encoded(&mut self, set: RuleSet) -> End {
-        let encoding = Encoding {
-            rt: self.rt,
-            job: self.job,
-            origin: self.origin,
-            set,
-            tables: self.tables,
-            marks: self.screen.edn_marks(),
-        };
-        let asked = (self.came, self.job.show.one || self.job.item.is_some());
-        let (end, status) = show_each(&encoding, &mut self.stream, asked, &mut self.out);
-        self.ended(status);
-        end
-    }
-
-    /// Shows some items as JSON, or their content, and tells what follows them.
-    fn show_plain(&mut self) -> End {
-        let plain = Plain {
+    /// Shows some items one by one, or only the next, and tells what follows them.
+    fn show_each<S: ShowsItem>(&mut self, shows: &S, one: bool) -> End {
+        let each = Each {
             rt: self.rt,
             job: self.job,
             origin: self.origin,
             tables: self.tables,
-            marks: self.screen.edn_marks(),
+            came: self.came,
+            one,
         };
-        let asked = (self.came, self.job.show.one || self.job.item.is_some());
-        let (end, status) = show_each(&plain, &mut self.stream, asked, &mut self.out);
+        let (end, status) = each.show(shows, &mut self.stream, &mut self.out);
         self.ended(status);
         end
     }
@@ -373,10 +342,7 @@ impl<'a> Conversion<'a> {
         if !self.job.path.is_empty() || !self.rt.stderr().is_terminal() {
             return;
         }
-        if let Some(word) = shape_of(self.stream.passed(passed)) {
-            let name = label(self.origin.name);
-            let _ = eprintln!(self.rt; "cborcat: {name}: this looks like {word}: --as={word}");
-        }
+        say_shape(self.rt, self.origin, self.stream.passed(passed));
     }
 
     /// Says why no further item is converted.

@@ -1,20 +1,14 @@
-//! `--diff`: reads two inputs whole, compares their items, and writes a line for each difference.
+//! `--diff`: reads two inputs whole, and has their differences written.
 
 use crate::input::{block_len, read_all, read_first};
-use crate::messages::{Origin, report_end, say, say_out_of_memory};
-use crate::naming::encoded_in;
-use crate::output::{Target, Written, write};
+use crate::output::Target;
 use crate::recognized::{Data, data_of, form_of};
-use crate::screen::Screen;
-use crate::status::Status;
-use cbor_diff::{Change, Comparison, Difference, differences};
-use cbor_grammar::Error;
 use cbor_inputs::Input;
-use cbor_inspect::{End, Form, Naming, Show, Style, show_items, skip_items};
-use cbor_marks::Marks;
-use cbor_places::{Entered, Piece};
+use cbor_inspect::{End, skip_items};
+use cbor_places::Piece;
 use cborcat_arguments::Job;
-use std::alloc::AllocError;
+use cborcat_messages::{Origin, Status, report_end, say, say_out_of_memory};
+use cborcat_views::{Views, Written};
 use std::fs::File;
 use std::io;
 use std::io::Read;
@@ -24,9 +18,8 @@ use std::io::Read;
 pub struct Diff<'a> {
     pub rt: &'a HostRuntime,
     pub job: &'a Job<'a>,
-    pub tables: Option<Naming<'a>>,
-    /// Where the tokens are marked of what is shown.
-    pub marks: &'a Marks,
+    /// How what differs is shown.
+    pub views: Views<'a>,
 }
 
 impl Diff<'_> {
@@ -37,8 +30,10 @@ impl Diff<'_> {
             return Status::Trouble;
         };
         match (self.items_of(first), self.items_of(second)) {
-            (Ok(old), Ok(new)) => match self.write(target, &old, &new) {
-                Ok(status) => status,
+            (Ok(old), Ok(new)) => match self.views.write_differences(target, &old, &new) {
+                Ok((Written::Failed, _)) => Status::Trouble,
+                Ok((_, true)) => Status::Bad,
+                Ok((_, false)) => Status::Fine,
                 Err(_) => say_out_of_memory(self.rt, first),
             },
             _ => Status::Trouble,
@@ -104,103 +99,5 @@ impl Diff<'_> {
         };
         let _ = report_end(self.rt, origin, left, shown.end);
         Err(Status::Trouble)
-    }
-
-    /// Compares items, and writes what differs.
-    fn write(self, target: &mut Target, old: &[u8], new: &[u8]) -> Result<Status, Error> {
-        let alloc = self.rt.alloc();
-        let encoded = encoded_in(alloc, self.tables, whole(old))?;
-        let others = encoded_in(alloc, self.tables, whole(new))?;
-        let how = Comparison {
-            exact: self.job.exact,
-            old: self.entered(&encoded),
-            new: self.entered(&others),
-        };
-        let found = differences(alloc, old, new, how)?;
-        for difference in &found {
-            match self.write_line(target, difference, (old, new))? {
-                Written::Whole => {}
-                Written::Closed => break,
-                Written::Failed => return Ok(Status::Trouble),
-            }
-        }
-        if found.is_empty() {
-            Ok(Status::Fine)
-        } else {
-            Ok(Status::Bad)
-        }
-    }
-
-    /// The byte strings that are compared by the item in them.
-    fn entered<'a>(self, encoded: &'a [usize]) -> Entered<'a> {
-        Entered {
-            embedded: self.job.show.style.embedded,
-            encoded,
-        }
-    }
-
-    /// Writes the line of a difference.
-    fn write_line(
-        self,
-        target: &mut Target,
-        difference: &Difference,
-        sides: (&[u8], &[u8]),
-    ) -> Result<Written, Error> {
-        let alloc = self.rt.alloc();
-        let screen = Screen::new(self.rt, self.job, self.marks);
-        let mut path = String::new(alloc);
-        if difference.number > 0 {
-            write!(path, "{}:", difference.number)?;
-        }
-        path.push_str(difference.path.as_str())?;
-        path.push_str("  ")?;
-        let mut line = Vec::from_slice(alloc, mark_of(difference.change).as_bytes())?;
-        screen.push_path(&mut line, &path)?;
-        self.push_item(&mut line, screen, difference.old.bytes(sides.0))?;
-        if difference.old.len() > 0 && difference.new.len() > 0 {
-            line.extend_from_slice(b" -> ")?;
-        }
-        self.push_item(&mut line, screen, difference.new.bytes(sides.1))?;
-        line.push(b'\n')?;
-        Ok(write(self.rt, target, &line))
-    }
-
-    /// Appends an item in EDN on one line, if it is there.
-    fn push_item(self, line: &mut Vec<u8>, screen: Screen<'_>, item: &[u8]) -> Result<(), Error> {
-        if item.is_empty() {
-            return Ok(());
-        }
-        let show = Show {
-            style: Style {
-                form: Form::Diag,
-                ..self.job.show.style
-            },
-            names: None,
-            steps: &[],
-            one: false,
-            marks: screen.edn_marks(),
-        };
-        let mut text = Vec::new(self.rt.alloc());
-        if show_items(&show, item, &mut text).end == End::Memory {
-            return Err(Error::Memory);
-        }
-        let _ = text.pop();
-        screen.push_edn(line, &text)?;
-        Ok(())
-    }
-}
-
-/// All of these bytes.
-fn whole(bytes: &[u8]) -> Piece<'_> {
-    Piece { begins: 0, bytes }
-}
-
-/// What the line of a change begins with.
-fn mark_of(change: Change) -> &'static str {
-    match change {
-        Change::Changed => "~ ",
-        Change::Added => "+ ",
-        Change::Removed => "- ",
-        Change::Encoding => "= but for its encoding: ",
     }
 }

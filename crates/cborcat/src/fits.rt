@@ -2,21 +2,15 @@
 //! first that does not fit.
 
 use crate::cddl::Cddl;
-use crate::messages::{Origin, label, report_lost, say_byte};
-use crate::shown::show_of;
-use crate::status::Status;
 use cbor_bytes::{Extent, extent};
 use cbor_cddl::Stop;
 use cbor_grammar::Error;
-use cbor_grammar::argument::Argument;
-use cbor_grammar::head::ItemHead;
-use cbor_grammar::strings::StringKind;
 use cbor_inspect::{Naming, Step, parts_of};
-use cbor_places::{Around, Path, Piece, item_with};
+use cbor_places::Piece;
 use cbor_schema::Misfit;
-use cbor_trace::head_at;
-use cborcat_arguments::Job;
-use std::alloc::{AllocError, Global};
+use cborcat_arguments::{Job, show_of};
+use cborcat_messages::{Origin, Status, label, path_to, push_steps, report_lost, say_byte};
+use std::alloc::AllocError;
 use std::fmt::Write;
 
 /// How the items of an input, or parts of them, are checked.
@@ -158,7 +152,7 @@ impl Fits<'_> {
         let alloc = self.rt.alloc();
         let misfit = &part.misfit;
         let mut text = String::new(alloc);
-        let line = self.cddl.line(alloc, misfit.name_place)?;
+        let line = self.cddl.files.line(alloc, misfit.name_place)?;
         misfit.push_message(&mut text, &line)?;
         let mut in_item = String::new(alloc);
         let path = self.path(nth, part)?;
@@ -169,7 +163,7 @@ impl Fits<'_> {
             if !in_item.is_empty() {
                 in_item.push_str("; ")?;
             }
-            let line = self.cddl.line(alloc, others.name_place)?;
+            let line = self.cddl.files.line(alloc, others.name_place)?;
             others.push_message(&mut in_item, &line)?;
         }
         let begins = nth.item.number(part.start).saturating_add(misfit.place);
@@ -200,55 +194,4 @@ impl Fits<'_> {
         let mut steps = self.job.show.steps.iter();
         steps.any(|step| matches!(step, Step::Each))
     }
-}
-
-/// Appends steps to a path.
-fn push_steps(path: &mut String, steps: &str) -> Result<(), AllocError> {
-    if !path.is_empty() && !steps.is_empty() {
-        path.push('/')?;
-    }
-    path.push_str(steps)
-}
-
-/// The path to the part that begins at a byte of an item.
-fn path_to(alloc: Global, item: Piece, start: usize) -> Result<String, AllocError> {
-    let mut path = String::new(alloc);
-    let byte = item.number(start);
-    let mut piece = item;
-    for _ in 0..=u8::MAX {
-        let around = Around::new(alloc, piece, byte.saturating_sub(piece.begins))?;
-        if !around.path.is_empty() {
-            push_steps(&mut path, around.path.as_str())?;
-        }
-        let Some(content) = content_with(piece, around.spot.start, byte) else {
-            break;
-        };
-        let (_, inner) = item_with(content, byte);
-        let mut step = Path::new(alloc, 0);
-        step.push_inside(match extent(content.bytes) {
-            Extent::Item(len) if len == content.bytes.len() => None,
-            _ => Some(inner.begins.saturating_sub(content.begins)),
-        })?;
-        push_steps(&mut path, step.as_str())?;
-        piece = inner;
-    }
-    Ok(path)
-}
-
-/// The content of the byte string that begins at a place of a piece, if it has this byte of the
-/// data.
-fn content_with(piece: Piece<'_>, start: usize, byte: usize) -> Option<Piece<'_>> {
-    let (head, place) = head_at(piece.bytes, start)?;
-    let ItemHead::String(StringKind::Bytes, Argument::Number(len, _)) = head else {
-        return None;
-    };
-    let end = place.checked_add(usize::try_from(len).ok()?)?;
-    let content = Piece {
-        begins: piece.number(place),
-        bytes: piece.bytes.get(place..end)?,
-    };
-    if byte < content.begins || byte >= piece.number(end) {
-        return None;
-    }
-    Some(content)
 }

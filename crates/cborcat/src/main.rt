@@ -1,29 +1,22 @@
 //! Shows CBOR data (RFC 8949) as text, or converts it: `cborcat FILE`.
 //!
-//! This crate reads and writes files, standard output and standard error. `cborcat_arguments` reads
-//! the arguments, `cbor_inspect` writes items in each form, `cbor_places` finds where something is
-//! in an item, and `cbor_messages` says what is wrong there.
+//! This crate reads and writes files and standard output. `cborcat_arguments` reads the arguments,
+//! `cborcat_views` shows items as these ask, and `cborcat_messages` writes on standard error what
+//! is wrong with an input.
 #![tactic(auto)]
 
 mod cddl;
 mod changes;
 mod conversion;
 mod diff;
-mod dumps;
 mod each;
-mod encode;
 mod fits;
 mod input;
-mod messages;
 mod naming;
+mod next;
 mod output;
-mod plain;
 mod recognized;
 mod run;
-mod screen;
-mod shape;
-mod shown;
-mod status;
 
 use crate::run::run;
 use cborcat_arguments::{Asked, read_words};

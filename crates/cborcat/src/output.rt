@@ -1,7 +1,8 @@
 //! Opens, writes and closes the output: standard output, or a file, which gets its name only once
 //! all input is converted.
 
-use crate::messages::say;
+use cborcat_messages::say;
+use cborcat_views::{Output, Written};
 use std::fs::{File, OpenOptions, Permissions};
 use std::io::{ErrorKind, Write};
 use std::path::PathBuf;
@@ -29,17 +30,6 @@ pub struct Beside {
     path: String,
     /// The path of the file that is to be written.
     wanted: PathBuf,
-}
-
-/// How a write went.
-#[derive(Clone, Copy, PartialEq, Eq)]
-pub enum Written {
-    /// Whole.
-    Whole,
-    /// Nobody reads the output any more.
-    Closed,
-    /// It failed, and a message said so.
-    Failed,
 }
 
 /// Opens what the output goes to; a message says if it cannot be written.
@@ -121,6 +111,12 @@ fn create_beside(rt: &HostRuntime, wanted: PathBuf) -> io::Result<Beside> {
 /// Removes a file that does not take the place of another.
 fn remove(rt: &HostRuntime, beside: &Beside) {
     let _ = fs::remove_file(rt, beside.path.as_str());
+}
+
+impl Output for Target {
+    fn write(&mut self, rt: &HostRuntime, bytes: &[u8]) -> Written {
+        write(rt, self, bytes)
+    }
 }
 
 /// Writes bytes, all of them.

@@ -1,12 +1,12 @@
 //! Finds the form of an input from the arguments, the file name or the text, and the bytes that the
 //! text stands for. Says so if another form reads the text, too, or if no form does.
 
-use crate::messages::{label, report_refusal, say_out_of_memory, word_of};
-use crate::status::Status;
 use cbor_inputs::{HexFault, Input, Recognized, Refusal, is_text, looks_like, recognize};
 use cbor_inspect::{End, skip_items};
 use cborcat_arguments::Job;
-use std::alloc::AllocError;
+use cborcat_messages::{
+    Status, report_refusal, say_count, say_named_bytes, say_none, say_out_of_memory, say_taken,
+};
 
 /// What a text stands for.
 #[derive(Drop)]
@@ -58,17 +58,6 @@ pub fn data_of(rt: &HostRuntime, job: &Job, input: (&str, &[u8])) -> Result<Data
     Ok(data)
 }
 
-/// Says that a text has no item, if it has comments: nothing else is shown of it.
-fn say_none(rt: &HostRuntime, input: (&str, &[u8])) {
-    let (name, text) = input;
-    if text.contains(&b'#') || text.contains(&b'/') {
-        let _ = eprintln!(rt;
-            "cborcat: {}: no item: the text has only comments",
-            label(name)
-        );
-    }
-}
-
 /// The data of an input in this form.
 fn data_in(rt: &HostRuntime, job: &Job, input: (&str, &[u8]), form: Input) -> Result<Data, Status> {
     match form.decode(rt.alloc(), input.1) {
@@ -111,10 +100,7 @@ fn taken(
     let (name, text) = input;
     let is_whole = found.form != Input::Hex || skip_items(&found.bytes, false).end == End::Done;
     if !is_whole && is_named_bytes(name) {
-        let _ = eprintln!(rt;
-            "cborcat: {}: read as bytes by its name; as hex it is malformed: -f hex",
-            label(name)
-        );
+        say_named_bytes(rt, name);
         return data_in(rt, job, input, Input::Bytes);
     }
     if is_whole && say_taken(rt, name, text, &found).is_err() {
@@ -132,27 +118,6 @@ fn is_named_bytes(name: &str) -> bool {
     name.ends_with(".cbor") || name.ends_with(".cose") || name.ends_with(".cwt")
 }
 
-/// Says which form was taken, if another one reads the input, too.
-fn say_taken(
-    rt: &HostRuntime,
-    name: &str,
-    text: &[u8],
-    found: &Recognized,
-) -> Result<(), AllocError> {
-    if found.bytes.is_empty() {
-        return Ok(());
-    }
-    if let Some(other) = found.also(rt.alloc(), text)? {
-        let _ = eprintln!(rt;
-            "cborcat: {}: read as {}; -f {} reads it, too",
-            label(name),
-            word_of(found.form),
-            word_of(other)
-        );
-    }
-    Ok(())
-}
-
 /// Whether a text that has no form is digits of hex with what people put between them: nobody means
 /// it as bytes.
 fn are_digits(refusal: Refusal, text: &[u8]) -> bool {
@@ -160,38 +125,4 @@ fn are_digits(refusal: Refusal, text: &[u8]) -> bool {
         || text.iter().all(|byte| {
             byte.is_ascii_hexdigit() || byte.is_ascii_whitespace() || matches!(*byte, b',' | b':')
         })
-}
-
-/// Says how many items a text is as notation, if it is notation.
-pub fn say_notation(rt: &HostRuntime, name: &str, text: &[u8]) -> Status {
-    match Input::Diag.decode(rt.alloc(), text) {
-        Ok(items) => {
-            say_count(rt, &items, Input::Diag);
-            Status::Bad
-        }
-        Err(Refusal::Memory) => say_out_of_memory(rt, name),
-        Err(_) => Status::Bad,
-    }
-}
-
-/// Says how many items an input is in another form, which has these bytes, if they are items.
-fn say_count(rt: &HostRuntime, bytes: &[u8], form: Input) {
-    let mut count = 0u64;
-    let mut used = 0usize;
-    for _ in 0..u64::MAX {
-        let shown = skip_items(bytes.get(used..).unwrap_or(b""), true);
-        match shown.end {
-            End::Full => count = count.saturating_add(1),
-            End::Done => break,
-            _ => return,
-        }
-        used = used.saturating_add(shown.used);
-    }
-    let items = if count == 1 { "item" } else { "items" };
-    let noun = if form == Input::Diag {
-        "notation"
-    } else {
-        "bytes"
-    };
-    let _ = eprintln!(rt; "  as {noun} it is {count} {items}: -f {}", word_of(form));
 }

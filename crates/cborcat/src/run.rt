@@ -5,15 +5,16 @@ use crate::cddl::{Cddl, cddl_of};
 use crate::conversion::Conversion;
 use crate::diff::Diff;
 use crate::input::{block_len, read_first};
-use crate::messages::{Origin, say, say_no_text, say_pasted};
 use crate::naming::{shown_of, tables_of};
+use crate::next::Next;
 use crate::output::{Target, close, open};
-use crate::recognized::{data_of, form_of, say_notation};
-use crate::status::{Next, Status};
+use crate::recognized::{data_of, form_of};
 use cbor_inputs::{Input, looks_like};
 use cbor_inspect::{Form, Naming};
 use cbor_marks::Marks;
 use cborcat_arguments::{Job, View};
+use cborcat_messages::{Origin, Status, say, say_no_text, say_notation, say_pasted};
+use cborcat_views::Views;
 use std::fs::File;
 use std::io;
 use std::io::{IsTerminal, Read};
@@ -106,8 +107,7 @@ impl Runner<'_> {
         let diff = Diff {
             rt: self.rt,
             job: self.job,
-            tables: self.tables,
-            marks: self.marks,
+            views: Views::new(self.rt, self.job, self.tables, self.marks),
         };
         let status = diff.run(self.target);
         self.ended(status);

@@ -6,6 +6,7 @@ use crate::changes::Change;
 use cbor_inputs::Input;
 use cbor_inspect::{Form, Step, Style};
 use cbor_rules::RuleSet;
+use std::env;
 
 /// Whether colours are asked for.
 #[derive(Clone, Copy, PartialEq, Eq)]
@@ -30,6 +31,29 @@ impl Color {
             _ => Color::Auto,
         }
     }
+
+    /// Whether texts have colours that go to a terminal, or not.
+    pub fn is_used(self, rt: &HostRuntime, terminal: bool) -> bool {
+        match self {
+            Color::Auto => terminal && wants_colors(rt),
+            Color::Always => true,
+            Color::Never => false,
+        }
+    }
+}
+
+/// Whether the environment wants colours in a terminal: `TERM` is there and is not `dumb`, and
+/// `NO_COLOR` is not there or empty.
+fn wants_colors(rt: &HostRuntime) -> bool {
+    let shows = match env::var(rt, "TERM") {
+        Ok(name) => !name.is_empty() && name.as_str() != "dumb",
+        Err(_) => false,
+    };
+    let refuses = match env::var(rt, "NO_COLOR") {
+        Ok(value) => !value.is_empty(),
+        Err(error) => error != env::VarError::NotPresent,
+    };
+    shows && !refuses
 }
 
 /// What is looked for in an input.

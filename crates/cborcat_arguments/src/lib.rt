@@ -1,5 +1,5 @@
 //! Reads the arguments of `cborcat` as the job that they ask for. `cborcat --help` says what each
-//! argument means.
+//! argument means. `show_of` is what a job asks to write of items.
 //!
 //! Nothing here opens a file. If the arguments are wrong, or ask for help or the version, the
 //! message is printed here.
@@ -10,9 +10,11 @@ mod command;
 mod help;
 mod job;
 mod mistakes;
+mod shown;
 mod values;
 mod words;
 
 pub use changes::Change;
 pub use job::{Color, Job, View, Wanted};
+pub use shown::show_of;
 pub use words::{Asked, read_words};

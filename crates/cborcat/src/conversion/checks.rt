@@ -4,13 +4,12 @@
 
 use super::Conversion;
 use crate::fits::Fits;
-use crate::messages::report_byte;
-use crate::status::Status;
 use cbor_grammar::Error;
 use cbor_inspect::two_byte_simple;
 use cbor_messages::{TWO_BYTES, first_violation};
 use cbor_places::Piece;
 use cborcat_arguments::View;
+use cborcat_messages::{Status, report_byte};
 
 impl<'a> Conversion<'a> {
     /// Says where the first simple value below 32 in two bytes is, if it is in the bytes that were

@@ -1,6 +1,8 @@
-//! `shape_of` guesses the type of an item that has no tag, for a hint in a terminal: a COSE
-//! message, a key, or the claims of a token.
+//! `say_shape` says which type an item without a tag looks like: a COSE message, a key, or the
+//! claims of a token.
 
+use crate::lines::label;
+use crate::origin::Origin;
 use cbor_bytes::{Extent, extent};
 use cbor_grammar::argument::Argument;
 use cbor_grammar::head::ItemHead;
@@ -25,8 +27,16 @@ const FIRST_SECOND: u64 = 1_000_000_000;
 /// The simple value null.
 const NULL: u8 = 22;
 
+/// Says which type the item at the front of bytes looks like, if no tag says it.
+pub fn say_shape(rt: &HostRuntime, origin: &Origin, bytes: &[u8]) {
+    if let Some(word) = shape_of(bytes) {
+        let name = label(origin.name);
+        let _ = eprintln!(rt; "cborcat: {name}: this looks like {word}: --as={word}");
+    }
+}
+
 /// The type that the item at the front of bytes looks like, as `--as` names it, if no tag says it.
-pub fn shape_of(bytes: &[u8]) -> Option<&'static str> {
+fn shape_of(bytes: &[u8]) -> Option<&'static str> {
     let (head, begins) = head_at(bytes, 0)?;
     let rest = bytes.get(begins..).unwrap_or(b"");
     match head {

@@ -1,5 +1,4 @@
-//! `Status`: how a run or a part of it ended; it gives the exit status. `Next`: what to do after a
-//! part: go on, take the next input, or stop.
+//! `Status`: how a run or a part of it ended; it gives the exit status.
 
 /// How a run ended, or a part of it; each is worse than those before it.
 #[derive(Clone, Copy, PartialEq, Eq)]
@@ -30,15 +29,4 @@ impl Status {
             self
         }
     }
-}
-
-/// What comes after a part of a run.
-#[derive(Clone, Copy, PartialEq, Eq)]
-pub enum Next {
-    /// The rest of this input.
-    More,
-    /// The next input.
-    NextInput,
-    /// Nothing: nobody reads the output any more, or it cannot be written.
-    Nothing,
 }

@@ -2,22 +2,18 @@
 //! names, with long strings cut, with the items in byte strings. Also dumps a truncated or
 //! malformed item.
 
-use crate::each::ShowsItem;
-use crate::messages::{Origin, report_lost};
-use crate::shown::show_of;
-use crate::status::Status;
+use crate::item::{NotShown, ShowsItem};
 use cbor_grammar::Error;
 use cbor_inspect::{Naming, parts_of};
 use cbor_places::{PartialText, Piece};
 use cbor_screen::{DumpStyle, push_dump, push_partial_dump};
-use cborcat_arguments::Job;
+use cborcat_arguments::{Job, show_of};
 
 /// How the dumps of items, or of their parts, are written.
 #[derive(Clone, Copy)]
 pub struct Dumps<'a> {
     rt: &'a HostRuntime,
     job: &'a Job<'a>,
-    origin: &'a Origin<'a>,
     /// How they are shown, but for names.
     style: DumpStyle<'a>,
     /// The names that items, and the steps of the path, may have.
@@ -32,12 +28,7 @@ const BLOCK: usize = 64 * 1024;
 
 impl<'a> Dumps<'a> {
     /// The dumps that the arguments ask for, with these names.
-    pub fn new(
-        rt: &'a HostRuntime,
-        job: &'a Job<'a>,
-        origin: &'a Origin<'a>,
-        tables: Option<Naming<'a>>,
-    ) -> Dumps<'a> {
+    pub fn new(rt: &'a HostRuntime, job: &'a Job<'a>, tables: Option<Naming<'a>>) -> Dumps<'a> {
         let style = DumpStyle {
             embedded: job.show.style.embedded,
             elide: job.elide,
@@ -46,7 +37,6 @@ impl<'a> Dumps<'a> {
         Dumps {
             rt,
             job,
-            origin,
             style,
             tables,
         }
@@ -88,24 +78,34 @@ impl<'a> Dumps<'a> {
         let said = push_partial_dump(&mut text, bytes, &self.style_of(bytes, self.tables), said)?;
         Ok(PartialText { text, said })
     }
+
+    /// Writes the dump of an item, or of the parts of it that the path leads to. Returns whether it
+    /// leads somewhere.
+    pub fn push(&self, item: Piece, out: &mut Vec<u8>) -> Result<bool, Error> {
+        if self.job.show.steps.is_empty() {
+            self.write(item.bytes, self.tables, out)?;
+            return Ok(true);
+        }
+        let show = show_of(self.job, self.tables);
+        let parts = parts_of(self.rt.alloc(), &show, item.bytes)?;
+        for part in &parts {
+            self.write(part.span.bytes(item.bytes), show.of_part(part).names, out)?;
+        }
+        Ok(!parts.is_empty())
+    }
 }
 
 impl ShowsItem for Dumps<'_> {
     /// Writes the dump of an item, or of the parts of it that the path leads to.
-    fn show_one(&self, item: Piece, out: &mut Vec<u8>) -> Result<Status, Error> {
-        if self.job.show.steps.is_empty() {
-            self.write(item.bytes, self.tables, out)?;
-            return Ok(Status::Fine);
+    fn show_one(
+        &self,
+        item: Piece,
+        out: &mut Vec<u8>,
+        not_shown: &mut Vec<NotShown>,
+    ) -> Result<(), Error> {
+        if !self.push(item, out)? {
+            not_shown.push(NotShown::Lost)?;
         }
-        let show = show_of(self.job, self.tables);
-        let parts = parts_of(self.rt.alloc(), &show, item.bytes)?;
-        if parts.is_empty() {
-            let asked = (self.job, self.tables);
-            return Ok(report_lost(self.rt, asked, self.origin, item.bytes));
-        }
-        for part in &parts {
-            self.write(part.span.bytes(item.bytes), show.of_part(part).names, out)?;
-        }
-        Ok(Status::Fine)
+        Ok(())
     }
 }

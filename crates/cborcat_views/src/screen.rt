@@ -1,63 +1,17 @@
 //! `Screen`: writes the output as the arguments ask, with colours, without widths, or with long
-//! strings cut. It escapes hidden characters in dumps. `say_excerpt` shows the part of an input
-//! that a message is about, with its mark in colour.
+//! strings cut. It escapes hidden characters in dumps.
 
-use crate::output::{Target, Written, write};
+use crate::output::{Output, Written};
 use cbor_grammar::Error;
 use cbor_marks::{Kind, Marked, MarkedText, Marks};
-use cbor_messages::Excerpt;
 use cbor_places::{Leaves, PartialText};
 use cbor_screen::{
     push_colored, push_colored_dump, push_elided, push_in_color, push_without_widths,
 };
 use cbor_tokens::{is_shown, push_shown};
-use cborcat_arguments::{Color, Job};
-use std::alloc::{AllocError, Global};
-use std::env;
+use cborcat_arguments::Job;
+use std::alloc::AllocError;
 use std::io::IsTerminal;
-
-/// Says which part of an input a message is about. The mark below what is wrong has a colour if
-/// standard error is shown colours.
-pub fn say_excerpt(rt: &HostRuntime, color: Color, excerpt: &Excerpt) {
-    if has_colors(rt, color, rt.stderr().is_terminal())
-        && let Ok(text) = with_colored_mark(rt.alloc(), excerpt)
-        && let Ok(shown) = str::from_utf8(&text)
-    {
-        let _ = eprintln!(rt; "{shown}");
-    } else {
-        let _ = eprintln!(rt; "{excerpt}");
-    }
-}
-
-/// Whether texts have colours that go to a terminal, or not.
-fn has_colors(rt: &HostRuntime, color: Color, terminal: bool) -> bool {
-    match color {
-        Color::Auto => terminal && wants_colors(rt),
-        Color::Always => true,
-        Color::Never => false,
-    }
-}
-
-/// The lines of an excerpt, with its mark in colour.
-fn with_colored_mark(alloc: Global, excerpt: &Excerpt) -> Result<Vec<u8>, AllocError> {
-    let mut shown = excerpt.unmarked(alloc)?.into_bytes();
-    push_in_color(&mut shown, Kind::Fault, excerpt.mark().as_bytes())?;
-    Ok(shown)
-}
-
-/// Whether the environment wants colours in a terminal: `TERM` is there and is not `dumb`, and
-/// `NO_COLOR` is not there or empty.
-fn wants_colors(rt: &HostRuntime) -> bool {
-    let shows = match env::var(rt, "TERM") {
-        Ok(name) => !name.is_empty() && name.as_str() != "dumb",
-        Err(_) => false,
-    };
-    let refuses = match env::var(rt, "NO_COLOR") {
-        Ok(value) => !value.is_empty(),
-        Err(error) => error != env::VarError::NotPresent,
-    };
-    shows && !refuses
-}
 
 /// How texts are shown.
 #[derive(Clone, Copy)]
@@ -79,7 +33,7 @@ impl<'a> Screen<'a> {
         let terminal = job.output.is_none() && rt.stdout().is_terminal();
         Screen {
             rt,
-            colors: has_colors(rt, job.color, terminal),
+            colors: job.color.is_used(rt, terminal),
             widthless: job.widthless,
             most: job.elide,
             marks,
@@ -97,9 +51,9 @@ impl<'a> Screen<'a> {
     }
 
     /// Writes a text of EDN or JSON. Its tokens are marked, if they are to be.
-    pub fn write_edn(self, target: &mut Target, text: &[u8]) -> Result<Written, AllocError> {
+    pub fn write_edn<O: Output>(self, target: &mut O, text: &[u8]) -> Result<Written, AllocError> {
         if self.edn_marks().is_none() {
-            return Ok(write(self.rt, target, text));
+            return Ok(target.write(self.rt, text));
         }
         let mut marks = Vec::new(self.rt.alloc());
         self.marks.take(&mut marks)?;
@@ -110,7 +64,7 @@ impl<'a> Screen<'a> {
             }
             let mut shown = Vec::new(self.rt.alloc());
             self.push_marked(&mut shown, rest.take_lines(BLOCK))?;
-            match write(self.rt, target, &shown) {
+            match target.write(self.rt, &shown) {
                 Written::Whole => {}
                 end => return Ok(end),
             }
@@ -119,7 +73,7 @@ impl<'a> Screen<'a> {
     }
 
     /// Writes a text of dumps.
-    pub fn write_dump(self, target: &mut Target, text: &[u8]) -> Result<Written, AllocError> {
+    pub fn write_dump<O: Output>(self, target: &mut O, text: &[u8]) -> Result<Written, AllocError> {
         let mut rest = text;
         for _ in 0..u64::MAX {
             if rest.is_empty() {
@@ -129,7 +83,7 @@ impl<'a> Screen<'a> {
             rest = after;
             let mut shown = Vec::new(self.rt.alloc());
             self.push_dump(&mut shown, lines)?;
-            match write(self.rt, target, &shown) {
+            match target.write(self.rt, &shown) {
                 Written::Whole => {}
                 end => return Ok(end),
             }
@@ -187,9 +141,9 @@ impl<'a> Screen<'a> {
 
     /// Writes the dump of an item that is not whole. What it says is wrong has the colour of
     /// faults.
-    pub fn write_partial_dump(
+    pub fn write_partial_dump<O: Output>(
         self,
-        target: &mut Target,
+        target: &mut O,
         partial: &PartialText,
     ) -> Result<Written, AllocError> {
         let (text, said) = (partial.text.as_bytes(), partial.said);
@@ -197,7 +151,7 @@ impl<'a> Screen<'a> {
         self.push_dump(&mut shown, text.get(..said.start).unwrap_or(text))?;
         self.push_kind(&mut shown, Kind::Fault, said.bytes(text))?;
         self.push_dump(&mut shown, text.get(said.end..).unwrap_or(b""))?;
-        Ok(write(self.rt, target, &shown))
+        Ok(target.write(self.rt, &shown))
     }
 
     /// Appends the lines of the items that come next, about a block of them.

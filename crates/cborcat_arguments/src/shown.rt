@@ -1,8 +1,8 @@
 //! `show_of` turns the arguments into a `Show`, which tells `cbor_inspect` what to write: the
 //! style, the names, the path, and whether only one item.
 
+use crate::job::Job;
 use cbor_inspect::{Naming, Show};
-use cborcat_arguments::Job;
 
 /// What is written of items, by the arguments, with these names.
 pub fn show_of<'a>(job: &'a Job, names: Option<Naming<'a>>) -> Show<'a> {

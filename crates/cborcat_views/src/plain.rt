@@ -1,34 +1,30 @@
 //! `Plain`: writes items, or the parts that a path leads to, as JSON (`-t json`) or as the content
-//! of a string (`-t raw`). Says why an item cannot be written so.
+//! of a string (`-t raw`). Returns why an item cannot be written so.
 
-use crate::each::ShowsItem;
-use crate::messages::{Origin, report_byte, report_lost};
-use crate::shown::show_of;
-use crate::status::Status;
+use crate::item::{NotShown, ShowsItem};
 use cbor_grammar::Error;
 use cbor_grammar::head::ItemHead;
 use cbor_grammar::strings::StringKind;
 use cbor_inspect::{Naming, RawError, parts_of, raw_content};
 use cbor_json::{JsonError, JsonStyle, NamedJson, bytes_to_json_named};
 use cbor_marks::Marks;
-use cbor_messages::not_json;
+use cbor_messages::{Message, not_json};
 use cbor_notes::Note;
 use cbor_places::Piece;
 use cbor_tokens::is_shown;
 use cbor_trace::{Span, head_at};
-use cborcat_arguments::{Job, View};
+use cborcat_arguments::{Job, View, show_of};
 use std::io::IsTerminal;
 
 /// How the items of an input, or their parts, are written as JSON or as their content.
 #[derive(Clone, Copy)]
 pub struct Plain<'a> {
-    pub rt: &'a HostRuntime,
-    pub job: &'a Job<'a>,
-    pub origin: &'a Origin<'a>,
+    pub(crate) rt: &'a HostRuntime,
+    pub(crate) job: &'a Job<'a>,
     /// The names that stand in place of keys, if they do.
-    pub tables: Option<Naming<'a>>,
+    pub(crate) tables: Option<Naming<'a>>,
     /// Where the tokens of JSON are marked, if they are to be.
-    pub marks: Option<&'a Marks>,
+    pub(crate) marks: Option<&'a Marks>,
 }
 
 /// A part of an item, or all of it.
@@ -52,7 +48,12 @@ impl<'b> PartOf<'_, 'b> {
 
 impl ShowsItem for Plain<'_> {
     /// Writes an item, or the parts of it that the path leads to.
-    fn show_one(&self, item: Piece, out: &mut Vec<u8>) -> Result<Status, Error> {
+    fn show_one(
+        &self,
+        item: Piece,
+        out: &mut Vec<u8>,
+        not_shown: &mut Vec<NotShown>,
+    ) -> Result<(), Error> {
         if self.job.show.steps.is_empty() {
             let whole = PartOf {
                 item,
@@ -62,38 +63,45 @@ impl ShowsItem for Plain<'_> {
                 },
                 naming: self.tables,
             };
-            return self.write(whole, out);
+            return self.write(whole, out, not_shown);
         }
         let show = show_of(self.job, self.tables);
         let parts = parts_of(self.rt.alloc(), &show, item.bytes)?;
         if parts.is_empty() {
-            let asked = (self.job, self.tables);
-            return Ok(report_lost(self.rt, asked, self.origin, item.bytes));
+            not_shown.push(NotShown::Lost)?;
         }
-        let mut status = Status::Fine;
         for part in &parts {
             let part = PartOf {
                 item,
                 span: part.span,
                 naming: show.of_part(part).names,
             };
-            status = status.or(self.write(part, out)?);
+            self.write(part, out, not_shown)?;
         }
-        Ok(status)
+        Ok(())
     }
 }
 
 impl Plain<'_> {
     /// Writes a part.
-    fn write(self, part: PartOf, out: &mut Vec<u8>) -> Result<Status, Error> {
-        match self.job.view {
-            View::Raw => self.write_raw(part, out),
-            _ => self.write_json(part, out),
+    fn write(
+        self,
+        part: PartOf,
+        out: &mut Vec<u8>,
+        not_shown: &mut Vec<NotShown>,
+    ) -> Result<(), Error> {
+        let refused = match self.job.view {
+            View::Raw => self.write_raw(part, out)?,
+            _ => self.write_json(part, out)?,
+        };
+        if let Some(why) = refused {
+            not_shown.push(why)?;
         }
+        Ok(())
     }
 
     /// Writes a part as JSON, and a line feed.
-    fn write_json(self, part: PartOf, out: &mut Vec<u8>) -> Result<Status, Error> {
+    fn write_json(self, part: PartOf, out: &mut Vec<u8>) -> Result<Option<NotShown>, Error> {
         if let Some(marks) = self.marks {
             marks.begin(out.len());
         }
@@ -101,11 +109,11 @@ impl Plain<'_> {
             Ok(text) => {
                 out.extend_from_slice(text.as_bytes())?;
                 out.push(b'\n')?;
-                Ok(Status::Fine)
+                Ok(None)
             }
             Err(error) => {
-                let message = not_json(self.rt.alloc(), part.piece(), error)?;
-                self.refuse(part, (message.place, &message.text))
+                let Message { place, text } = not_json(self.rt.alloc(), part.piece(), error)?;
+                Ok(Some(refused(part, place, text)))
             }
         }
     }
@@ -128,7 +136,7 @@ impl Plain<'_> {
     }
 
     /// Writes the content of a string.
-    fn write_raw(self, part: PartOf, out: &mut Vec<u8>) -> Result<Status, Error> {
+    fn write_raw(self, part: PartOf, out: &mut Vec<u8>) -> Result<Option<NotShown>, Error> {
         let bytes = part.piece().bytes;
         let head = head_below_tags(bytes);
         let content = match raw_content(self.rt.alloc(), bytes) {
@@ -139,27 +147,24 @@ impl Plain<'_> {
                 let what = format!(in self.rt.alloc();
                     "{noun} has no raw content; a byte or text string has"
                 )?;
-                return self.refuse(part, (0, &what));
+                return Ok(Some(refused(part, 0, what)));
             }
         };
         if self.job.output.is_none() && self.rt.stdout().is_terminal() {
             let is_text = matches!(head, Some(ItemHead::String(StringKind::Text, _)));
             if !(is_text && is_shown(true, &content)) {
-                let _ = self.refuse(part, (0, NO_TERMINAL))?;
-                return Ok(Status::Trouble);
+                return Ok(Some(NotShown::NoTerminal(part.span.start)));
             }
         }
         out.extend_from_slice(&content)?;
-        Ok(Status::Fine)
+        Ok(None)
     }
+}
 
-    /// Says at which byte of a part something keeps it from being written.
-    fn refuse(self, part: PartOf, message: (usize, &str)) -> Result<Status, Error> {
-        let (at, what) = message;
-        let place = part.span.start.saturating_add(at);
-        report_byte(self.rt, self.origin, part.item, (place, what))?;
-        Ok(Status::Bad)
-    }
+/// Something at a byte of a part keeps it from being written.
+fn refused(part: PartOf, at: usize, text: String) -> NotShown {
+    let place = part.span.start.saturating_add(at);
+    NotShown::Refused(Message { place, text })
 }
 
 /// How JSON with these names is written, and where its tokens are marked, if they are to be.
@@ -170,10 +175,6 @@ fn named<'a>(style: JsonStyle, names: &'a [Note<'a>], marks: Option<&'a Marks>) 
         marks,
     }
 }
-
-/// What is said of a content that no terminal is given.
-const NO_TERMINAL: &str =
-    "only a text without hidden characters is written to a terminal; use -o FILE or a pipe";
 
 /// The head of an item, below its tags.
 fn head_below_tags(bytes: &[u8]) -> Option<ItemHead> {
