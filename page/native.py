@@ -11,7 +11,7 @@ import sys
 
 HERE = pathlib.Path(__file__).resolve().parent
 sys.path.insert(0, str(HERE.parent / "checks/compare"))
-from rows import DATA, listed, rows_of
+from rows import DATA, file_names, rows_of
 
 BYTES, HEX, DIAG, EDN = 0, 1, 2, 4
 FORMS, RULES = range(9), range(7)
@@ -80,7 +80,7 @@ def calls_on_schemas(library, rows):
 
 def calls(has_page):
     """All calls, each once."""
-    rows = [row for name in listed() for row in rows_of(DATA / name)]
+    rows = [row for name in file_names() for row in rows_of(DATA / name)]
     texts = sorted({row.input for row in rows})
     items = sorted({row.bytes() for row in rows if is_hex(row.input)} | set(map(result_bytes, rows)) - {None})
     yield ["cbor_diag_version", []]
@@ -142,7 +142,7 @@ def compare(module, shared):
     library = ctypes.CDLL(str(shared))
     made = list(calls(hasattr(library, "cbor_diag_page")))
     if hasattr(library, "cbor_diag_schema_load"):
-        made += calls_on_schemas(library, [row for name in listed() for row in rows_of(DATA / name)])
+        made += calls_on_schemas(library, [row for name in file_names() for row in rows_of(DATA / name)])
     lines = "".join(json.dumps(call) + "\n" for call in made)
     ran = subprocess.run(["node", HERE / "calls.mjs", module], input=lines, capture_output=True, text=True, check=True)
     answers = ran.stdout.splitlines()

@@ -9,7 +9,7 @@ sys.path.insert(0, str(pathlib.Path(__file__).resolve().parents[2] / "checks" / 
 
 import cbor_diag
 from cbor_diag import CborDiagError, Error, Rules
-from rows import DATA, listed, rows_of
+from rows import DATA, file_names, rows_of
 
 TEXTS = ["bytes_to_diag", "bytes_to_diag_pretty", "bytes_to_edn", "bytes_to_edn_pretty", "hex_to_diag",
          "hex_to_diag_pretty"]
@@ -105,7 +105,7 @@ def checked(row):
 class Vectors(unittest.TestCase):
     def rows(self, call):
         """The rows of a call, of which there is one at least."""
-        found = [row for name in listed() for row in rows_of(DATA / name) if row.call == call]
+        found = [row for name in file_names() for row in rows_of(DATA / name) if row.call == call]
         self.assertTrue(found, call)
         return found
 

@@ -79,6 +79,6 @@ def rows_of(file):
     return found
 
 
-def listed():
-    """The names of the files that the program is run on."""
-    return CRATE.joinpath("args").read_text().split()
+def file_names():
+    """The names of all files of rows."""
+    return sorted(file.name for file in DATA.iterdir())

@@ -4,7 +4,7 @@ import collections
 
 from calls import CALLS, WITHOUT
 from item import TEXTS
-from rows import DATA, KnownRefused, listed, rows_of
+from rows import DATA, KnownRefused, file_names, rows_of
 
 
 def answer(row):
@@ -47,8 +47,8 @@ class Tally:
 
 
 def all_rows():
-    """The rows of all files that the program is run on."""
-    return [row for name in listed() for row in rows_of(DATA / name)]
+    """The rows of all files."""
+    return [row for name in file_names() for row in rows_of(DATA / name)]
 
 
 def rows_give(calls):

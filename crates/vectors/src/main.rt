@@ -1,46 +1,16 @@
 //! Runs tests that are rows of text files: `vectors FILE..` makes the call of each row of these
 //! files, prints each row whose result differs, and says how many rows each file has.
 //!
-//! docs/VECTORS.md explains the form of the files, and [`row`] reads it. Each of the other modules
-//! makes the calls of one subject, and writes the result as text. The crates are proved, so a row
-//! tests whether a definition says what a standard says.
+//! docs/VECTORS.md explains the form of the files, and [`row`] reads it. [`subjects`] makes the
+//! calls, and writes the results as text. The crates are proved, so a row tests whether a
+//! definition says what a standard says.
+//!
+//! The gate builds this program with the subjects of [`forms`] alone. The program that has all
+//! subjects is not proved: it has the files of `tests/rows` in place of [`subjects`].
 //!
 //! The exit status is 0 if each row gives what it has to, and 1 if not, or if a file cannot be
 //! read.
 #![tactic(auto)]
-
-mod bytes;
-mod cddl;
-mod conversions;
-mod dump;
-mod edn;
-mod floats;
-mod hex_digits;
-mod inputs;
-mod item;
-mod json;
-mod lines;
-mod messages;
-mod names;
-mod notation;
-mod notes;
-mod paths;
-mod places;
-mod reencode;
-mod report;
-mod row;
-mod rules;
-mod screen;
-mod tags;
-mod texts;
-mod tokens;
-mod trace;
-
-use crate::report::{Report, Tally};
-use crate::row::{Row, rows_of};
-use std::alloc::{AllocError, Global};
-use std::process::ExitCode;
-use std::{env, fs, io};
 
 /// What the first of these subjects gives that knows the call.
 macro_rules! first_answer {
@@ -52,33 +22,16 @@ macro_rules! first_answer {
     }};
 }
 
-/// What the call of a row gives, as a text; none if no subject knows the call.
-fn answer(alloc: Global, row: &Row) -> Result<Option<String>, AllocError> {
-    first_answer!(alloc, row;
-        bytes
-        cddl
-        conversions
-        dump
-        edn
-        floats
-        hex_digits
-        inputs
-        item
-        json
-        messages
-        names
-        notation
-        notes
-        paths
-        places
-        reencode
-        rules
-        screen
-        tags
-        tokens
-        trace
-    )
-}
+mod forms;
+mod report;
+mod row;
+mod subjects;
+mod texts;
+
+use crate::report::{Report, Tally};
+use crate::row::rows_of;
+use std::process::ExitCode;
+use std::{env, fs, io};
 
 /// Runs the rows of a file.
 fn run_file(rt: &HostRuntime, name: &str) -> io::Result<Tally> {
@@ -87,7 +40,7 @@ fn run_file(rt: &HostRuntime, name: &str) -> io::Result<Tally> {
     let rows = rows_of(alloc, text.as_str())?;
     let mut report = Report::new(name);
     for row in rows.iter() {
-        let found = answer(alloc, row)?;
+        let found = subjects::answer(alloc, row)?;
         report.row(rt, row, found.as_deref())?;
     }
     report.end(rt)

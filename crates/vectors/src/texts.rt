@@ -1,5 +1,5 @@
 //! Turns what a call returns into the text that a test row compares: bytes into hex, and errors
-//! into `refused:` and what is wrong. Also reads the texts and numbers in rows.
+//! into `refused:` and what is wrong.
 
 use cbor_diag::Error;
 use std::alloc::{AllocError, Global};
@@ -28,9 +28,4 @@ pub fn text_of(bytes: &[u8]) -> &str {
 /// An error, in the words of its text.
 pub fn refused_text(alloc: Global, error: Error) -> Result<String, AllocError> {
     format!(in alloc; "refused: {}", error.text())
-}
-
-/// The number that a word is; the greatest if it is none.
-pub fn number_of(word: &str) -> usize {
-    word.parse::<usize>().unwrap_or(usize::MAX)
 }

@@ -11,10 +11,11 @@
 //! - `push_partial_dump` does so, with the same words, for bytes in which an item is truncated or
 //!   malformed.
 
-use crate::edn::{noted_style, notes_of, style_of};
+use crate::forms::edn::{notes_of, style_of};
 use crate::row::Row;
-use crate::texts::{lines_text, number_of, refused_text, text_of};
-use cbor_edn::{EdnError, edn_item_to_bytes, push_bytes_to_edn_noted};
+use crate::subjects::numbers::number_of;
+use crate::texts::{lines_text, refused_text, text_of};
+use cbor_edn::{EdnError, NotedStyle, edn_item_to_bytes, push_bytes_to_edn_noted};
 use cbor_marks::{MarkedText, Marks};
 use cbor_names::{Definition, Key, Known, Names, Part, Shape, What};
 use cbor_screen::{
@@ -57,7 +58,11 @@ fn edn_of(alloc: Global, row: &Row, words: &str) -> Result<Option<MarkedText>, A
     };
     let notes = notes_of(alloc, words)?;
     let marks = Marks::new(alloc);
-    let noted = noted_style(style, &notes, Some(&marks));
+    let noted = NotedStyle {
+        style,
+        notes: &notes,
+        marks: Some(&marks),
+    };
     let mut text = String::new(alloc);
     let written = push_bytes_to_edn_noted(alloc, &bytes, noted, &mut text);
     if written.is_err() || text.as_bytes() != row.input.as_slice() {

@@ -7,7 +7,8 @@
 //! - `position_of PLACE` gives the line and the column of a place.
 
 use crate::row::Row;
-use crate::texts::{number_of, refused_text};
+use crate::subjects::numbers::number_of;
+use crate::texts::refused_text;
 use cbor_diag::Error;
 use cbor_inspect::{Picture, steps_of};
 use cbor_json::{JsonStyle, bytes_to_json};

@@ -19,7 +19,6 @@ use cbor_edn::{
     push_bytes_to_edn_partial,
 };
 use cbor_grammar::Error;
-use cbor_marks::Marks;
 use std::alloc::{AllocError, Global};
 
 /// What the call of a row gives; none if it is no call of this subject.
@@ -157,16 +156,12 @@ pub fn notes_of<'a>(alloc: Global, words: &'a str) -> Result<Vec<Note<'a>>, Allo
     Ok(notes)
 }
 
-/// A style with these notes, and with where the tokens are marked, if they are.
-pub fn noted_style<'a>(
-    style: EdnStyle,
-    notes: &'a [Note<'a>],
-    marks: Option<&'a Marks>,
-) -> NotedStyle<'a> {
+/// A style with these notes.
+fn noted_style<'a>(style: EdnStyle, notes: &'a [Note<'a>]) -> NotedStyle<'a> {
     NotedStyle {
         style,
         notes,
-        marks,
+        marks: None,
     }
 }
 
@@ -178,7 +173,7 @@ fn noted(alloc: Global, row: &Row) -> Result<String, AllocError> {
     } else {
         EdnStyle::PRETTY
     };
-    let noted = noted_style(style, notes, None);
+    let noted = noted_style(style, notes);
     let mut out = String::new(alloc);
     if row.call == "push_bytes_to_edn_noted_partial" {
         let used = push_bytes_to_edn_noted_partial(alloc, &row.bytes, noted, &mut out);

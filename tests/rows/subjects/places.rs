@@ -8,7 +8,8 @@
 //! - `partial_edn` and `partial_edn COLUMNS` give the EDN of a truncated or malformed item.
 
 use crate::row::Row;
-use crate::texts::{lines_text, number_of, refused_text};
+use crate::subjects::numbers::number_of;
+use crate::texts::{lines_text, refused_text};
 use cbor_diag::{Error, Extent, extent};
 use cbor_edn::{EdnStyle, NotedStyle};
 use cbor_places::{Around, ByteNumbers, Entered, Leaves, Piece, item_with, lines_at, partial_edn};

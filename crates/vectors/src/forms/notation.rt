@@ -7,7 +7,7 @@
 //! - `diag_fault` gives an error and its place.
 //! - `push_bytes_to_diag` and its like append to `before:`, and a line says what they return.
 
-use crate::bytes::{bytes_text, fault_text, item_text, shown_text};
+use crate::forms::bytes::{bytes_text, fault_text, item_text, shown_text};
 use crate::row::Row;
 use cbor_diag::{
     bytes_to_diag, bytes_to_diag_pretty, diag_fault, hex_to_diag, hex_to_diag_pretty, parse_diag,

@@ -13,8 +13,8 @@
 //!   the places of byte strings that hold items, by the text of CDDL that is the input. A rule
 //!   after the item is the item's type.
 
-use crate::lines::{lines_or, push_line};
 use crate::row::Row;
+use crate::subjects::lines::{lines_or, push_line};
 use cbor_cddl::Schema;
 use cbor_cddl_names::with_schema;
 use cbor_names::{Fault, FileError, Names, Type, known_names, notes, with_file};

@@ -1,38 +1,7 @@
-//! Tests that are the examples of `cbor_marks`' doc comments, and one of marks that are wrong.
-//! `checks/examples` checks that the lines are the same.
+//! Tests that marks that are wrong lose nothing of a text, and that lines keep their marks.
 
-use cbor_marks::{Kind, Marked, Marks, Token};
+use cbor_marks::{Kind, Marked, Token};
 use std::test::Fail;
-
-#[test]
-fn crate_example(rt: HostRuntime) -> Result<(), Fail> {
-    let alloc = rt.alloc();
-    let marks = Marks::new(alloc);
-    marks.mark(Kind::Key, 1, 2);
-    marks.mark(Kind::Number, 4, 8);
-    let mut list = Vec::new(alloc);
-    marks.take(&mut list)?;
-    let mut text = Marked::new(b"{1: true}", &list);
-    assert_eq!(rt; text.next_piece(), Some((None, b"{".as_slice())));
-    assert_eq!(rt; text.next_piece(), Some((Some(Kind::Key), b"1".as_slice())));
-    Ok(())
-}
-
-#[test]
-fn next_piece_example(rt: HostRuntime) -> Result<(), Fail> {
-    let token = Token {
-        kind: Kind::Number,
-        start: 1,
-        end: 3,
-    };
-    let marks = [token];
-    let mut text = Marked::new(b"[12]", &marks);
-    let kind = Some(Kind::Number);
-    assert_eq!(rt; text.next_piece(), Some((None, b"[".as_slice())));
-    assert_eq!(rt; text.next_piece(), Some((kind, b"12".as_slice())));
-    assert_eq!(rt; text.rest(), b"]".as_slice());
-    Ok(())
-}
 
 /// A mark of a number.
 fn number(start: usize, end: usize) -> Token {

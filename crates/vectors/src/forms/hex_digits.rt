@@ -6,7 +6,7 @@
 //! - `hex_place N` gives the place of the digits of byte N.
 //! - `utf8_fault` gives the place where bytes stop being UTF-8.
 
-use crate::bytes::{bytes_text, fault_text, item_text, place_text};
+use crate::forms::bytes::{bytes_text, fault_text, item_text, place_text};
 use crate::row::Row;
 use cbor_diag::{hex_bytes, hex_fault, hex_place, hex_to_bytes, parse_hex, utf8_fault};
 use std::alloc::{AllocError, Global};

@@ -1,28 +1,10 @@
-//! Tests that are the examples of `cbor_edit`'s doc comments; `checks/examples` checks that the
-//! lines are the same. Also tests its calls at places that no path leads to.
+//! Tests calls of `cbor_edit` at places that no path leads to, and with a part that is no item.
 
 use cbor_edit::{Edit, EditError, EnclosedSpan, edited, replaced, with_more, without};
 use cbor_paths::{Picture, Step};
 use cbor_trace::Span;
 use std::alloc::{AllocError, Global};
-use std::process::Abort;
 use std::test::Fail;
-
-#[test]
-fn parts_are_replaced(rt: HostRuntime) -> Result<(), Fail> {
-    let alloc = rt.alloc();
-    // [1, 2] becomes [1, "a"], and its head keeps its two bytes.
-    let mut steps = Vec::new(alloc);
-    steps.push(Step::Key(Vec::from_slice(alloc, b"\x01")?))?;
-    let edit = Edit {
-        steps: &steps,
-        part: Some(b"\x61a"),
-    };
-    let found = edited(alloc, b"\x98\x02\x01\x02", edit, Picture::plain());
-    let bytes = found.unwrap_or(Vec::new(alloc));
-    assert_eq!(rt; bytes.as_slice(), b"\x98\x02\x01\x61a".as_slice());
-    Ok(())
-}
 
 /// Whether no bytes are returned where the place is none.
 fn is_refused(found: Result<Option<Vec<u8>>, AllocError>) -> bool {

@@ -13,8 +13,9 @@
 //!   to it; a line for each byte at which that changes. `cuts` gives the same at the end of
 //!   the bytes before each place, as if no more had come. Both are made of calls of `cbor_trace`.
 
-use crate::lines::push_line;
 use crate::row::Row;
+use crate::subjects::lines::push_line;
+use crate::subjects::numbers::number_of;
 use cbor_grammar::Error;
 use cbor_grammar::argument::Argument;
 use cbor_grammar::head::ItemHead;
@@ -27,9 +28,9 @@ pub fn answer(alloc: Global, row: &Row) -> Result<Option<String>, AllocError> {
     let bytes = row.bytes.as_slice();
     let (first, rest) = row.argument.split_once(" ").unwrap_or((row.argument, ""));
     let (second, third) = rest.split_once(" ").unwrap_or((rest, ""));
-    let (start, at) = (number(first), number(second));
+    let (start, at) = (number_of(first), number_of(second));
     let found = match row.call {
-        "part_at" => part_text(alloc, bytes, spot(first, second), number(third)),
+        "part_at" => part_text(alloc, bytes, spot(first, second), number_of(third)),
         "innermost" => spot_text(alloc, innermost(bytes, start)),
         "end_at" => place_text(alloc, end_at(bytes, spot(first, second))),
         "head_at" => head_text(alloc, bytes, start),
@@ -41,11 +42,6 @@ pub fn answer(alloc: Global, row: &Row) -> Result<Option<String>, AllocError> {
         _ => return Ok(None),
     };
     Ok(Some(found?))
-}
-
-/// The number that a word is; the largest if it is none.
-fn number(word: &str) -> usize {
-    word.parse::<usize>().unwrap_or(usize::MAX)
 }
 
 /// The error that a word names.
@@ -60,7 +56,7 @@ fn error_of(word: &str) -> Error {
 /// The spot of a place and a level.
 fn spot(start: &str, level: &str) -> Spot {
     Spot {
-        start: number(start),
+        start: number_of(start),
         level: level.parse::<u8>().unwrap_or(0),
     }
 }

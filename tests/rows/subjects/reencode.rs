@@ -4,7 +4,7 @@
 //! is wrong and where. A place is in the input, or, after `Written`, in the output.
 
 use crate::row::Row;
-use crate::rules::{rules_of, violation_text};
+use crate::subjects::rules::{rules_of, violation_text};
 use crate::texts::hex_text;
 use cbor_reencode::{ReencodeError, reencoded};
 use std::alloc::{AllocError, Global};

@@ -7,8 +7,8 @@
 //! Single rules are added to the set before them, or to the grammar of RFC 8949. `rules_of` reads
 //! RULES, also for `reencode.rt`.
 
-use crate::lines::{lines_or, push_line};
 use crate::row::Row;
+use crate::subjects::lines::{lines_or, push_line};
 use cbor_floats::EncodedFloat;
 use cbor_reencode::violation_of;
 use cbor_rules::{
