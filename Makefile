@@ -54,7 +54,7 @@ COMPLETIONS = $(patsubst share/%,$(DIST)/share/bash-completion/%,$(wildcard shar
 sources = $(if $(AS_BUILT),,crates.txt \
     $(shell find $(wildcard $(1:%=crates/%/src) $(1:%=crates/%/specs) $(1:%=crates/%/proofs)) -type f))
 # The crates that a program or the library for C may stand on.
-BELOW := $(filter-out %_tests cbor_diag_c $(PROGRAMS),$(shell sed -n 's/^\(cbor[a-z0-9_]*\).*:.*/\1/p' crates.txt))
+BELOW := $(filter-out cbor_diag_c $(PROGRAMS),$(shell sed -n 's/^\(cbor[a-z0-9_]*\).*:.*/\1/p' crates.txt))
 
 .PHONY: all program library install try quick test gate planted check check-pages check-commands check-docs check-cat \
     check-editing check-allocations check-bindings check-packages tarball deb wheel vectors arm64 arm64-packages \
@@ -150,19 +150,17 @@ try:
 	    if test -f "$$word"; then files="$$files --data $$word=$(CURDIR)/$$word"; fi; \
 	done; cd crates/cborcat && rt try $$files -- $(ARGS)
 
-# Checks all crates and runs their tests, without the must-fail edits.
+# Checks all crates, without the must-fail edits.
 quick:
 	$(PROGRESS) rt all check
-	for crate in $$(grep -l -r --include='*.rt' '#\[test\]' crates/*/src | cut -d/ -f2 | sort -u); do \
-	    (cd crates/$$crate && rt test) || exit 1; \
-	done
 
 # All tests, without a proof: minutes.
 test:
 	@checks/tests
 
-# The gate: all proofs, tests and must-fail edits. It leaves the programs in dist/, and the libraries that make builds the
-# rest from; with LEFT= it leaves no program. One check for each processor runs at a time, and no more than there are 4 GB of free
+# The gate: all proofs, stored runs and must-fail edits. It leaves the programs in dist/, and the libraries that make
+# builds the rest from; with LEFT= it leaves no program. One check for each processor runs at a time, and no more than
+# there are 4 GB of free
 # memory for; without the number rt counts on more memory for a large crate, and runs fewer at a time.
 JOBS = $(shell awk -v most="$$(nproc)" '/^MemAvailable/ { n = int($$2 / 4000000); print n < 1 ? 1 : n < most ? n : most }' \
     /proc/meminfo)
@@ -184,14 +182,12 @@ check: check-pages
 	@$(MAKE) --no-print-directory AS_BUILT=1 check-commands check-cat check-editing check-allocations check-bindings \
 	    check-packages
 
-# The links, names, words and Rust examples of all pages, and the examples of doc comments, which the tests run; the
-# second implementation, alone.
+# The links, names and words of all pages; the second implementation, alone.
 check-pages:
 	checks/vectors
 	checks/links
 	checks/names
 	checks/words
-	checks/examples
 	checks/page_files
 	packages/version
 	checks/compare/run --self-test
@@ -214,11 +210,10 @@ check-cat: $(DIST)/bin/cborcat
 check-editing: $(DIST)/bin/cborcat
 	checks/editing $<
 
-# Failing allocations in the programs, and in single calls, which tests make that the gate builds.
+# Failing allocations in the programs, and in single calls.
 check-allocations: $(PROGRAM_FILES)
 	checks/allocations/faults $(DIST)/bin
-	@if test -x crates/cbor_tests/out/cbor_tests_tests; then checks/allocations/failing_calls; \
-	    else echo "no single call was tried, because the tests are not built: make gate builds them"; fi
+	checks/allocations/failing_calls
 
 check-bindings: library
 	CC='$(CC)' PYTHON='$(PYTHON)' CARGO='$(CARGO)' bindings/check

@@ -1,8 +1,8 @@
-//! Makes all calls of `cbor_diag` on samples. One test checks the results.
-//! `checks/allocations/failing_calls` runs the other test with failing allocations, and reads the
-//! lines that it prints.
+//! Makes all calls of `cbor_diag` on samples, and checks that each gives the right result, or the
+//! error for no memory.
 
 use crate::samples::{SAMPLES, Sample, deepest, expected};
+use crate::tally::Tally;
 use cbor_diag::{
     ByteString, DataItem, Error, IntegerWidth, Result, TextString, Turns, bytes_to_bytes,
     bytes_to_diag, bytes_to_diag_pretty, bytes_to_hex, diag_fault, hex_bytes, hex_to_bytes,
@@ -12,9 +12,8 @@ use cbor_diag::{
     push_bytes_to_hex_partial,
 };
 use std::alloc::Global;
-use std::io::Print;
+use std::io::{self, Print};
 use std::process::Abort;
-use std::test::Fail;
 
 /// The calls that make a dump.
 const DUMPS: &str = "ToHex BytesToHex PushBytesToHex PushBytesToHexPartial HexToHex";
@@ -177,52 +176,35 @@ fn is_answered(rt: &impl Abort, alloc: Global, call: &str, sample: &Sample) -> b
     }
 }
 
-/// Makes each call of a sample twice, and prints what it returns.
-fn print_calls(
+/// Makes each of these calls of a sample twice.
+fn make_calls(
     rt: &(impl Abort + Print),
     alloc: Global,
-    calls: &str,
-    sample: &Sample,
-) -> std::result::Result<(), Fail> {
+    (calls, sample): (&str, &Sample),
+    tally: &mut Tally,
+) -> io::Result<()> {
     for call in calls.split_whitespace() {
         for _ in 0..2 {
-            let is_answered = is_answered(rt, alloc, call, sample);
-            let answer = if is_answered { "ok" } else { "memory" };
-            println!(rt; "{call} of {}: {answer}", sample.digits)?;
+            let answered = is_answered(rt, alloc, call, sample);
+            tally.call(rt, call, answered)?;
         }
     }
     Ok(())
 }
 
-// A reader or a writer that always returns `Memory` meets its contract, so no proof finds it.
-#[test]
-fn calls_answer_where_memory_is_found(rt: HostRuntime) {
+/// Makes all calls. A reader or a writer that always returns `Memory` meets its contract, so no
+/// proof finds it. The dumps of the deepest item are left out: each has 800 kilobytes.
+pub fn run(rt: &(impl Abort + Print), alloc: Global, tally: &mut Tally) -> io::Result<()> {
     for sample in &SAMPLES {
-        for calls in [DUMPS, CALLS] {
-            for call in calls.split_whitespace() {
-                let is_answered = is_answered(&rt, rt.alloc(), call, sample);
-                assert!(rt; is_answered, "{call} of {}: out of memory", sample.digits);
-            }
-        }
+        make_calls(rt, alloc, (DUMPS, sample), tally)?;
+        make_calls(rt, alloc, (CALLS, sample), tally)?;
     }
-}
-
-// `checks/allocations/failing_calls` runs this while it makes allocations fail, and reads the
-// lines: a call in which one failed has to print `memory`, and any other `ok`. If none fails, as in
-// the gate, this shows no more than the test above. The dumps of the deepest item are left out:
-// each has 800 kilobytes.
-#[test]
-fn a_call_answers_or_memory_is_refused(rt: HostRuntime) -> std::result::Result<(), Fail> {
-    for sample in &SAMPLES {
-        print_calls(&rt, rt.alloc(), DUMPS, sample)?;
-        print_calls(&rt, rt.alloc(), CALLS, sample)?;
-    }
-    match deepest(rt.alloc()) {
+    match deepest(alloc) {
         Ok((digits, text)) => {
             let (digits, diag) = (digits.as_str(), text.as_str());
             let dump = digits;
-            print_calls(&rt, rt.alloc(), CALLS, &Sample { digits, dump, diag })
+            make_calls(rt, alloc, (CALLS, &Sample { digits, dump, diag }), tally)
         }
-        Err(_) => Ok(println!(rt; "the deepest item: memory")?),
+        Err(_) => tally.call(rt, "the deepest item", false),
     }
 }

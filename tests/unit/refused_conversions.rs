@@ -1,10 +1,11 @@
 //! Makes conversions of `cbor_diag`, and checks that each gives the right output, or the error for
-//! no memory. `checks/allocations/failing_calls` runs it with failing allocations.
+//! no memory.
 
+use crate::tally::{Tally, is_answered};
 use cbor_diag::{Error, Source, To, convert, push_front};
 use std::alloc::Global;
+use std::io::{self, Print};
 use std::process::Abort;
-use std::test::Fail;
 
 /// A conversion, or the items at the front of the bytes of a sequence where no form is named, and
 /// what is written.
@@ -88,36 +89,15 @@ fn fronts(alloc: Global, to: To, bytes: &[u8]) -> Result<Vec<u8>, Error> {
     Ok(out)
 }
 
-/// A call gave this, or memory ran out. Returns the word that is printed.
-pub(crate) fn answer(
-    rt: &impl Abort,
-    found: Result<Vec<u8>, Error>,
-    wanted: &[u8],
-) -> &'static str {
-    match found {
-        Ok(bytes) => {
-            assert_eq!(rt; bytes.as_slice(), wanted);
-            "ok"
-        }
-        Err(error) => {
-            assert!(rt; error == Error::Memory, "{error}");
-            "memory"
-        }
-    }
-}
-
-// `checks/allocations/failing_calls` runs this while it makes allocations fail, and reads the
-// lines: a call in which one failed has to print `memory`, and any other `ok`.
-#[test]
-fn a_call_answers_or_memory_is_refused(rt: HostRuntime) -> Result<(), Fail> {
-    let alloc = rt.alloc();
-    for (number, case) in cases().iter().enumerate() {
+/// Makes each conversion twice.
+pub fn run(rt: &(impl Abort + Print), alloc: Global, tally: &mut Tally) -> io::Result<()> {
+    for case in cases() {
         for _ in 0..2 {
             let found = match case.from {
                 Some(from) => convert(alloc, from, case.to, case.input),
                 None => fronts(alloc, case.to, case.input),
             };
-            println!(rt; "run {number}: {}", answer(&rt, found, case.output))?;
+            tally.call(rt, "convert", is_answered(rt, found, case.output))?;
         }
     }
     Ok(())

@@ -1,8 +1,8 @@
 //! Makes the calls of `cbor_notes` and `cbor_tokens` that allocate, and checks that each gives the
-//! right result, or the error for no memory. `checks/allocations/failing_calls` runs it with
-//! failing allocations.
+//! right result, or the error for no memory.
 
 use crate::note_lines::{merged, with_note};
+use crate::tally::Tally;
 use cbor_notes::{
     base32_decode, base32hex_decode, base58, base64_any_decode, base64_lines, date_of_epoch,
     datetime_of_epoch, decode_hex, digits_at, element_text, epoch_of_date, epoch_of_datetime,
@@ -11,7 +11,8 @@ use cbor_notes::{
     uuid_lines,
 };
 use std::alloc::{AllocError, Global};
-use std::test::Fail;
+use std::io::{self, Print};
+use std::process::Abort;
 
 /// Each call that allocates, with its result as `answer` shows it.
 const ROWS: &[(&str, &str)] = &[
@@ -141,18 +142,15 @@ fn append(text: &mut String, call: &str) -> Result<(), AllocError> {
     }
 }
 
-// A call in which an allocation failed has to print `memory`, and any other `ok`.
-#[test]
-fn a_call_answers_or_memory_is_refused(rt: HostRuntime) -> Result<(), Fail> {
+/// Makes each call twice.
+pub fn run(rt: &(impl Abort + Print), alloc: Global, tally: &mut Tally) -> io::Result<()> {
     for (call, want) in ROWS {
         for _ in 0..2 {
-            match answer(rt.alloc(), call) {
-                Ok(got) => {
-                    assert!(rt; got.as_str() == *want, "{call}");
-                    println!(rt; "{call}: ok")?;
-                }
-                Err(AllocError) => println!(rt; "{call}: memory")?,
+            let found = answer(alloc, call);
+            if let Ok(found) = &found {
+                assert!(rt; found.as_str() == *want, "{call}");
             }
+            tally.call(rt, call, found.is_ok())?;
         }
     }
     Ok(())

@@ -1,15 +1,14 @@
-//! Makes calls of `cbor_inputs`, `cbor_inspect` and `cbor_places`, and checks that each gives the
-//! right result, or the error for no memory. `checks/allocations/failing_calls` runs it with
-//! failing allocations.
+//! Makes calls of `cbor_inspect` and `cbor_places`, and checks that each gives the right result, or
+//! the error for no memory.
 
-use crate::refused_conversions::answer;
+use crate::tally::{Tally, is_answered};
 use cbor_diag::Error;
 use cbor_edn::EdnStyle;
-use cbor_inputs::{Input, Refusal, recognize};
 use cbor_inspect::{End, Form, Picture, Show, Step, Stream, Style, lost_at, show_items, steps_of};
 use cbor_places::{Around, ByteNumbers, Entered, Leaves, Piece, lines_at};
 use std::alloc::Global;
-use std::test::Fail;
+use std::io::{self, Print};
+use std::process::Abort;
 
 /// What is written of one item, or of its part.
 #[derive(Clone, Copy)]
@@ -129,15 +128,6 @@ fn streamed(alloc: Global, case: &Case) -> Result<Vec<u8>, Error> {
     written(end, out)
 }
 
-/// The bytes of a text, if it is recognized as this form.
-fn recognized(alloc: Global, form: Input, text: &[u8]) -> Result<Vec<u8>, Error> {
-    match recognize(alloc, text) {
-        Ok(found) if found.form == form => Ok(found.bytes),
-        Err(Refusal::Memory) => Err(Error::Memory),
-        _ => Err(Error::Notation),
-    }
-}
-
 /// How many steps lead to the farthest item where paths lead nowhere: a map, a number and a map.
 fn lost(alloc: Global) -> Result<Vec<u8>, Error> {
     let item = b"\x82\x01\x43\xa1\x01\x26";
@@ -190,35 +180,20 @@ fn lined(alloc: Global) -> Result<Vec<u8>, Error> {
 
 const LINED: &[u8] = b"0x2  1  1(1700000000)\n0x9  2  1.5\n";
 
-// `checks/allocations/failing_calls` runs this while it makes allocations fail, and reads the
-// lines: a call in which one failed has to print `memory`, and any other `ok`.
-#[test]
-fn a_call_answers_or_memory_is_refused(rt: HostRuntime) -> Result<(), Fail> {
-    let alloc = rt.alloc();
-    for (number, case) in cases().iter().enumerate() {
+/// Makes each call twice.
+pub fn run(rt: &(impl Abort + Print), alloc: Global, tally: &mut Tally) -> io::Result<()> {
+    for case in cases() {
         for _ in 0..2 {
-            let found = shown(alloc, case);
-            println!(rt; "item {number}: {}", answer(&rt, found, case.output))?;
-            let found = streamed(alloc, case);
-            println!(rt; "pieces {number}: {}", answer(&rt, found, case.output))?;
+            let found = shown(alloc, &case);
+            tally.call(rt, "show_items", is_answered(rt, found, case.output))?;
+            let found = streamed(alloc, &case);
+            tally.call(rt, "Stream::show", is_answered(rt, found, case.output))?;
         }
     }
     for _ in 0..2 {
-        for (form, name, text) in [
-            (Input::Hex, "hex", b"82 01 02".as_slice()),
-            (Input::Diag, "diag", b"[1, 2]".as_slice()),
-            (Input::Base64, "base64", b"ggEC".as_slice()),
-            (Input::Bytes, "bytes", b"\x82\x01\x02".as_slice()),
-        ] {
-            let found = recognized(alloc, form, text);
-            println!(rt;
-                "recognized as {name}: {}",
-                answer(&rt, found, b"\x82\x01\x02")
-            )?;
-        }
-        println!(rt; "lost: {}", answer(&rt, lost(alloc), b"\x02\x03\x02"))?;
-        println!(rt; "placed: {}", answer(&rt, placed(alloc), PLACED))?;
-        println!(rt; "lined: {}", answer(&rt, lined(alloc), LINED))?;
+        tally.call(rt, "lost_at", is_answered(rt, lost(alloc), b"\x02\x03\x02"))?;
+        tally.call(rt, "lines_at", is_answered(rt, placed(alloc), PLACED))?;
+        tally.call(rt, "Leaves", is_answered(rt, lined(alloc), LINED))?;
     }
     Ok(())
 }
