@@ -1,5 +1,5 @@
 //! Makes trees of dump lines by hand, and tests which of them `cbor_notes` lays out and which do
-//! not fit (docs/NOTES.md). `refused_notes.rt` uses the trees, too.
+//! not fit (docs/NOTES.md). `refused_notes.rs` uses the trees, too.
 
 use cbor_notes::{Line, merge};
 use std::alloc::{AllocError, Global};

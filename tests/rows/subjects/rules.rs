@@ -5,7 +5,7 @@
 //!
 //! RULES is the name of a set, such as `core`, or names of single rules, such as `shortest_heads`.
 //! Single rules are added to the set before them, or to the grammar of RFC 8949. `rules_of` reads
-//! RULES, also for `reencode.rt`.
+//! RULES, also for `reencode.rs`.
 
 use crate::row::Row;
 use crate::subjects::lines::{lines_or, push_line};
