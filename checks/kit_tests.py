@@ -7,18 +7,19 @@ Each call returns how many passed, how many failed, and what was written.
 """
 import contextlib
 import re
+import shutil
 import subprocess
 
 import test_crates
-from outputs import counted, is_stored, rows_of_output, words_of
+from outputs import counted_rows, counted_tests
 
 NAME = "the kit: rt try"
 
 
-def tried(crate, *words, given=b""):
-    """How `rt try` ended in the folder of a crate, what the program wrote, and the rest."""
-    ran = subprocess.run(["rt", "try", *words], cwd=crate, input=given, capture_output=True)
-    return ran.returncode, ran.stdout, ran.stderr
+def tried(crate, *words):
+    """What a program or the tests of a crate wrote, and what the kit wrote beside it."""
+    ran = subprocess.run(["rt", "try", *words], cwd=crate, stdin=subprocess.DEVNULL, capture_output=True)
+    return ran.stdout, ran.stdout + ran.stderr
 
 
 class Tests:
@@ -31,8 +32,8 @@ class Tests:
         data = self.crates / "vectors" / "data"
         files = sorted(file.name for file in data.iterdir())
         given = [word for file in files for word in ("--data", f"{file}={data / file}")]
-        _, output, error = tried(self.crates / "rows", *given, "--", *files)
-        return rows_of_output(output, output + error)
+        output, said = tried(self.crates / "rows", *given, "--", *files)
+        return *counted_rows(output), said
 
     def unit(self):
         return self.tests_of("unit")
@@ -41,22 +42,21 @@ class Tests:
         return self.tests_of("doc_examples")
 
     def tests_of(self, crate):
-        _, output, error = tried(self.crates / crate, "--test")
-        return *counted(r"^test result: .*?(\d+) passed; (\d+) failed", output), output + error
+        output, said = tried(self.crates / crate, "--test")
+        return *counted_tests(output), said
 
-    def stored_run(self, program):
-        """Makes the run of a program that the gate makes."""
+    def runs(self, program):
+        """Makes the stored run of a program, which the gate makes, and its cases: each is a standard input, and has
+        arguments and the wanted output. A stored run has to end with status 0."""
         crate = self.crates / program
-        status, output, error = tried(crate, "--", *words_of(crate / "args"), given=crate.joinpath("stdin").read_bytes())
-        right = is_stored(crate, status, output)
-        return int(right), int(not right), output + error
-
-    def cases(self, program):
-        """Runs the cases of a program, each a file for its standard input."""
-        _, output, error = tried(self.crates / program, "--cases", "cases")
-        lines = re.findall(r"^case=.*", (output + error).decode(errors="replace"), re.MULTILINE)
-        right = sum("run=ended" in line and "output=expected" in line for line in lines)
-        return right, len(lines) - right if lines else 1, output + error
+        cases = crate / "cases"
+        cases.mkdir(exist_ok=True)
+        for name, case in [("stdin", "stored"), ("args", "stored.args"), ("stdout", "stored.stdout")]:
+            shutil.copy(crate / name, cases / case)
+        _, said = tried(crate, "--cases", "cases")
+        ended = re.findall(rb"^case=(\w+) run=ended status=(\d+)(?=.* output=expected)", said, re.MULTILINE)
+        right = sum(case != b"stored" or status == b"0" for case, status in ended)
+        return right, len(list(cases.glob("*.stdout"))) - right, said
 
 
 @contextlib.contextmanager
