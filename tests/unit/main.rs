@@ -90,7 +90,7 @@ fn run(rt: &(impl Abort + Print), alloc: Global, subject: &str, count: usize) ->
     let mut tally = Tally::NONE;
     make_calls(rt, alloc, subject, &mut tally)?;
     println!(rt; "{} calls", tally.calls)?;
-    let place = if is_refused(alloc, 100_000) {
+    let place = if is_refused(alloc, 10_000) {
         "after"
     } else {
         "within"
