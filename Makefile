@@ -56,7 +56,7 @@ sources = $(if $(AS_BUILT),,crates.txt \
 # The crates that a program or the library for C may stand on.
 BELOW := $(filter-out cbor_diag_c $(PROGRAMS),$(shell sed -n 's/^\(cbor[a-z0-9_]*\).*:.*/\1/p' crates.txt))
 
-.PHONY: all program library install try quick test gate planted check check-pages check-commands check-docs check-cat \
+.PHONY: all program library install try rust quick test gate planted check check-pages check-commands check-docs check-cat \
     check-editing check-allocations check-bindings check-packages tarball deb wheel vectors arm64 arm64-packages \
     check-arm64 page check-page release compare bench clean sqlite postgresql install-sqlite install-postgresql deb-sqlite deb-postgresql deb-sql
 
@@ -153,6 +153,12 @@ try:
 # Checks all crates, without the must-fail edits.
 quick:
 	$(PROGRESS) rt all check
+
+# The same sources as a plain Rust crate, without what only proofs read. With OFFLINE=1 cargo takes upstream's crates from
+# Debian's packages.
+RUST = $(DIST)/rust/semphluk
+rust:
+	@machines/rust/extract $(if $(OFFLINE),--offline) $(RUST)
 
 # All tests, without a proof: minutes.
 test:

@@ -1,0 +1,187 @@
+"""Writes the crates of the repository as one Rust crate: `write_crate`.
+
+A library becomes a module of src/lib.rs; a program becomes src/bin/NAME, and tests become tests/NAME. Files of modules
+that only proofs read are not written.
+"""
+import pathlib
+import re
+import shutil
+
+import examples
+import imports
+import layout
+import passes
+from tokens import WORD, Refused, after, closing, index_of, text_at, tokens_of, words_in
+
+HERE = pathlib.Path(__file__).resolve().parent
+TOP = HERE.parent.parent
+NAME = "semphluk"
+
+
+class Crate:
+    """A crate of the repository: its name, what it becomes, and the folder of its sources."""
+
+    def __init__(self, name, what, folder):
+        self.name = name
+        self.what = what
+        self.folder = folder
+
+    @property
+    def target(self):
+        """The folder of its files in the Rust crate."""
+        return {"library": f"src/{self.name}", "program": f"src/bin/{self.name}", "tests": f"tests/{self.name}"}[self.what]
+
+    @property
+    def root(self):
+        """The name of the file that its first file becomes."""
+        return "mod.rs" if self.what == "library" else "main.rs"
+
+    def sources(self):
+        """Its source files."""
+        return sorted(path for path in self.folder.rglob("*") if path.suffix in (".rt", ".rs"))
+
+
+def crates_of(top, table):
+    """The crates that go into the Rust crate, by crates.txt and the table."""
+    listed = {}
+    for line in table.read_text(encoding="utf-8").splitlines():
+        words = line.partition("#")[0].split()
+        if words:
+            listed[words[0]] = words[1:]
+    below = [line.split(":")[0].split()[0] for line in (top / "crates.txt").read_text(encoding="utf-8").splitlines()
+             if ":" in line.partition("#")[0]]
+    found = []
+    for name in [*below, *(name for name in listed if name not in below)]:
+        what, folder = (*listed.get(name, ["library"]), None)[:2]
+        if what != "none":
+            found.append(Crate(name, what, top / (folder or f"crates/{name}/src")))
+    return found
+
+
+class Files:
+    """The files of one crate: their tokens, and which modules each has."""
+
+    def __init__(self, crate):
+        self.crate = crate
+        self.tokens = {}
+        for path in crate.sources():
+            self.tokens[path] = refusing(path, lambda text: passes.passed(tokens_of(text)),
+                                         path.read_text(encoding="utf-8"))
+
+    def module(self, path):
+        """The module that a file is, as a path."""
+        parts = path.relative_to(self.crate.folder).with_suffix("").parts
+        return () if parts in (("lib",), ("main",)) else parts[:-1] if parts[-1] == "mod" else parts
+
+    def reached(self):
+        """The files that are modules of the crate, from its root on."""
+        by_module = {self.module(path): path for path in self.tokens}
+        found, rest = [], [()]
+        while rest:
+            module = rest.pop()
+            if module not in by_module:
+                raise SystemExit(f"extract: {self.crate.folder}: no file for the module {'::'.join(module)}")
+            found.append(by_module[module])
+            rest += [module + (name,) for name in children(self.tokens[by_module[module]])]
+        return sorted(found)
+
+    def traits(self):
+        """The traits that the crate defines, each with its methods."""
+        return {name: methods for path in self.reached() for name, methods in traits_of(self.tokens[path])}
+
+    def macros(self):
+        """The macros that the crate defines, each with the words of its text."""
+        return {name: words for path in self.reached() for name, words in macros_of(self.tokens[path])}
+
+
+def children(tokens):
+    """The modules that a file says are files of their own."""
+    for at, token in enumerate(tokens):
+        name = after(tokens, at)
+        if token.kind == WORD and token.text == "mod" and text_at(tokens, after(tokens, name)) == ";":
+            yield tokens[name].text
+
+
+def traits_of(tokens):
+    """The traits of a file, each with the names of its methods."""
+    for at, token in enumerate(tokens):
+        if token.kind == WORD and token.text == "trait":
+            body = index_of(tokens, at, "{")
+            inside = tokens[body:closing(tokens, body)]
+            yield tokens[after(tokens, at)].text, {
+                text_at(inside, after(inside, index)) for index, it in enumerate(inside) if it.text == "fn"}
+
+
+def macros_of(tokens):
+    """The macros of a file, each with the words of its text."""
+    for at, token in enumerate(tokens):
+        if token.kind == WORD and token.text == "macro_rules":
+            body = index_of(tokens, at, "{")
+            yield tokens[after(tokens, at + 1)].text, words_in(tokens[body:closing(tokens, body)])
+
+
+def refusing(path, work, *arguments):
+    """What work gives. A form that it refuses is reported with its file and line, and ends the extraction."""
+    try:
+        return work(*arguments)
+    except Refused as refused:
+        raise SystemExit(f"extract: {path}:{refused.line}: {refused.text}") from None
+
+
+def write_crate(out, top=TOP, table=HERE / "sources.txt"):
+    """Writes the Rust crate to a folder, and returns how many files it has."""
+    crates = [Files(crate) for crate in crates_of(top, table)]
+    traits = {name: methods for files in crates for name, methods in files.traits().items()}
+    macros = {name: words for files in crates for name, words in files.macros().items()}
+    names = frozenset(files.crate.name for files in crates if files.crate.what == "library")
+    written = support(top)
+    for files in crates:
+        is_library = files.crate.what == "library"
+        where = imports.Where(f"crate::{files.crate.name}" if is_library else "crate",
+                              "crate" if is_library else NAME, names, traits, macros)
+        for path in files.reached():
+            turned = refusing(path, imports.turned, files.tokens[path], where)
+            target = target_of(files, path)
+            written[target] = examples.as_doc_tests(layout.text_of(turned), names)
+    written["src/lib.rs"] = root(top, [files.crate.name for files in crates if files.crate.what == "library"])
+    replace(out, written)
+    return len(written)
+
+
+def target_of(files, path):
+    """Where a source file goes in the Rust crate."""
+    parts = path.relative_to(files.crate.folder).with_suffix(".rs").parts
+    name = files.crate.root if parts in (("lib.rs",), ("main.rs",)) else "/".join(parts)
+    return f"{files.crate.target}/{name}"
+
+
+def support(top):
+    """The files that are not extracted: the stand-in of std, the adapters, Cargo's files and the licence."""
+    found = {}
+    for path in sorted((HERE / "support").rglob("*.rs")):
+        found[f"src/{path.relative_to(HERE / 'support')}"] = path.read_text(encoding="utf-8")
+    version = (top / "VERSION").read_text(encoding="utf-8").strip()
+    manifest = (HERE / "Cargo.toml.in").read_text(encoding="utf-8")
+    found["Cargo.toml"] = manifest.replace("@VERSION@", version)
+    found["LICENSE"] = (top / "LICENSE").read_text(encoding="utf-8")
+    return found
+
+
+def root(top, libraries):
+    """The text of src/lib.rs: the modules, and the pages whose examples are tests."""
+    text = (HERE / "lib.rs.in").read_text(encoding="utf-8")
+    modules = "".join(f"pub mod {name};\n" for name in sorted(libraries))
+    return text.replace("@MODULES@\n", modules).replace("@PAGES@\n", examples.pages(top, frozenset(libraries)))
+
+
+def replace(out, written):
+    """Writes the files, and removes other sources that an earlier run left. Files that are the same are not touched."""
+    for folder in ("src", "tests"):
+        for path in sorted(out.glob(f"{folder}/**/*.rs")):
+            if str(path.relative_to(out)) not in written:
+                path.unlink()
+    for name, text in written.items():
+        path = out / name
+        path.parent.mkdir(parents=True, exist_ok=True)
+        if not path.exists() or path.read_text(encoding="utf-8") != text:
+            path.write_text(text, encoding="utf-8")
