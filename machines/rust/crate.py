@@ -141,9 +141,9 @@ def write_crate(out, top=TOP, table=HERE / "sources.txt"):
                               "crate" if is_library else NAME, names, traits, macros)
         for path in files.reached():
             turned = refusing(path, imports.turned, files.tokens[path], where)
-            target = target_of(files, path)
-            written[target] = examples.as_doc_tests(layout.text_of(turned), names)
-    written["src/lib.rs"] = root(top, [files.crate.name for files in crates if files.crate.what == "library"])
+            turned = refusing(path, examples.doc_tests, turned, where)
+            written[target_of(files, path)] = layout.text_of(turned)
+    written["src/lib.rs"] = root(top, where)
     replace(out, written)
     return len(written)
 
@@ -167,11 +167,11 @@ def support(top):
     return found
 
 
-def root(top, libraries):
+def root(top, where):
     """The text of src/lib.rs: the modules, and the pages whose examples are tests."""
     text = (HERE / "lib.rs.in").read_text(encoding="utf-8")
-    modules = "".join(f"pub mod {name};\n" for name in sorted(libraries))
-    return text.replace("@MODULES@\n", modules).replace("@PAGES@\n", examples.pages(top, frozenset(libraries)))
+    modules = "".join(f"pub mod {name};\n" for name in sorted(where.crates))
+    return text.replace("@MODULES@\n", modules).replace("@PAGES@\n", examples.pages(top, where))
 
 
 def replace(out, written):

@@ -3,7 +3,6 @@
 A name of std is Rust's, or the stand-in's; a crate is a module; a crate of the kit is upstream's, or an adapter. An
 import that only clauses used is left out.
 """
-import re
 from typing import NamedTuple
 
 import known
@@ -334,11 +333,8 @@ def statement(visibility, front, names, columns, indent):
 
 
 def segment_order(text):
-    """The order of a part of a path: `self` and the like, then words in small letters, types, and constants."""
-    first = {"self": 0, "super": 1, "crate": 2}.get(text, 3)
-    name = text.split(" ")[0]
-    kind = 0 if name[0].islower() or name[0] == "_" else 2 if re.fullmatch(r"[A-Z][A-Z0-9_]+", name) else 1
-    return (first, kind, text)
+    """The order of a part of a path: `self` and the like come first, and capitals before small letters."""
+    return ({"self": 0, "super": 1, "crate": 2}.get(text, 3), text)
 
 
 def path_order(front, names):

@@ -43,14 +43,20 @@ pub mod engine {
             b"ABCDEFGHIJKLMNOPQRSTUVWXYZabcdefghijklmnopqrstuvwxyz0123456789-_";
 
         /// The standard alphabet.
-        pub const STANDARD: GeneralPurpose =
-            GeneralPurpose { alphabet: PLAIN, is_padded: true };
+        pub const STANDARD: GeneralPurpose = GeneralPurpose {
+            alphabet: PLAIN,
+            is_padded: true,
+        };
         /// The standard alphabet, without padding.
-        pub const STANDARD_NO_PAD: GeneralPurpose =
-            GeneralPurpose { alphabet: PLAIN, is_padded: false };
+        pub const STANDARD_NO_PAD: GeneralPurpose = GeneralPurpose {
+            alphabet: PLAIN,
+            is_padded: false,
+        };
         /// The alphabet for URLs, without padding.
-        pub const URL_SAFE_NO_PAD: GeneralPurpose =
-            GeneralPurpose { alphabet: FOR_URLS, is_padded: false };
+        pub const URL_SAFE_NO_PAD: GeneralPurpose = GeneralPurpose {
+            alphabet: FOR_URLS,
+            is_padded: false,
+        };
 
         impl GeneralPurpose {
             /// Appends bytes in base 64.
@@ -83,7 +89,11 @@ pub mod engine {
                 let digits = self.without_padding(text).ok_or(WRONG)?;
                 let (mut out, mut bits, mut count) = (Vec::new(alloc), 0u32, 0);
                 for byte in digits {
-                    let digit = self.alphabet.iter().position(|it| it == byte).ok_or(WRONG)?;
+                    let digit = self
+                        .alphabet
+                        .iter()
+                        .position(|it| it == byte)
+                        .ok_or(WRONG)?;
                     bits = bits << 6 | digit as u32;
                     count += 6;
                     if count >= 8 {
@@ -105,7 +115,11 @@ pub mod engine {
                     digits = digits.strip_suffix(b"=").unwrap_or(digits);
                     digits = digits.strip_suffix(b"=").unwrap_or(digits);
                 }
-                if digits.len() % 4 == 1 { None } else { Some(digits) }
+                if digits.len() % 4 == 1 {
+                    None
+                } else {
+                    Some(digits)
+                }
             }
         }
     }

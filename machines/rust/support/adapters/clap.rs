@@ -28,7 +28,10 @@ impl<'a> Command<'a> {
     }
 
     fn of(command: ::clap::Command) -> Command<'a> {
-        Command { command, names: PhantomData }
+        Command {
+            command,
+            names: PhantomData,
+        }
     }
 
     /// The same with this version.
@@ -75,7 +78,10 @@ impl<'a> Arg<'a> {
     }
 
     fn of(arg: ::clap::Arg) -> Arg<'a> {
-        Arg { arg, names: PhantomData }
+        Arg {
+            arg,
+            names: PhantomData,
+        }
     }
 
     /// The same as an option with this name.

@@ -24,7 +24,11 @@ impl<'a> Numeral<'a> {
     pub fn scan(bytes: &'a [u8]) -> Numeral<'a> {
         let whole = digits_end(bytes, 0);
         let has_point = bytes.get(whole) == Some(&b'.');
-        let mut end = if has_point { digits_end(bytes, whole + 1) } else { whole };
+        let mut end = if has_point {
+            digits_end(bytes, whole + 1)
+        } else {
+            whole
+        };
         let has_digits = whole > 0 || has_point && end > whole + 1;
         let mut exponent: &[u8] = b"";
         if let Some(b'e' | b'E') = bytes.get(end) {

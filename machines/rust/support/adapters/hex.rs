@@ -37,7 +37,9 @@ pub fn encode_upper<T: AsRef<[u8]>>(alloc: Global, data: T) -> Result<String, Al
 pub fn decode<T: AsRef<[u8]>>(alloc: Global, digits: T) -> Result<Vec<u8>, FromHexError> {
     let digits = digits.as_ref();
     let mut bytes = Vec::new(alloc);
-    bytes.resize(digits.len() / 2, 0).map_err(|_| FromHexError::OutOfMemory)?;
+    bytes
+        .resize(digits.len() / 2, 0)
+        .map_err(|_| FromHexError::OutOfMemory)?;
     ::hex::decode_to_slice(digits, &mut bytes).map_err(|_| FromHexError::NotHex)?;
     Ok(bytes)
 }

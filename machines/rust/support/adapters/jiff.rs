@@ -69,12 +69,18 @@ pub mod civil {
                 _ => return Err(NoDate),
             };
             let is_date = (1..=days).contains(&day) && i64::from(year).abs() <= MOST_YEAR;
-            if is_date { Ok(Date { year, month, day }) } else { Err(NoDate) }
+            if is_date {
+                Ok(Date { year, month, day })
+            } else {
+                Err(NoDate)
+            }
         }
 
         /// The date as many days later.
         pub fn checked_add(self, span: Days) -> Result<Date, NoDate> {
-            let day = i64::from(self.to_plain().0).checked_add(span.0).ok_or(NoDate)?;
+            let day = i64::from(self.to_plain().0)
+                .checked_add(span.0)
+                .ok_or(NoDate)?;
             let day = day.checked_add(BEFORE_1970).ok_or(NoDate)?;
             let (era, of_era) = (day.div_euclid(ERA), day.rem_euclid(ERA));
             let year = (of_era - of_era / 1460 + of_era / 36_524 - of_era / (ERA - 1)) / 365;

@@ -19,7 +19,9 @@ pub struct Regex(::regex::Regex);
 impl Regex {
     /// Reads a regular expression.
     pub fn new(_alloc: Global, pattern: &str) -> Result<Regex, Error> {
-        ::regex::Regex::new(pattern).map(Regex).map_err(|_| Error::Syntax)
+        ::regex::Regex::new(pattern)
+            .map(Regex)
+            .map_err(|_| Error::Syntax)
     }
 
     /// What matches texts.

@@ -1,9 +1,9 @@
 //! Files, through the handle of the runtime. Names of files are UTF-8.
 
+use super::String;
 use super::alloc::Global;
 use super::path::PathBuf;
 use super::rt::HostRuntime;
-use super::String;
 use std::io::{ErrorKind, Read, Result, Write};
 
 pub use std::fs::{Metadata, Permissions};

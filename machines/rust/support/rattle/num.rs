@@ -4,7 +4,11 @@
 /// The bits of a float.
 #[inline]
 pub fn f64_to_bits_with_nan(x: f64) -> u64 {
-    if x.is_nan() { 0x7ff8_0000_0000_0000 } else { x.to_bits() }
+    if x.is_nan() {
+        0x7ff8_0000_0000_0000
+    } else {
+        x.to_bits()
+    }
 }
 
 /// The float of bits.
