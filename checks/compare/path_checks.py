@@ -222,6 +222,7 @@ def by_number(run, same):
     same("too few", run("-p", "3:a", *log), (b"", "cborcat: -x: 3: no such item; 3 items came, from 0 on\n", 1))
     same("a key with quotes", run("-p", '"3:a"', "-t", "diag", "-x", '{"3:a": 4}'), (b"4\n", "", 0))
     same("as JSON", run("-p", "1:", "-t", "json", *log[2:]), (b'{"a": 7}\n', "", 0))
+    same("as a dump", run("-p", "1:", "-t", "hex", "-x", "1 2 3"), (b"02 # unsigned(2)\n", "", 0))
     same("a fault behind it", run("-p", "0:", "-t", "diag", "-f", "hex", "-x", "01 1f")[::2], (b"1\n", 1))
 
 

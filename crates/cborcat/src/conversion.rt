@@ -289,7 +289,7 @@ impl<'a> Conversion<'a> {
         let checks_one = one || self.has_numbered_check();
         let is_one = one || self.job.item.is_some();
         let end = match self.job.view {
-            View::Items => self.show_some(),
+            View::Items => self.show_some(is_one),
             View::Encoded(set) => self.show_each(&self.views.encoding(set), is_one),
             View::Check => self.stream.check(checks_one),
             View::Json | View::Raw => self.show_each(&self.views.plain(), is_one),
@@ -309,9 +309,9 @@ impl<'a> Conversion<'a> {
     }
 
     /// Shows some items, and tells what follows them.
-    fn show_some(&mut self) -> End {
+    fn show_some(&mut self, is_one: bool) -> End {
         if self.job.show.style.form == Form::Hex {
-            return self.show_each(&self.views.dumps(), self.job.show.one);
+            return self.show_each(&self.views.dumps(), is_one);
         }
         let mut show = show_of(self.job, self.tables);
         show.marks = self.views.screen.edn_marks();
