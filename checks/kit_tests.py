@@ -11,9 +11,7 @@ import shutil
 import subprocess
 
 import test_crates
-from outputs import counted_rows, counted_tests
-
-NAME = "the kit: rt try"
+from outputs import DATA, counted_rows, counted_tests, file_names
 
 
 def tried(crate, *words):
@@ -24,15 +22,14 @@ def tried(crate, *words):
 
 class Tests:
     """The tests of a copy of the repository, in which the folders of tests/ are crates."""
+    name = "the kit's rt try"
 
     def __init__(self, top):
         self.crates = top / "crates"
 
     def rows(self):
-        data = self.crates / "vectors" / "data"
-        files = sorted(file.name for file in data.iterdir())
-        given = [word for file in files for word in ("--data", f"{file}={data / file}")]
-        output, said = tried(self.crates / "rows", *given, "--", *files)
+        given = [word for file in file_names() for word in ("--data", f"{file}={DATA / file}")]
+        output, said = tried(self.crates / "rows", *given, "--", *file_names())
         return *counted_rows(output), said
 
     def unit(self):

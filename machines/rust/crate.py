@@ -19,12 +19,12 @@ NAME = "semphluk"
 
 
 class Crate:
-    """A crate of the repository: its name, what it becomes, and the folder of its sources."""
+    """A crate of the repository: its name, what it becomes, and the folders of its sources."""
 
-    def __init__(self, name, what, folder):
+    def __init__(self, name, what, folders):
         self.name = name
         self.what = what
-        self.folder = folder
+        self.folders = folders
 
     @property
     def target(self):
@@ -36,9 +36,14 @@ class Crate:
         """The name of the file that its first file becomes."""
         return "mod.rs" if self.what == "library" else "main.rs"
 
+    def relative(self, path):
+        """The path of a source file below its folder, without its ending."""
+        return next(path.relative_to(folder) for folder in self.folders if path.is_relative_to(folder)).with_suffix("")
+
     def sources(self):
-        """Its source files."""
-        return sorted(path for path in self.folder.rglob("*") if path.suffix in (".rt", ".rs"))
+        """Its source files. A file of a later folder stands in place of the one of an earlier folder."""
+        paths = [path for folder in self.folders for path in sorted(folder.rglob("*")) if path.suffix in (".rt", ".rs")]
+        return sorted({self.relative(path): path for path in paths}.values())
 
 
 def crates_of(top, table):
@@ -52,9 +57,9 @@ def crates_of(top, table):
              if ":" in line.partition("#")[0]]
     found = []
     for name in [*below, *(name for name in listed if name not in below)]:
-        what, folder = (*listed.get(name, ["library"]), None)[:2]
+        what, *folders = listed.get(name, ["library"])
         if what != "none":
-            found.append(Crate(name, what, top / (folder or f"crates/{name}/src")))
+            found.append(Crate(name, what, [top / folder for folder in folders or [f"crates/{name}/src"]]))
     return found
 
 
@@ -63,14 +68,13 @@ class Files:
 
     def __init__(self, crate):
         self.crate = crate
-        self.tokens = {}
-        for path in crate.sources():
-            self.tokens[path] = refusing(path, lambda text: passes.passed(tokens_of(text)),
-                                         path.read_text(encoding="utf-8"))
+        read = {path: refusing(path, tokens_of, path.read_text(encoding="utf-8")) for path in crate.sources()}
+        macros = frozenset().union(*map(passes.macro_names, read.values()))
+        self.tokens = {path: refusing(path, passes.passed, tokens, macros) for path, tokens in read.items()}
 
     def module(self, path):
         """The module that a file is, as a path."""
-        parts = path.relative_to(self.crate.folder).with_suffix("").parts
+        parts = self.crate.relative(path).parts
         return () if parts in (("lib",), ("main",)) else parts[:-1] if parts[-1] == "mod" else parts
 
     def reached(self):
@@ -80,7 +84,7 @@ class Files:
         while rest:
             module = rest.pop()
             if module not in by_module:
-                raise SystemExit(f"extract: {self.crate.folder}: no file for the module {'::'.join(module)}")
+                raise SystemExit(f"extract: {self.crate.folders[0]}: no file for the module {'::'.join(module)}")
             found.append(by_module[module])
             rest += [module + (name,) for name in children(self.tokens[by_module[module]])]
         return sorted(found)
@@ -150,8 +154,8 @@ def write_crate(out, top=TOP, table=HERE / "sources.txt"):
 
 def target_of(files, path):
     """Where a source file goes in the Rust crate."""
-    parts = path.relative_to(files.crate.folder).with_suffix(".rs").parts
-    name = files.crate.root if parts in (("lib.rs",), ("main.rs",)) else "/".join(parts)
+    parts = files.crate.relative(path).parts
+    name = files.crate.root if parts in (("lib",), ("main",)) else "/".join(parts) + ".rs"
     return f"{files.crate.target}/{name}"
 
 

@@ -11,12 +11,12 @@ from tokens import (BLANK, COMMENT, DOC, GAP, LIFETIME, MARK, SPACE, STRING, WOR
 LOOPS = ("for", "loop", "while")
 
 
-def passed(tokens):
-    """The tokens of a file after all passes."""
+def passed(tokens, macros=frozenset()):
+    """The tokens of a file after all passes. It may use these macros of its crate."""
     refuse_different(tokens)
     for one_pass in (attributes, proof_items, bounds, labels, formatters, methods, mains, tests):
         tokens = one_pass(tokens)
-    check_macros(tokens)
+    check_macros(tokens, macros)
     return tokens
 
 
@@ -250,9 +250,14 @@ def loop_body(tokens, at):
     return body
 
 
-def check_macros(tokens):
-    """Refuses macros that are not known, but for those that the file defines or imports."""
-    own = {text_at(tokens, after(tokens, after(tokens, at))) for at, it in enumerate(tokens) if it.text == "macro_rules"}
+def macro_names(tokens):
+    """The macros that a file defines."""
+    return {text_at(tokens, after(tokens, after(tokens, at))) for at, it in enumerate(tokens) if it.text == "macro_rules"}
+
+
+def check_macros(tokens, of_crate):
+    """Refuses macros that are not known, but for those that the file imports and those of the crate."""
+    own = macro_names(tokens) | of_crate
     imported = set()
     for at, token in enumerate(tokens):
         if (token.kind, token.text) == (WORD, "use"):
