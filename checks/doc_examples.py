@@ -3,7 +3,7 @@
     python3 checks/doc_examples.py FOLDER
 
 writes its sources into the folder. An example is a block marked `rust` in a doc comment of a crate, or in a page of
-PAGES. It is the body of a test, which has `rt` and `alloc`; its `use` lines stand before the test. The tests of a crate
+docs/. It is the body of a test, which has `rt` and `alloc`; its `use` lines stand before the test. The tests of a crate
 or a page are in a file of its name, each in a module named after what the comment is about.
 """
 import pathlib
@@ -12,7 +12,6 @@ import sys
 
 from kit import CRATES, TOP, uses
 
-PAGES = ["docs/LIBRARY.md", "docs/BYTES.md"]
 BLOCK = re.compile(r"^```rust\n(.*?)^```$", re.DOTALL | re.MULTILINE)
 COMMENT = re.compile(r"\s*(///|//!) ?(.*)")
 ITEM = re.compile(r"\s*(?:pub(?:\([^)]*\))? )?(?:const )?(?:fn|struct|enum|trait) (\w+)")
@@ -52,9 +51,8 @@ def examples():
         texts = [file.read_text() for file in sorted(CRATES.joinpath(crate, "src").rglob("*.rt"))]
         said = [about for text in texts for about in comments(text)]
         found[crate] = [(name, block) for name, text in said for block in BLOCK.findall(text)]
-    for page in PAGES:
-        blocks = BLOCK.findall(TOP.joinpath(page).read_text())
-        found[pathlib.Path(page).stem.lower()] = [("example", block) for block in blocks]
+    for page in sorted(TOP.glob("docs/*.md")):
+        found[page.stem.lower()] = [("example", block) for block in BLOCK.findall(page.read_text())]
     return {name: blocks for name, blocks in found.items() if blocks}
 
 

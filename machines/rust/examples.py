@@ -10,7 +10,6 @@ import passes
 from tokens import DOC, SPACE, Refused, Token, tokens_of
 
 NAME = "semphluk"
-PAGES = ["docs/LIBRARY.md", "docs/BYTES.md"]
 
 BEGIN = [f"# {NAME}::rattle::test::run(|rt| -> Result<(), {NAME}::rattle::test::Fail> {{", "# let alloc = rt.alloc();"]
 END = ["# Ok(())", "# });"]
@@ -51,18 +50,20 @@ def for_users(where):
 
 
 def pages(top, where):
-    """An item for each page, which has its examples as doc tests."""
+    """An item for each page that has examples, which has them as doc tests."""
     items = []
-    for name in PAGES:
-        text = (top / name).read_text(encoding="utf-8")
+    for path in sorted(top.glob("docs/*.md")):
+        text, name = path.read_text(encoding="utf-8"), path.relative_to(top)
+        if "```rust\n" not in text:
+            continue
         comment = [f"The examples of {name}."]
         for match in re.finditer(r"^```rust\n(.*?)^```$", text, re.DOTALL | re.MULTILINE):
             line = text.count("\n", 0, match.start()) + 1
             try:
                 code = example(match[1].split("\n"), where, line)
             except Refused as refused:
-                raise SystemExit(f"extract: {top / name}:{refused.line}: {refused.text}") from None
+                raise SystemExit(f"extract: {path}:{refused.line}: {refused.text}") from None
             comment += ["", "```", *BEGIN, *code, *END, "```"]
-        word = re.search(r"(\w+)\.md", name)[1].capitalize()
+        word = path.stem.capitalize()
         items.append("".join(f"/// {it}".rstrip() + "\n" for it in comment) + f"#[cfg(doctest)]\npub struct {word};\n")
     return "\n".join(items)

@@ -1,5 +1,5 @@
-//! The tests that are not rows of the vectors: exhaustive and hostile inputs, items and schemas made
-//! by hand, places that no path leads to, and failing allocations.
+//! The tests that are not rows of the vectors: exhaustive and hostile inputs, items and schemas
+//! made by hand, places that no path leads to, and failing allocations.
 //!
 //! As a program, `unit SUBJECT COUNT` makes the calls of a subject while one allocation fails.
 //! `checks/allocations/failing_calls` lets the allocation of some number fail, and COUNT says how
