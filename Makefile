@@ -56,8 +56,8 @@ sources = $(if $(AS_BUILT),,crates.txt \
 # The crates that a program or the library for C may stand on.
 BELOW := $(filter-out cbor_diag_c $(PROGRAMS),$(shell sed -n 's/^\(cbor[a-z0-9_]*\).*:.*/\1/p' crates.txt))
 
-.PHONY: all program library install try rust quick test gate planted check check-pages check-commands check-docs check-cat \
-    check-editing check-allocations check-bindings check-packages tarball deb wheel vectors arm64 arm64-packages \
+.PHONY: all program library install try try-rt try-cargo try-nothing rust check-rust quick test gate planted check \
+    check-pages check-commands check-docs check-cat check-editing check-allocations check-bindings check-packages tarball deb wheel vectors arm64 arm64-packages \
     check-arm64 page check-page release compare bench clean sqlite postgresql install-sqlite install-postgresql deb-sqlite deb-postgresql deb-sql
 
 all: program library $(SCRIPT_FILES) $(MANUALS) $(COMPLETIONS)
@@ -142,23 +142,37 @@ install: all
 	install -D -m 644 -t $(DESTDIR)$(PREFIX)/share/man/man1 $(MANUALS)
 	install -D -m 644 -t $(DESTDIR)$(PREFIX)/share/bash-completion/completions $(COMPLETIONS)
 
-# The main job before any proof: cborcat, on these arguments. The kit gives it a copy of each file that they name.
+# The main job before any proof: cborcat, on these arguments, by the kit, or else by cargo. The kit gives it a copy of each
+# file that they name.
 ARGS = examples/log.cbor
-try:
+try: try-$(if $(shell command -v rt),rt,$(if $(shell command -v $(CARGO)),cargo,nothing))
+
+try-rt:
 	@echo "Nothing is proved yet: the kit runs the code as it stands, and checks it only while it runs. make gate proves it."
 	@files=; for word in $(ARGS); do \
 	    if test -f "$$word"; then files="$$files --data $$word=$(CURDIR)/$$word"; fi; \
 	done; cd crates/cborcat && rt try $$files -- $(ARGS)
 
+try-cargo: rust
+	@echo "There is no kit (rt), so cargo builds the code without its proofs."
+	@$(CARGO) run --quiet --manifest-path $(RUST)/Cargo.toml --bin cborcat -- $(ARGS)
+
+try-nothing:
+	@echo "make try needs a Rattle kit (rt) or cargo"; exit 1
+
 # Checks all crates, without the must-fail edits.
 quick:
 	$(PROGRESS) rt all check
 
-# The same sources as a plain Rust crate, without what only proofs read. With OFFLINE=1 cargo takes upstream's crates from
-# Debian's packages.
+# The same sources as a plain Rust crate, without what only proofs read: for this, Python is enough. With OFFLINE=1 cargo
+# takes upstream's crates from Debian's packages, and with FORMAT=1 rustfmt formats the files.
 RUST = $(DIST)/rust/semphluk
 rust:
-	@machines/rust/extract $(if $(OFFLINE),--offline) $(RUST)
+	@machines/rust/extract $(if $(OFFLINE),--offline) $(if $(FORMAT),--format) $(RUST)
+
+# Its tests, and the same runs as the proved programs where they are in dist/.
+check-rust: rust
+	machines/rust/check --proved $(DIST)/bin $(RUST)
 
 # All tests, without a proof: minutes.
 test:

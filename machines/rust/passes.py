@@ -118,6 +118,8 @@ def bounds(tokens):
             at += 1
         elif text_at(out, last) in ("+", ":"):
             del out[last:]
+            while out[-1].kind == SPACE:
+                out.pop()
             at += 1
         elif text_at(tokens, behind) == "+":
             at = after(tokens, behind)
