@@ -155,7 +155,8 @@ try-rt:
 
 try-cargo: rust
 	@echo "There is no kit (rt), so cargo builds the code without its proofs."
-	@$(CARGO) run --quiet --manifest-path $(RUST)/Cargo.toml --bin cborcat -- $(ARGS)
+	@cd $(RUST) && $(CARGO) build --quiet --bin cborcat
+	@$(RUST)/target/debug/cborcat $(ARGS)
 
 try-nothing:
 	@echo "make try needs a Rattle kit (rt) or cargo"; exit 1
@@ -169,6 +170,9 @@ quick:
 RUST = $(DIST)/rust/semphluk
 rust:
 	@machines/rust/extract $(if $(OFFLINE),--offline) $(if $(FORMAT),--format) $(RUST)
+
+# Where Debian's packages are, these take upstream's crates from there.
+try-cargo check-rust: OFFLINE = $(wildcard /usr/share/cargo/registry/clap-4*)
 
 # Its tests, and the same runs as the proved programs where they are in dist/.
 check-rust: rust
