@@ -21,7 +21,7 @@ def doc_tests(tokens, where):
     while at < len(tokens):
         token = tokens[at]
         if token.kind != DOC or token.text[3:].strip() != "```rust":
-            out.append(token)
+            out.append(linked(token, where) if token.kind == DOC else token)
             at += 1
             continue
         end = at + 1
@@ -33,6 +33,15 @@ def doc_tests(tokens, where):
             out += [Token(DOC, f"{token.text[:3]} {line}".rstrip(), token.line), Token(SPACE, break_text, token.line)]
         at = end
     return out
+
+
+def linked(token, where):
+    """A line of a doc comment whose links lead to where the names are."""
+    text = re.sub(r"(?<=\]: )crate::|(?<=\]\()crate::|(?<=\[`)crate::", where.own + "::", token.text)
+    if where.library == "crate":
+        names = "|".join(sorted(where.crates))
+        text = re.sub(rf"(?:(?<=\]: )|(?<=\]\()|(?<=\[`))({names})::", r"crate::\1::", text)
+    return token._replace(text=text)
 
 
 def example(lines, where, line):
