@@ -4,8 +4,6 @@ A library becomes a module of src/lib.rs; a program becomes src/bin/NAME, and te
 that only proofs read are not written.
 """
 import pathlib
-import re
-import shutil
 
 import examples
 import imports
@@ -29,7 +27,7 @@ class Crate:
     @property
     def target(self):
         """The folder of its files in the Rust crate."""
-        return {"library": f"src/{self.name}", "program": f"src/bin/{self.name}", "tests": f"tests/{self.name}"}[self.what]
+        return {"library": "src/", "program": "src/bin/", "tests": "tests/"}[self.what] + self.name
 
     @property
     def root(self):

@@ -6,8 +6,7 @@ import that only clauses used is left out.
 from typing import NamedTuple
 
 import known
-from tokens import (BLANK, DOC, GAP, MARK, SPACE, WORD, Refused, Token, after, before, closing, index_of, text_at,
-                    words_in)
+from tokens import BLANK, DOC, GAP, SPACE, WORD, Refused, Token, after, before, closing, index_of, text_at
 
 COLUMNS = 100
 
@@ -294,7 +293,7 @@ def with_first_group(tokens, group):
     if not group:
         return tokens
     at = 0
-    while at < len(tokens) and (tokens[at].kind in (SPACE, GAP) or tokens[at].kind == DOC and tokens[at].text[2] == "!"):
+    while at < len(tokens) and (tokens[at].kind in (SPACE, GAP) or tokens[at].text.startswith("//!")):
         at += 1
     text = "\n".join(lines_of(group, COLUMNS, ""))
     front = [Token(SPACE, "\n", 0)] if any(token.kind == DOC for token in tokens[:at]) else []
@@ -305,23 +304,23 @@ def lines_of(group, columns, indent):
     """The imports of a group, a line or more for each module, in the order of rustfmt."""
     modules = {}
     for it in group:
-        modules.setdefault((it.visibility, it.path[:-1]), set()).add(it.path[-1] + (f" as {it.alias}" if it.alias else ""))
+        name = it.path[-1] + (f" as {it.alias}" if it.alias else "")
+        modules.setdefault((it.visibility, it.path[:-1]), set()).add(name)
     found = []
     for (visibility, front), names in modules.items():
         names = sorted(names, key=segment_order)
         if names == ["self"]:
             front, names = front[:-1], [front[-1]]
-        found.append((path_order(front, names), statement(visibility, front, names, columns, indent)))
+        start = f"{visibility} use ".lstrip() + "".join(part + "::" for part in front)
+        found.append((path_order(front, names), statement(start, names, columns, indent)))
     return [text for _, text in sorted(found)]
 
 
-def statement(visibility, front, names, columns, indent):
-    """One import, over several lines if it is long."""
-    start = f"{visibility} use " if visibility else "use "
-    path = "".join(part + "::" for part in front)
+def statement(start, names, columns, indent):
+    """One import of these names, over several lines if it is long."""
     if len(names) == 1:
-        return f"{start}{path}{names[0]};"
-    line = f"{start}{path}{{{', '.join(names)}}};"
+        return f"{start}{names[0]};"
+    line = f"{start}{{{', '.join(names)}}};"
     if len(line) <= columns:
         return line
     lines = [""]
@@ -329,7 +328,7 @@ def statement(visibility, front, names, columns, indent):
         if len(lines[-1]) + len(name) + 2 > columns - 4:
             lines.append("")
         lines[-1] += (" " if lines[-1] else "") + name + ","
-    return f"{start}{path}{{\n" + "".join(f"{indent}    {it}\n" for it in lines) + f"{indent}}};"
+    return f"{start}{{\n" + "".join(f"{indent}    {it}\n" for it in lines) + f"{indent}}};"
 
 
 def segment_order(text):

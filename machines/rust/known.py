@@ -84,7 +84,8 @@ PROOF_MODULES = {"examples", "laws"}
 # Rows of "What differs silently" that tokens show: a pattern over tokens that are joined by blanks, and what is wrong.
 DIFFERENT = [
     (r"\| (?:& )?(\w+) \| \1 \. clone \( \) \)", "a closure that clones: in Rattle its items are results"),
-    (r"(?<!\w )\( [\w.]+ \.\. \) \. (?!contains)|\bin [\w. ()]+ \.\. \{", "a range with no end that is iterated over: it ends in Rattle"),
+    (r"(?<!\w )\( [\w.]+ \.\. \) \. (?!contains)|\bin [\w. ()]+ \.\. \{",
+     "a range with no end that is iterated over: it ends in Rattle"),
     (r"\{ [^{}]*, \.\. [\w. ]+ \[", "the fields that are left from an element: Rattle reads it only if it has to"),
     (r"\bstringify !", "stringify!: Rattle breaks no line"),
     (r"\bthread ::", "threads"),

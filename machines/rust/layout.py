@@ -1,6 +1,4 @@
 """Writes tokens as text, and closes the gaps that left out parts leave."""
-import re
-
 from tokens import GAP, SPACE, text_at
 
 
@@ -47,5 +45,3 @@ def closed_gap(last, following):
         return ""
     return None
 
-
-BLANK_LINES = re.compile(r"\n{3,}")

@@ -5,7 +5,7 @@
 import re
 
 import known
-from tokens import (BLANK, COMMENT, DOC, GAP, LIFETIME, MARK, SPACE, STRING, WORD, Refused, Token, after, before, closing,
+from tokens import (BLANK, COMMENT, GAP, LIFETIME, MARK, SPACE, STRING, WORD, Refused, Token, after, before, closing,
                     index_of, is_outer_doc, text_at, tokens_of, words_in)
 
 LOOPS = ("for", "loop", "while")
@@ -105,7 +105,7 @@ def take_back_front(out):
 
 
 def bounds(tokens):
-    """Without the bound `Drop`: each value of Rust can be dropped. As a bound of a trait, it says that there is a size."""
+    """Without the bound `Drop`: each value of Rust can be dropped. As a bound of a trait it says that there is a size."""
     out, at = [], 0
     while at < len(tokens):
         if (tokens[at].kind, tokens[at].text) != (WORD, "Drop"):
@@ -177,7 +177,8 @@ def formatters(tokens):
 def formats(tokens, generics):
     """Whether a function with these generics takes a `Formatter<W>`. It may have no other generics."""
     open_at = index_of(tokens, generics, "(")
-    takes = "Formatter < W >" in " ".join(it.text for it in tokens[open_at:closing(tokens, open_at)] if it.kind not in BLANK)
+    taken = [it.text for it in tokens[open_at:closing(tokens, open_at)] if it.kind not in BLANK]
+    takes = "Formatter < W >" in " ".join(taken)
     if takes and "," in [it.text for it in tokens[generics:index_of(tokens, generics, ">")]]:
         raise Refused(tokens[generics].line, "a Formatter<W> beside other generics")
     return takes
@@ -254,7 +255,7 @@ def loop_body(tokens, at):
 
 def macro_names(tokens):
     """The macros that a file defines."""
-    return {text_at(tokens, after(tokens, after(tokens, at))) for at, it in enumerate(tokens) if it.text == "macro_rules"}
+    return {text_at(tokens, after(tokens, at + 1)) for at, it in enumerate(tokens) if it.text == "macro_rules"}
 
 
 def check_macros(tokens, of_crate):
