@@ -1,9 +1,10 @@
-"""Runs the tests by cargo, in the plain Rust crate that machines/rust/extract writes to dist/rust/tests.
+"""Runs the tests by cargo, in the plain Rust crate that machines/rust/extract writes to dist/rust/semphluk.
 
     tests = cargo_tests.ready()
     tests.rows()
 
-Each call returns how many passed, how many failed, and what was written. The first one builds all of them.
+Each call returns how many passed, how many failed, and what was written. The first one builds all of them. `needs` is
+how many bytes of memory a call takes.
 """
 import pathlib
 import shutil
@@ -13,7 +14,7 @@ import threading
 from kit import CRATES, DIST, TOP
 from outputs import DATA, counted_rows, counted_tests, file_names
 
-FOLDER = DIST / "rust" / "tests"
+FOLDER = DIST / "rust" / "semphluk"
 DEBIAN = pathlib.Path("/usr/share/cargo/registry")
 SECONDS = 120
 
@@ -37,6 +38,7 @@ def finds_crates(*words):
 class Tests:
     """The tests of the Rust crate."""
     name = "cargo, as plain Rust"
+    needs = 1e9
 
     def __init__(self):
         self.lock = threading.Lock()

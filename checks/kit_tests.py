@@ -3,7 +3,8 @@
     with kit_tests.ready() as tests:
         tests.rows()
 
-Each call returns how many passed, how many failed, and what was written.
+Each call returns how many passed, how many failed, and what was written. `needs` is how many bytes of memory a call
+takes, most of it to compile the crates.
 """
 import contextlib
 import re
@@ -23,6 +24,7 @@ def tried(crate, *words):
 class Tests:
     """The tests of a copy of the repository, in which the folders of tests/ are crates."""
     name = "the kit's rt try"
+    needs = 7e9
 
     def __init__(self, top):
         self.crates = top / "crates"
