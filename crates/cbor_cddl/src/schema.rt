@@ -4,7 +4,7 @@
 use cbor_floats::Width;
 
 /// A range of bytes: of the text, or of the values of literals.
-#[derive(Clone, Copy, PartialEq, Eq)]
+#[derive(Clone, Copy, PartialEq, Eq, Debug)]
 pub struct Span {
     /// The offset of the first byte.
     pub start: usize,
