@@ -40,3 +40,18 @@ impl Matcher<'_> {
         self.0.is_match(text)
     }
 }
+
+#[cfg(test)]
+mod tests {
+    use super::Regex;
+    use crate::rattle::alloc::Global;
+
+    #[test]
+    fn an_empty_text_matches_only_if_it_may() {
+        for (pattern, matches) in [("a", false), ("a*", true), ("^$", true)] {
+            let regex = Regex::new(Global, pattern).ok();
+            let matcher = regex.as_ref().and_then(|it| it.matcher(Global).ok());
+            assert_eq!(matcher.map(|mut it| it.is_match("")), Some(matches));
+        }
+    }
+}

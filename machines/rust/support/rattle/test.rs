@@ -34,3 +34,14 @@ impl<E: Into<Fail>> Outcome for Result<(), E> {
 pub fn run<R: Outcome>(test: impl FnOnce(HostRuntime) -> R) {
     test(HostRuntime::new()).check();
 }
+
+#[cfg(test)]
+mod tests {
+    use super::{Fail, run};
+
+    #[test]
+    #[should_panic(expected = "error: 1")]
+    fn an_error_fails_a_test() {
+        run(|_| Err::<(), Fail>(Fail::from(1)));
+    }
+}
