@@ -1,8 +1,8 @@
 """Processor seconds of each crate under the gate, read off while it runs.
 
 `Watch` looks at the kit's processes twice a second, and takes the seconds that the system counts for each. A process in
-a crate's folder counts for that crate, and for one of three kinds of work: the proof of the crate with its building,
-that of its tests, or a must-fail edit, which the kit tries in a folder of its own. What a process takes in its last half
+a crate's folder counts for that crate, and for one of two kinds of work: the proof of the crate with its building, or
+a must-fail edit, which the kit tries in a folder of its own. What a process takes in its last half
 second is lost.
 
     python3 checks/seconds.py FILE PAGE
@@ -20,7 +20,7 @@ import time
 
 TOP = pathlib.Path(__file__).resolve().parent.parent
 TICKS = os.sysconf("SC_CLK_TCK")
-KINDS = ["crate", "tests", "edits"]
+KINDS = ["crate", "edits"]
 BETWEEN = 0.5
 TABLE = re.compile(r"(?<=<!-- the gate's seconds -->\n)(.*?)(?=<!-- end -->)", re.DOTALL)
 
@@ -35,7 +35,7 @@ def owner(process):
         return name, "edits"
     if folder != str(TOP / "crates" / name):
         return None
-    return name, "tests" if "--test" in words else "crate"
+    return name, "crate"
 
 
 def taken(process):
@@ -88,7 +88,7 @@ def table_of(text):
     (_, clock, processors), *rows = [line.split() for line in text.splitlines()]
     rows = [(name, *map(int, numbers)) for name, *numbers in rows]
     totals = [sum(column) for column in list(zip(*rows))[1:]]
-    lines = ["| Crate | Seconds | Its tests | Its must-fail edits |", "|---|---|---|---|"]
+    lines = ["| Crate | Seconds | Its must-fail edits |", "|---|---|---|"]
     for name, *numbers in sorted(rows, key=lambda row: -sum(row[1:])):
         lines.append(f"| `{name}` | " + " | ".join(str(number or "") for number in numbers) + " |")
     lines.append("| all | " + " | ".join(map(str, totals)) + " |")
