@@ -184,8 +184,7 @@ test:
 
 # The gate: all proofs, stored runs and must-fail edits. It leaves the programs in dist/, and the libraries that make
 # builds the rest from; with LEFT= it leaves no program. One check for each processor runs at a time, and no more than
-# there are 4 GB of free
-# memory for; without the number rt counts on more memory for a large crate, and runs fewer at a time.
+# there are 4 GB of free memory for; without the number rt counts on more memory for a large crate, and runs fewer.
 JOBS = $(shell awk -v most="$$(nproc)" '/^MemAvailable/ { n = int($$2 / 4000000); print n < 1 ? 1 : n < most ? n : most }' \
     /proc/meminfo)
 LEFT = $(PROGRAMS)
