@@ -214,6 +214,7 @@ check-pages:
 	checks/page_files
 	packages/version
 	machines/rust/test
+	checks/budget --self-test
 	checks/compare/run --self-test
 	checks/compare/edn --self-test
 	checks/compare/cddl --self-test --count 300
