@@ -6,6 +6,7 @@ that only proofs read are not written.
 import pathlib
 
 import examples
+import exports
 import imports
 import layout
 import passes
@@ -27,12 +28,17 @@ class Crate:
     @property
     def target(self):
         """The folder of its files in the Rust crate."""
-        return {"library": "src/", "program": "src/bin/", "tests": "tests/"}[self.what] + self.name
+        return {"program": "src/bin/", "tests": "tests/"}.get(self.what, "src/") + self.name
+
+    @property
+    def is_module(self):
+        """Whether it is a module of the library."""
+        return self.what in ("library", "exports")
 
     @property
     def root(self):
         """The name of the file that its first file becomes."""
-        return "mod.rs" if self.what == "library" else "main.rs"
+        return "mod.rs" if self.is_module else "main.rs"
 
     def relative(self, path):
         """The path of a source file below its folder, without its ending."""
@@ -67,6 +73,9 @@ class Files:
     def __init__(self, crate):
         self.crate = crate
         read = {path: refusing(path, tokens_of, path.read_text(encoding="utf-8")) for path in crate.sources()}
+        self.exported = {}
+        if crate.what == "exports":
+            self.exported, read = read, {path: exports.plain(tokens) for path, tokens in read.items()}
         macros = frozenset().union(*map(passes.macro_names, read.values()))
         self.tokens = {path: refusing(path, passes.passed, tokens, macros) for path, tokens in read.items()}
 
@@ -135,16 +144,19 @@ def write_crate(out, top=TOP, table=HERE / "sources.txt"):
     crates = [Files(crate) for crate in crates_of(top, table)]
     traits = {name: methods for files in crates for name, methods in files.traits().items()}
     macros = {name: words for files in crates for name, words in files.macros().items()}
-    names = frozenset(files.crate.name for files in crates if files.crate.what == "library")
+    names = frozenset(files.crate.name for files in crates if files.crate.is_module)
     written = support(top)
     for files in crates:
-        is_library = files.crate.what == "library"
+        is_library = files.crate.is_module
         where = imports.Where(f"crate::{files.crate.name}" if is_library else "crate",
                               "crate" if is_library else NAME, names, traits, macros)
         for path in files.reached():
             turned = refusing(path, imports.turned, files.tokens[path], where)
             turned = refusing(path, examples.doc_tests, turned, where)
             written[target_of(files, path)] = layout.text_of(turned)
+    written["src/capi.rs"] = exports.c_calls([
+        ("::".join([f"crate::{files.crate.name}", *files.module(path)]), tokens)
+        for files in crates for path, tokens in sorted(files.exported.items())])
     written["src/lib.rs"] = root(top, where)
     replace(out, written)
     return len(written)

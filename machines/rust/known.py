@@ -73,7 +73,7 @@ ADAPTERS = {
 
 # Attributes that only proofs read, and those that are the same in Rust.
 PROOF_ATTRIBUTES = {"cycle", "tactic"}
-RUST_ATTRIBUTES = {"cfg", "cold", "derive", "error", "from", "inline", "must_use", "test"}
+RUST_ATTRIBUTES = {"cfg", "cold", "derive", "error", "from", "inline", "must_use", "repr", "test"}
 
 # Derives, but for `Drop`, which Rust needs no mark for.
 DERIVES = {"Clone", "Copy", "Debug", "Eq", "Error", "Hash", "Ord", "PartialEq", "PartialOrd"}
