@@ -170,10 +170,12 @@ def target_of(files, path):
 
 
 def support(top):
-    """The files that are not extracted: the stand-in of std, the adapters, Cargo's files and the licence."""
+    """The files that are not extracted: the stand-in of std, the adapters, the calls for Rust, Cargo's files and the
+    licence."""
     found = {}
-    for path in sorted((HERE / "support").rglob("*.rs")):
-        found[f"src/{path.relative_to(HERE / 'support')}"] = path.read_text(encoding="utf-8")
+    for folder in (HERE / "support", HERE / "api"):
+        for path in sorted(folder.rglob("*.rs")):
+            found[f"src/{path.relative_to(folder)}"] = path.read_text(encoding="utf-8")
     version = (top / "VERSION").read_text(encoding="utf-8").strip()
     manifest = (HERE / "Cargo.toml.in").read_text(encoding="utf-8")
     found["Cargo.toml"] = manifest.replace("@VERSION@", version)
