@@ -41,6 +41,7 @@ STATIC = $(DIST)/lib/libcbor_diag.a
 SHARED = $(DIST)/lib/libcbor_diag.so.0
 SQLITE = $(DIST)/lib/cbor_diag_sqlite.so
 POSTGRESQL = $(DIST)/postgresql/cbor_diag.so
+MODULES = $(DIST)/modules
 WASM = $(DIST)/wasm/cbor_diag.wasm
 PAGE = $(DIST)/semphluk.html
 HEADER = $(DIST)/include/cbor_diag.h
@@ -213,6 +214,7 @@ check-pages:
 	checks/words
 	checks/page_files
 	packages/version
+	machines/test
 	machines/rust/test
 	checks/budget --self-test
 	checks/compare/run --self-test
@@ -301,8 +303,15 @@ check-arm64:
 # The page for whoever has a browser and nothing else: the library for C as WebAssembly, in one file of HTML.
 page: $(PAGE)
 
-$(WASM): $(ARCHIVE) $(wildcard machines/wasm/*)
-	machines/wasm/build $(@D)
+# The LLVM modules that the kit makes of what it proves: those of what is in dist/.
+$(MODULES)/cbor_diag_c.bc: $(ARCHIVE) machines/keep.py
+	machines/keep.py $(MODULES) cbor_diag_c
+
+$(PROGRAMS:%=$(MODULES)/%.bc): $(MODULES)/%.bc: $(DIST)/bin/% machines/keep.py
+	machines/keep.py $(MODULES) $*
+
+$(WASM): $(MODULES)/cbor_diag_c.bc $(wildcard machines/*.py machines/*.h machines/wasm/*)
+	machines/wasm/build $(@D) $<
 
 $(PAGE): $(WASM) VERSION $(wildcard page/* crates/cbor_page/page/* examples/*)
 	page/make $(@D)/wasm/page.wasm $@
