@@ -14,10 +14,11 @@ HERE = pathlib.Path(__file__).resolve().parent
 TOP = HERE.parent.parent
 NAME = "semphluk"
 VERSION = TOP.joinpath("VERSION").read_text(encoding="utf-8").strip()
-LIBRARY = "libcbor_diag.so.0"
+LIBRARY, WINDOWS_LIBRARY = "libcbor_diag.so.0", "cbor_diag.dll"
 # By the number of the machine in the head of an ELF file: the tag of its wheels, with the oldest GNU C library that has
 # all that the shared library calls.
 TAGS = {62: "py3-none-manylinux_2_34_x86_64", 183: "py3-none-manylinux_2_17_aarch64"}
+WINDOWS_TAG = "py3-none-win_amd64"
 INFO = f"{NAME}-{VERSION}.dist-info"
 
 METADATA = f"""\
@@ -30,6 +31,7 @@ Keywords: cbor,diagnostic notation,hex dump,RFC 8949
 Classifier: Development Status :: 4 - Beta
 Classifier: Intended Audience :: Developers
 Classifier: Operating System :: POSIX :: Linux
+Classifier: Operating System :: Microsoft :: Windows
 Classifier: Programming Language :: Python :: 3
 Classifier: Programming Language :: Python :: Implementation :: CPython
 Classifier: Topic :: Utilities
@@ -58,9 +60,22 @@ def shared_library():
 def tag_of(library):
     """The tag of the wheel with this library."""
     machine = int.from_bytes(library[18:20], "little")
+    if is_for_windows(library):
+        return WINDOWS_TAG
     if library[:4] != b"\x7fELF" or machine not in TAGS:
-        raise SystemExit(f"{LIBRARY} is no library for x86-64 or ARM64 on Linux")
+        raise SystemExit(f"{LIBRARY} is no library for x86-64 or ARM64 on Linux, nor for x86-64 on Windows")
     return TAGS[machine]
+
+
+def is_for_windows(library):
+    """Whether this is a DLL for x86-64."""
+    head = int.from_bytes(library[60:64], "little")
+    return library[:2] == b"MZ" and library[head:head + 6] == b"PE\0\0\x64\x86"
+
+
+def name_of(library):
+    """The name of the library in the wheel."""
+    return WINDOWS_LIBRARY if is_for_windows(library) else LIBRARY
 
 
 def metadata():
@@ -75,12 +90,12 @@ def written_date():
 
 def files():
     """Each file of the wheel but the record of them, by its name there."""
-    package = HERE / "cbor_diag"
+    package, library = HERE / "cbor_diag", shared_library()
     found = {f"cbor_diag/{name}": (package / name).read_bytes() for name in ("__init__.py", "py.typed")}
-    found[f"cbor_diag/{LIBRARY}"] = shared_library()
+    found[f"cbor_diag/{name_of(library)}"] = library
     found[f"{INFO}/LICENSE"] = TOP.joinpath("LICENSE").read_bytes()
     found[f"{INFO}/METADATA"] = metadata()
-    found[f"{INFO}/WHEEL"] = f"{WHEEL}{tag_of(found[f'cbor_diag/{LIBRARY}'])}\n".encode()
+    found[f"{INFO}/WHEEL"] = f"{WHEEL}{tag_of(library)}\n".encode()
     return found
 
 
@@ -92,7 +107,7 @@ def build_wheel(wheel_directory, config_settings=None, metadata_directory=None):
     content = files()
     record = "".join(f"{name},sha256={hash_of(data)},{len(data)}\n" for name, data in content.items())
     content[f"{INFO}/RECORD"] = f"{record}{INFO}/RECORD,,\n".encode()
-    wheel = f"{NAME}-{VERSION}-{tag_of(content[f'cbor_diag/{LIBRARY}'])}.whl"
+    wheel = f"{NAME}-{VERSION}-{tag_of(shared_library())}.whl"
     with zipfile.ZipFile(os.path.join(wheel_directory, wheel), "w") as archive:
         for name, data in content.items():
             entry = zipfile.ZipInfo(name, written_date())

@@ -357,11 +357,12 @@ def _library_path() -> str:
         return named
     here = os.path.dirname(os.path.abspath(__file__))
     built = os.path.join(here, "..", "..", "..", "dist", "lib")
+    name = "cbor_diag.dll" if os.name == "nt" else "libcbor_diag.so.0"
     for folder in (here, built):
-        path = os.path.join(folder, "libcbor_diag.so.0")
+        path = os.path.join(folder, name)
         if os.path.exists(path):
             return path
-    return ctypes.util.find_library("cbor_diag") or "libcbor_diag.so.0"
+    return ctypes.util.find_library("cbor_diag") or name
 
 
 class _Part(ctypes.Structure):
