@@ -43,6 +43,7 @@ SQLITE = $(DIST)/lib/cbor_diag_sqlite.so
 POSTGRESQL = $(DIST)/postgresql/cbor_diag.so
 MODULES = $(DIST)/modules
 WASM = $(DIST)/wasm/cbor_diag.wasm
+CAT_WASM = $(DIST)/wasm/cborcat.wasm
 PAGE = $(DIST)/semphluk.html
 HEADER = $(DIST)/include/cbor_diag.h
 PKGCONFIG = $(DIST)/lib/pkgconfig/cbor_diag.pc
@@ -59,7 +60,7 @@ BELOW := $(filter-out cbor_diag_c $(PROGRAMS),$(shell sed -n 's/^\(cbor[a-z0-9_]
 
 .PHONY: all program library install try try-rt try-cargo try-nothing rust check-rust quick test gate planted check \
     check-pages check-commands check-docs check-cat check-editing check-allocations check-bindings check-packages tarball deb wheel vectors arm64 arm64-packages \
-    check-arm64 page check-page release compare bench clean sqlite postgresql install-sqlite install-postgresql deb-sqlite deb-postgresql deb-sql
+    check-arm64 page check-page npm check-npm windows windows-packages check-windows release compare bench clean sqlite postgresql install-sqlite install-postgresql deb-sqlite deb-postgresql deb-sql
 
 all: program library $(SCRIPT_FILES) $(MANUALS) $(COMPLETIONS)
 
@@ -313,6 +314,9 @@ $(PROGRAMS:%=$(MODULES)/%.bc): $(MODULES)/%.bc: $(DIST)/bin/% machines/keep.py
 $(WASM): $(MODULES)/cbor_diag_c.bc $(wildcard machines/*.py machines/*.h machines/wasm/*)
 	machines/wasm/build $(@D) $<
 
+$(CAT_WASM): $(MODULES)/cborcat.bc $(wildcard machines/*.py machines/*.h machines/wasm/*)
+	machines/wasm/build $(@D) $<
+
 $(PAGE): $(WASM) VERSION $(wildcard page/* crates/cbor_page/page/* examples/*)
 	page/make $(@D)/wasm/page.wasm $@
 
@@ -321,11 +325,40 @@ check-page: $(SHARED) $(DIST)/bin/cborcat
 	checks/page $(DIST)/bin/cborcat
 	page/check
 
+# The package for JavaScript: cborcat and the library as WebAssembly, for node, Deno, Bun and browsers.
+NPM = $(PACKAGES)/semphluk-$(VERSION).tgz
+npm: $(WASM) $(CAT_WASM)
+	packages/npm $(PACKAGES) $(DIST)/wasm
+
+# It, installed by npm, against the library and the program for Linux; in Chromium, where that is installed.
+check-npm: npm $(SHARED) $(DIST)/bin/cborcat
+	machines/wasm/build $(DIST)/wasm machines/systest.c
+	bindings/javascript/check $(NPM)
+
+# The programs and the library for Windows, by Debian's mingw-w64.
+WINDOWS = $(DIST)/windows
+windows: $(WINDOWS)/bin/cborcat.exe
+
+$(WINDOWS)/bin/cborcat.exe: $(MODULES)/cbor_diag_c.bc $(PROGRAMS:%=$(MODULES)/%.bc) \
+    $(wildcard machines/*.py machines/*.h machines/*.c machines/windows/*)
+	machines/windows/build $(WINDOWS) $(filter %.bc,$^) machines/systest.c
+
+windows-packages: windows
+	packages/windows $(PACKAGES) $(WINDOWS)
+	cd bindings/python && CBOR_DIAG_LIBRARY=$(abspath $(WINDOWS)/bin/cbor_diag.dll) \
+	    $(PYTHON) -B -c 'import backend; print(backend.build_wheel("$(abspath $(PACKAGES))"))'
+
+# What is in dist/windows, under wine.
+check-windows: windows-packages $(PROGRAM_FILES)
+	machines/windows/check $(WINDOWS) $(PACKAGES)
+
+# All of it, made and checked. The table says of each artefact what it needs and how it was tested.
 release: check-packages vectors arm64-packages page
-	@$(MAKE) --no-print-directory check-arm64 check-page
+	@$(MAKE) --no-print-directory check-arm64 check-page check-npm check-windows
 	install -D -m 644 $(PAGE) $(PACKAGES)/semphluk-$(VERSION).html
 	packages/version
-	cd $(PACKAGES) && sha256sum *$(VERSION)* > SHA256SUMS && cat SHA256SUMS
+	cd $(PACKAGES) && sha256sum *$(VERSION)* > SHA256SUMS
+	packages/artefacts $(PACKAGES)
 
 compare: $(PROGRAM)
 	checks/compare/run
