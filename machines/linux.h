@@ -76,6 +76,11 @@ struct linux_statx {
 /* Which facts of `statx` are there: those of POSIX's stat. */
 #define LINUX_BASIC_FACTS 0x7ff
 
+/* What glibc knows of a processor: the registers of `cpuid`, and what of them can be used. */
+struct linux_cpu_features {
+    uint32_t there[4], usable[4];
+};
+
 static inline size_t length_of(const char *text)
 {
     size_t n = 0;

@@ -8,10 +8,12 @@ import collections
 import re
 import sys
 
-# The words that the kit writes for x86-64.
+# The words that the kit writes for x86-64. The start of a program, which sees whether the processor has all that the
+# rest needs, is for the first processors of x86-64.
 X86_LAYOUT = "e-m:e-p270:32:32-p271:32:32-p272:64:64-i64:64-i128:128-f80:128-n8:16:32:64-S128"
 X86_TRIPLE = "x86_64-unknown-linux-gnu"
-X86_ATTRIBUTES = '"probe-stack"="inline-asm" "stack-probe-size"="3072" "target-cpu"="x86-64-v2"'
+X86_ATTRIBUTES = '"probe-stack"="inline-asm" "stack-probe-size"="3072"'
+X86_CPU, X86_FIRST_CPU = '"target-cpu"="x86-64-v2"', '"target-cpu"="x86-64"'
 
 # The calls of the kit's C side and of the C library, as the C files here have them.
 DECLARED = {
@@ -25,6 +27,8 @@ DECLARED = {
     "declare noundef i32 @rattle_errno()",
     "declare void @rattle_set_errno(i32 noundef)",
     "declare i64 @__sysv_signal(i32, i64)",
+    "declare ptr @__x86_get_cpuid_feature_leaf(i32)",
+    "declare i64 @__write(i32, ptr, i64)",
     "declare noundef i32 @__xpg_strerror_r(i32 noundef, ptr noundef, i64 noundef)",
     "declare noundef i32 @open(ptr noundef, i32 noundef, ...)",
     "declare noundef i64 @read(i32 noundef, ptr noundef, i64 noundef)",
@@ -45,6 +49,7 @@ DECLARED = {
 SYSTEM = ["open", "read", "write", "close", "isatty", "statx", "readlink", "ftruncate", "fchmod", "fsync", "fdatasync",
           "flock", "unlink", "rename"]
 NAMES = {"main": "program_main", "__sysv_signal": "system_signal", "__xpg_strerror_r": "system_strerror_r",
+         "__x86_get_cpuid_feature_leaf": "system_cpu_features", "__write": "system_write",
          **{name: f"system_{name}" for name in SYSTEM}}
 NAMED = re.compile(r"@(" + "|".join(NAMES) + r")\(")
 
@@ -98,17 +103,19 @@ def windows_heap():
 
 
 # A machine or system: what names it, and definitions that stand in the place of declared functions.
-Target = collections.namedtuple("Target", "layout triple attributes defined definitions")
+Target = collections.namedtuple("Target", "layout triple attributes cpu first_cpu defined definitions")
 TARGETS = {
     # The words that the kit writes for its own target of WebAssembly, with 64-bit memory.
     "wasm64": Target("e-m:e-p:64:64-p10:8:8-p20:8:8-i64:64-i128:128-n32:64-S128-ni:1:10:20", "wasm64-unknown-unknown",
-                     '"no-builtin-bcmp" "no-builtin-memcmp" "no-builtin-strlen" "target-cpu"="lime1"', [SHUFFLE],
-                     shuffle),
+                     '"no-builtin-bcmp" "no-builtin-memcmp" "no-builtin-strlen"', '"target-cpu"="lime1"',
+                     '"target-cpu"="lime1"', [SHUFFLE], shuffle),
     # The words of clang. Its stack is probed by a function of the compiler's library, which LLVM calls on its own.
     "windows": Target("e-m:w-p270:32:32-p271:32:32-p272:64:64-i64:64-i128:128-f80:128-n8:16:32:64-S128",
-                      "x86_64-w64-windows-gnu", '"target-cpu"="x86-64-v2"', ["@rattle_alloc", "@rattle_realloc"],
+                      "x86_64-w64-windows-gnu", "", X86_CPU, X86_FIRST_CPU, ["@rattle_alloc", "@rattle_realloc"],
                       windows_heap),
 }
+# The start of a program calls `write` by this name too, which needs no second declaration.
+TWICE = "@__write"
 
 
 def stop(line, why):
@@ -140,25 +147,28 @@ def converted(line, target):
             stop(line, "another machine")
         return made
     if line.startswith("attributes "):
-        line = line.replace(X86_ATTRIBUTES, target.attributes)
-        check_attributes(line, target.attributes)
+        known = [target.attributes, target.cpu, target.first_cpu]
+        for word, there in zip([X86_ATTRIBUTES, X86_CPU, X86_FIRST_CPU], known):
+            line = line.replace(word, there)
+        check_attributes(line, " ".join(known))
         return line
     if line.startswith("declare "):
         check_declared(line)
-    elif not line.startswith((";", "!")) and FOREIGN.search(re.sub(r'"[^"]*"', "", line.replace(SHUFFLE, ""))):
-        stop(line, "a part of another machine")
     if "@" in line:
         line = NAMED.sub(lambda found: f"@{NAMES[found[1]]}(", line)
         if SHUFFLE in target.defined:
             line = line.replace(SHUFFLE, PORTABLE_SHUFFLE)
+    if not line.startswith((";", "!")) and FOREIGN.search(re.sub(r'"[^"]*"', "", line.replace(SHUFFLE, ""))):
+        stop(line, "a part of another machine")
     return line
 
 
 def for_target(text, name):
     """The module for a target, as text, and the names of the functions that it exports."""
     target = TARGETS[name]
+    left_out = [f"{name}(" for name in [*target.defined, TWICE]]
     lines = [line for line in text.splitlines()
-             if not (line.startswith("declare ") and any(f"{name}(" in line for name in target.defined))]
+             if not (line.startswith("declare ") and any(name in line for name in left_out))]
     made = [converted(line, target) for line in lines]
     exported = [found[1] for line in lines if (found := re.match(r"define (?!internal).*?@(\w+)\(", line))]
     return "\n".join([*made, "", *target.definitions(), ""]), exported

@@ -10,6 +10,7 @@
 #ifdef ON_LINUX
 #define CALL(name) name
 #define system_strerror_r __xpg_strerror_r
+#define system_cpu_features __x86_get_cpuid_feature_leaf
 #define PROGRAM main
 #else
 #define CALL(name) system_##name
@@ -31,6 +32,7 @@ int CALL(flock)(int fd, int operation);
 int64_t CALL(readlink)(const char *path, char *buffer, size_t room);
 int CALL(statx)(int fd, const char *path, int flags, uint32_t mask, struct linux_statx *stat);
 int system_strerror_r(int error, char *buffer, size_t room);
+const struct linux_cpu_features *system_cpu_features(uint32_t leaf);
 int rattle_errno(void);
 void rattle_set_errno(int error);
 size_t rattle_arg_count(void);
@@ -127,6 +129,9 @@ static void words(void)
     tell("argument in 2 bytes", rattle_arg(1, buffer, 2) == -2);
     tell("no variable", rattle_env("LOST", buffer, sizeof buffer) == -1);
     print_bytes("variable", buffer, rattle_env("GIVEN", buffer, sizeof buffer));
+    /* What a program needs: SSE3, SSSE3, CMPXCHG16B, SSE4.1, SSE4.2 and POPCNT; and LAHF. */
+    tell("processor", (system_cpu_features(0)->usable[2] & 0x982201) == 0x982201);
+    tell("processor, more", (int64_t)(system_cpu_features(2)->usable[2] & 1));
     rattle_set_errno(LINUX_ENOSPC);
     tell("an error that was set", rattle_errno() == LINUX_ENOSPC);
 }

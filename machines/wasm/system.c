@@ -419,6 +419,16 @@ int64_t system_signal(int signal, int64_t handler)
     return 0;
 }
 
+/* glibc's `__x86_get_cpuid_feature_leaf`, by which the start of a program sees whether the processor has all that the
+ * rest needs. Here all is there: the module needs no instruction that a host may lack. */
+const struct linux_cpu_features *system_cpu_features(uint32_t leaf)
+{
+    static const struct linux_cpu_features all = { { ~0u, ~0u, ~0u, ~0u }, { ~0u, ~0u, ~0u, ~0u } };
+
+    (void)leaf;
+    return &all;
+}
+
 /* ---- the start ---- */
 
 /* `main` of the proved program. */

@@ -9,6 +9,7 @@
  */
 #define _WIN32_WINNT 0x0601
 #include <windows.h>
+#include <cpuid.h>
 #include <shellapi.h>
 #include <stdlib.h>
 #include <string.h>
@@ -426,6 +427,19 @@ int64_t system_signal(int signal, int64_t handler)
 {
     (void)signal, (void)handler;
     return 0;
+}
+
+/* glibc's `__x86_get_cpuid_feature_leaf`, by which the start of a program sees whether the processor has all that the
+ * rest needs: its leaf 0 is 1 of `cpuid`, and its leaf 2 is 80000001. */
+const struct linux_cpu_features *system_cpu_features(uint32_t leaf)
+{
+    static struct linux_cpu_features found;
+    uint32_t *of = found.there;
+
+    memset(&found, 0, sizeof found);
+    if ((leaf == 0 || leaf == 2) && __get_cpuid(leaf == 0 ? 1 : 0x80000001, of, of + 1, of + 2, of + 3))
+        memcpy(found.usable, found.there, sizeof found.usable);
+    return &found;
 }
 
 /* ---- the start ---- */
