@@ -314,7 +314,8 @@ $(PROGRAMS:%=$(MODULES)/%.bc): $(MODULES)/%.bc: $(DIST)/bin/% machines/keep.py
 $(WASM): $(MODULES)/cbor_diag_c.bc $(wildcard machines/*.py machines/*.h machines/wasm/*)
 	machines/wasm/build $(@D) $<
 
-$(CAT_WASM): $(MODULES)/cborcat.bc $(wildcard machines/*.py machines/*.h machines/wasm/*)
+# After the other, which leaves objects in the same folder.
+$(CAT_WASM): $(MODULES)/cborcat.bc $(wildcard machines/*.py machines/*.h machines/wasm/*) | $(WASM)
 	machines/wasm/build $(@D) $<
 
 $(PAGE): $(WASM) VERSION $(wildcard page/* crates/cbor_page/page/* examples/*)

@@ -87,7 +87,7 @@ def keep(crate, folder, kit):
     """Builds a program or the archive of a library, and keeps its module."""
     is_program = CRATES.joinpath(crate, "src/main.rt").exists()
     module, built = folder / f"{crate}.bc", folder / (f"{crate}.o" if is_program else f"lib{crate}.a")
-    toolchain = toolchain_in(folder / "toolchain", kit, module)
+    toolchain = toolchain_in(folder / f"{crate}.toolchain", kit, module)
     print(f"{crate}: proving it, and keeping its module", flush=True)
     run([PROGRESS, *build_words(crate, built, toolchain)], CRATES / crate)
     if not is_program:
