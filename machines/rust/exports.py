@@ -3,11 +3,13 @@
 A call of the library for C takes an allocator, slices and references. To C a slice is a pointer and a length, and the
 allocator is no argument. The kit's compiler does so by itself; here each call gets a function around it.
 """
+import re
 from typing import NamedTuple
 
 from tokens import BLANK, MARK, STRING, WORD, Refused, after, closing, index_of, text_at, tokens_of
 
-HEAD = '''//! The calls of the library for C, as `cbor_diag.h` declares them. The header says what a caller has to keep to: a
+HEAD = '''\
+//! The calls of the library for C, as `cbor_diag.h` declares them. The header says what a caller has to keep to: a
 //! pointer leads to as many elements as the length behind it says, and to memory of its own if the call writes to it.
 #![allow(clippy::missing_safety_doc)]
 
@@ -75,7 +77,7 @@ def exports_of(tokens):
 def arguments_of(tokens):
     """The arguments of a function, each as its name and its type."""
     texts = " ".join(it.text for it in tokens if it.kind not in BLANK).split(",")
-    return [tuple(part.replace(" ", "").replace("&mut", "&mut ").replace("*mut", "*mut ") for part in text.split(":", 1))
+    return [tuple(re.sub(r"([&*]mut)", r"\1 ", part.replace(" ", "")) for part in text.split(":", 1))
             for text in texts if text.strip()]
 
 

@@ -133,9 +133,9 @@ impl Error {
     /// How many bytes of the input come before the error.
     ///
     /// In bytes that is the malformed byte; the last byte of a text that is not UTF-8; the end of truncated bytes; or
-    /// the first byte after the item. In hex it is the first digit of that byte, or the digit that is wrong. In notation
-    /// and EDN it is the first byte with which the text cannot go on, or the end of a text that is only truncated.
-    /// `None` if the error has no place, as out of memory.
+    /// the first byte after the item. In hex it is the first digit of that byte, or the digit that is wrong. In
+    /// notation and EDN it is the first byte with which the text cannot go on, or the end of a text that is only
+    /// truncated. `None` if the error has no place, as out of memory.
     pub fn offset(&self) -> Option<usize> {
         self.offset
     }

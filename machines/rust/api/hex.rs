@@ -4,7 +4,7 @@
 //! use semphluk::hex;
 //!
 //! let dump = hex::to_hex(b"\x82\x01\x41\xff")?;
-//! assert_eq!(dump, "82       # array(2)\n   01    #   unsigned(1)\n   41    #   bytes(1)\n      ff #     \"\\xff\"\n");
+//! assert_eq!(dump.lines().next(), Some("82       # array(2)"));
 //! assert_eq!(hex::from_hex(&dump)?, b"\x82\x01\x41\xff");
 //! # Ok::<(), semphluk::Error>(())
 //! ```

@@ -62,8 +62,8 @@ impl Scanner {
         Scanner(Scanning::new())
     }
 
-    /// Feeds the next bytes, and reports how all bytes that were fed begin. Once there is an item or an error, it stays,
-    /// whatever is fed.
+    /// Feeds the next bytes, and reports how all bytes that were fed begin. Once there is an item or an error, it
+    /// stays, whatever is fed.
     pub fn feed(&mut self, bytes: &[u8]) -> Extent {
         self.0.feed(bytes).into()
     }

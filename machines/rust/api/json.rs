@@ -80,8 +80,8 @@ pub enum Fault {
     },
 }
 
-/// Finds why the bytes of an item have no JSON, or, if `strict` is set, none that keeps all of it. Returns `None` if they
-/// have one, if they are no item, and out of memory.
+/// Finds why the bytes of an item have no JSON, or, if `strict` is set, none that keeps all of it. Returns `None` if
+/// they have one, if they are no item, and out of memory.
 pub fn fault(bytes: &[u8], strict: bool) -> Option<Fault> {
     let to = if strict { Form::JsonStrict } else { Form::Json };
     let (mut place, mut detail) = (0, 0);

@@ -19,8 +19,8 @@ use crate::written::{line, bytes_of, text_of};
 /// Returns the name of the part of an item that a path leads to; `None` if it has no name. `kind` is the type of the
 /// outermost item where no tag says it, such as `COSE_Key`.
 ///
-/// The error is that of bytes that are not an item; [`ErrorKind::NoPart`](crate::ErrorKind::NoPart) if the path leads to no
-/// part; [`ErrorKind::NoType`](crate::ErrorKind::NoType) if there is no such type; or out of memory.
+/// The error is that of bytes that are not an item; [`ErrorKind::NoPart`](crate::ErrorKind::NoPart) if the path leads
+/// to no part; [`ErrorKind::NoType`](crate::ErrorKind::NoType) if there is no such type; or out of memory.
 pub fn name_at(bytes: &[u8], path: &str, kind: Option<&str>) -> Result<Option<String>> {
     let kind = kind.unwrap_or("").as_bytes();
     let name = text_of(|room| names_of::cbor_diag_name_at(Global, bytes, path.as_bytes(), kind, room))
@@ -28,11 +28,11 @@ pub fn name_at(bytes: &[u8], path: &str, kind: Option<&str>) -> Result<Option<St
     Ok(Some(name).filter(|name| !name.is_empty()))
 }
 
-/// An item in EDN over several lines as `cborcat` shows it: with names and notes, as comments. `kind` is the type of the
-/// item where no tag says it.
+/// An item in EDN over several lines as `cborcat` shows it: with names and notes, as comments. `kind` is the type of
+/// the item where no tag says it.
 ///
-/// The error is that for which the bytes are no item; [`ErrorKind::NoType`](crate::ErrorKind::NoType) if there is no such
-/// type; or out of memory.
+/// The error is that for which the bytes are no item; [`ErrorKind::NoType`](crate::ErrorKind::NoType) if there is no
+/// such type; or out of memory.
 pub fn named(bytes: &[u8], kind: Option<&str>) -> Result<String> {
     let kind = kind.unwrap_or("").as_bytes();
     bytes_of(|room| shown::cbor_diag_named(Global, bytes, kind, room))
@@ -40,7 +40,8 @@ pub fn named(bytes: &[u8], kind: Option<&str>) -> Result<String> {
         .map_err(|kind| Error::of_kind(kind, Form::Bytes, bytes))
 }
 
-/// Returns what is wrong with a file of names in TOML, with its line; `None` if nothing is. The only error is out of memory.
+/// Returns what is wrong with a file of names in TOML, with its line; `None` if nothing is. The only error is out of
+/// memory.
 ///
 /// ```
 /// use semphluk::names;

@@ -25,8 +25,8 @@ impl Default for Style<'_> {
 }
 
 /// Returns the lines of a page of HTML that shows items, one after the other, each line beside its own bytes, as
-/// `cborcat -t html` does. Of a truncated or malformed item they show the part that is there, and what is wrong. They are
-/// elements of HTML, to be put into a page; no tag in them comes from the bytes.
+/// `cborcat -t html` does. Of a truncated or malformed item they show the part that is there, and what is wrong. They
+/// are elements of HTML, to be put into a page; no tag in them comes from the bytes.
 ///
 /// The error is [`ErrorKind::NoType`](crate::ErrorKind::NoType) if there is no such type;
 /// [`ErrorKind::WrongNames`](crate::ErrorKind::WrongNames) if the names have an error, which

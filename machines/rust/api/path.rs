@@ -1,7 +1,7 @@
 //! Heads, the parts of an item that a path leads to, and their values.
 //!
-//! A path has steps joined by `/`, as `cborcat -p` reads them: an index, a key in EDN, where a plain word is a text, `@`
-//! for the item in a byte string, and `*` for each member. The empty path is the item itself.
+//! A path has steps joined by `/`, as `cborcat -p` reads them: an index, a key in EDN, where a plain word is a text,
+//! `@` for the item in a byte string, and `*` for each member. The empty path is the item itself.
 //!
 //! ```
 //! use semphluk::{edn, path};
@@ -74,8 +74,8 @@ pub struct Head {
     pub number: f64,
 }
 
-/// Reads one head at the front of the bytes, or a break, and returns how many bytes it takes. The content of a string and
-/// the items that a head announces are not looked at, so a walk over an item is this call and
+/// Reads one head at the front of the bytes, or a break, and returns how many bytes it takes. The content of a string
+/// and the items that a head announces are not looked at, so a walk over an item is this call and
 /// [`extent`](crate::extent).
 ///
 /// The error is [`ErrorKind::Truncated`] if the bytes end before the head does, or [`ErrorKind::Head`].

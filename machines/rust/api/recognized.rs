@@ -20,8 +20,8 @@ pub enum Input {
     Base64,
 }
 
-/// Returns the form that an input has, and the bytes that it stands for, as `cborcat` finds them. Unless it is hex, these
-/// are items, none or more, one after the other. No text is taken for bytes.
+/// Returns the form that an input has, and the bytes that it stands for, as `cborcat` finds them. Unless it is hex,
+/// these are items, none or more, one after the other. No text is taken for bytes.
 ///
 /// The error is [`ErrorKind::NotRecognized`] or [`ErrorKind::Memory`].
 ///

@@ -162,11 +162,11 @@ pub fn violation(bytes: &[u8], rules: Rules) -> Result<Option<Violation>> {
     }
 }
 
-/// Encodes a sequence of items, or none, so that they keep the rules. The result has the same items but for widths, kinds
-/// of length, the order of pairs and the forms of numbers. Bytes that keep the rules are returned as they are.
+/// Encodes a sequence of items, or none, so that they keep the rules. The result has the same items but for widths,
+/// kinds of length, the order of pairs and the forms of numbers. Bytes that keep the rules are returned as they are.
 ///
-/// The error is [`ErrorKind::NotEncodable`] if the bytes are not a sequence of items, or if no encoding of them keeps the
-/// rules: [`fault`] says why. The only other error is [`ErrorKind::Memory`].
+/// The error is [`ErrorKind::NotEncodable`] if the bytes are not a sequence of items, or if no encoding of them keeps
+/// the rules: [`fault`] says why. The only other error is [`ErrorKind::Memory`].
 pub fn reencode(bytes: &[u8], rules: Rules) -> Result<Vec<u8>> {
     answer_of(bytes.len(), |room| cbor_diag_reencode(Global, rules as u32, bytes, room))
         .map_err(|answer| ErrorKind::of(answer).into())
@@ -176,8 +176,8 @@ pub fn reencode(bytes: &[u8], rules: Rules) -> Result<Vec<u8>> {
 #[derive(Clone, Copy, PartialEq, Eq, Hash, Debug)]
 #[non_exhaustive]
 pub enum Fault {
-    /// A violation in the bytes that no encoding repairs. The bytes of two keys that are the same may differ, as `01` and
-    /// `18 01`.
+    /// A violation in the bytes that no encoding repairs. The bytes of two keys that are the same may differ, as `01`
+    /// and `18 01`.
     Violation(Violation),
     /// A violation in the items that were encoded anew, such as a text whose joined chunks are not in NFC.
     Written,
