@@ -1,9 +1,11 @@
 //! Decodes hex as people paste it: pairs of digits, also with blanks, commas, `0x`, `\x`, and `:`
-//! between pairs, and comments from `#` to the end of a line. `place_of_digit` finds a digit in
-//! such a text.
-ghost use Rattle.std.specs.Prelude.{◌≡◌, ◌≤◌, length, IfOk, IfErr, Ok, ◌≢◌, ℕ, List};
+//! between pairs, and with the comments of EDN, C, assemblers and SQL. `place_of_digit` finds a
+//! digit in such a text.
+ghost use Rattle.std.specs.Prelude.{◌≡◌, ◌≢◌, ◌≤◌, ℕ, List, [], ◌∷◌, length, IfOk, IfErr, Ok};
+ghost use Rattle.std.specs.Prelude.{if◌then◌else◌};
 ghost use Rattle.hex.specs.Hex.{decode_of};
-ghost use Rattle.cbor_inputs.specs.Loose.{turn_of, loose, is_gap};
+ghost use Rattle.cbor_inputs.specs.Loose.{turn_of, loose, unended};
+ghost use Rattle.cbor_inputs.specs.Loose.{plain_turn, begins_line_comment, is_gap};
 ghost use Rattle.cbor_inputs.specs.Texts.{unmarked};
 
 use crate::text::{byte_at, mark_len, unmarked};
@@ -20,16 +22,22 @@ pub(crate) enum Mode {
     Half,
     /// The second digit of a byte comes right before.
     Beside,
-    /// In a comment.
+    /// In a comment up to the end of the line.
     Comment,
-    /// Before the `x` of `0x` or `\x`.
+    /// In a comment up to the next `/`.
+    Slashes,
+    /// Before the `*` of `/*`.
+    Opening,
+    /// In a comment up to `*/`.
+    Block,
+    /// Before the `x` of `0x` or `\x`, or the `/` of `*/`.
     Prefix,
 }
 
 /// Why a text is not hex.
 #[derive(Clone, Copy, PartialEq, Eq, Debug)]
 pub enum HexFault {
-    /// The character at this place of the text is not a digit.
+    /// The character at this place of the text is not a digit; at its end, a comment is open.
     Digit(usize),
     /// The digit at this place of the text has no other beside it.
     Odd(usize),
@@ -40,35 +48,68 @@ impl Mode {
     fn turn(self, byte: u8, next: u8) -> (bool, Mode)
         ensures { result ≡ turn_of self byte next }
     {
-        if self == Mode::Comment {
-            return (
-                false,
-                if byte == b'\n' {
-                    Mode::Apart
-                } else {
-                    Mode::Comment
-                },
-            );
+        match self {
+            Mode::Apart => plain_turn(false, byte, next),
+            Mode::Beside => plain_turn(true, byte, next),
+            Mode::Half => (true, Mode::Beside),
+            Mode::Comment if byte != b'\n' => (false, Mode::Comment),
+            Mode::Slashes if byte != b'/' => (false, Mode::Slashes),
+            Mode::Opening => (false, Mode::Block),
+            Mode::Block if byte == b'*' && next == b'/' => (false, Mode::Prefix),
+            Mode::Block => (false, Mode::Block),
+            Mode::Comment | Mode::Slashes | Mode::Prefix => (false, Mode::Apart),
         }
-        if self == Mode::Prefix {
-            return (false, Mode::Apart);
-        }
-        if self == Mode::Half {
-            return (true, Mode::Beside);
-        }
-        if is_gap(byte) {
-            return (false, Mode::Apart);
-        }
-        if byte == b'#' {
-            return (false, Mode::Comment);
-        }
-        if next == b'x' && (byte == b'\\' || (byte == b'0' && self == Mode::Apart)) {
-            return (false, Mode::Prefix);
-        }
-        if byte == b':' && self == Mode::Beside && next.is_ascii_hexdigit() {
-            return (false, Mode::Apart);
-        }
-        (true, Mode::Half)
+    }
+
+    /// What is kept at the end of a text: a `/` of a comment that does not end.
+    fn is_open(self) -> bool
+        ensures { unended self ≡ if result then 47 ∷ [] else [] }
+    {
+        matches!(self, Mode::Slashes | Mode::Opening | Mode::Block)
+    }
+}
+
+/// Whether a character outside of comments and prefixes is kept, before this next one, and where
+/// the text is after it. A digit may be right before.
+fn plain_turn(beside: bool, byte: u8, next: u8) -> (bool, Mode)
+    ensures { result ≡ plain_turn beside byte next }
+{
+    if is_gap(byte) {
+        return (false, Mode::Apart);
+    }
+    if begins_line_comment(beside, byte, next) {
+        return (false, Mode::Comment);
+    }
+    if byte == b'/' && !beside {
+        let mode = if next == b'*' {
+            Mode::Opening
+        } else {
+            Mode::Slashes
+        };
+        return (false, mode);
+    }
+    if byte == b'\\' && next == b'\\' {
+        return (false, Mode::Apart);
+    }
+    if next == b'x' && (byte == b'\\' || (byte == b'0' && !beside)) {
+        return (false, Mode::Prefix);
+    }
+    if byte == b':' && beside && next.is_ascii_hexdigit() {
+        return (false, Mode::Apart);
+    }
+    (true, Mode::Half)
+}
+
+/// Whether a character begins a comment up to the end of the line: `#` anywhere, `//` and `--`
+/// where no digit is right before, and so `;`, which may also stand before a blank or a line end.
+fn begins_line_comment(beside: bool, byte: u8, next: u8) -> bool
+    ensures { result ≡ begins_line_comment beside byte next }
+{
+    match byte {
+        b'#' => true,
+        b';' => !beside || is_gap(next) || next == 0,
+        b'/' | b'-' => !beside && next == byte,
+        _ => false,
     }
 }
 
@@ -94,6 +135,9 @@ fn kept(alloc: Global, text: &[u8]) -> Result<Vec<u8>, AllocError>
         }
         mode = after;
         at += 1;
+    }
+    if mode.is_open() {
+        digits.push(b'/')?;
     }
     Ok(digits)
 }
@@ -158,7 +202,7 @@ fn first_wrong(digits: &[u8]) -> usize {
 fn fault_of(text: &[u8], count: usize) -> HexFault {
     let at = place_of_digit(text, count);
     let ends = match text.get(at) {
-        Some(byte) => is_gap(*byte) || matches!(*byte, b'#' | b':' | b'\\'),
+        Some(byte) => is_gap(*byte) || matches!(*byte, b'#' | b':' | b';' | b'/' | b'\\'),
         None => true,
     };
     if ends && count % 2 == 1 {
