@@ -15,10 +15,17 @@ def fault(row):
     return "none" if place is None else str(place)
 
 
+def printed(row):
+    found = inputs_form.printed(row.input)
+    return f"{found[0]} h'{bytes(byte for byte, _ in found[1]).hex()}'" if found else "none"
+
+
 CALLS = {
     "recognize": recognized,
     "also": lambda row: inputs_form.also(row.input),
     "is_text": lambda row: "true" if inputs_form.is_text(row.input) else "false",
     "text_fault": fault,
+    "printed": printed,
+    "printed_place": lambda row: str(inputs_form.printed_place(row.input, int(row.argument))),
     "show_items": lambda row: path_form.show_items(row.bytes(), row.argument),
 }

@@ -1,4 +1,4 @@
-"""Which form an input has, as people paste it: share/man/cborcat.1, FORMS."""
+"""Which form an input has, as people paste it: docs/INPUTS.md."""
 
 import re
 
@@ -7,10 +7,14 @@ from edn_form import edn_to_bytes
 from edn_tokens import decoded
 from extents import utf8_fault
 from item import Refused, utf8
+from printed_form import printed as printed_in
 
 MARK = b"\xef\xbb\xbf"
 # a colon is only between two bytes
-BYTE = re.compile(r"(:?)(?:0x|\\x)?([0-9A-Fa-f]{2})")
+BYTE = re.compile(r"(:?)(?:\\*(?<=\\)x|0x)?([0-9A-Fa-f]{2})")
+COMMENT = re.compile(r"//[^\n]*|--[^\n]*|/\*(?:.|\n)*?\*/|/[^/*][^/]*/|;[^\n]*")
+# these begin comments right behind a byte, too
+BESIDE = re.compile(r"#[^\n]*|;(?=[ \t\r\n,]|\Z)[^\n]*")
 
 
 def text_fault(data):
@@ -39,15 +43,15 @@ def as_hex(text):
     digits, at, after_byte = "", 0, False
     while at < len(text):
         byte = BYTE.match(text, at)
-        if byte and (after_byte or not byte[1]):
-            digits, at = digits + byte[2], byte.end()
-        elif text[at] == "#":
-            at = (text + "\n").index("\n", at)
+        comment = BESIDE.match(text, at) or (not after_byte and COMMENT.match(text, at))
+        if comment:
+            at, after_byte = comment.end(), False
+        elif byte and (after_byte or not byte[1]):
+            digits, at, after_byte = digits + byte[2], byte.end(), True
         elif text[at] in " \t\r\n,":
-            at += 1
+            at, after_byte = at + 1, False
         else:
             return None
-        after_byte = bool(byte)
     return bytes.fromhex(digits)
 
 
@@ -103,3 +107,14 @@ def recognize(data):
 def also(data):
     """A later form that reads the input too."""
     return next((name for name, _ in readings(data)[1:]), "none")
+
+
+def printed(data):
+    """What a text of bytes is that a program printed or has, with the bytes and their places; None for any other."""
+    return printed_in(data.removeprefix(MARK).decode("utf-8", "surrogateescape"))
+
+
+def printed_place(data, number):
+    """The place of the byte of a number."""
+    places = [at for _, at in printed(data)[1]]
+    return places[number] + len(data) - len(data.removeprefix(MARK)) if number < len(places) else len(data)

@@ -13,14 +13,16 @@ use crate::each::Each;
 use crate::input::{MORE, block_len, read_into};
 use crate::next::Next;
 use crate::output::Target;
+use crate::recognized::is_named_bytes;
 use crate::run::Runner;
-use cbor_inspect::{End, Form, Naming, Stream};
+use cbor_inputs::Input;
+use cbor_inspect::{End, Form, Naming, Stream, skip_items};
 use cbor_places::Piece;
 use cbor_stats::Stats;
 use cborcat_arguments::{Job, View, show_of};
 use cborcat_messages::{
     Origin, Status, report_end, report_few, report_long, report_lost, report_none_left, say,
-    say_shape,
+    say_line_feed, say_shape,
 };
 use cborcat_views::{Indexed, Page, ShowsItem, Views, Written};
 use std::alloc::AllocError;
@@ -54,6 +56,8 @@ pub struct Conversion<'a> {
     pub long: bool,
     /// Whether an item was converted.
     pub any: bool,
+    /// Whether the last item is a line feed behind others, in a file that is named as bytes.
+    ends_line: bool,
     /// How many items were passed, if the number of one is asked for.
     index: usize,
     /// Whether a simple value below 32 in two bytes was reported.
@@ -105,6 +109,7 @@ impl<'a> Conversion<'a> {
             within: 0,
             long: false,
             any: false,
+            ends_line: false,
             index: 0,
             noted: false,
             broken: false,
@@ -256,6 +261,7 @@ impl<'a> Conversion<'a> {
         if !self.any && passed > 0 && self.job.item.is_none() {
             self.note_shape(passed);
         }
+        self.note_line_feed(passed);
         self.any |= passed > 0;
         self.note_simple(passed);
         if is_shown && self.note_misfit(passed).is_err() {
@@ -389,6 +395,9 @@ impl<'a> Conversion<'a> {
             }
         }
         self.note_few_changed();
+        if self.ends_line {
+            say_line_feed(self.rt, self.origin);
+        }
         if let View::At(byte) = self.job.view {
             let count = self.came;
             let what = format_args!("no item has this byte; {count} bytes came");
@@ -396,6 +405,21 @@ impl<'a> Conversion<'a> {
             self.ended(Status::Bad);
         }
         Next::NextInput
+    }
+
+    /// Notes whether the last of the items that were passed is a line feed behind others: an editor
+    /// or `echo` adds it to a file.
+    fn note_line_feed(&mut self, passed: usize) {
+        let is_file = self.origin.form == Input::Bytes && is_named_bytes(self.origin.name);
+        if passed == 0 || !is_file {
+            return;
+        }
+        self.ends_line = match self.stream.passed(passed) {
+            [before @ .., b'\n'] => {
+                (self.any || !before.is_empty()) && skip_items(before, false).end == End::Done
+            }
+            _ => false,
+        };
     }
 
     /// Says which items that were to be changed alone are not there.

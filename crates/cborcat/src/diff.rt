@@ -53,15 +53,13 @@ impl Diff<'_> {
         let data = if is_text {
             data_of(self.rt, self.job, (name, &text))?
         } else {
-            Data {
-                form: Input::Bytes,
-                bytes: Vec::from_slice(self.rt.alloc(), &text).map_err(|_| Status::Trouble)?,
-                may_be_notation: false,
-            }
+            let bytes = Vec::from_slice(self.rt.alloc(), &text);
+            Data::of(Input::Bytes, bytes.map_err(|_| Status::Trouble)?)
         };
         let origin = Origin {
             name,
             form: data.form,
+            is_printed: data.printed.is_some(),
             text: &text,
             color: self.job.color,
             changed: false,

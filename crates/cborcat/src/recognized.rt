@@ -1,11 +1,15 @@
 //! Finds the form of an input from the arguments, the file name or the text, and the bytes that the
-//! text stands for. Says so if another form reads the text, too, or if no form does.
+//! text stands for. Says so if it is a dump or code, if another form reads the text, too, or if no
+//! form does.
 
-use cbor_inputs::{HexFault, Input, Recognized, Refusal, is_text, looks_like, recognize};
+use cbor_inputs::{
+    HexFault, Input, Pasted, Printed, Recognized, Refusal, looks_like, printed_bytes, recognize,
+};
 use cbor_inspect::{End, skip_items};
 use cborcat_arguments::Job;
 use cborcat_messages::{
-    Status, report_refusal, say_count, say_named_bytes, say_none, say_out_of_memory, say_taken,
+    Status, report_refusal, say_named_bytes, say_none, say_out_of_memory, say_pasted, say_printed,
+    say_taken,
 };
 
 /// What a text stands for.
@@ -15,18 +19,24 @@ pub struct Data {
     pub form: Input,
     /// The bytes that it stands for.
     pub bytes: Vec<u8>,
+    /// What it is, if it is bytes as a program printed or has them; the form is hex then.
+    pub printed: Option<Printed>,
     /// Whether it was taken for hex, and its bytes are no items: it may have been meant as
     /// notation.
     pub may_be_notation: bool,
+    /// Whether it goes on behind the bytes, in a way that is no hex.
+    pub is_cut: bool,
 }
 
 impl Data {
     /// The data of a form that is known.
-    fn of(form: Input, bytes: Vec<u8>) -> Data {
+    pub fn of(form: Input, bytes: Vec<u8>) -> Data {
         Data {
             form,
             bytes,
+            printed: None,
             may_be_notation: false,
+            is_cut: false,
         }
     }
 }
@@ -50,7 +60,10 @@ pub fn form_of(job: &Job, name: &str) -> Option<Input> {
 pub fn data_of(rt: &HostRuntime, job: &Job, input: (&str, &[u8])) -> Result<Data, Status> {
     let data = match form_of(job, input.0) {
         Some(form) => data_in(rt, job, input, form)?,
-        None => recognized(rt, job, input)?,
+        None => match data_printed(rt, input)? {
+            Some(data) => data,
+            None => recognized(rt, job, input)?,
+        },
     };
     if data.bytes.is_empty() && !job.show.one {
         say_none(rt, input);
@@ -58,11 +71,61 @@ pub fn data_of(rt: &HostRuntime, job: &Job, input: (&str, &[u8])) -> Result<Data
     Ok(data)
 }
 
-/// The data of an input in this form.
+/// The data of an input in this form. What is no hex, but bytes as programs print and have them, is
+/// taken for hex.
 fn data_in(rt: &HostRuntime, job: &Job, input: (&str, &[u8]), form: Input) -> Result<Data, Status> {
     match form.decode(rt.alloc(), input.1) {
         Ok(bytes) => Ok(Data::of(form, bytes)),
-        Err(refusal) => Err(report_refusal(rt, job.color, input, refusal)),
+        Err(Refusal::Hex(fault)) => match data_printed(rt, input)? {
+            Some(data) => Ok(data),
+            None => refused(rt, job, input, Refusal::Hex(fault)),
+        },
+        Err(refusal) => refused(rt, job, input, refusal),
+    }
+}
+
+/// The data of an input that is bytes as a program printed or has them, if it is that: a line says
+/// so. In a file that is named as bytes they have to be items.
+fn data_printed(rt: &HostRuntime, input: (&str, &[u8])) -> Result<Option<Data>, Status> {
+    let (name, text) = input;
+    let (printed, bytes) = match printed_bytes(rt.alloc(), text) {
+        Ok(Some(found)) => found,
+        Ok(None) => return Ok(None),
+        Err(_) => return Err(say_out_of_memory(rt, name)),
+    };
+    if is_named_bytes(name) && skip_items(&bytes, false).end != End::Done {
+        return Ok(None);
+    }
+    if say_printed(rt, input, printed).is_err() {
+        return Err(say_out_of_memory(rt, name));
+    }
+    Ok(Some(Data {
+        printed: Some(printed),
+        ..Data::of(Input::Hex, bytes)
+    }))
+}
+
+/// Says why an input does not have its form. With `--partial`, the data of hex that has an odd
+/// digit is that of the pairs before it.
+fn refused(
+    rt: &HostRuntime,
+    job: &Job,
+    input: (&str, &[u8]),
+    refusal: Refusal,
+) -> Result<Data, Status> {
+    let (name, text) = input;
+    let status = report_refusal(rt, job.color, input, refusal);
+    let pairs = match refusal {
+        Refusal::Hex(HexFault::Odd(at)) if job.partial => text.get(..at).unwrap_or(b""),
+        _ => return Err(status),
+    };
+    match Input::Hex.decode(rt.alloc(), pairs) {
+        Ok(bytes) => Ok(Data {
+            is_cut: true,
+            ..Data::of(Input::Hex, bytes)
+        }),
+        Err(Refusal::Memory) => Err(say_out_of_memory(rt, name)),
+        Err(_) => Err(status),
     }
 }
 
@@ -82,11 +145,7 @@ fn recognized(rt: &HostRuntime, job: &Job, input: (&str, &[u8])) -> Result<Data,
     {
         return data_in(rt, job, input, form);
     }
-    let status = report_refusal(rt, job.color, input, refusal);
-    if status == Status::Bad && is_text(text) && !are_digits(refusal, text) {
-        say_count(rt, text, Input::Bytes);
-    }
-    Err(status)
+    refused(rt, job, input, refusal)
 }
 
 /// The data of an input in the form that was recognized. Hex that is no items is bytes in a file
@@ -106,23 +165,16 @@ fn taken(
     if is_whole && say_taken(rt, name, text, &found).is_err() {
         return Err(say_out_of_memory(rt, name));
     }
+    if looks_like(text) == Some(Pasted::Dump) {
+        say_pasted(rt, Some(Pasted::Dump));
+    }
     Ok(Data {
-        form: found.form,
-        bytes: found.bytes,
         may_be_notation: !is_whole,
+        ..Data::of(found.form, found.bytes)
     })
 }
 
 /// Whether the name of a file says that it has bytes.
-fn is_named_bytes(name: &str) -> bool {
+pub fn is_named_bytes(name: &str) -> bool {
     name.ends_with(".cbor") || name.ends_with(".cose") || name.ends_with(".cwt")
-}
-
-/// Whether a text that has no form is digits of hex with what people put between them: nobody means
-/// it as bytes.
-fn are_digits(refusal: Refusal, text: &[u8]) -> bool {
-    matches!(refusal, Refusal::Hex(HexFault::Odd(_)))
-        || text.iter().all(|byte| {
-            byte.is_ascii_hexdigit() || byte.is_ascii_whitespace() || matches!(*byte, b',' | b':')
-        })
 }

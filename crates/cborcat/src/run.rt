@@ -9,7 +9,7 @@ use crate::naming::{shown_of, tables_of};
 use crate::next::Next;
 use crate::output::{Target, close, open};
 use crate::recognized::{data_of, form_of};
-use cbor_inputs::{Input, looks_like};
+use cbor_inputs::{Input, Pasted, looks_like};
 use cbor_inspect::{Form, Naming};
 use cbor_marks::Marks;
 use cborcat_arguments::{Job, View};
@@ -170,18 +170,17 @@ impl Runner<'_> {
         let origin = Origin {
             name,
             form,
+            is_printed: false,
             text,
             color,
             changed: !self.job.changes.is_empty(),
         };
         let pasted = looks_like(&bytes);
         let (next, end) = self.items(&origin, bytes, input);
-        if end == Ended::BadAtOnce {
-            if at > 0 {
-                say_no_text(self.rt, at);
-            }
-            say_pasted(self.rt, pasted);
+        if end == Ended::BadAtOnce && at > 0 {
+            say_no_text(self.rt, at);
         }
+        self.say_bytes(pasted, end);
         next
     }
 
@@ -201,6 +200,15 @@ impl Runner<'_> {
         (next, end)
     }
 
+    /// Says what bytes may be that are not CBOR. DER, and what is behind a byte order mark, may
+    /// begin with items.
+    fn say_bytes(&self, pasted: Option<Pasted>, end: Ended) {
+        let begins = matches!(pasted, Some(Pasted::Der | Pasted::Mark));
+        if end == Ended::BadAtOnce || (end == Ended::Bad && begins) {
+            say_pasted(self.rt, pasted);
+        }
+    }
+
     /// Converts an input that was read to its end, in the form that is named or recognized.
     fn text(&mut self, name: &str, text: &[u8]) -> Next {
         let data = match data_of(self.rt, self.job, (name, text)) {
@@ -215,11 +223,17 @@ impl Runner<'_> {
         let origin = Origin {
             name,
             form: data.form,
+            is_printed: data.printed.is_some(),
             text,
             color,
             changed: !self.job.changes.is_empty(),
         };
+        let pasted = looks_like(&data.bytes);
         let (next, end) = self.items(&origin, data.bytes, &mut none);
+        self.say_bytes(pasted, end);
+        if data.is_cut {
+            self.ended(Status::Bad);
+        }
         if data.may_be_notation && end != Ended::Other {
             let status = say_notation(self.rt, name, text);
             self.ended(status);

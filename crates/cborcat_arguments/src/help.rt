@@ -84,7 +84,8 @@ Forms, i for input and o for output:
   pretty       o  notation with comments, over several lines where it is long
   diag, edn   io  diagnostic notation (EDN); JSON is read as EDN
   hex         io  input: pairs of hex digits, which may have blanks , : 0x \\x
-                  between them, and comments after #; output: a dump
+                  between them, and comments (# // /* */ / / ; --), or else a
+                  dump or code of another program; output: a dump
   digits       o  hex on one line
   bytes, cbor io  CBOR
   base64      i   either alphabet, with padding or without
@@ -100,11 +101,13 @@ Forms, i for input and o for output:
 
 Without -f the form is recognized. Input with a byte that no text can have is
 taken as bytes, and shown as it arrives. Text is read to its end before any of
-it is shown. A text of pairs of hex digits is hex, even if its item is truncated
-or malformed. Other text is diag or base64: the first of the two that reads all
-of it. The name of a file may say more: .hex is hex; .edn, .diag and .json are
-diag. Text is taken for bytes only in a file named .cbor, .cose or .cwt that
-cannot be read to its end as any form of text.
+it is shown. Dumps of od, xxd, hexdump, tcpdump, Wireshark and gdb, arrays and
+strings of programs, and hex in quotes are read, and a line says so. A text of
+pairs of hex digits is hex, even if its item is truncated or malformed. Other
+text is diag or base64: the first of the two that reads all of it. The name of a
+file may say more: .hex is hex; .edn, .diag and .json are diag. Text is taken
+for bytes only in a file named .cbor, .cose or .cwt that cannot be read to its
+end as any form of text.
 
 RULES (each includes the grammar of RFC 8949):
   preferred; core, length-first (deterministic): encodings of RFC 8949

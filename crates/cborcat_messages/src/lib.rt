@@ -26,6 +26,6 @@ pub use path::{path_to, push_steps};
 pub use shape::say_shape;
 pub use status::Status;
 pub use text::{
-    report_refusal, say_count, say_named_bytes, say_no_text, say_none, say_notation, say_pasted,
-    say_taken,
+    report_refusal, say_line_feed, say_named_bytes, say_no_text, say_none, say_notation,
+    say_pasted, say_printed, say_taken,
 };

@@ -1,7 +1,7 @@
 //! `Origin`: the name, form and text of an input. Messages use them to name its bytes.
 
 use crate::lines::{label, say_at};
-use cbor_inputs::{Input, place_of_digit};
+use cbor_inputs::{Input, place_of_digit, place_of_printed};
 use cbor_messages::{Position, position_of};
 use cbor_places::Places;
 use cborcat_arguments::Color;
@@ -15,6 +15,8 @@ pub struct Origin<'a> {
     pub name: &'a str,
     /// The form that it was read in.
     pub form: Input,
+    /// Whether its text is a dump or code that has the bytes.
+    pub is_printed: bool,
     /// What it is in that form, if it is not bytes.
     pub text: &'a [u8],
     /// Whether messages of it have colours.
@@ -28,6 +30,7 @@ impl Origin<'_> {
     pub(crate) fn digits(&self, byte: usize) -> Option<usize> {
         match self.form {
             _ if self.changed => None,
+            Input::Hex if self.is_printed => Some(place_of_printed(self.text, byte)),
             Input::Hex => Some(place_of_digit(self.text, byte.saturating_mul(2))),
             _ => None,
         }

@@ -1,9 +1,10 @@
 //! Says why a text does not have its form, in which form it was read, and what it may be.
 
 use crate::lines::{label, say_at, say_excerpt, say_out_of_memory, word_of};
+use crate::origin::Origin;
 use crate::status::Status;
 use cbor_grammar::Error;
-use cbor_inputs::{HexFault, Input, Pasted, Recognized, Refusal, looks_like};
+use cbor_inputs::{HexFault, Input, Pasted, Printed, Recognized, Refusal, looks_like};
 use cbor_inspect::{End, skip_items};
 use cbor_messages::Excerpt;
 use cborcat_arguments::Color;
@@ -25,6 +26,9 @@ pub fn report_refusal(
     let (name, text) = input;
     let status = match refusal {
         Refusal::Memory => say_out_of_memory(rt, name),
+        Refusal::Hex(HexFault::Digit(at)) if at == text.len() => {
+            report_character(rt, color, input, (at, "the comment does not end"))
+        }
         Refusal::Hex(HexFault::Digit(at)) => {
             report_character(rt, color, input, (at, "not a hex digit"))
         }
@@ -76,11 +80,21 @@ pub fn say_pasted(rt: &HostRuntime, pasted: Option<Pasted>) {
             "PEM? Give the base 64 between its lines of dashes: grep -v -e ----- FILE | cborcat"
         }
         Pasted::Utf16 => "UTF-16? Make it UTF-8 first: iconv -f UTF-16 -t UTF-8 FILE | cborcat",
+        Pasted::Mark => "a byte order mark before the bytes (ef bb bf)? --offset=3 skips it",
         Pasted::Dashes => "hex? Write blanks in place of - ( )",
-        Pasted::Braces => "an array of C? Leave out the braces",
-        Pasted::Literal => "bytes of a program? Give their hex; in Python that is b'..'.hex()",
-        Pasted::Hexdump => "a dump of hexdump -C? Use xxd -p FILE, or the file itself",
-        Pasted::Xxd => "a dump of xxd? Use xxd -r FILE | cborcat",
+        Pasted::Jwt => {
+            "a JWT? It is JSON in base64url, not CBOR: cut -d. -f2 FILE | basenc --base64url -d"
+        }
+        Pasted::Hc1 => "a health certificate (HC1:)? Decode its base 45, then unpack it with zlib",
+        Pasted::Ur => "a UR? Decode its bytewords first",
+        Pasted::Mdoc => "a device engagement? Give the base 64 after mdoc: alone",
+        Pasted::Gzip => "gzip? Unpack it first: gzip -dc FILE | cborcat",
+        Pasted::Der => "DER, as in certificates? openssl asn1parse -inform DER -in FILE shows it",
+        Pasted::Dump => {
+            "a dump? Its first column has to count the bytes, which are pairs of digits: od -tx1, \
+             xxd or hexdump -C"
+        }
+        Pasted::Elided => "cut by Node.js? Give all of it: buffer.toString('hex')",
     };
     let _ = eprintln!(rt; "  {hint}");
 }
@@ -104,7 +118,36 @@ pub fn say_named_bytes(rt: &HostRuntime, name: &str) {
     );
 }
 
-/// Says which form was taken, if another one reads the input, too.
+/// Says that a text was read as bytes that a program printed or has, and whether it is hex, too.
+pub fn say_printed(
+    rt: &HostRuntime,
+    input: (&str, &[u8]),
+    printed: Printed,
+) -> Result<(), AllocError> {
+    let (name, text) = input;
+    let also = match Input::Hex.decode(rt.alloc(), text) {
+        Ok(_) => "; -f hex reads it, too",
+        Err(Refusal::Memory) => return Err(AllocError),
+        Err(_) => "",
+    };
+    let (name, words) = (label(name), printed.words());
+    let _ = eprintln!(rt; "cborcat: {name}: read as {words}{also}");
+    Ok(())
+}
+
+/// Says that the last item of a file of bytes is a line feed.
+pub fn say_line_feed(rt: &HostRuntime, origin: &Origin) {
+    let name = label(origin.name);
+    let _ = eprintln!(rt;
+        "cborcat: {name}: the last byte (0a) is read as the item 10\n  \
+         a line feed that an editor or echo added? head -c -1 {name} | cborcat -f bytes"
+    );
+}
+
+/// How many letters of base 64 are few: they may have been meant as a word.
+const FEW_LETTERS: usize = 8;
+
+/// Says which form was taken, if another one reads the input, too, or if the input may be a word.
 pub fn say_taken(
     rt: &HostRuntime,
     name: &str,
@@ -114,12 +157,21 @@ pub fn say_taken(
     if found.bytes.is_empty() {
         return Ok(());
     }
+    let (label, word) = (label(name), word_of(found.form));
     if let Some(other) = found.also(rt.alloc(), text)? {
+        let other = word_of(other);
+        let _ = eprintln!(rt; "cborcat: {label}: read as {word}; -f {other} reads it, too");
+    }
+    let letters = text.strip_prefix(b"\xef\xbb\xbf").unwrap_or(text);
+    let letters = letters.trim_ascii();
+    let is_word = !letters.iter().any(u8::is_ascii_whitespace);
+    if found.form == Input::Base64
+        && letters.len() < FEW_LETTERS
+        && is_word
+        && let Ok(letters) = str::from_utf8(letters)
+    {
         let _ = eprintln!(rt;
-            "cborcat: {}: read as {}; -f {} reads it, too",
-            label(name),
-            word_of(found.form),
-            word_of(other)
+            "cborcat: {label}: read as {word}; a text needs quotes: \"{letters}\""
         );
     }
     Ok(())
@@ -129,7 +181,7 @@ pub fn say_taken(
 pub fn say_notation(rt: &HostRuntime, name: &str, text: &[u8]) -> Status {
     match Input::Diag.decode(rt.alloc(), text) {
         Ok(items) => {
-            say_count(rt, &items, Input::Diag);
+            say_count(rt, &items);
             Status::Bad
         }
         Err(Refusal::Memory) => say_out_of_memory(rt, name),
@@ -137,8 +189,8 @@ pub fn say_notation(rt: &HostRuntime, name: &str, text: &[u8]) -> Status {
     }
 }
 
-/// Says how many items an input is in another form, which has these bytes, if they are items.
-pub fn say_count(rt: &HostRuntime, bytes: &[u8], form: Input) {
+/// Says how many items a text is as notation, which has these bytes, if they are items.
+fn say_count(rt: &HostRuntime, bytes: &[u8]) {
     let mut count = 0u64;
     let mut used = 0usize;
     for _ in 0..u64::MAX {
@@ -151,10 +203,5 @@ pub fn say_count(rt: &HostRuntime, bytes: &[u8], form: Input) {
         used = used.saturating_add(shown.used);
     }
     let items = if count == 1 { "item" } else { "items" };
-    let noun = if form == Input::Diag {
-        "notation"
-    } else {
-        "bytes"
-    };
-    let _ = eprintln!(rt; "  as {noun} it is {count} {items}: -f {}", word_of(form));
+    let _ = eprintln!(rt; "  as notation it is {count} {items}: -f diag");
 }

@@ -5,11 +5,14 @@
 //!   form that reads the input too, or `none`.
 //! - `is_text` says whether bytes are all text, and `text_fault` gives the place of a byte that no
 //!   text has, or `none`.
+//! - `printed` gives what a text of bytes is that a program printed or has, and the bytes, or `none`;
+//!   `printed_place` the place of the byte of a number in it.
 //! - `looks_like` gives what else a text may be, or `none`.
 
 use crate::row::Row;
 use crate::texts::hex_text;
 use cbor_inputs::{HexFault, Refusal, is_text, looks_like, recognize, text_fault};
+use cbor_inputs::{place_of_printed, printed_bytes};
 use std::alloc::{AllocError, Global};
 
 /// What the call of a row gives; none if it is no call of this subject.
@@ -17,6 +20,11 @@ pub fn answer(alloc: Global, row: &Row) -> Result<Option<String>, AllocError> {
     let found = match row.call {
         "recognize" => recognized(alloc, &row.input),
         "also" => also(alloc, &row.input),
+        "printed" => printed(alloc, &row.input),
+        "printed_place" => {
+            let byte = row.argument.parse().unwrap_or(0);
+            format!(in alloc; "{}", place_of_printed(&row.input, byte))
+        }
         "is_text" => format!(in alloc; "{}", is_text(&row.input)),
         "text_fault" => match text_fault(&row.input) {
             Some(place) => format!(in alloc; "{place}"),
@@ -39,6 +47,17 @@ fn recognized(alloc: Global, text: &[u8]) -> Result<String, AllocError> {
             format!(in alloc; "{:?} h'{bytes}'", found.form)
         }
         Err(refusal) => refusal_text(alloc, refusal),
+    }
+}
+
+/// What a text is that a program printed or has, and its bytes.
+fn printed(alloc: Global, text: &[u8]) -> Result<String, AllocError> {
+    match printed_bytes(alloc, text)? {
+        Some((printed, bytes)) => {
+            let bytes = hex_text(alloc, &bytes)?;
+            format!(in alloc; "{printed:?} h'{bytes}'")
+        }
+        None => String::from_str(alloc, "none"),
     }
 }
 
