@@ -5,8 +5,11 @@ program is installed, the command has to give the same today. Those of tcpdump a
 forms of their manuals. The bytes have to be those of the file that the command was given."""
 
 import os
+import random
 import shutil
 import subprocess
+
+from printed_form import printed
 
 FOLDER = os.path.join(os.path.dirname(os.path.dirname(os.path.abspath(__file__))), "pasted")
 C = "printf 'unsigned char m[] = {%s};' \"$(xxd -i < short.cbor)\" | gcc -g -c -o /tmp/m.o -x c - && gdb -batch -ex"
@@ -89,6 +92,55 @@ def check(run, same, folder):
     places(run, same)
     line_feeds(run, same, folder)
     pairs(run, same)
+    generated(run, same, folder)
+    damaged(run, same)
+
+
+def string(chance):
+    """A byte string item of bytes that are hard to read back: lines that repeat, blanks, quotes, digits, backslashes."""
+    pieces = [b"\0" * 16, b" ", b"  |", b"'", b'"', b"\\x4", b"\\", b"*\n", b"ab", b"0", b"\xff", b"// /* #", b"\t", b">.<"]
+    content = b"".join(chance.choice(pieces) * chance.choice([1, 1, 2, 5]) for _ in range(chance.randrange(1, 9)))[:200]
+    return bytes([0x58, len(content)]) + content
+
+
+def generated(run, same, folder):
+    """What programs print of generated items is read as their bytes."""
+    chance, file = random.Random(7), f"{folder}/generated.cbor"
+    commands = ["od -tx1", "od -Ax -tx1", "od -v -Ad -tx1z", "xxd", "xxd -g1 -c7", "xxd -i", "hexdump -C"]
+    for _ in range(12):
+        item = string(chance)
+        with open(file, "wb") as out:
+            out.write(item)
+        for command in commands:
+            if shutil.which(command.split()[0]):
+                text = subprocess.run([*command.split(), file], capture_output=True).stdout
+                same(f"{command} of {item.hex()}", run("-t", "digits", data=text)[::2], (item.hex().encode() + b"\n", 0))
+        for text in (repr(item), repr(bytearray(item)), f"vec!{list(item)}", f"X'{item.hex()}'"):
+            same(f"{text}", run("-t", "digits", data=text.encode())[::2], (item.hex().encode() + b"\n", 0))
+
+
+WORDS = {"Od": "a dump of od", "Xxd": "a dump of xxd", "Hexdump": "a dump of hexdump -C", "Tcpdump": "a dump of tcpdump",
+         "Wireshark": "a dump of Wireshark", "Gdb": "a dump of gdb", "Buffer": "a Buffer of Node.js",
+         "Psql": "a result of psql", "Array": "an array of bytes", "Escapes": "a string with escapes",
+         "QuotedHex": "hex in quotes"}
+
+
+def damaged(run, same):
+    """Damaged outputs are read, or not, as the second implementation does."""
+    chance = random.Random(8)
+    for name, *_ in FILES:
+        text = content(name).decode()
+        for _ in range(12):
+            at = chance.randrange(len(text))
+            new = chance.choice(["", "", " ", "\n", "0", "a", "x", "|", "'", ",", "*", text[at:at + 1] * 2])
+            other = text[:at] + new + text[at + 1:]
+            found = printed(other)
+            out, error, status = run("-t", "digits", data=other.encode())
+            line = error.split("\n")[0].split(": ", 2)[-1].removesuffix("; -f hex reads it, too")
+            said = line if line[8:] in WORDS.values() else None
+            same(f"damaged {other!r}", said, f"read as {WORDS[found[0]]}" if found else None)
+            if found and status == 0:
+                same(f"bytes of {other!r}", out.replace(b"\n", b""), bytes(byte for byte, _ in found[1]).hex().encode())
 
 
 def places(run, same):

@@ -4,7 +4,7 @@
 
 use crate::tally::{Tally, is_answered};
 use cbor_diag::Error;
-use cbor_inputs::{Input, Refusal, recognize};
+use cbor_inputs::{Input, Refusal, printed_bytes, recognize};
 use std::alloc::Global;
 use std::io::{self, Print};
 use std::process::Abort;
@@ -26,6 +26,15 @@ fn recognized(alloc: Global, form: Input, text: &[u8]) -> Result<Vec<u8>, Error>
     }
 }
 
+/// The bytes of an array in code.
+fn printed(alloc: Global, text: &[u8]) -> Result<Vec<u8>, Error> {
+    match printed_bytes(alloc, text) {
+        Ok(Some((_, bytes))) => Ok(bytes),
+        Ok(None) => Err(Error::Notation),
+        Err(_) => Err(Error::Memory),
+    }
+}
+
 /// Makes each call twice.
 pub fn run(rt: &(impl Abort + Print), alloc: Global, tally: &mut Tally) -> io::Result<()> {
     for (form, text) in TEXTS {
@@ -33,6 +42,10 @@ pub fn run(rt: &(impl Abort + Print), alloc: Global, tally: &mut Tally) -> io::R
             let found = recognized(alloc, form, text);
             tally.call(rt, "recognize", is_answered(rt, found, b"\x82\x01\x02"))?;
         }
+    }
+    for _ in 0..2 {
+        let found = printed(alloc, b"vec![130, 1, 2]");
+        tally.call(rt, "printed_bytes", is_answered(rt, found, b"\x82\x01\x02"))?;
     }
     Ok(())
 }

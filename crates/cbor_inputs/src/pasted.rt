@@ -102,8 +102,8 @@ fn is_der(bytes: &[u8]) -> bool {
     }
 }
 
-/// Whether a text is a token of JSON: three parts in base64url with dots between them, of which the
-/// first begins as `{"` does.
+/// Whether a text is a token of JSON: three parts in base64url with dots between them. The first
+/// begins as `{"` does.
 fn is_jwt(text: &[u8]) -> bool {
     let dots = text.iter().filter(|byte| **byte == b'.').count();
     let is_digit = |byte: u8| byte.is_ascii_alphanumeric() || matches!(byte, b'-' | b'_' | b'.');

@@ -32,7 +32,7 @@ pub enum Printed {
     Tcpdump,
     /// `0000   82 01 02   ...`, of Wireshark.
     Wireshark,
-    /// `0x4010 <m>: 0x82 0x01 0x02`, of gdb's `x/3xb`.
+    /// `0x4010 <m>: 0x82 0x01 0x02`, of gdb's command `x`.
     Gdb,
     /// `<Buffer 82 01 02>`, of Node.js.
     Buffer,
@@ -65,8 +65,8 @@ impl Printed {
     }
 }
 
-/// What a text of bytes is, and the bytes, of which there is at least one; `None` for any other
-/// text. A byte order mark may stand before it.
+/// What a text of bytes is, and the bytes, at least one; `None` for any other text. A byte order
+/// mark may stand before it.
 ///
 /// ```rust
 /// use cbor_inputs::{Printed, printed_bytes};

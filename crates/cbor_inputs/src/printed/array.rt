@@ -1,12 +1,12 @@
 //! Reads an array of bytes in code: numbers in brackets, with commas between them.
 
 use super::code::take_rest;
-use super::cursor::Cursor;
+use super::cursor::Code;
 use super::sink::Sink;
 
 /// Reads an array, which begins with a bracket, and what may follow it. Returns whether that is
 /// all, and there is at least one byte.
-pub(super) fn read_array(cursor: &mut Cursor, sink: &mut Sink) -> bool {
+pub(super) fn read_array(cursor: &mut Code, sink: &mut Sink) -> bool {
     let close: &[u8] = match cursor.peek() {
         b'{' => b"}",
         b'[' => b"]",
@@ -32,7 +32,7 @@ pub(super) fn read_array(cursor: &mut Cursor, sink: &mut Sink) -> bool {
 
 /// Reads a number from -128 to 255, which may have a cast before it or a conversion behind it:
 /// `0x82`, `(byte) 0x82`, `-126`, `130u8`, `0x82.toByte()`.
-fn read_number(cursor: &mut Cursor, sink: &mut Sink) -> bool {
+fn read_number(cursor: &mut Code, sink: &mut Sink) -> bool {
     if cursor.take(b"(") {
         let _ = cursor.word();
         if !cursor.take(b")") {

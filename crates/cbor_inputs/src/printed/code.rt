@@ -2,7 +2,7 @@
 
 use super::Printed;
 use super::array::read_array;
-use super::cursor::Cursor;
+use super::cursor::Code;
 use super::quoted::read_quoted;
 use super::sink::Sink;
 
@@ -92,7 +92,7 @@ impl<'a> Before<'a> {
     /// Whether a bracket at this place may have bytes in it. Brackets without a declaration are
     /// JSON or EDN, except braces round hex, or behind `=`. A bracket right behind a word is an
     /// index, a size or a call, but for the calls `of(..)` and `byteArrayOf(..)`.
-    fn declares(&self, cursor: &Cursor) -> bool {
+    fn declares(&self, cursor: &Code) -> bool {
         if cursor.peek() == b'{' {
             let mut inner = *cursor;
             inner.pass(1);
@@ -132,7 +132,7 @@ fn is_sign(byte: u8) -> bool {
 /// Reads bytes in code: the first array of bytes or the first strings, with what may be before and
 /// behind them.
 pub(super) fn read_code(text: &[u8], sink: &mut Sink) -> Option<Printed> {
-    let mut cursor = Cursor::new(text);
+    let mut cursor = Code::new(text);
     let mut before = Before {
         word: b"",
         word_end: 0,
@@ -172,7 +172,7 @@ pub(super) fn read_code(text: &[u8], sink: &mut Sink) -> Option<Printed> {
 
 /// Takes what may follow the bytes: closing brackets, `;` and `,`, and the length that `xxd -i`
 /// declares. Returns whether that is all, and the length is that number.
-pub(super) fn take_rest(cursor: &mut Cursor, count: usize) -> bool {
+pub(super) fn take_rest(cursor: &mut Code, count: usize) -> bool {
     for _ in 0..u64::MAX {
         cursor.skip_space();
         match cursor.peek() {
@@ -184,7 +184,7 @@ pub(super) fn take_rest(cursor: &mut Cursor, count: usize) -> bool {
 }
 
 /// Takes the declaration of the length: `unsigned int m_len = 3;`.
-fn take_length(cursor: &mut Cursor, count: usize) -> bool {
+fn take_length(cursor: &mut Code, count: usize) -> bool {
     if !cursor.take(b"unsigned int ") {
         return false;
     }

@@ -1,19 +1,19 @@
-//! `Cursor`: a place in a text of code, from which words and signs are taken.
+//! `Code`: a program from a place on, from which words and signs are taken.
 
 use crate::text::byte_at;
 
-/// A place in a text.
+/// A program from a place on.
 #[derive(Clone, Copy)]
-pub(super) struct Cursor<'a> {
+pub(super) struct Code<'a> {
     text: &'a [u8],
     /// How many bytes of the text are before it.
     pub at: usize,
 }
 
-impl<'a> Cursor<'a> {
+impl<'a> Code<'a> {
     /// The beginning of a text.
-    pub fn new(text: &'a [u8]) -> Cursor<'a> {
-        Cursor { text, at: 0 }
+    pub fn new(text: &'a [u8]) -> Code<'a> {
+        Code { text, at: 0 }
     }
 
     /// What follows.

@@ -2,7 +2,7 @@
 //! each line counts the bytes before it: it is an address, and no data.
 
 use super::Printed;
-use super::line::{Address, Style, address_of, next_byte, units_len, value_of};
+use super::line::{Address, AddressStyle, address_of, next_byte, units_len, value_of};
 use super::sink::Sink;
 
 /// How many bytes at most a line `*` stands for, which repeats the line before it.
@@ -71,11 +71,11 @@ fn printer_of(line: &[u8], address: Address) -> Printed {
     let width = address.digits.len();
     match address.style {
         _ if rest.starts_with(b"0x") => Printed::Gdb,
-        Style {
+        AddressStyle {
             is_prefixed: true,
             ..
         } => Printed::Tcpdump,
-        Style {
+        AddressStyle {
             has_colon: true,
             ..
         } => Printed::Xxd,
@@ -104,7 +104,7 @@ fn number(digits: &[u8], radix: u8) -> Option<u64> {
 #[derive(Drop)]
 struct Dump<'a> {
     /// How the addresses are written.
-    style: Style,
+    style: AddressStyle,
     /// The base that they are in.
     radix: u8,
     /// The first of them.
@@ -121,7 +121,7 @@ struct Dump<'a> {
 
 impl<'a> Dump<'a> {
     /// A dump without a line.
-    fn new(style: Style, radix: u8) -> Dump<'a> {
+    fn new(style: AddressStyle, radix: u8) -> Dump<'a> {
         Dump {
             style,
             radix,
@@ -173,8 +173,7 @@ impl<'a> Dump<'a> {
         Some(())
     }
 
-    /// Takes an address: it has to count the bytes before it, of which those of a line `*` come
-    /// now.
+    /// Takes an address: it has to count the bytes before it. Those of a line `*` come now.
     fn take_address(&mut self, address: u64, sink: &mut Sink) -> Option<()> {
         let base = self.base.unwrap_or(address);
         self.base = Some(base);

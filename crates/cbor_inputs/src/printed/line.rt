@@ -2,7 +2,7 @@
 
 /// How the addresses of a dump are written.
 #[derive(Clone, Copy, PartialEq, Eq)]
-pub(crate) struct Style {
+pub(crate) struct AddressStyle {
     /// Whether `0x` is before the digits.
     pub is_prefixed: bool,
     /// Whether `:` is behind them.
@@ -15,7 +15,7 @@ pub(crate) struct Address<'a> {
     /// Its digits.
     pub digits: &'a [u8],
     /// How it is written.
-    pub style: Style,
+    pub style: AddressStyle,
     /// How many bytes of the line it takes, with the blanks before it.
     pub len: usize,
 }
@@ -70,7 +70,7 @@ pub(crate) fn address_of(line: &[u8]) -> Option<Address<'_>> {
         Some(byte) if !is_blank(*byte) => None,
         _ => Some(Address {
             digits: rest.get(..count)?,
-            style: Style {
+            style: AddressStyle {
                 is_prefixed,
                 has_colon,
             },
@@ -81,7 +81,7 @@ pub(crate) fn address_of(line: &[u8]) -> Option<Address<'_>> {
 
 /// How many bytes the pairs of digits take that begin what follows an address. Behind them is
 /// nothing, or the text column, which has to show the same bytes. `None` if there is anything else.
-pub(super) fn units_len(rest: &[u8], style: Style) -> Option<usize> {
+pub(super) fn units_len(rest: &[u8], style: AddressStyle) -> Option<usize> {
     let mut end = 0usize;
     for _ in 0..rest.len().saturating_add(1) {
         let gap = blanks(after(rest, end));
@@ -102,7 +102,7 @@ pub(super) fn units_len(rest: &[u8], style: Style) -> Option<usize> {
 /// How many bytes a unit takes: a pair of digits, with `0x` or without. Behind an address with a
 /// colon it may be several pairs, as `xxd` has them; words of other dumps may have another order
 /// of bytes.
-fn unit_len(text: &[u8], style: Style) -> Option<usize> {
+fn unit_len(text: &[u8], style: AddressStyle) -> Option<usize> {
     let rest = text.strip_prefix(b"0x").unwrap_or(text);
     let prefix = text.len().saturating_sub(rest.len());
     let count = digits(rest);

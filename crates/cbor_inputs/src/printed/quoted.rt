@@ -1,7 +1,7 @@
 //! Reads bytes in quotes: strings with escapes, side by side, and hex.
 
 use super::code::{Before, take_rest};
-use super::cursor::Cursor;
+use super::cursor::Code;
 use super::line::value_of;
 use super::sink::Sink;
 use super::{Printed, push_pairs};
@@ -23,8 +23,8 @@ static CALLS: [&[u8]; 7] = [
 /// What else says that a string is hex, behind it: in Node.js, SQL and PostgreSQL.
 static BEHIND: [&[u8]; 5] = [b", 'hex'", b", \"hex\"", b",'hex'", b",\"hex\"", b"::bytea"];
 
-/// Reads bytes in quotes, of which the first is at the cursor, and what may follow them.
-pub(super) fn read_quoted(cursor: Cursor, before: Before, sink: &mut Sink) -> Option<Printed> {
+/// Reads bytes in quotes, from the first quote on, and what may follow them.
+pub(super) fn read_quoted(cursor: Code, before: Before, sink: &mut Sink) -> Option<Printed> {
     if read_hex(cursor, before, sink) {
         return Some(Printed::QuotedHex);
     }
@@ -37,7 +37,7 @@ pub(super) fn read_quoted(cursor: Cursor, before: Before, sink: &mut Sink) -> Op
 }
 
 /// Reads hex in quotes, if what is before or behind it says that it is hex.
-fn read_hex(mut cursor: Cursor, before: Before, sink: &mut Sink) -> bool {
+fn read_hex(mut cursor: Code, before: Before, sink: &mut Sink) -> bool {
     let quote = cursor.peek();
     let mut says = match before.sign {
         b'(' => CALLS.contains(&before.word),
@@ -67,7 +67,7 @@ fn read_hex(mut cursor: Cursor, before: Before, sink: &mut Sink) -> bool {
 
 /// Reads strings, side by side or with `+` between them, which are bytes: `b` is before the first,
 /// or one has an escape that neither JSON nor EDN has. A string in an array or a map is none.
-fn read_strings(mut cursor: Cursor, before: Before, sink: &mut Sink) -> bool {
+fn read_strings(mut cursor: Code, before: Before, sink: &mut Sink) -> bool {
     let is_bytes = before.says_bytes(cursor.at);
     if !is_bytes && matches!(before.sign, b'[' | b',' | b':') {
         return false;
@@ -90,7 +90,7 @@ fn read_strings(mut cursor: Cursor, before: Before, sink: &mut Sink) -> bool {
 }
 
 /// Reads a string. Returns whether it has an escape that JSON and EDN do not have.
-fn read_string(cursor: &mut Cursor, is_c: bool, sink: &mut Sink) -> Option<bool> {
+fn read_string(cursor: &mut Code, is_c: bool, sink: &mut Sink) -> Option<bool> {
     let quote = cursor.peek();
     let mut has_escape = false;
     cursor.pass(1);
@@ -115,7 +115,7 @@ fn read_string(cursor: &mut Cursor, is_c: bool, sink: &mut Sink) -> Option<bool>
 }
 
 /// The byte of an escape, behind its `\`.
-fn escaped(cursor: &mut Cursor, is_c: bool) -> Option<u8> {
+fn escaped(cursor: &mut Code, is_c: bool) -> Option<u8> {
     let byte = cursor.peek();
     if matches!(byte, b'0'..=b'7') {
         return octal(cursor);
@@ -138,7 +138,7 @@ fn escaped(cursor: &mut Cursor, is_c: bool) -> Option<u8> {
 
 /// The byte of one or two hex digits. In C all digits that follow count, so a third one is an
 /// error: other languages read it as a character.
-fn hex(cursor: &mut Cursor, is_c: bool) -> Option<u8> {
+fn hex(cursor: &mut Code, is_c: bool) -> Option<u8> {
     let first = value_of(cursor.peek())?;
     cursor.pass(1);
     let Some(second) = value_of(cursor.peek()) else {
@@ -152,7 +152,7 @@ fn hex(cursor: &mut Cursor, is_c: bool) -> Option<u8> {
 }
 
 /// The byte of one to three digits in base 8.
-fn octal(cursor: &mut Cursor) -> Option<u8> {
+fn octal(cursor: &mut Code) -> Option<u8> {
     let mut value = 0u16;
     for _ in 0..3 {
         match cursor.peek() {
