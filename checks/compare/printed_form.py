@@ -53,7 +53,8 @@ def units(rest, at, colon):
 
 def dump_in(text, base, begins):
     """A dump whose addresses are in this base."""
-    found, last, first, style, lines, stars, over, at = [], [], None, None, 0, False, False, begins
+    found, last, first, style, lines, at = [], [], None, None, 0, begins
+    stars, over, sure = False, False, False
     for line in text.split("\n"):
         here, at = at, at + len(line) + 1
         line = line.rstrip(" \t\r\f")
@@ -74,7 +75,8 @@ def dump_in(text, base, begins):
             value = int(address[3], base)
         except ValueError:
             return None
-        first = value if first is None else first
+        if first is None:
+            first, sure = value, address[2] or (address[4] and len(address[3]) > 7)
         missing = value - first - len(found)
         if missing < 0 or bool(missing) != stars or missing > MOST_REPEATED or (missing and missing % len(last)):
             return None
@@ -83,7 +85,7 @@ def dump_in(text, base, begins):
         if last is None:
             return None
         found, stars, over, lines = found + last, False, not last, lines + 1
-    return found if found and not stars and (style[1] or first == 0 or lines > 1) else None
+    return found if found and not stars and (sure or first == 0 or lines > 1) else None
 
 
 def dump(text):

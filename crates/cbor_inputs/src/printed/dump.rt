@@ -19,7 +19,7 @@ pub(super) fn read_dump(text: &[u8], sink: &mut Sink) -> Option<Printed> {
     let address = address_of(first)?;
     let radix = radix_of(text, address, sink)?;
     sink.clear();
-    let mut dump = Dump::new(address.style, radix);
+    let mut dump = Dump::new(address, radix);
     if dump.take(text, begins, sink) {
         Some(printer_of(first, address))
     } else {
@@ -53,7 +53,7 @@ fn radix_of(text: &[u8], first: Address, sink: &mut Sink) -> Option<u8> {
             continue;
         }
         sink.clear();
-        if !Dump::new(first.style, radix).take(text, 0, sink) {
+        if !Dump::new(first, radix).take(text, 0, sink) {
             continue;
         }
         match found {
@@ -105,6 +105,8 @@ fn number(digits: &[u8], radix: u8) -> Option<u64> {
 struct Dump<'a> {
     /// How the addresses are written.
     style: AddressStyle,
+    /// Whether the first of them is one by how it is written, whatever its value is.
+    is_sure: bool,
     /// The base that they are in.
     radix: u8,
     /// The first of them.
@@ -121,9 +123,11 @@ struct Dump<'a> {
 
 impl<'a> Dump<'a> {
     /// A dump without a line.
-    fn new(style: AddressStyle, radix: u8) -> Dump<'a> {
+    fn new(first: Address, radix: u8) -> Dump<'a> {
+        let style = first.style;
         Dump {
             style,
+            is_sure: style.is_prefixed || (style.has_colon && first.digits.len() > 7),
             radix,
             base: None,
             lines: 0,
@@ -143,7 +147,7 @@ impl<'a> Dump<'a> {
             }
             at = at.saturating_add(line.len()).saturating_add(1);
         }
-        let counts = self.style.has_colon || self.base == Some(0) || self.lines > 1;
+        let counts = self.is_sure || self.base == Some(0) || self.lines > 1;
         sink.count > 0 && counts && !self.repeats
     }
 
