@@ -84,8 +84,8 @@ Forms, i for input and o for output:
   pretty       o  notation with comments, over several lines where it is long
   diag, edn   io  diagnostic notation (EDN); JSON is read as EDN
   hex         io  input: pairs of hex digits, which may have blanks , : 0x \\x
-                  between them, and comments (# // /* */ / / ; --), or else a
-                  dump or code of another program; output: a dump
+                  between them, and comments of EDN, C, SQL and assemblers; or
+                  else a dump or code of another program; output: a dump
   digits       o  hex on one line
   bytes, cbor io  CBOR
   base64      i   either alphabet, with padding or without
