@@ -190,6 +190,10 @@ def pairs(run, same):
     same("without --partial", run("-f", "hex", "-t", "diag", "-x", "82 01 0"), (b"", f"cborcat: -x:{odd}", 1))
     same("a digit behind an item", run("--partial", "-t", "diag", "-x", "a0 01 f"), (
         b"{}\n1\n", f"cborcat: -x:{odd}", 1))
+    same("a digit alone", run("-f", "hex", "--partial", "-x", "0 # one"), (
+        b"", "cborcat: -x:1:1: an odd number of hex digits\n", 1))
+    for text in ("; none", "-- none", "/* none */", "// none"):
+        same(f"{text!r} has no item", run("-x", text), (b"", "cborcat: -x: no item: the text has only comments\n", 0))
     comment = "82 01 02 /* 03"
     same("a comment that does not end", run("-f", "hex", "-x", comment), (
         b"", f"cborcat: -x:1:15: the comment does not end\n    {comment}\n                  ^\n", 1))

@@ -65,7 +65,7 @@ pub fn data_of(rt: &HostRuntime, job: &Job, input: (&str, &[u8])) -> Result<Data
             None => recognized(rt, job, input)?,
         },
     };
-    if data.bytes.is_empty() && !job.show.one {
+    if data.bytes.is_empty() && !data.is_cut && !job.show.one {
         say_none(rt, input);
     }
     Ok(data)

@@ -102,7 +102,10 @@ pub fn say_pasted(rt: &HostRuntime, pasted: Option<Pasted>) {
 /// Says that a text has no item, if it has comments: nothing else is shown of it.
 pub fn say_none(rt: &HostRuntime, input: (&str, &[u8])) {
     let (name, text) = input;
-    if text.contains(&b'#') || text.contains(&b'/') {
+    if text
+        .iter()
+        .any(|byte| matches!(*byte, b'#' | b'/' | b';' | b'-'))
+    {
         let _ = eprintln!(rt;
             "cborcat: {}: no item: the text has only comments",
             label(name)
@@ -157,10 +160,10 @@ pub fn say_taken(
     if found.bytes.is_empty() {
         return Ok(());
     }
-    let (label, word) = (label(name), word_of(found.form));
+    let (name, word) = (label(name), word_of(found.form));
     if let Some(other) = found.also(rt.alloc(), text)? {
         let other = word_of(other);
-        let _ = eprintln!(rt; "cborcat: {label}: read as {word}; -f {other} reads it, too");
+        let _ = eprintln!(rt; "cborcat: {name}: read as {word}; -f {other} reads it, too");
     }
     let letters = text.strip_prefix(b"\xef\xbb\xbf").unwrap_or(text);
     let letters = letters.trim_ascii();
@@ -171,7 +174,7 @@ pub fn say_taken(
         && let Ok(letters) = str::from_utf8(letters)
     {
         let _ = eprintln!(rt;
-            "cborcat: {label}: read as {word}; a text needs quotes: \"{letters}\""
+            "cborcat: {name}: read as {word}; a text needs quotes: \"{letters}\""
         );
     }
     Ok(())
