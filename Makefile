@@ -50,7 +50,10 @@ PKGCONFIG = $(DIST)/lib/pkgconfig/cbor_diag.pc
 PROGRAM_FILES = $(PROGRAMS:%=$(DIST)/bin/%)
 SCRIPT_FILES = $(SCRIPTS:%=$(DIST)/bin/%)
 MANUALS = $(patsubst share/man/%,$(DIST)/share/man/man1/%,$(wildcard share/man/*.1))
-COMPLETIONS = $(patsubst share/%,$(DIST)/share/bash-completion/%,$(wildcard share/completions/*))
+# The completions: _NAME is for zsh, NAME.fish for fish, and NAME for bash.
+ZSH = $(wildcard share/completions/_*)
+FISH = $(wildcard share/completions/*.fish)
+BASH = $(filter-out $(ZSH) $(FISH),$(wildcard share/completions/*))
 
 # The files that a proof of these crates reads. With AS_BUILT=1 what is in dist/ is taken as it is, whatever its age.
 sources = $(if $(AS_BUILT),,crates.txt \
@@ -62,7 +65,7 @@ BELOW := $(filter-out cbor_diag_c $(PROGRAMS),$(shell sed -n 's/^\(cbor[a-z0-9_]
     check-pages check-commands check-docs check-cat check-editing check-allocations check-bindings check-packages tarball deb wheel vectors arm64 arm64-packages \
     check-arm64 page check-page npm check-npm windows windows-packages check-windows release compare bench clean sqlite postgresql install-sqlite install-postgresql deb-sqlite deb-postgresql deb-sql
 
-all: program library $(SCRIPT_FILES) $(MANUALS) $(COMPLETIONS)
+all: program library $(SCRIPT_FILES) $(MANUALS)
 
 program: $(PROGRAM_FILES)
 
@@ -128,9 +131,6 @@ $(MANUALS): $(DIST)/share/man/man1/%: share/man/% VERSION
 	mkdir -p $(@D)
 	sed 's|@VERSION@|$(VERSION)|' $< > $@
 
-$(COMPLETIONS): $(DIST)/share/bash-completion/completions/%: share/completions/%
-	install -D -m 644 $< $@
-
 # The pkg-config file finds the rest from where it is itself.
 install: all
 	install -D -m 755 -t $(DESTDIR)$(PREFIX)/bin $(PROGRAM_FILES) $(SCRIPT_FILES)
@@ -142,7 +142,9 @@ install: all
 	    --relative-to=/p/$(LIBDIR)/pkgconfig /p)|' bindings/c/cbor_diag.pc.in \
 	    > $(DESTDIR)$(PREFIX)/$(LIBDIR)/pkgconfig/cbor_diag.pc
 	install -D -m 644 -t $(DESTDIR)$(PREFIX)/share/man/man1 $(MANUALS)
-	install -D -m 644 -t $(DESTDIR)$(PREFIX)/share/bash-completion/completions $(COMPLETIONS)
+	install -D -m 644 -t $(DESTDIR)$(PREFIX)/share/bash-completion/completions $(BASH)
+	install -D -m 644 -t $(DESTDIR)$(PREFIX)/share/zsh/site-functions $(ZSH)
+	install -D -m 644 -t $(DESTDIR)$(PREFIX)/share/fish/vendor_completions.d $(FISH)
 
 # The main job before any proof: cborcat, on these arguments, by the kit, or else by cargo. The kit gives it a copy of each
 # file that they name.
@@ -231,6 +233,8 @@ check-docs: check-pages check-commands
 # The program for people, as they run it: in pipes and terminals, with closed outputs and full disks.
 check-cat: $(DIST)/bin/cborcat
 	checks/cborcat $<
+	checks/pairs $<
+	checks/completions $<
 	checks/compare/edn --count 1000 $<
 	checks/compare/cddl --count 300 $<
 

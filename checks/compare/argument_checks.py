@@ -17,7 +17,12 @@ MEANT_AS_VALUES = {
 }
 
 FORMS = "pretty, diag, edn, hex, html, digits, bytes, cbor, json, raw, paths, stats, or index=SIZE"
+NAMES = "output with names (pretty, hex, html or paths without --no-notes) or a path (-p, --set or --delete)"
 RULES = "rfc8949, valid, preferred, core, length-first, ctap2 or dcbor"
+
+# The units of sizes, without regard to case: as GNU's dd, head and split have them.
+UNITS = {"k": 1024, "K": 1024, "KiB": 1024, "kib": 1024, "kB": 1000, "KB": 1000, "m": 1048576, "M": 1048576,
+         "MiB": 1048576, "MB": 1000000, "g": 1073741824, "G": 1073741824, "GiB": 1073741824, "GB": 1000000000}
 
 # Wrong arguments, and what is said of them.
 WRONG = {
@@ -39,7 +44,20 @@ WRONG = {
     ("--width=19",): '--width takes a number of columns from 20 to 1000, and not "19"',
     ("--width=1001",): '--width takes a number of columns from 20 to 1000, and not "1001"',
     ("-x", "01", "file"): "--text and a FILE cannot be used together: leave one of them out",
-    ("--diff", "--one", "1", "2"): "--diff and --one cannot be used together: leave one of them out",
+    ("--strict",): "--strict is for -t json",
+    ("--exact",): "--exact is for --diff",
+    ("--rule=a",): "--rule is for --cddl",
+    ("--places", "-t", "hex"): "--places is for -t paths",
+    ("--width=30", "-t", "html", "-c"): "--to and --check cannot be used together: leave one of them out",
+    ("-t", "digits", "-e"): "--embedded and -t digits cannot be used together: leave one of them out",
+    ("-c", "-e"): "--embedded and --check cannot be used together: leave one of them out",
+    ("-c", "-o", "it"): "--output and --check cannot be used together: leave one of them out",
+    ("--no-names", "-t", "json"): "--no-names is for " + NAMES,
+    ("--as=CWT", "--no-notes"): "--as is for " + NAMES,
+    ("--as=CWT", "--no-names"): "--no-names and --as cannot be used together: leave one of them out",
+    ("--diff", "1"): "--diff compares two files",
+    ("-t", "html", "1", "2"): "-t html makes one page, of one input",
+    ("--diff", "--one", "1", "2"): "--one and --diff cannot be used together: leave one of them out",
 }
 
 
@@ -48,6 +66,7 @@ def check(run, shell, same, examples):
     words(run, same, examples)
     numbers(run, same, examples)
     text = run("--help")[0].decode()
+    same("lines of the help past 80 columns", [it for it in text.splitlines() if len(it) > 80], [])
     shown_commands(shell, same, text)
     forms(run, same, text)
     options(same, text)
@@ -79,10 +98,21 @@ def numbers(run, same, examples):
     same("--offset in base 16", run("--offset=0xA", "-t", "diag", data=b"\xff" * 10 + b"\x05"), (b"5\n", "", 0))
     long = b"\x9f" + b"\x01" * 300000 + b"\xff"
     same("--limit in base 16", [run(f"--limit={it}", data=long)[2] for it in ("0x186a0", "0x100000")], [1, 0])
-    for wrong in ("", "0x", "0xg", "5b", "0x5b ", "1.5", "-1", "0x10000000000000000", "18446744073709551616"):
+    for unit, size in UNITS.items():
+        same(f"3{unit}", run(f"--at=3{unit}", data=b"\x00")[1],
+             f"cborcat: standard input: byte {3 * size}: no item has this byte; 1 bytes came\n")
+    many = b"\x00" * 2048
+    same("--offset=1k", run("--offset=1k", "-t", "stats", data=many)[0].splitlines()[0], b"1024 items, 1024 bytes")
+    same("index=1KiB", run("-t", "index=1KiB", data=many)[0], b"0 1024 1024\n1024 1024 1024\n")
+    same("--limit=1kB", run("--limit=1kB", data=b"\x9f" + many)[1],
+         "cborcat: standard input: byte 0: the item is longer than 1000 bytes (--limit)\n")
+    same("--elide=1k", run("--elide=1k", "-f", "bytes", "-t", "diag", data=b"\x59\x04\x01" + bytes(1025))[0].count(b"00"), 1024)
+    same("--width=0x14", run("--width=0x14", "-x", "[10000, 20000, 30000]"), run("--width=20", "-x", "[10000, 20000, 30000]"))
+    for wrong in ("", "0x", "0xg", "5b", "0x5b ", "1.5", "-1", "+1", "k", "1 k", "1ki", "1kk", "0x1k", "1t",
+                  "0x10000000000000000", "18446744073709551616", "18014398509481984k"):
         for option in ("at", "offset", "limit", "elide"):
             same(f"--{option}={wrong}", run(f"--{option}={wrong}", "-x", "01"), (
-                b"", f'cborcat: --{option} takes a number of bytes, as 91 or 0x5b, and not "{wrong}"\n', 2))
+                b"", f'cborcat: --{option} takes a number of bytes, as 91, 0x5b or 64MiB, and not "{wrong}"\n', 2))
 
 
 def shown_commands(shell, same, text):
@@ -116,10 +146,14 @@ def forms(run, same, text):
 
 
 def options(same, text):
-    """Each option of the help is in the manual page and in the completion."""
-    page, completion = text_of("share/man/cborcat.1").replace("\\-", "-"), text_of("share/completions/cborcat")
+    """Each option of the help is in the manual page, in the completions and in the check of pairs."""
+    page = text_of("share/man/cborcat.1").replace("\\-", "-")
+    bash, zsh, fish = (text_of(f"share/completions/{it}") for it in ("cborcat", "_cborcat", "cborcat.fish"))
+    bash, pairs = re.sub(r"[\s\"]+", " ", bash), text_of("checks/pairs")
     for line in text.splitlines():
         for word in re.split(r"[ ,=\[]+", line):
             if line.startswith("  ") and word.startswith("--"):
                 same(f"{word} in the manual page", word in page, True)
-                same(f"{word} in the completion", word in completion, True)
+                same(f"{word} in bash and zsh", (f" {word} " in bash, word in zsh), (True, True))
+                same(f"{word} in fish", f"-l {word[2:]} " in fish, True)
+                same(f"{word} in checks/pairs", f'"{word}' in pairs or word in ("--help", "--version", "--to"), True)

@@ -164,7 +164,8 @@ def partial(program):
 """)
     same_partial("a dump", "hex", b"\x82\x01\x1f\x00",
                  f"82    # array(2)\n   01 #   unsigned(1)\n   # malformed: {WRONG}\n   1f00\n")
-    same_partial("digits", "digits", b"\x01\x82\x01", "01\n")
+    program.same("no part in digits", program.run("--partial", "-t", "digits", data=b"\x01\x82\x01"),
+                 (b"", "cborcat: --partial is for -t pretty, -t diag, -t hex or -t html\n", 2))
     program.same("a whole item", program.run("--partial", "-t", "diag", data=b"\x81\x01"), (b"[1]\n", "", 0))
     for word in ("-c", "--path=1"):
         program.same(f"--partial {word}", program.run("--partial", word, data=b"\x81\xff")[2], 2)

@@ -92,7 +92,7 @@ def elided(run, same):
                  (NUMBER, b"0"), b"}\n"))
     for form in ("digits", "bytes", "json", "raw"):
         same(f"no --elide of {form}", run("--elide", "-t", form, "-x", "[1]"),
-             (b"", "cborcat: --elide cuts strings of pretty, diag, hex and paths alone\n", 2))
+             (b"", "cborcat: --elide is for -t pretty, -t diag, -t hex, -t paths or --diff\n", 2))
 
 
 def elided_dumps(run, same):
@@ -140,7 +140,7 @@ def widthless(run, same):
          colored((NUMBER, b"0"), b"\n"))
     for form in ("hex", "digits", "bytes", "json", "raw"):
         same(f"no --no-widths of {form}", run("--no-widths", "-t", form, "-x", "[1]"),
-             (b"", "cborcat: --no-widths leaves widths out of pretty, diag and paths alone\n", 2))
+             (b"", "cborcat: --no-widths is for -t pretty, -t diag, -t paths or --diff\n", 2))
     same("--widths and --no-widths", run("--widths", "--no-widths", "-x", "1")[2], 2)
 
 

@@ -87,5 +87,5 @@ def check(run, same, folder):
     same("of many keys", (len(lines), said, status), (10_003, "", 0))
     same("those without a line", [line for line in lines if "(other paths)" in line],
          ["        2000   2.3%       2000  (other paths)  integer 1"])
-    said = "cborcat: -t stats and -t index count whole items, and have no -p, --encode or --partial\n"
+    said = "cborcat: --path and -t stats cannot be used together: leave one of them out\n"
     same("of a part", run("-t", "stats", "-p", "0", "-x", "[1]"), (b"", said, 2))

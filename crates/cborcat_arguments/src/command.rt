@@ -1,8 +1,12 @@
-//! Builds the `clap` command of `cborcat` from a table of the options, and has the table of those
-//! that cannot stand together. `values.rt` says which values each option takes, and `help.rt` what
-//! it does.
+//! Builds the `clap` command of `cborcat` from a table of the options, which says with which outputs
+//! each goes. A second table has the other arguments that cannot stand together. `values.rt` says
+//! which values each option takes, and `help.rt` what it does.
 
 use crate::help::HELP;
+use crate::outputs::{
+    ALL, AT, CDDL, CHECKS, DIAG, DIFF, ENCODED, ENTERED, FOLLOWED, FORMS, HEX, HTML, JSON, NAMED,
+    NAMES, NOTATION, Outputs, PARTS, PATHS, PRETTY,
+};
 use clap::{Arg, ArgAction, Command};
 use std::alloc::{AllocError, Global};
 
@@ -35,76 +39,55 @@ pub(crate) enum Takes {
     Encoding,
 }
 
-/// An option: its name, which `--` precedes, its letter, which `-` precedes, and what it takes.
-pub(crate) type Row<'a> = (&'a str, Option<char>, Takes);
+/// An option: its name, which `--` precedes, its letter, which `-` precedes, what it takes, and the
+/// outputs that it has an effect on.
+pub(crate) type Row<'a> = (&'a str, Option<char>, Takes, Outputs);
 
 /// The options.
 pub(crate) const OPTIONS: [Row<'static>; 31] = [
-    ("from", Some('f'), Takes::From),
-    ("text", Some('x'), Takes::Text),
-    ("one", Some('1'), Takes::Nothing),
-    ("offset", None, Takes::Bytes),
-    ("limit", None, Takes::Bytes),
-    ("to", Some('t'), Takes::To),
-    ("path", Some('p'), Takes::Text),
-    ("set", None, Takes::Texts),
-    ("delete", None, Takes::Texts),
-    ("embedded", Some('e'), Takes::Nothing),
-    ("no-notes", None, Takes::Nothing),
-    ("widths", None, Takes::Nothing),
-    ("no-widths", None, Takes::Nothing),
-    ("width", None, Takes::Columns),
-    ("strict", None, Takes::Nothing),
-    ("output", Some('o'), Takes::Name),
-    ("check", Some('c'), Takes::Rules),
-    ("cddl", None, Takes::Texts),
-    ("rule", None, Takes::Name),
-    ("encode", None, Takes::Encoding),
-    ("at", None, Takes::Bytes),
-    ("places", None, Takes::Nothing),
-    ("partial", None, Takes::Nothing),
-    ("color", None, Takes::When),
-    ("elide", None, Takes::Length),
-    ("as", None, Takes::Name),
-    ("names", None, Takes::Name),
-    ("no-names", None, Takes::Nothing),
-    ("names-as-keys", None, Takes::Nothing),
-    ("diff", None, Takes::Nothing),
-    ("exact", None, Takes::Nothing),
+    ("from", Some('f'), Takes::From, ALL),
+    ("text", Some('x'), Takes::Text, ALL - DIFF),
+    ("one", Some('1'), Takes::Nothing, ALL - DIFF),
+    ("offset", None, Takes::Bytes, ALL - DIFF),
+    ("limit", None, Takes::Bytes, ALL - DIFF),
+    ("to", Some('t'), Takes::To, FORMS),
+    ("path", Some('p'), Takes::Text, PARTS),
+    ("set", None, Takes::Texts, ALL - DIFF),
+    ("delete", None, Takes::Texts, ALL - DIFF),
+    ("embedded", Some('e'), Takes::Nothing, ENTERED),
+    ("no-notes", None, Takes::Nothing, NAMED),
+    ("widths", None, Takes::Nothing, NOTATION | HTML),
+    ("no-widths", None, Takes::Nothing, NOTATION),
+    ("width", None, Takes::Columns, PRETTY | HTML),
+    ("strict", None, Takes::Nothing, JSON),
+    ("output", Some('o'), Takes::Name, ALL - CHECKS),
+    ("check", Some('c'), Takes::Rules, ALL - DIFF - AT),
+    ("cddl", None, Takes::Texts, ALL - DIFF - AT),
+    ("rule", None, Takes::Name, CDDL),
+    ("encode", None, Takes::Encoding, ENCODED),
+    ("at", None, Takes::Bytes, ALL - DIFF),
+    ("places", None, Takes::Nothing, PATHS),
+    ("partial", None, Takes::Nothing, PRETTY | DIAG | HEX | HTML),
+    ("color", None, Takes::When, ALL),
+    ("elide", None, Takes::Length, NOTATION | HEX),
+    ("as", None, Takes::Name, NAMES | FOLLOWED),
+    ("names", None, Takes::Name, NAMES | FOLLOWED),
+    ("no-names", None, Takes::Nothing, NAMES | FOLLOWED),
+    ("names-as-keys", None, Takes::Nothing, JSON),
+    ("diff", None, Takes::Nothing, ALL),
+    ("exact", None, Takes::Nothing, DIFF),
 ];
 
-/// Arguments that cannot stand together; `file` is a file that is read.
-pub(crate) const CONFLICTS: [(&str, &str); 30] = [
+/// Other arguments that cannot stand together; `file` is a file that is read.
+pub(crate) const CONFLICTS: [(&str, &str); 8] = [
     ("text", "file"),
-    ("encode", "check"),
-    ("cddl", "to"),
-    ("cddl", "at"),
-    ("cddl", "encode"),
-    ("cddl", "partial"),
-    ("cddl", "diff"),
-    ("at", "to"),
-    ("at", "path"),
-    ("at", "encode"),
-    ("at", "check"),
     ("partial", "path"),
     ("partial", "encode"),
-    ("partial", "check"),
     ("no-widths", "widths"),
     ("no-names", "as"),
     ("no-names", "names"),
     ("no-names", "names-as-keys"),
     ("no-notes", "names-as-keys"),
-    ("diff", "text"),
-    ("diff", "to"),
-    ("diff", "path"),
-    ("diff", "at"),
-    ("diff", "check"),
-    ("diff", "encode"),
-    ("diff", "partial"),
-    ("diff", "one"),
-    ("diff", "offset"),
-    ("diff", "set"),
-    ("diff", "delete"),
 ];
 
 /// The command, whose help is the text as written.
@@ -124,7 +107,7 @@ pub(crate) fn command<'a>(alloc: Global) -> Result<Command<'a>, AllocError> {
 
 /// The argument of an option.
 fn argument<'a>(alloc: Global, option: Row<'a>) -> Arg<'a> {
-    let (name, letter, takes) = option;
+    let (name, letter, takes, _) = option;
     let argument = taking(Arg::new(alloc, name).long(name), takes);
     match letter {
         Some(letter) => argument.short(letter),

@@ -26,7 +26,8 @@ Input:
                      (default: recognized)
   -x, --text=TEXT    read TEXT instead of files
   -1, --one          each input has to be exactly one item, not a sequence
-      --offset=N     begin at byte N of the data; N may be written 91 or 0x5b
+      --offset=N     begin at byte N of the data; a size or a place may also be
+                     written 0x5b, 64k or 64KiB (1024 each), 64kB (1000 each)
       --limit=BYTES  refuse a longer item (default: 268435456)
 
 Output:
@@ -66,12 +67,12 @@ Output:
   -c, --check[=RULES]
                      write nothing; report the first error of each input, or
                      its first violation of RULES (default: the grammar of
-                     RFC 8949)
+                     RFC 8949); with -p, of the parts at PATH
       --cddl=FILE    write nothing; report the first item of each input, or part
                      at PATH, that does not fit the CDDL (RFC 8610) of FILE;
                      several are one text
       --rule=NAME    the rule that items have to fit (default: the first)
-      --encode=RULES re-encode each item so that it keeps RULES
+      --encode=RULES re-encode each item, or part at PATH, to keep RULES
       --diff         compare two files: a line for each difference: ~ changed,
                      + only in the second, - only in the first
       --exact        with --diff, also report equal items that are encoded
@@ -91,8 +92,8 @@ Forms, i for input and o for output:
   base64      i   either alphabet, with padding or without
   json        io  output: JSON, one line for each item; input: the same as diag
   raw          o  the content of a byte or text string
-  html         o  one page, to look at in a browser: each line of pretty beside its
-                  bytes; of at most 262144 bytes, or --limit
+  html         o  one page, to look at in a browser: each line of pretty beside
+                  its bytes; of at most 262144 bytes, or --limit
   paths        o  a line for each item that holds no other: its path, and EDN
   stats        o  which paths take the bytes: sizes, counts, kinds and bounds
   index=SIZE   o  a line for each run of whole items that has SIZE bytes or

@@ -3,6 +3,7 @@
 //! and how. `Color`: when colours are used.
 
 use crate::changes::Change;
+use crate::values::number_of;
 use cbor_inputs::Input;
 use cbor_inspect::{Form, Step, Style};
 use cbor_rules::RuleSet;
@@ -153,10 +154,9 @@ impl Job<'_> {
     /// The option that a word may have been meant as the value of: one that was given without a
     /// value, behind which the word was taken for a file.
     pub fn option_before(&self, word: &str) -> Option<&'static str> {
-        let is_number = word.bytes().all(|byte| byte.is_ascii_digit());
         if self.is_check() && self.rules.is_none() && RuleSet::named(word).is_some() {
             Some("--check")
-        } else if self.elide.is_some() && is_number && !word.is_empty() {
+        } else if self.elide.is_some() && number_of(word).is_some() {
             Some("--elide")
         } else {
             None
@@ -170,8 +170,7 @@ impl Job<'_> {
 
     /// Whether there are names: they are shown, or a path may have them.
     pub fn has_names(&self) -> bool {
-        let has_path = !self.path.is_empty() && (!self.is_check() || !self.schemas.is_empty());
-        let is_followed = has_path || !self.changes.is_empty();
+        let is_followed = !self.path.is_empty() || !self.changes.is_empty();
         is_followed && self.names || self.shows_names()
     }
 

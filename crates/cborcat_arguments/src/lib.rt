@@ -10,6 +10,7 @@ mod command;
 mod help;
 mod job;
 mod mistakes;
+mod outputs;
 mod shown;
 mod values;
 mod words;

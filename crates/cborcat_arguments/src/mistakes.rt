@@ -2,6 +2,8 @@
 //! `mistake_in` what is wrong with arguments that it took.
 
 use crate::command::{CONFLICTS, OPTIONS, Takes};
+use crate::outputs::{Outputs, WORDS, output_of, outputs_of};
+use crate::values::push_choices;
 use cbor_cddl::likeness;
 use clap::error::ErrorKind;
 use clap::{ArgMatches, Error};
@@ -58,7 +60,7 @@ fn similar(word: &str) -> Option<&'static str> {
     let name = word.strip_prefix("--")?;
     let mut least = usize::MAX;
     let mut best = None;
-    for (option, _, _) in &OPTIONS {
+    for (option, _, _, _) in &OPTIONS {
         if let Some(changed) = likeness(option.as_bytes(), name.as_bytes())
             && changed < least
         {
@@ -69,18 +71,24 @@ fn similar(word: &str) -> Option<&'static str> {
     best
 }
 
-/// What is wrong with arguments that `clap` took, if anything is: a value, or two arguments that
-/// cannot be used together.
+/// What is wrong with arguments that `clap` took, if anything is: a value, an option that has
+/// no effect on the output, or two arguments that cannot be used together.
 pub(crate) fn mistake_in(
     alloc: Global,
     matches: &ArgMatches,
 ) -> Result<Option<String>, AllocError> {
-    for (option, _, takes) in &OPTIONS {
+    for (option, _, takes, _) in &OPTIONS {
         if *takes != Takes::Nothing
             && let Some(value) = matches.get_str(*option)
             && !takes.accepts(value)
         {
             return Ok(Some(wrong_value(alloc, *option, *takes, value)?));
+        }
+    }
+    let outputs = outputs_of(matches);
+    for (option, _, _, good) in &OPTIONS {
+        if *good & outputs == 0 && is_given(matches, *option) {
+            return Ok(Some(misused(alloc, *option, *good, output_of(matches))?));
         }
     }
     for (one, other) in &CONFLICTS {
@@ -89,6 +97,34 @@ pub(crate) fn mistake_in(
         }
     }
     Ok(None)
+}
+
+/// The most outputs that a message lists.
+const MOST: usize = 6;
+
+/// Says which outputs an option is for, or that it is not for this one.
+fn misused(
+    alloc: Global,
+    option: &str,
+    good: Outputs,
+    output: Outputs,
+) -> Result<String, AllocError> {
+    let mut words = Vec::new(alloc);
+    let mut asked = None;
+    for (bit, word) in &WORDS {
+        if *bit & good != 0 {
+            words.push(*word)?;
+        }
+        if *bit == output {
+            asked = Some(*word);
+        }
+    }
+    if words.len() > MOST {
+        return cannot_meet(alloc, option, asked.unwrap_or("this output"));
+    }
+    let mut said = format!(in alloc; "--{option} is for ")?;
+    push_choices(&mut said, &words)?;
+    Ok(said)
 }
 
 /// Says which values an option takes.
@@ -106,7 +142,7 @@ fn wrong_value(
 
 /// Whether an option, or a file, is among the arguments.
 fn is_given(matches: &ArgMatches, name: &str) -> bool {
-    for (option, _, takes) in &OPTIONS {
+    for (option, _, takes, _) in &OPTIONS {
         if *option == name && *takes == Takes::Nothing {
             return matches.get_flag(name);
         }
@@ -116,10 +152,14 @@ fn is_given(matches: &ArgMatches, name: &str) -> bool {
 
 /// Says that two arguments cannot be used together.
 fn conflict(alloc: Global, one: &str, other: &str) -> Result<String, AllocError> {
-    let (sign, other) = if other == "file" {
-        ("", "a FILE")
-    } else {
-        ("--", other)
-    };
-    format!(in alloc; "--{one} and {sign}{other} cannot be used together: leave one of them out")
+    if other == "file" {
+        return cannot_meet(alloc, one, "a FILE");
+    }
+    let other = format!(in alloc; "--{other}")?;
+    cannot_meet(alloc, one, &other)
+}
+
+/// Says that an option and another argument, in the words of messages, cannot be used together.
+fn cannot_meet(alloc: Global, option: &str, other: &str) -> Result<String, AllocError> {
+    format!(in alloc; "--{option} and {other} cannot be used together: leave one of them out")
 }

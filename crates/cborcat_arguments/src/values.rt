@@ -3,17 +3,12 @@
 
 use crate::command::Takes;
 use crate::job::COLORS;
+use crate::outputs::{TO, output_named};
 use cbor_rules::{ENCODINGS, RULES};
 use std::alloc::AllocError;
 
 /// The forms of an input, some by two names.
 static FROM: [&str; 7] = ["bytes", "cbor", "hex", "diag", "edn", "json", "base64"];
-
-/// The forms of the output, some by two names; `index` also takes a size, as in `index=64M`.
-static TO: [&str; 12] = [
-    "pretty", "diag", "edn", "hex", "html", "digits", "bytes", "cbor", "json", "raw", "paths",
-    "stats",
-];
 
 impl Takes {
     /// Whether a value is one that the option takes.
@@ -22,7 +17,7 @@ impl Takes {
             Takes::Nothing | Takes::Name | Takes::Text | Takes::Texts => true,
             Takes::Bytes | Takes::Length => number_of(value).is_some(),
             Takes::Columns => columns_of(value).is_some(),
-            Takes::To => TO.contains(&value) || index_size(value).is_some_and(|size| size > 0),
+            Takes::To => output_named(value).is_some(),
             Takes::From | Takes::When | Takes::Rules | Takes::Encoding => {
                 self.words().contains(&value)
             }
@@ -33,7 +28,6 @@ impl Takes {
     fn words(self) -> &'static [&'static str] {
         match self {
             Takes::From => FROM.as_slice(),
-            Takes::To => TO.as_slice(),
             Takes::When => COLORS.as_slice(),
             Takes::Rules => RULES.as_slice(),
             Takes::Encoding => ENCODINGS.as_slice(),
@@ -44,10 +38,12 @@ impl Takes {
     /// Appends what the option takes, as in `auto, always or never`.
     pub(crate) fn push_words(self, text: &mut String) -> Result<(), AllocError> {
         match self {
-            Takes::Bytes | Takes::Length => text.push_str("a number of bytes, as 91 or 0x5b"),
+            Takes::Bytes | Takes::Length => text.push_str(
+                "a number of bytes, as 91, 0x5b or 64MiB",
+            ),
             Takes::Columns => text.push_str("a number of columns from 20 to 1000"),
             Takes::To => {
-                for word in &TO {
+                for (word, _) in &TO {
                     write!(text, "{word}, ")?;
                 }
                 text.push_str("or index=SIZE")
@@ -58,7 +54,7 @@ impl Takes {
 }
 
 /// Appends words, with `or` before the last.
-fn push_choices(text: &mut String, words: &[&str]) -> Result<(), AllocError> {
+pub(crate) fn push_choices(text: &mut String, words: &[&str]) -> Result<(), AllocError> {
     for (index, word) in words.iter().enumerate() {
         let is_last = words.len().saturating_sub(index) == 1;
         if index > 0 {
@@ -69,12 +65,48 @@ fn push_choices(text: &mut String, words: &[&str]) -> Result<(), AllocError> {
     Ok(())
 }
 
-/// The number that a text says: in base 16 after `0x`, and else in base 10.
+/// The units of sizes, without regard to case, and their bytes: as for `dd`, `head` and `split`, a
+/// `B` alone makes the unit decimal.
+static UNITS: [(&str, usize); 10] = [
+    ("", 1),
+    ("k", 1 << 10),
+    ("kib", 1 << 10),
+    ("kb", 1_000),
+    ("m", 1 << 20),
+    ("mib", 1 << 20),
+    ("mb", 1_000_000),
+    ("g", 1 << 30),
+    ("gib", 1 << 30),
+    ("gb", 1_000_000_000),
+];
+
+/// The number that a text says: in base 16 after `0x`, and else in base 10, with a unit or without.
 pub(crate) fn number_of(text: &str) -> Option<usize> {
-    let digits = match text.strip_prefix("0x") {
-        Some(digits) if !digits.is_empty() => digits,
-        _ => return text.parse::<usize>().ok(),
-    };
+    if let Some(digits) = text.strip_prefix("0x") {
+        return hex_number(digits);
+    }
+    let mut len = 0usize;
+    for byte in text.bytes() {
+        if !byte.is_ascii_digit() {
+            break;
+        }
+        len = len.saturating_add(1);
+    }
+    let number = text.get(..len)?.parse::<usize>().ok()?;
+    let unit = text.get(len..)?;
+    for (name, bytes) in &UNITS {
+        if unit.eq_ignore_ascii_case(*name) {
+            return number.checked_mul(*bytes);
+        }
+    }
+    None
+}
+
+/// The number that digits of base 16 say.
+fn hex_number(digits: &str) -> Option<usize> {
+    if digits.is_empty() {
+        return None;
+    }
     let mut number: usize = 0;
     for digit in digits.chars() {
         let value = digit.to_digit(16)? as usize;
@@ -83,21 +115,14 @@ pub(crate) fn number_of(text: &str) -> Option<usize> {
     Some(number)
 }
 
-/// The size that the word of an index says: a number of bytes, or of K, M or G (1,024 bytes, and
-/// 1,024 times as many each).
+/// The size that the word of an index says.
 pub(crate) fn index_size(word: &str) -> Option<usize> {
-    let text = word.strip_prefix("index=")?;
-    for (unit, shift) in [("K", 10u32), ("M", 20), ("G", 30)] {
-        if let Some(digits) = text.strip_suffix(unit) {
-            return digits.parse::<usize>().ok()?.checked_mul(1usize << shift);
-        }
-    }
-    number_of(text)
+    number_of(word.strip_prefix("index=")?)
 }
 
 /// The number of columns that a text says, if a line may have as many.
 pub(crate) fn columns_of(text: &str) -> Option<u16> {
-    let columns = text.parse::<u16>().ok()?;
+    let columns = u16::try_from(number_of(text)?).ok()?;
     if matches!(columns, 20..=1000) {
         Some(columns)
     } else {

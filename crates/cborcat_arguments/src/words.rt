@@ -5,6 +5,10 @@ use crate::changes::{Wrong, changes_of};
 use crate::command::command;
 use crate::job::{Color, Job, View, Wanted};
 use crate::mistakes::{mistake_in, refusal_of};
+use crate::outputs::{
+    AT, BYTES, CDDL, CHECK, DIAG, DIFF, DIGITS, HEX, HTML, INDEX, JSON, Outputs, PATHS, RAW, STATS,
+    output_of,
+};
 use crate::values::{columns_of, index_size, number_of};
 use cbor_inputs::Input;
 use cbor_inspect::{Form, Style, steps_of};
@@ -72,14 +76,14 @@ fn input_of(word: &str) -> Option<Input> {
     }
 }
 
-/// The form of the output that a word names.
-fn form_of(word: Option<&str>) -> Form {
-    match word {
-        Some("diag" | "edn" | "paths" | "stats") => Form::Diag,
-        Some("hex") => Form::Hex,
-        Some("digits") => Form::Digits,
+/// The form in which items are written for an output.
+fn form_of(output: Outputs) -> Form {
+    match output {
+        DIAG | PATHS | STATS => Form::Diag,
+        HEX => Form::Hex,
+        DIGITS => Form::Digits,
         // JSON and contents are made of the bytes of a part.
-        Some("bytes" | "cbor" | "json" | "raw") => Form::Bytes,
+        BYTES | JSON | RAW => Form::Bytes,
         _ => Form::Pretty,
     }
 }
@@ -90,7 +94,7 @@ const COLUMNS: u16 = 80;
 /// How the arguments ask for items to be written.
 fn style_of(matches: &ArgMatches) -> Style {
     Style {
-        form: form_of(matches.get_str("to")),
+        form: form_of(output_of(matches)),
         embedded: matches.get_flag("embedded"),
         notes: !matches.get_flag("no-notes"),
         widths: matches.get_flag("widths"),
@@ -101,25 +105,23 @@ fn style_of(matches: &ArgMatches) -> Style {
     }
 }
 
-/// Whether items are checked by CDDL.
-fn has_schemas(matches: &ArgMatches) -> bool {
-    matches.get_strs("cddl").is_some()
+/// The number that the value of an option says, if the option is given.
+fn number_in(matches: &ArgMatches, option: &str) -> Option<usize> {
+    matches.get_str(option).and_then(number_of)
 }
 
-/// What the arguments ask to look for. A check shows nothing.
+/// What the arguments ask to look for.
 fn view_of(matches: &ArgMatches) -> View {
-    if let Some(byte) = matches.get_str("at").and_then(number_of) {
-        return View::At(byte);
-    }
-    match matches.get_str("to") {
-        _ if matches.get_flag("diff") => View::Diff,
-        _ if matches.get_str("check").is_some() || has_schemas(matches) => View::Check,
-        Some("json") => View::Json,
-        Some("raw") => View::Raw,
-        Some("paths") => View::Paths,
-        Some("html") => View::Html(most_of(matches)),
-        Some("stats") => View::Stats,
-        Some(word) if let Some(size) = index_size(word) => View::Index(size),
+    match output_of(matches) {
+        DIFF => View::Diff,
+        AT => View::At(number_in(matches, "at").unwrap_or(0)),
+        CHECK | CDDL => View::Check,
+        JSON => View::Json,
+        RAW => View::Raw,
+        PATHS => View::Paths,
+        HTML => View::Html(number_in(matches, "limit").unwrap_or(MOST_ON_PAGE)),
+        STATS => View::Stats,
+        INDEX => View::Index(matches.get_str("to").and_then(index_size).unwrap_or(1)),
         _ => match matches.get_str("encode").and_then(RuleSet::named) {
             Some(set) => View::Encoded(set),
             None => View::Items,
@@ -131,60 +133,11 @@ fn view_of(matches: &ArgMatches) -> View {
 /// open what is made of them.
 const MOST_ON_PAGE: usize = 256 * 1024;
 
-/// How many bytes of data a page may show.
-fn most_of(matches: &ArgMatches) -> usize {
-    matches
-        .get_str("limit")
-        .and_then(number_of)
-        .unwrap_or(MOST_ON_PAGE)
-}
-
-/// Why what the arguments ask for is not to be had, if it is not.
-fn refusal(job: &Job, matches: &ArgMatches) -> Option<&'static str> {
-    let encoded = matches.get_str("encode").is_some();
-    let is_notation = matches!(job.show.style.form, Form::Pretty | Form::Diag);
-    let has_width = matches.get_str("width").is_some();
-    let has_tables = job.outer.is_some() || job.tables.is_some();
+/// Why the files that the arguments name are too many or too few, if they are.
+fn refusal(job: &Job) -> Option<&'static str> {
     match job.view {
-        _ if has_tables && !job.has_names() => {
-            Some(
-                "--as and --names are for names, which pretty notation, dumps and paths have, \
-                 without --no-notes, and -t json with --names-as-keys",
-            )
-        }
         View::Html(_) if job.files.len() > 1 => Some("-t html makes one page, of one input"),
-        View::Html(_) if encoded || job.elide.is_some() || job.widthless => {
-            Some("-t html shows items as they are, and has no --encode, --elide or --no-widths")
-        }
-        _ if job.rule.is_some() && job.schemas.is_empty() => Some("--rule is for --cddl"),
         View::Diff if job.files.len() != 2 => Some("--diff compares two files"),
-        _ if job.exact && !matches!(job.view, View::Diff) => Some("--exact is for --diff"),
-        _ if job.places && !matches!(job.view, View::Paths) => Some("--places is for -t paths"),
-        _ if job.elide.is_some() && !is_notation && job.show.style.form != Form::Hex => {
-            Some("--elide cuts strings of pretty, diag, hex and paths alone")
-        }
-        _ if job.widthless && !is_notation => {
-            Some("--no-widths leaves widths out of pretty, diag and paths alone")
-        }
-        _ if has_width && job.show.style.form != Form::Pretty => {
-            Some("--width is for pretty notation alone")
-        }
-        View::Paths if encoded || !job.path.is_empty() || job.item.is_some() => {
-            Some("-t paths shows all paths as they are, and has no -p or --encode")
-        }
-        View::Stats | View::Index(_)
-            if encoded || !job.path.is_empty() || job.item.is_some() || job.partial => {
-            Some("-t stats and -t index count whole items, and have no -p, --encode or --partial")
-        }
-        View::Json | View::Raw if encoded || job.partial => {
-            Some(
-                "-t json and -t raw show whole items as they are, \
-                 and have no --encode or --partial",
-            )
-        }
-        View::Json | View::Diff => None,
-        _ if job.strict => Some("--strict is for -t json"),
-        _ if job.names_as_keys => Some("--names-as-keys is for -t json"),
         _ => None,
     }
 }
@@ -240,15 +193,12 @@ fn job_of<'a>(rt: &HostRuntime, matches: &ArgMatches<'a>) -> Asked<'a> {
     let job = Job {
         from: matches.get_str("from").and_then(input_of),
         text: matches.get_str("text"),
-        offset: matches.get_str("offset").and_then(number_of).unwrap_or(0),
-        limit: matches
-            .get_str("limit")
-            .and_then(number_of)
-            .unwrap_or(LIMIT),
+        offset: number_in(matches, "offset").unwrap_or(0),
+        limit: number_in(matches, "limit").unwrap_or(LIMIT),
         view: view_of(matches),
         color: Color::named(matches.get_str("color")),
         widthless: matches.get_flag("no-widths"),
-        elide: matches.get_str("elide").and_then(number_of),
+        elide: number_in(matches, "elide"),
         show,
         names: !matches.get_flag("no-names"),
         outer: matches.get_str("as"),
@@ -267,7 +217,7 @@ fn job_of<'a>(rt: &HostRuntime, matches: &ArgMatches<'a>) -> Asked<'a> {
         rules: check.and_then(RuleSet::named),
         files,
     };
-    if let Some(why) = refusal(&job, matches) {
+    if let Some(why) = refusal(&job) {
         return wrong(rt, why);
     }
     Asked::Job(job)
