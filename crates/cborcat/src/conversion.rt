@@ -264,13 +264,10 @@ impl<'a> Conversion<'a> {
         self.note_line_feed(passed);
         self.any |= passed > 0;
         self.note_simple(passed);
-        if is_shown && self.note_misfit(passed).is_err() {
+        if is_shown && (self.note_misfit(passed).is_err() || self.note_violation(passed).is_err()) {
             return End::Memory;
         }
-        match self.note_violation(passed) {
-            Ok(()) => end,
-            Err(_) => End::Memory,
-        }
+        end
     }
 
     /// Passes items up to that of the number before the path, or all of them after it, and returns
@@ -292,12 +289,12 @@ impl<'a> Conversion<'a> {
     /// Converts the items that have arrived, or only the next one.
     fn show_next(&mut self, one: bool) -> End {
         let before = self.stream.rest().len();
-        let checks_one = one || self.has_numbered_check();
         let is_one = one || self.job.item.is_some();
         let end = match self.job.view {
             View::Items => self.show_some(is_one),
             View::Encoded(set) => self.show_each(&self.views.encoding(set), is_one),
-            View::Check => self.stream.check(checks_one),
+            View::Check if self.checks_parts() => self.check_parts(is_one),
+            View::Check => self.stream.check(is_one),
             View::Json | View::Raw => self.show_each(&self.views.plain(), is_one),
             View::Paths | View::At(_) | View::Diff | View::Stats => self.stream.skip(one),
             View::Index(size) => self.index_items(size),
@@ -307,11 +304,6 @@ impl<'a> Conversion<'a> {
             self.index = self.index.saturating_add(1);
         }
         end
-    }
-
-    /// Whether the item of one number alone has to fit the CDDL.
-    fn has_numbered_check(&self) -> bool {
-        self.cddl.is_some() && self.job.item.is_some()
     }
 
     /// Shows some items, and tells what follows them.
@@ -335,6 +327,7 @@ impl<'a> Conversion<'a> {
             one,
         };
         let (end, status) = each.show(shows, &mut self.stream, &mut self.out);
+        self.broken |= self.job.is_check() && status != Status::Fine;
         self.ended(status);
         end
     }

@@ -81,7 +81,6 @@ impl Each<'_> {
         let asked = (self.job, self.tables);
         match why {
             NotShown::Lost => Ok(report_lost(self.rt, asked, self.origin, item.bytes)),
-            NotShown::LostEncoded(bytes) => Ok(report_lost(self.rt, asked, self.origin, bytes)),
             NotShown::Refused(message) => {
                 report_byte(self.rt, self.origin, item, (message.place, &message.text))?;
                 Ok(Status::Bad)

@@ -43,8 +43,7 @@ pub fn run<'a>(rt: &'a HostRuntime, job: &'a Job<'_>) -> u8 {
         Ok(cddl) => cddl,
         Err(status) => return status.number(),
     };
-    let asked = if job.is_check() { None } else { job.output };
-    let Some(mut target) = open(rt, asked) else {
+    let Some(mut target) = open(rt, job.output) else {
         return Status::Trouble.number();
     };
     let marks = Marks::new(rt.alloc());
@@ -60,7 +59,7 @@ pub fn run<'a>(rt: &'a HostRuntime, job: &'a Job<'_>) -> u8 {
     run.inputs();
     let status = run.status;
     let whole = status == Status::Fine || (status == Status::Bad && is_whole_if_bad(job));
-    if close(rt, target, asked, whole) {
+    if close(rt, target, job.output, whole) {
         status.number()
     } else {
         Status::Trouble.number()
@@ -68,13 +67,9 @@ pub fn run<'a>(rt: &'a HostRuntime, job: &'a Job<'_>) -> u8 {
 }
 
 /// Whether the output is whole though the status is bad: two inputs that differ are no failure, and
-/// a page that is to show a fault has it.
+/// `--partial` shows a fault.
 fn is_whole_if_bad(job: &Job<'_>) -> bool {
-    match job.view {
-        View::Diff => true,
-        View::Html(_) => job.partial,
-        _ => false,
-    }
+    matches!(job.view, View::Diff) || job.partial
 }
 
 /// A run of the program.

@@ -3,11 +3,12 @@
 //! malformed item.
 
 use crate::item::{NotShown, ShowsItem};
+use crate::part::parts_in;
 use cbor_grammar::Error;
-use cbor_inspect::{Naming, parts_of};
+use cbor_inspect::Naming;
 use cbor_places::{PartialText, Piece};
 use cbor_screen::{DumpStyle, push_dump, push_partial_dump};
-use cborcat_arguments::{Job, show_of};
+use cborcat_arguments::Job;
 
 /// How the dumps of items, or of their parts, are written.
 #[derive(Clone, Copy)]
@@ -55,7 +56,7 @@ impl<'a> Dumps<'a> {
     }
 
     /// Writes the dump of an item that may have these names.
-    fn write(
+    pub(crate) fn write(
         &self,
         item: &[u8],
         names: Option<Naming<'a>>,
@@ -78,21 +79,6 @@ impl<'a> Dumps<'a> {
         let said = push_partial_dump(&mut text, bytes, &self.style_of(bytes, self.tables), said)?;
         Ok(PartialText { text, said })
     }
-
-    /// Writes the dump of an item, or of the parts of it that the path leads to. Returns whether it
-    /// leads somewhere.
-    pub fn push(&self, item: Piece, out: &mut Vec<u8>) -> Result<bool, Error> {
-        if self.job.show.steps.is_empty() {
-            self.write(item.bytes, self.tables, out)?;
-            return Ok(true);
-        }
-        let show = show_of(self.job, self.tables);
-        let parts = parts_of(self.rt.alloc(), &show, item.bytes)?;
-        for part in &parts {
-            self.write(part.span.bytes(item.bytes), show.of_part(part).names, out)?;
-        }
-        Ok(!parts.is_empty())
-    }
 }
 
 impl ShowsItem for Dumps<'_> {
@@ -103,8 +89,12 @@ impl ShowsItem for Dumps<'_> {
         out: &mut Vec<u8>,
         not_shown: &mut Vec<NotShown>,
     ) -> Result<(), Error> {
-        if !self.push(item, out)? {
+        let parts = parts_in(self.rt.alloc(), (self.job, self.tables), item)?;
+        if parts.is_empty() {
             not_shown.push(NotShown::Lost)?;
+        }
+        for part in &parts {
+            self.write(part.piece().bytes, part.naming, out)?;
         }
         Ok(())
     }

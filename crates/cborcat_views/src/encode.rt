@@ -1,8 +1,9 @@
-//! `--encode`: re-encodes each item by rules before it is shown, or says why the item has no such
-//! encoding.
+//! `--encode`: re-encodes each item, or the parts that a path leads to, by rules before they are
+//! shown, or says why one has no such encoding.
 
 use crate::dumps::Dumps;
 use crate::item::{NotShown, ShowsItem};
+use crate::part::parts_in;
 use cbor_grammar::Error;
 use cbor_inspect::{End, Form, Naming, show_items};
 use cbor_marks::Marks;
@@ -26,7 +27,7 @@ pub struct Encoding<'a> {
 }
 
 impl ShowsItem for Encoding<'_> {
-    /// Encodes an item again and shows it.
+    /// Encodes an item, or the parts of it that the path leads to, again and shows them.
     fn show_one(
         &self,
         item: Piece,
@@ -34,29 +35,35 @@ impl ShowsItem for Encoding<'_> {
         not_shown: &mut Vec<NotShown>,
     ) -> Result<(), Error> {
         let alloc = self.rt.alloc();
-        let again = match reencoded(alloc, item.bytes, self.set.rules) {
-            Ok(again) => again,
-            Err(error) => {
-                let message = not_encoded(alloc, self.set, item, error)?;
-                not_shown.push(NotShown::Refused(message))?;
-                return Ok(());
-            }
-        };
-        if self.job.show.style.form == Form::Hex {
-            let dumps = Dumps::new(self.rt, self.job, self.tables);
-            let bytes = again.as_slice();
-            if !dumps.push(Piece { begins: 0, bytes }, out)? {
-                not_shown.push(NotShown::LostEncoded(again))?;
-            }
-            return Ok(());
+        let parts = parts_in(alloc, (self.job, self.tables), item)?;
+        if parts.is_empty() {
+            not_shown.push(NotShown::Lost)?;
         }
-        let mut show = show_of(self.job, self.tables);
-        show.marks = self.marks;
-        match show_items(&show, &again, out).end {
-            End::Memory => return Err(Error::Memory),
-            End::Lost { .. } => not_shown.push(NotShown::LostEncoded(again))?,
-            _ => {}
+        for part in &parts {
+            match reencoded(alloc, part.piece().bytes, self.set.rules) {
+                Ok(again) => self.write(&again, part.naming, out)?,
+                Err(error) => {
+                    let message = not_encoded(alloc, self.set, part.piece(), error)?;
+                    not_shown.push(part.refused(message))?;
+                }
+            }
         }
         Ok(())
+    }
+}
+
+impl<'a> Encoding<'a> {
+    /// Writes an item that was encoded again, and may have these names.
+    fn write(self, item: &[u8], names: Option<Naming<'a>>, out: &mut Vec<u8>) -> Result<(), Error> {
+        if self.job.show.style.form == Form::Hex {
+            return Dumps::new(self.rt, self.job, self.tables).write(item, names, out);
+        }
+        let mut show = show_of(self.job, names);
+        show.steps = &[];
+        show.marks = self.marks;
+        match show_items(&show, item, out).end {
+            End::Memory => Err(Error::Memory),
+            _ => Ok(()),
+        }
     }
 }

@@ -10,8 +10,6 @@ use cbor_places::Piece;
 pub enum NotShown {
     /// The path leads nowhere in the item.
     Lost,
-    /// The path leads nowhere in the item when it is encoded again, as these bytes.
-    LostEncoded(Vec<u8>),
     /// Something at a byte of the item keeps it from being shown in this form.
     Refused(Message),
     /// The content that begins at this byte of the item is not for a terminal.

@@ -5,6 +5,7 @@
 //! returned as a `NotShown`. Nothing here opens a file or writes a message.
 #![tactic(auto)]
 
+mod checks;
 mod diff;
 mod dumps;
 mod encode;
@@ -13,10 +14,12 @@ mod index;
 mod item;
 mod output;
 mod page;
+mod part;
 mod plain;
 mod screen;
 mod views;
 
+pub use checks::Checks;
 pub use dumps::Dumps;
 pub use encode::Encoding;
 pub use encoded::{encoded_in, entered_of};

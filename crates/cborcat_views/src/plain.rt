@@ -2,18 +2,19 @@
 //! of a string (`-t raw`). Returns why an item cannot be written so.
 
 use crate::item::{NotShown, ShowsItem};
+use crate::part::{PartOf, parts_in};
 use cbor_grammar::Error;
 use cbor_grammar::head::ItemHead;
 use cbor_grammar::strings::StringKind;
-use cbor_inspect::{Naming, RawError, parts_of, raw_content};
+use cbor_inspect::{Naming, RawError, raw_content};
 use cbor_json::{JsonError, JsonStyle, NamedJson, bytes_to_json_named};
 use cbor_marks::Marks;
 use cbor_messages::{Message, not_json};
 use cbor_notes::Note;
 use cbor_places::Piece;
 use cbor_tokens::is_shown;
-use cbor_trace::{Span, head_at};
-use cborcat_arguments::{Job, View, show_of};
+use cbor_trace::head_at;
+use cborcat_arguments::{Job, View};
 use std::io::IsTerminal;
 
 /// How the items of an input, or their parts, are written as JSON or as their content.
@@ -27,25 +28,6 @@ pub struct Plain<'a> {
     pub(crate) marks: Option<&'a Marks>,
 }
 
-/// A part of an item, or all of it.
-#[derive(Clone, Copy)]
-struct PartOf<'a, 'b> {
-    item: Piece<'b>,
-    span: Span,
-    /// Its names.
-    naming: Option<Naming<'a>>,
-}
-
-impl<'b> PartOf<'_, 'b> {
-    /// Its bytes in the input.
-    fn piece(self) -> Piece<'b> {
-        Piece {
-            begins: self.item.number(self.span.start),
-            bytes: self.span.bytes(self.item.bytes),
-        }
-    }
-}
-
 impl ShowsItem for Plain<'_> {
     /// Writes an item, or the parts of it that the path leads to.
     fn show_one(
@@ -54,29 +36,12 @@ impl ShowsItem for Plain<'_> {
         out: &mut Vec<u8>,
         not_shown: &mut Vec<NotShown>,
     ) -> Result<(), Error> {
-        if self.job.show.steps.is_empty() {
-            let whole = PartOf {
-                item,
-                span: Span {
-                    start: 0,
-                    end: item.bytes.len(),
-                },
-                naming: self.tables,
-            };
-            return self.write(whole, out, not_shown);
-        }
-        let show = show_of(self.job, self.tables);
-        let parts = parts_of(self.rt.alloc(), &show, item.bytes)?;
+        let parts = parts_in(self.rt.alloc(), (self.job, self.tables), item)?;
         if parts.is_empty() {
             not_shown.push(NotShown::Lost)?;
         }
         for part in &parts {
-            let part = PartOf {
-                item,
-                span: part.span,
-                naming: show.of_part(part).names,
-            };
-            self.write(part, out, not_shown)?;
+            self.write(*part, out, not_shown)?;
         }
         Ok(())
     }
@@ -112,8 +77,8 @@ impl Plain<'_> {
                 Ok(None)
             }
             Err(error) => {
-                let Message { place, text } = not_json(self.rt.alloc(), part.piece(), error)?;
-                Ok(Some(refused(part, place, text)))
+                let message = not_json(self.rt.alloc(), part.piece(), error)?;
+                Ok(Some(part.refused(message)))
             }
         }
     }
@@ -144,10 +109,10 @@ impl Plain<'_> {
             Err(RawError::Cbor(error)) => return Err(error),
             Err(RawError::NoString) => {
                 let noun = noun_of(head);
-                let what = format!(in self.rt.alloc();
+                let text = format!(in self.rt.alloc();
                     "{noun} has no raw content; a byte or text string has"
                 )?;
-                return Ok(Some(refused(part, 0, what)));
+                return Ok(Some(part.refused(Message { place: 0, text })));
             }
         };
         if self.job.output.is_none() && self.rt.stdout().is_terminal() {
@@ -159,12 +124,6 @@ impl Plain<'_> {
         out.extend_from_slice(&content)?;
         Ok(None)
     }
-}
-
-/// Something at a byte of a part keeps it from being written.
-fn refused(part: PartOf, at: usize, text: String) -> NotShown {
-    let place = part.span.start.saturating_add(at);
-    NotShown::Refused(Message { place, text })
 }
 
 /// How JSON with these names is written, and where its tokens are marked, if they are to be.

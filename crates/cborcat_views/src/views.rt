@@ -1,6 +1,7 @@
 //! `Views`: how items are shown, by the arguments. Writes EDN, JSON, dumps, lines of paths, and the
 //! part of a truncated or malformed item that is there.
 
+use crate::checks::Checks;
 use crate::dumps::Dumps;
 use crate::encode::Encoding;
 use crate::encoded::{encoded_in, entered_of};
@@ -56,6 +57,15 @@ impl<'a> Views<'a> {
             set,
             tables: self.tables,
             marks: self.screen.edn_marks(),
+        }
+    }
+
+    /// Checks of parts of items.
+    pub fn checks(self) -> Checks<'a> {
+        Checks {
+            rt: self.rt,
+            job: self.job,
+            tables: self.tables,
         }
     }
 

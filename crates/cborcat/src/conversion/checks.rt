@@ -5,7 +5,7 @@
 use super::Conversion;
 use crate::fits::Fits;
 use cbor_grammar::Error;
-use cbor_inspect::two_byte_simple;
+use cbor_inspect::{End, two_byte_simple};
 use cbor_messages::{TWO_BYTES, first_violation};
 use cbor_places::Piece;
 use cborcat_arguments::View;
@@ -31,13 +31,29 @@ impl<'a> Conversion<'a> {
         }
     }
 
+    /// Whether parts of items are checked, and not the items themselves. By CDDL alone a part has
+    /// to fit, but its item is checked.
+    pub(super) fn checks_parts(&self) -> bool {
+        let has_more = self.cddl.is_none() || self.job.rules.is_some();
+        has_more && !self.job.show.steps.is_empty()
+    }
+
+    /// Checks the parts of the next item that the path leads to. After the first fault the items
+    /// are passed. Tells what follows.
+    pub(super) fn check_parts(&mut self, is_one: bool) -> End {
+        if self.broken {
+            return self.stream.skip(is_one);
+        }
+        self.show_each(&self.views.checks(), true)
+    }
+
     /// Says where the bytes that were passed last first break a rule that the check names, unless
     /// that was said.
     pub(super) fn note_violation(&mut self, passed: usize) -> Result<(), Error> {
         let Some(set) = self.job.rules else {
             return Ok(());
         };
-        if self.broken || passed == 0 {
+        if self.broken || passed == 0 || self.checks_parts() {
             return Ok(());
         }
         let begins = self.begins().saturating_sub(passed);
