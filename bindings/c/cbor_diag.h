@@ -28,7 +28,7 @@ extern "C" {
 #endif
 
 /* The version of this header: 10000 * major + 100 * minor + patch. */
-#define CBOR_DIAG_VERSION 100
+#define CBOR_DIAG_VERSION 200
 
 /* Bytes of stack that are enough for each call, as measured. Checks by CDDL take the most, for rules and items that are
  * nested as deeply as they may be. */

@@ -202,5 +202,5 @@ export interface ReadableStreamLike {
  */
 export function items(stream: Chunks): AsyncGenerator<Uint8Array, void, undefined>;
 
-/** The version of the library, such as `0.1.0`. */
+/** The version of the library, such as `0.2.0`. */
 export function libraryVersion(): string;

@@ -70,7 +70,7 @@ __all__ = [
     "value",
 ]
 
-__version__ = "0.1.0"
+__version__ = "0.2.0"
 
 Bytes = Union[bytes, bytearray, memoryview]
 """The bytes of items."""

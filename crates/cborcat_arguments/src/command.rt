@@ -93,7 +93,7 @@ pub(crate) const CONFLICTS: [(&str, &str); 8] = [
 /// The command, whose help is the text as written.
 pub(crate) fn command<'a>(alloc: Global) -> Result<Command<'a>, AllocError> {
     let mut command = Command::new(alloc, "cborcat")
-        .version("0.1.0")
+        .version("0.2.0")
         .override_help(HELP)
         .override_usage("cborcat [OPTION]... [FILE]...");
     for option in &OPTIONS {
