@@ -3,7 +3,8 @@
 from typing import NamedTuple
 
 from bytes_form import item_at, parse_bytes, to_bytes
-from edn_text import NOTED, Writer, element_text
+from edn_text import Writer, element_text
+from inside import SAYING
 from item import (
     Array, Bytes, Float, Integer, Map, Negative, Refused, Simple, Tagged, Text,
 )
@@ -78,7 +79,7 @@ def elements(content, tag):
 def characters(content, tag):
     """The characters of a byte string as a note, or None."""
     shown = all(0x20 <= byte <= 0x7E and byte != 0x2F for byte in content)
-    if tag in NOTED or not shown or not 1 <= len(content) <= MOST_CHARACTERS:
+    if tag in SAYING or not shown or not 1 <= len(content) <= MOST_CHARACTERS:
         return None
     return "'" + content.decode().replace("\\", "\\\\").replace("'", "\\'") + "'"
 

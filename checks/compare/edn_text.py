@@ -2,17 +2,15 @@
 
 import math
 
-from bytes_form import sequence, to_bytes
 from edn_numbers import FORMATS, nearest_or_none, value_of
 from fractions import Fraction
+from inside import items_in
 from item import (
     Array, Bytes, Float, IndefiniteBytes, IndefiniteText, Integer, Map, Negative, Simple, Tagged, Text,
     shortest, utf8,
 )
 
 INDICATORS = {0: "_i", 1: "_0", 2: "_1", 4: "_2", 8: "_3"}
-# below these tags byte strings may have a note, and are no items: typed arrays are below 64 to 87
-NOTED = (2, 3, 37, 52, 54, *range(64, 88), 260)
 NAMES = {20: "false", 21: "true", 22: "null", 23: "undefined"}
 ESCAPED = {"\b": "\\b", "\f": "\\f", "\n": "\\n", "\r": "\\r", "\t": "\\t", '"': '\\"', "\\": "\\\\"}
 HIDDEN = {
@@ -21,17 +19,6 @@ HIDDEN = {
 }
 # the columns that a line may have after its indentation, however far that is
 LEAST = 20
-
-
-def is_reserved(item):
-    """Whether a simple value from 24 to 31 is in the item, which no text is read as."""
-    if isinstance(item, Simple):
-        return 24 <= item.value < 32
-    if isinstance(item, Array):
-        return any(map(is_reserved, item.members))
-    if isinstance(item, Map):
-        return any(map(is_reserved, sum(item.pairs, ())))
-    return isinstance(item, Tagged) and is_reserved(item.value)
 
 
 class Writer:
@@ -129,13 +116,7 @@ class Writer:
 
     def items_in(self, content, level, tag):
         """The items that are written between `<<` and `>>`, if these give the same bytes."""
-        found, rest = sequence(content, level + 1)
-        if rest or b"".join(map(to_bytes, found)) != content or any(map(is_reserved, found)):
-            return None
-        if tag == 63 or tag == 24 and len(found) == 1:
-            return found
-        shown = self.embedded and tag not in (24, *NOTED) and len(found) == 1
-        return found if shown and isinstance(found[0], (Array, Map, Tagged)) else None
+        return items_in(content, level, tag, self.embedded)
 
     def text(self, item):
         content = "".join(ESCAPED.get(one) or (f"\\u{ord(one):04x}" if ord(one) in HIDDEN else one)

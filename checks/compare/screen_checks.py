@@ -156,8 +156,8 @@ def spelled(run, same):
     same("in a part", dump("82 01 81f814", "-p", "1"), "81       # array(1)\n   f8 14 #   false, simple(20)\n")
     same("in parts", dump("82 f800 81f814 01", "-p", "*"),
          "f8 00 # unassigned, simple(0)\n81       # array(1)\n   f8 14 #   false, simple(20)\n")
-    same("in a byte string", dump("43 81f814", "-e"),
-         "43          # bytes(3)\n   81       #   array(1)\n      f8 14 #     false, simple(20)\n")
+    same("a byte string with it is not opened", dump("43 81f814", "-e"),
+         '43        # bytes(3)\n   81f814 #   "\\x81\\xf8\\x14"\n')
     same("in a note", dump("d818 43 81f814").splitlines()[-2:],
          ["             #     81       # array(1)", "             #        f8 14 #   false, simple(20)"])
     same("with names", dump("d2 84 40 a0 f816 40").splitlines()[-3],

@@ -4,5 +4,5 @@ pub mod Shown
 pub mod Texts
 pub mod Edn
 pub mod Appended
-pub mod Heads
 pub mod Elements
+pub mod Opened

@@ -1,7 +1,7 @@
 -- EDN as a dialect of notation (`edn_leaves`): how numbers and strings are written, what is written around members,
 -- which comments stand beside an item, and which byte strings are written as the items in them.
 use Rattle.std.specs.Prelude.{◌≡◌, ◌⊎◌, ◌+◌, ◌-◌, ℕ, ◌^◌, List, [], ◌∷◌, ◌++◌, length, codes, Bool, true, false}
-use Rattle.std.specs.Prelude.{Option, Some, None, option_and_then, ◌&&◌, ◌||◌, if◌then◌else◌, nat_lt, nat_le, min}
+use Rattle.std.specs.Prelude.{Option, Some, None, option_and_then, ◌&&◌, ◌||◌, if◌then◌else◌, nat_lt, min}
 use Rattle.std.specs.Prelude.{◌==◌, not}
 use Rattle.std.specs.Borrow.{Bor}
 use Rattle.std.specs.List.{list_any, Contains}
@@ -12,8 +12,6 @@ use Rattle.cbor_floats.specs.Decimal.{IsTextOf}
 use Rattle.cbor_floats.specs.Value.{value_of, IsEncodingOf, IsShortest}
 use Rattle.cbor_grammar.specs.declared.argument.Argument.{Argument}
 use Rattle.cbor_grammar.specs.declared.argument.Argument.TheVariants.{Number, Indefinite}
-use Rattle.cbor_grammar.specs.declared.layout.Content.{Content}
-use Rattle.cbor_grammar.specs.declared.layout.Content.TheVariants as shown
 use Rattle.cbor_grammar.specs.declared.layout.ContainerStyle.{ContainerStyle}
 use Rattle.cbor_grammar.specs.declared.layout.ContainerStyle.TheVariants as style
 use Rattle.cbor_grammar.specs.declared.layout.Layout.{Layout}
@@ -35,8 +33,8 @@ use Rattle.cbor_notes.specs.declared.note.Note.{Note}
 use Rattle.cbor_edn_writer.specs.declared.print.line.Line.{Line}
 use Rattle.cbor_edn_writer.specs.declared.print.place.EdnPlace.{EdnPlace}
 use Rattle.cbor_tokens.specs.Escapes.{escaped_text}
-use Rattle.cbor_edn_writer.specs.OwnNotes.{is_noted, time_note, text_note, IsBytesNote, IsSimpleNote}
-use Rattle.cbor_edn_writer.specs.Same.{is_empty, is_strict, is_sequence}
+use Rattle.cbor_inside.specs.Rule.{content_under}
+use Rattle.cbor_edn_writer.specs.OwnNotes.{time_note, text_note, IsBytesNote, IsSimpleNote}
 
 -- ---- widths
 
@@ -276,28 +274,6 @@ edn_closing (Array count) l = last_line l ++ codes "]"
 edn_closing (Map count) l = last_line l ++ codes "}"
 edn_closing (Chunks kind) l = last_line l ++ codes ")"
 edn_closing (Embedded len) l = last_line l ++ (codes ">>" ++ embedded_mark len)
-
--- ---- byte strings as items
-
--- the first byte of an array, a map or a tagged item
-abbrev pub begins_container : List ℕ → Bool
-begins_container [] = false
-begins_container (b ∷ bs) = nat_le 0x80 b && nat_lt b 0xe0
-
-abbrev pub item_if : Bool → Content
-item_if shows = if shows then shown.Item else shown.Bytes
-
--- right below tag 24 an item, and below 63 items, where the same bytes are read back; with `embedded` any array,
--- map or tagged item, if no note says otherwise
-abbrev pub content_below : Bool → ℕ → ℕ → List ℕ → Content
-content_below embedded level tag b =
-    if tag == 24 then item_if (not (is_empty b) && is_strict b)
-    else if tag == 63 then (if is_sequence level b && is_strict b then shown.Sequence else shown.Bytes)
-    else item_if (embedded && (not (is_noted tag) && (begins_container b && is_strict b)))
-
-abbrev pub content_under : Bool → ℕ → Option ℕ → List ℕ → Content
-content_under embedded level None b = item_if (embedded && (begins_container b && is_strict b))
-content_under embedded level (Some tag) b = content_below embedded level tag b
 
 -- ---- the dialect
 

@@ -9,7 +9,7 @@ use Rattle.cbor_floats.specs.declared.float.EncodedFloat.TheVariants.{Half, Sing
 use Rattle.cbor_floats.specs.Decimal.{IsTextOf}
 use Rattle.cbor_floats.specs.Value.{value_of}
 use Rattle.cbor_notes.specs.Element.{Kind, unsigned, signed, float, is_typed_array, kind, size, big_endian}
-use Rattle.cbor_edn_writer.specs.Same.{is_empty}
+use Rattle.cbor_inside.specs.Rule.{is_empty}
 
 -- ---- one element
 

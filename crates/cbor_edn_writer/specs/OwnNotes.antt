@@ -11,6 +11,7 @@ use Rattle.cbor_tokens.specs.Ascii.{apostrophe, backslash}
 use Rattle.cbor_notes.specs.Address.{ipv4_text, ipv6_text, mac_text}
 use Rattle.cbor_notes.specs.Date.{date_of_epoch, datetime_of_epoch, epoch_of_date}
 use Rattle.cbor_notes.specs.DateTime.{epoch_of_datetime}
+use Rattle.cbor_inside.specs.Rule.{says_what_bytes_are}
 use Rattle.cbor_edn_writer.specs.Elements.{IsElementsNote}
 
 -- ---- dates
@@ -39,11 +40,6 @@ text_note tag text =
     else None
 
 -- ---- bytes below a tag
-
--- below these tags a byte string is an address, a UUID, a big number or a typed array
-abbrev pub is_noted : ℕ → Bool
-is_noted tag = (tag == 2) || (tag == 3) || (tag == 37) || (tag == 52) || (tag == 54)
-    || (nat_le 64 tag && nat_le tag 87) || (tag == 260)
 
 -- the digits of a number of at most 16 bytes, and a negative one is -1 minus that number; none below -(2 ^ 128 - 1)
 abbrev pub big_number : Bool → List ℕ → Option (List ℕ)
@@ -110,8 +106,8 @@ IsUntaggedNote has_other b said = said ≡ (if has_other then None else characte
 abbrev pub IsBytesNote : Option ℕ → Bool → List ℕ → Option (List ℕ) → Type 0
 IsBytesNote None has_other b said = IsUntaggedNote has_other b said
 IsBytesNote (Some tag) has_other b said =
-    ((is_noted tag ≡ true) × IsTaggedNote tag b said)
-    ⊎ ((is_noted tag ≡ false) × IsUntaggedNote has_other b said)
+    ((says_what_bytes_are tag ≡ true) × IsTaggedNote tag b said)
+    ⊎ ((says_what_bytes_are tag ≡ false) × IsUntaggedNote has_other b said)
 
 -- of a simple value only that it takes two bytes, which RFC 8949 does not allow below 32
 abbrev pub IsSimpleNote : ℕ → Option (List ℕ) → Type 0

@@ -2,6 +2,7 @@ pub mod Braces
 pub mod Fills
 pub mod Digits
 pub mod BigDigits
+pub mod Opened
 pub mod Strings
 pub mod Tokens
 pub mod Numbers

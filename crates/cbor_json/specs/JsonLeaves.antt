@@ -1,12 +1,13 @@
 -- JSON as a dialect of notation (RFC 8949 section 6.1; `json_leaves`): how numbers and strings are written, what is
 -- written around members, and which byte strings are written as the item in them. A key that is a text is written as it
 -- is, an integer key by its digits, and any other key as its EDN, without widths and with its chunks joined.
-use Rattle.std.specs.Prelude.{◌≡◌, ◌⊎◌, ℕ, ◌+◌, List, [], ◌∷◌, ◌++◌, codes, Bool, true, false, Some, None, ◌&&◌, ◌||◌}
-use Rattle.std.specs.Prelude.{if◌then◌else◌, nat_le, nat_lt, ◌==◌, not, Option, length}
+use Rattle.std.specs.Prelude.{◌≡◌, ◌⊎◌, ℕ, ◌+◌, List, [], ◌++◌, codes, Bool, true, false, Some, None, ◌&&◌, ◌||◌}
+use Rattle.std.specs.Prelude.{if◌then◌else◌, nat_le, ◌==◌, Option, length}
 use Rattle.std.specs.Float.{float_is_finite}
 use Rattle.std.specs.Float.Ieee.{Float}
 use Rattle.std.specs.Fmt.{sign_text}
 use Rattle.hex.specs.Hex.{encode_lower, encode_upper}
+use Rattle.cbor_inside.specs.Rule.{content_under}
 use Rattle.cbor_json.specs.Decimal.{number_of, if_more, IsDecimal}
 use Rattle.cbor_floats.specs.declared.float.EncodedFloat.{EncodedFloat}
 use Rattle.cbor_floats.specs.declared.float.EncodedFloat.TheVariants.{Half, Single, Double}
@@ -259,22 +260,18 @@ tag_end_at s = []
 
 -- ---- byte strings as items
 
--- the first byte of an array, a map or a tagged item
-abbrev pub begins_container : List ℕ → Bool
-begins_container [] = false
-begins_container (b ∷ bs) = nat_le 0x80 b && nat_lt b 0xe0
+-- no value of JSON is a sequence of items
+abbrev pub but_sequence : Content → Content
+but_sequence shown.Sequence = shown.Bytes
+but_sequence shows = shows
 
--- right below these tags bytes are a big number, a UUID or an address, or are asked for as digits
-abbrev pub wants_bytes : Option ℕ → Bool
-wants_bytes None = false
-wants_bytes (Some tag) =
-    (tag == 2) || (tag == 3) || (tag == 21) || (tag == 22) || (tag == 23) || (tag == 37) || (tag == 52) || (tag == 54)
-    || (tag == 260)
+-- With `embedded`, a value that is a byte string is opened by the rule of `cbor_inside`.
+abbrev pub content_if : Bool → JsonPlace → List ℕ → Content
+content_if true p b = but_sequence (content_under true p.level p.tag b)
+content_if false p b = shown.Bytes
 
 abbrev pub content_at : JsonPlace → List ℕ → Content
-content_at p b =
-    if p.style.embedded && (not (wants_bytes p.tag) && (is_value p.role && begins_container b)) then shown.Item
-    else shown.Bytes
+content_at p b = content_if (p.style.embedded && is_value p.role) p b
 
 -- ---- the dialect
 

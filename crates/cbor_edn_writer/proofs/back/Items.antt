@@ -38,14 +38,15 @@ use Rattle.cbor_edn_grammar.specs.declared.close.Close.TheVariants.{Bracket, Ang
 use Rattle.cbor_edn_writer.specs.declared.print.place.EdnPlace.{EdnPlace}
 use Rattle.cbor_edn_grammar.specs.Blank.{skip_blank}
 use Rattle.cbor_edn_grammar.specs.Edn.{bytes_of_edn}
-use Rattle.cbor_edn_writer.specs.EdnLeaves.{edn_leaves, marked, begins_container, item_if, content_below}
-use Rattle.cbor_edn_writer.specs.EdnLeaves.{content_under, is_encoded, note_before, After, EdnLeaf, Noted, says_string}
-use Rattle.cbor_edn_writer.specs.OwnNotes.{is_noted}
+use Rattle.cbor_inside.specs.Rule.{is_empty, is_sequence, says_what_bytes_are, begins_container, item_if}
+use Rattle.cbor_inside.specs.Rule.{content_below, content_under}
+use Rattle.cbor_inside.specs.Strict.{is_strict}
+use Rattle.cbor_edn_writer.specs.EdnLeaves.{edn_leaves, marked}
+use Rattle.cbor_edn_writer.specs.EdnLeaves.{is_encoded, note_before, After, EdnLeaf, Noted, says_string}
 use Rattle.cbor_edn_writer.specs.EdnLeaves.{quoted_string, spaced}
 use Rattle.cbor_edn_grammar.specs.Items.{item_turn, read_item}
 use Rattle.cbor_edn_grammar.specs.Reserved.{NotReserved, NoneReserved, NoneReservedItems, NoneReservedPairs}
 use Rattle.cbor_edn_grammar.specs.Reading.{◌>>=◌, after_byte}
-use Rattle.cbor_edn_writer.specs.Same.{is_empty, is_strict, is_sequence}
 use Rattle.cbor_edn_writer.proofs.Places.{same_level}
 use Rattle.cbor_edn_writer.proofs.back.Reads.{IsBegun, ReadsAs, ReadsNoted}
 use Rattle.cbor_edn_grammar.proofs.Words.{skip_none}
@@ -91,8 +92,8 @@ strict_below embedded level tag b =
     (strict_item level b (not (is_empty b) && is_strict b) (λ h. (and_parts (not (is_empty b)) (is_strict b) h).1))
     (strict_if level b (tag == 63) _ _
     (strict_sequence level b (is_sequence level b && is_strict b) (and_parts (is_sequence level b) (is_strict b)))
-    (strict_item level b (embedded && (not (is_noted tag) && (begins_container b && is_strict b)))
-    (λ h. let rest = and_parts (not (is_noted tag)) _ (and_parts embedded _ h).1 in
+    (strict_item level b (embedded && (not (says_what_bytes_are tag) && (begins_container b && is_strict b)))
+    (λ h. let rest = and_parts (not (says_what_bytes_are tag)) _ (and_parts embedded _ h).1 in
     (and_parts (begins_container b) (is_strict b) rest.1).1)))
 
 strict_content : (embedded : Bool) (level : ℕ) (tag : Option ℕ) (b : List ℕ)

@@ -1,5 +1,5 @@
 -- For a byte string that EDN shows as the items in it: if the bytes encode an item and pass `is_strict` of
--- `specs/Same.antt`, `encoded` of that item is these bytes again (`item_same`). If they encode items and pass
+-- `cbor_inside`, `encoded` of that item is these bytes again (`item_same`). If they encode items and pass
 -- `is_sequence`, the encodings of these items in order are these bytes (`sequence_same`). None of these items has a
 -- simple value from 24 to 31 in it.
 use Rattle.std.proofs.Common.{◌≡◌, ℕ, zero, suc, ◌+◌, ◌/◌, ◌%◌, ◌≤◌, Bool, true, false, ◌==◌, ◌&&◌, if◌then◌else◌}
@@ -29,8 +29,8 @@ use Rattle.cbor_grammar.proofs.bytes.Laws.{bytes_at}
 use Rattle.cbor_grammar.proofs.bytes.Strict.{strict_only}
 use Rattle.cbor_grammar.proofs.shared.EmbeddedItems.{embedded_spells, sequence_spells}
 use Rattle.cbor_bytes.proofs.bytes.StrictHeads.{strictly_spelled}
-use Rattle.cbor_edn_writer.specs.Same.{is_empty, after_strict, after_read, after_head, go_on, are_heads, is_strict}
-use Rattle.cbor_edn_writer.specs.Same.{is_sequence}
+use Rattle.cbor_inside.specs.Rule.{is_empty, is_sequence}
+use Rattle.cbor_inside.specs.Strict.{after_strict, after_read, after_head, go_on, are_heads, is_strict}
 use Rattle.cbor_edn_grammar.specs.Reserved.{NoneReserved, NoneReservedItems}
 use Rattle.cbor_edn_writer.proofs.back.Plain.{PlainHeads, no_head, a_break, a_head, are_strict, free_item, free_items}
 

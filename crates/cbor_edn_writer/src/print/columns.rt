@@ -4,10 +4,10 @@
 use crate::print::notes::is_note;
 use crate::print::numbers::{longer, shown_width};
 use crate::print::own_notes::{are_characters, tagged_note, text_note, time_note};
-use crate::print::same::is_noted;
 use cbor_floats::{EncodedFloat, number_text};
 use cbor_grammar::strings::StringKind;
 use cbor_grammar::{FloatWidth, IntegerWidth};
+use cbor_inside::says_what_bytes_are;
 use cbor_notation_writer::budget::digit_count;
 use cbor_notes::Note;
 use ryu::Buffer;
@@ -179,7 +179,7 @@ pub(super) fn bytes_note_columns(
     alloc: Global,
 ) -> Result<usize, AllocError> {
     match tag {
-        Some(tag) if is_noted(tag) => Ok(own_columns(tagged_note(alloc, tag, content)?)),
+        Some(tag) if says_what_bytes_are(tag) => Ok(own_columns(tagged_note(alloc, tag, content)?)),
         _ if after_columns(note) > 0 => Ok(0),
         _ => Ok(characters_columns(content)),
     }

@@ -7,7 +7,6 @@ use crate::print::columns::{
     text_note_columns, time_columns,
 };
 use crate::print::place::{EdnPlace, note_at, notes_before};
-use crate::print::same::content_under;
 use crate::style::EdnStyle;
 use cbor_bytes::head::read_head;
 use cbor_bytes::skip::after_front;
@@ -18,6 +17,7 @@ use cbor_grammar::layout::Content;
 use cbor_grammar::level::DEEPEST;
 use cbor_grammar::strings::StringKind;
 use cbor_grammar::{FloatWidth, IntegerWidth};
+use cbor_inside::content_under;
 use cbor_notes::Note;
 use std::alloc::{AllocError, Global};
 

@@ -19,8 +19,8 @@ ghost use Rattle.cbor_edn_writer.specs.OwnNotes.{characters_note as characters_o
 
 use crate::print::own_notes::{characters_note, tagged_note, text_note, time_note};
 use crate::print::place::EdnPlace;
-use crate::print::same::is_noted;
 use cbor_grammar::strings::StringContent;
+use cbor_inside::says_what_bytes_are;
 use cbor_marks::Kind;
 use std::alloc::AllocError;
 
@@ -126,7 +126,7 @@ pub(super) fn push_string_note(
         return Ok(());
     }
     match (content, place.tag) {
-        (StringContent::Bytes(bytes), Some(tag)) if is_noted(tag) => {
+        (StringContent::Bytes(bytes), Some(tag)) if says_what_bytes_are(tag) => {
             push_own(out, tagged_note(place.alloc, tag, bytes)?, place)
         }
         (StringContent::Bytes(bytes), _) => push_characters(out, bytes, place),

@@ -6,6 +6,7 @@ ghost use Rattle.std.specs.Prelude.{◌≡◌, IfOk, option_map, flat_map, true}
 ghost use Rattle.std.specs.List.{list_all};
 ghost use Rattle.cbor_tokens.specs.Appends.{AppendsText};
 ghost use Rattle.std.specs.String.{string_bytes};
+ghost use Rattle.cbor_inside.specs.Rule.{says_what_bytes_are};
 ghost use Rattle.cbor_edn_writer.specs.OwnNotes as spec;
 ghost use Rattle.cbor_edn_writer.specs.OwnNotes.{IsTaggedNote, escaped_character};
 
@@ -78,7 +79,7 @@ pub(super) fn tagged_note(
     tag: u64,
     bytes: &[u8],
 ) -> Result<Option<String>, AllocError>
-    requires { spec.is_noted tag ≡ true }
+    requires { says_what_bytes_are tag ≡ true }
     ensures { IfOk result (λ found. IsTaggedNote tag bytes.now (option_map string_bytes found)) }
 {
     match tag {

@@ -2,8 +2,8 @@
 -- for a value, a JSON string for a key, and a piece of a string for an item in a key. A value has no object with a key
 -- twice if this holds for the items in it and, for a map, its names differ (`unique_part`).
 use Rattle.std.proofs.Common.{◌≡◌, ℕ, zero, suc, ◌+◌, ◌<◌, ◌≤◌, ◌^◌, List, [], ◌∷◌, ◌++◌, Bool, true, false, Option}
-use Rattle.std.proofs.Common.{Some, None, IsTrue, ◌≢◌}
-use Rattle.std.proofs.Common.{◌&&◌, not, if◌then◌else◌, codes, refl, sym, ap, subst, ◌∙◌, arith, append-nil}
+use Rattle.std.proofs.Common.{Some, None, IsTrue, ◌≢◌, length}
+use Rattle.std.proofs.Common.{if◌then◌else◌, codes, refl, sym, ap, subst, ◌∙◌, arith, append-nil}
 use Rattle.std.specs.List.{All, AllByRecursion, flat_map}
 use Rattle.std.proofs.lemmas.List.Kept.{AllPairs-cons}
 use Rattle.json.specs.Json as json
@@ -11,6 +11,7 @@ use Rattle.json.specs.Token as tok
 use Rattle.json.specs.Token.{Token}
 use Rattle.json.specs.Strict.{keys, AreDistinct, ItemsHaveUniqueKeys, MembersHaveUniqueKeys}
 use Rattle.json.specs.Tree.{json_tokens, items_tokens, members_tokens, items_depth, members_depth}
+use Rattle.cbor_grammar.specs.declared.layout.Content.{Content}
 use Rattle.cbor_grammar.specs.declared.layout.Content.TheVariants as shown
 use Rattle.cbor_grammar.specs.declared.layout.ContainerStyle.{ContainerStyle}
 use Rattle.cbor_grammar.specs.declared.strings.StringKind.{StringKind}
@@ -31,7 +32,7 @@ use Rattle.cbor_notation_writer.specs.Dialect.{EmbeddedText, ContentText, AtomTe
 use Rattle.cbor_notation_writer.specs.Dialect.{embedding, count_of, style_at, joined, ChunkedText}
 use Rattle.cbor_notation_writer.specs.declared.parts.Container.{Container}
 use Rattle.cbor_notation_writer.specs.declared.parts.Container.TheVariants.{Array, Map}
-use Rattle.cbor_json.specs.JsonLeaves.{json_leaves, integer_text, begins_container, is_value, wants_bytes}
+use Rattle.cbor_json.specs.JsonLeaves.{json_leaves, integer_text, is_value}
 use Rattle.cbor_json.specs.JsonLeaves.{opening_at, closing_at, StringAt, tag_at, tag_end_at, joins_at}
 use Rattle.cbor_json.specs.mirror.Walking.{NamedPairs, UniqueWith}
 use Rattle.cbor_json.specs.Roles.{inside_role, next_role, value_role, below_role}
@@ -42,6 +43,7 @@ use Rattle.cbor_json.proofs.json.Fills.{Fills, fills_then, constant, Shows, show
 use Rattle.cbor_json.proofs.json.Braces.{key_in, opens_so, closes_so}
 use Rattle.cbor_json.proofs.json.Parts.{Part, leaf_part, string_part, chunks_part, AllFill, listed_fills, key_list}
 use Rattle.cbor_json.proofs.json.Parts.{edn_list, integer_fills, below_limit, three}
+use Rattle.cbor_json.proofs.json.Opened.{opened, no_sequence}
 use Rattle.cbor_json.proofs.json.Strings.{IsString, is_string, same_string}
 use Rattle.cbor_json.proofs.json.Tokens.{Takes, Reads, deeper, AllTake, all_tokens, list_takes, pair_takes}
 
@@ -202,12 +204,6 @@ module _ (strict : Bool) (left : ℕ) where
 -- a text between an opening and a closing
 around : (o e inner t a b : List ℕ) → o ≡ a → e ≡ b → t ≡ o ++ (inner ++ e) → t ≡ a ++ (inner ++ b)
 around o e inner t a b is_o is_e is = is ∙ ap (λ x. x ++ (inner ++ e)) is_o ∙ ap (λ x. a ++ (inner ++ x)) is_e
-
-and_parts : (a b c d : Bool) → (a && (b && (c && d))) ≡ true → (c ≡ true) × (d ≡ true)
-and_parts true true true d h = (refl, h)
-and_parts true true false d h = absurd cc
-and_parts true false c d h = absurd cc
-and_parts false b c d h = absurd cc
 
 -- the bytes of all chunks
 joined_bytes : (k : StringKind) (cs : List Chunk) → AllByRecursion (IsChunk k) cs
@@ -399,18 +395,18 @@ module _ (strict : Bool) (level left : ℕ) (levels : level + left ≡ 129) (wri
       (embedded_spells level left b.bytes i levels (bytes_at b.bytes well.bytes) is)) h
   one_part p b None t v well is h = string_there p b t well h
 
-  embedded_part : (p : JsonPlace) (b : Chunk) (bs t : List ℕ) → begins_container bs ≡ true → is_value p.role ≡ true
+  embedded_part : (p : JsonPlace) (b : Chunk) (bs t : List ℕ) → 0 < length bs → is_value p.role ≡ true
       → IsChunk kind.Bytes b → EmbeddedText json_leaves write p b bs (embedded_at left b.bytes) t
       → Part strict p.role (suc left) t
-  embedded_part p b [] t begins v well h = absurd cc
-  embedded_part p b (x ∷ bs) t begins v well h = one_part p b (embedded_at left b.bytes) t v well refl h
+  embedded_part p b [] t some v well h = absurd (omega (arith, some))
+  embedded_part p b (x ∷ bs) t some v well h = one_part p b (embedded_at left b.bytes) t v well refl h
 
-  content_part : (p : JsonPlace) (test : Bool) (b : Chunk) (t : List ℕ)
-      → (test ≡ true → (is_value p.role ≡ true) × (begins_container b.bytes ≡ true)) → IsChunk kind.Bytes b
-      → ContentText json_leaves left write (if test then shown.Item else shown.Bytes) p b t
-      → Part strict p.role (suc left) t
-  content_part p true b t holds well h = let both = holds refl in embedded_part p b b.bytes t both.1 both.0 well h
-  content_part p false b t holds well h = string_there p b t well h
+  content_part : (p : JsonPlace) (c : Content) (b : Chunk) (t : List ℕ) → json_leaves.content p b.bytes ≡ c
+      → IsChunk kind.Bytes b → ContentText json_leaves left write c p b t → Part strict p.role (suc left) t
+  content_part p shown.Item b t is well h =
+      let both = opened p b.bytes is in embedded_part p b b.bytes t both.1 both.0 well h
+  content_part p shown.Bytes b t is well h = string_there p b t well h
+  content_part p shown.Sequence b t is well h = absurd (no_sequence p b.bytes is)
 
   chunked_part : (p : JsonPlace) (k : StringKind) (l : ContainerStyle) (joins : Bool) (cs : List Chunk) (t : List ℕ)
       → AllByRecursion (IsChunk k) cs → ChunkedText json_leaves p k l joins cs t → Part strict p.role (suc left) t
@@ -420,8 +416,7 @@ module _ (strict : Bool) (level left : ℕ) (levels : level + left ≡ 129) (wri
   atom_part : (p : JsonPlace) (a : Atom) (t : List ℕ) → WellFormedAtom a → AtomText json_leaves left write p a t
       → Part strict p.role (suc left) t
   atom_part p (string kind.Bytes b) t well h =
-      content_part p (p.style.embedded && (not (wants_bytes p.tag) && (is_value p.role && begins_container b.bytes)))
-      b t (and_parts p.style.embedded (not (wants_bytes p.tag)) (is_value p.role) (begins_container b.bytes)) well h
+      content_part p (json_leaves.content p b.bytes) b t refl well h
   atom_part p (string kind.Text s) t well h = string_part strict p (suc left) kind.Text s t well.bytes h
   atom_part p (chunked_string k cs) t well h =
       chunked_part p k (style_at json_leaves p (atom (chunked_string k cs))) (joins_at p.role k) cs t well h

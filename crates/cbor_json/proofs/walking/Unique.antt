@@ -2,21 +2,21 @@
 -- this holds for the items in it. There are lemmas for numbers, simple values and strings in chunks, for tags, other
 -- strings, byte strings that are shown as an item, arrays, and maps whose names differ.
 use Rattle.std.proofs.Common.{◌≡◌, ℕ, suc, ◌+◌, ◌<◌, ◌≤◌, List, [], ◌∷◌, ◌++◌, Bool, true, false, Some, Result, Ok}
-use Rattle.std.proofs.Common.{Bor, Option, None, not, if◌then◌else◌, Err, IfOk, length, refl, sym, ap, subst, ◌∙◌}
+use Rattle.std.proofs.Common.{Bor, Option, None, Err, IfOk, length, refl, sym, ap, subst, ◌∙◌}
 use Rattle.std.proofs.Common.{arith, append-nil}
-use Rattle.std.specs.Prelude.{◌&&◌}
 use Rattle.json.specs.Json.{Json}
 use Rattle.json.specs.Strict.{HasUniqueKeys, AreDistinct}
 use Rattle.cbor_grammar.specs.declared.argument.Argument.{Argument}
 use Rattle.cbor_grammar.specs.declared.argument.Argument.TheVariants.{Number, Indefinite}
 use Rattle.cbor_grammar.specs.declared.head.ItemHead.{ItemHead}
 use Rattle.cbor_grammar.specs.declared.head.ItemHead.TheVariants as head
+use Rattle.cbor_grammar.specs.declared.layout.Content.{Content}
 use Rattle.cbor_grammar.specs.declared.layout.Content.TheVariants as shown
 use Rattle.cbor_grammar.specs.declared.layout.ContainerStyle.{ContainerStyle}
 use Rattle.cbor_grammar.specs.declared.layout.Layout.TheVariants as layout
 use Rattle.cbor_grammar.specs.declared.strings.StringKind.TheVariants as kind
 use Rattle.cbor_grammar.specs.declared.width.IntegerWidth.{IntegerWidth}
-use Rattle.cbor_grammar.specs.Embedded.{embedded_at}
+use Rattle.cbor_grammar.specs.Embedded.{embedded_at, sequence_at}
 use Rattle.cbor_grammar.specs.Item as spec
 use Rattle.cbor_grammar.specs.Item.{Chunk, Atom, string, chunked_string, Item, atom, array, tagged, Items, no_items}
 use Rattle.cbor_grammar.specs.Item.{item, item_count, Pairs, no_pairs, pair, pair_count}
@@ -48,12 +48,13 @@ use Rattle.cbor_grammar.specs.mirror.Lengths.{left_of}
 use Rattle.cbor_json.specs.Roles.{inside_role}
 use Rattle.cbor_json.proofs.walking.Named.{NamedWritten, pairs_named}
 use Rattle.cbor_notation_writer.specs.mirror.Straight.{Written}
-use Rattle.cbor_json.specs.JsonLeaves.{json_leaves, is_value, wants_bytes, tag_at, tag_end_at, opening_at, closing_at}
+use Rattle.cbor_json.specs.JsonLeaves.{json_leaves, is_value, tag_at, tag_end_at, opening_at, closing_at}
 use Rattle.cbor_json.specs.declared.print.place.JsonPlace.{JsonPlace}
 use Rattle.cbor_json.specs.declared.print.place.Role.{Role}
 use Rattle.cbor_json.specs.declared.print.place.Role.TheVariants as role
 use Rattle.cbor_json.specs.mirror.Walking.{IsUnique, UniqueAs, UniqueTexts, UniqueWith, UniqueHere, NamedPairs}
 use Rattle.cbor_json.specs.mirror.Walking.{NamedText}
+use Rattle.cbor_json.proofs.json.Opened.{opened}
 use Rattle.cbor_json.proofs.json.Parts.{Part}
 use Rattle.cbor_json.proofs.json.Texts.{text_part, unique_part}
 use Rattle.cbor_json.proofs.json.Tokens.{Reads, lower, reads_document}
@@ -122,15 +123,17 @@ module _ (left : ℕ) where
   plain_one p b (x ∷ xs) (Some i) t h = (h.0, h.1.0, h.2)
   plain_one p b (x ∷ xs) None t h = h
 
-  plain_content : (p : JsonPlace) (test : Bool) (b : Chunk) (t : List ℕ)
-      → ContentText json_leaves left (UniqueTexts left) (if test then shown.Item else shown.Bytes) p b t
-      → ContentText json_leaves left (TextsOf json_leaves left) (if test then shown.Item else shown.Bytes) p b t
-  plain_content p true b t h = plain_one p b b.bytes (embedded_at left b.bytes) t h
-  plain_content p false b t h = h
+  plain_content : (p : JsonPlace) (c : Content) (b : Chunk) (t : List ℕ)
+      → ContentText json_leaves left (UniqueTexts left) c p b t
+      → ContentText json_leaves left (TextsOf json_leaves left) c p b t
+  plain_content p shown.Item b t h = plain_one p b b.bytes (embedded_at left b.bytes) t h
+  plain_content p shown.Sequence b t (u, r, (ms, texts, lists), rest, eq) =
+      (u, r, (ms, plain_items _ (sequence_at left b.bytes).0 ms texts, lists), rest, eq)
+  plain_content p shown.Bytes b t h = h
 
   plain_atom : (p : JsonPlace) (a : Atom) (t : List ℕ) → AtomText json_leaves left (UniqueTexts left) p a t
       → AtomText json_leaves left (TextsOf json_leaves left) p a t
-  plain_atom p (string kind.Bytes b) t h = plain_content p _ b t h
+  plain_atom p (string kind.Bytes b) t h = plain_content p (json_leaves.content p b.bytes) b t h
   plain_atom p (string kind.Text b) t h = h
   plain_atom p (chunked_string k cs) t h = h
   plain_atom p (spec.integer n w) t h = h
@@ -313,16 +316,9 @@ pub same_content : (p : JsonPlace) (x y : Bor (List ℕ)) → content.Bytes x �
 same_content p x y e h =
     let same : x ≡ y = cc in subst (λ (z : Bor (List ℕ)). json_leaves.content p z.now ≡ shown.Bytes) same h
 
-not_shown : (a b c : Bool) → (if a && (b && (c && false)) then shown.Item else shown.Bytes) ≡ shown.Item → ⊥
-not_shown true true true e = cc
-not_shown true true false e = cc
-not_shown true false c e = cc
-not_shown false b c e = cc
-
 -- bytes that may be shown as an item are some
 filled : (p : JsonPlace) (b : List ℕ) → json_leaves.content p b ≡ shown.Item → 0 < length b
-filled p [] e = absurd (not_shown p.style.embedded (not (wants_bytes p.tag)) (is_value p.role) e)
-filled p (x ∷ xs) e = omega arith
+filled p b e = (opened p b e).1
 
 -- bytes that may be shown as an item, and are none
 pub bytes_here : (p : JsonPlace) (n : ℕ) (w : IntegerWidth) (s : StringContent) (x : Bor (List ℕ))

@@ -15,8 +15,8 @@ ghost use Rattle.cbor_tokens.specs.Appends.{AppendsText};
 ghost use Rattle.cbor_json.specs.JsonLeaves.{in_quotes, twice_escaped, edn_string, string_at};
 ghost use Rattle.cbor_json.specs.JsonLeaves.{digits_in, value_digits, is_big_tag};
 ghost use Rattle.cbor_json.specs.JsonLeaves.{part_at, content_at as content_there};
-ghost use Rattle.cbor_json.specs.JsonLeaves.{begins_container as begins, is_value as is_value_role};
-ghost use Rattle.cbor_json.specs.JsonLeaves.{wants_bytes, is_big as is_big_number, BigText};
+ghost use Rattle.cbor_json.specs.JsonLeaves.{is_value as is_value_role};
+ghost use Rattle.cbor_json.specs.JsonLeaves.{is_big as is_big_number, BigText};
 ghost use Rattle.cbor_json.specs.JsonLeaves.{is_negative_tag, StringAt};
 ghost use Rattle.cbor_notation_writer.specs.Dialect.{Writes};
 
@@ -29,19 +29,10 @@ use cbor_grammar::IntegerWidth;
 use cbor_grammar::encoding::Encoding;
 use cbor_grammar::layout::Content;
 use cbor_grammar::strings::StringContent;
+use cbor_inside::content_under;
 use cbor_marks::Kind;
 use cbor_tokens::{push_escaped, push_hex};
 use std::alloc::{AllocError, Global};
-
-/// Whether bytes begin as an array, a map or a tagged item does.
-fn begins_container(bytes: &[u8]) -> bool
-    ensures { result ≡ begins bytes.now }
-{
-    match bytes {
-        [first, ..] => 0x80 <= *first && *first < 0xe0,
-        [] => false,
-    }
-}
 
 /// Whether this is no key, and no part of one.
 fn is_value(role: Role) -> bool
@@ -53,23 +44,17 @@ fn is_value(role: Role) -> bool
     }
 }
 
-/// Whether bytes right below this tag are a big number, a UUID or an address, or are asked for as
-/// digits.
-fn wants_bytes(tag: Option<u64>) -> bool
-    ensures { result ≡ wants_bytes tag }
-{
-    matches!(tag, Some(2 | 3 | 21 | 22 | 23 | 37 | 52 | 54 | 260))
-}
-
-/// What the bytes of a byte string there are written as.
+/// What the bytes of a byte string there are written as, if those that may be one item are. A
+/// sequence of items is no value of JSON.
 pub(crate) fn content_at(place: &JsonPlace<'_>, bytes: &[u8]) -> Content
     ensures { result ≡ content_there place.now bytes.now }
 {
-    let may_be_item = place.style.embedded && !wants_bytes(place.tag) && is_value(place.role);
-    if may_be_item && begins_container(bytes) {
-        Content::Item
-    } else {
-        Content::Bytes
+    if !(place.style.embedded && is_value(place.role)) {
+        return Content::Bytes;
+    }
+    match content_under(true, place.level, place.tag, bytes) {
+        Content::Sequence => Content::Bytes,
+        content => content,
     }
 }
 

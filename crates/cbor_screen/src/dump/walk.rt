@@ -15,13 +15,18 @@ use cbor_dump::walk::shared_below;
 use cbor_dump::width::dump_width;
 use cbor_grammar::argument::Argument;
 use cbor_grammar::head::ItemHead;
+use cbor_grammar::layout::Content;
 use cbor_grammar::level::DEEPEST;
 use cbor_grammar::strings::{StringContent, StringKind};
 use cbor_grammar::{Error, Tag};
+use cbor_inside::{ByteString, Inside};
 use std::alloc::{AllocError, Global};
 
-/// How deep byte strings may be in each other whose items are shown.
-const MOST_INSIDE: usize = 16;
+/// Every byte string is opened that may be, by the rule.
+const ALL: Inside<'static> = Inside {
+    embedded: true,
+    named: &[],
+};
 
 /// Whether an item here may hold others.
 pub(super) fn has_level_left(context: &DumpContext) -> bool
@@ -82,20 +87,10 @@ pub(super) struct Walk<'a> {
     open: Vec<Open<'a>>,
     /// The number of values that were shared so far.
     shared: u64,
-    /// How many byte strings are open.
-    inside: usize,
-    /// Whether byte strings are opened whose bytes are an item.
+    /// Whether byte strings are opened.
     embedded: bool,
     /// The length of the longest string that is not cut, if others are.
     elide: Option<usize>,
-}
-
-/// Whether the notes on the value of a tag, or its elements, say what its bytes are.
-fn says_what_bytes_are(tag: Option<Tag>) -> bool {
-    match tag {
-        Some(Tag(number)) => matches!(number, 2 | 3 | 24 | 37 | 52 | 54 | 63..=87 | 260),
-        None => false,
-    }
 }
 
 /// The content of the string of definite length whose head is at the front, and the bytes after it;
@@ -122,20 +117,6 @@ fn whole_content<'a>(
     }
 }
 
-/// Whether bytes at a level are one item, and that an array, a map or a tagged item.
-fn is_item(bytes: &[u8], level: u8) -> bool {
-    if level == 0 || level > DEEPEST {
-        return false;
-    }
-    match bytes.first() {
-        Some(first) if matches!(*first / 32, 4..=6) => match dump_width(bytes, level) {
-            Ok((_, rest)) => rest.is_empty(),
-            Err(_) => false,
-        },
-        _ => false,
-    }
-}
-
 impl<'a> Walk<'a> {
     /// A walk over the item at the front, in this style.
     pub(super) fn new(alloc: Global, bytes: &'a [u8], style: &DumpStyle<'_>) -> Walk<'a> {
@@ -146,7 +127,6 @@ impl<'a> Walk<'a> {
             depth: 0,
             open: Vec::new(alloc),
             shared: 0,
-            inside: 0,
             embedded: style.embedded,
             elide: style.elide,
         }
@@ -228,7 +208,6 @@ impl<'a> Walk<'a> {
             Holder::Tag(tag, value) => self.notes(lines, &open.inner, tag, value),
             Holder::Bytes(shared) => {
                 self.shared = shared;
-                self.inside = self.inside.saturating_sub(1);
                 Ok(())
             }
         }
@@ -306,11 +285,10 @@ impl<'a> Walk<'a> {
             encoding: None,
             ..context.inside()
         };
-        if self.opens(context.tag, content, inner.level) {
+        if self.opens(context, content) {
             // The item is all of the content, so `after` follows it.
             self.begin(inner, Holder::Bytes(self.shared))?;
             self.shared = 0;
-            self.inside = self.inside.saturating_add(1);
             return Ok(());
         }
         self.content(lines, context, content)?;
@@ -333,15 +311,24 @@ impl<'a> Walk<'a> {
         }
     }
 
-    /// Whether a string right below this tag is opened, as an item at a level.
-    fn opens(&self, tag: Option<Tag>, content: StringContent<'_>, level: u8) -> bool {
+    /// Whether a string there is opened. The item below tag 24 has a note, as have the items below
+    /// tag 63.
+    fn opens(&self, context: &DumpContext, content: StringContent<'_>) -> bool {
         let StringContent::Bytes(bytes) = content else {
             return false;
         };
-        self.embedded
-            && self.inside < MOST_INSIDE
-            && !says_what_bytes_are(tag)
-            && is_item(bytes, level)
+        if !self.embedded || context.tag == Some(Tag::ENCODED_CBOR) {
+            return false;
+        }
+        let string = ByteString {
+            start: 0,
+            level: context.level,
+            tag: match context.tag {
+                Some(Tag(number)) => Some(number),
+                None => None,
+            },
+        };
+        matches!(ALL.content(string, bytes), Content::Item)
     }
 
     /// Passes the chunks of a string of a kind, and its break.

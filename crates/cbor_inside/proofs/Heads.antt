@@ -1,20 +1,13 @@
--- For `print/same.rt`: `after_head` returns `None` for no bytes, the bytes after a break, and otherwise what
--- `after_read` makes of the head. The loop over heads in `is_strict` returns what `are_heads` returns, and the loop
--- over items in `is_sequence` what the definition `is_sequence` returns.
+-- For `strict.rt`: `after_head` returns `None` for no bytes, the bytes after a break, and otherwise what `after_read`
+-- makes of the head. The loop over heads in `is_strict` returns what `are_heads` returns.
 use Rattle.std.proofs.Common.{◌≡◌, ℕ, zero, suc, ◌<◌, ◌≤◌, List, [], ◌∷◌, length, Option, Some, None, Bool, true, false}
-use Rattle.std.proofs.Common.{Err, refl, sym, ap, ◌∙◌, arith}
-use Rattle.std.proofs.Common.{◌≢◌, ◌+◌, ◌-◌, ◌==◌, ◌&&◌, take, drop, slice_index, nat_le, if◌then◌else◌}
+use Rattle.std.proofs.Common.{refl, sym, ap, ◌∙◌, arith, ◌≢◌, ◌-◌, ◌==◌, take, drop, slice_index, if◌then◌else◌}
 use Rattle.std.specs.Prelude.{MatchOption}
 use Rattle.std.proofs.Math.Seq.{take-length}
 use Rattle.std.proofs.lemmas.Bool.{eqb-false, eqb-true}
 use Rattle.std.proofs.lemmas.Bool.Decides.{nat_tests}
-use Rattle.cbor_grammar.specs.declared.error.Error.{Error}
-use Rattle.cbor_grammar.specs.Embedded.{sequence_of, sequence_at}
-use Rattle.cbor_grammar.specs.Item.{Items, no_items}
-use Rattle.cbor_grammar.specs.Reading.{read_head, read_item}
-use Rattle.cbor_grammar.specs.WellFormed.{levels_left}
-use Rattle.cbor_notation_writer.proofs.straight.Sequences.{SoFar}
-use Rattle.cbor_edn_writer.specs.Same.{after_head, after_read, go_on, are_heads, is_empty, is_sequence}
+use Rattle.cbor_grammar.specs.Reading.{read_head}
+use Rattle.cbor_inside.specs.Strict.{after_head, after_read, go_on, are_heads}
 
 pub head_none : (b : List ℕ) → length b < 1 → after_head b ≡ None
 unfolding after_head
@@ -45,37 +38,6 @@ pub read_on : {X : Type 0} (r : Option X) (view : X → List ℕ) (b : List ℕ)
     → MatchOption r (after_head b ≡ None) (λ x. after_head b ≡ Some (view x))
 read_on None view b some is h = head_read b some is ∙ h
 read_on (Some x) view b some is h = head_read b some is ∙ h
-
--- ---- items
-
-empty_is : (b : List ℕ) → (length b == 0) ≡ is_empty b
-empty_is [] = refl
-empty_is (x ∷ b) = eqb-suc (length b)
-  where
-    eqb-suc : (n : ℕ) → (suc n == 0) ≡ false
-    eqb-suc n = grind (arith, nat_tests)
-
-none_read : (left steps : ℕ) (b : List ℕ) (e : Error) → read_item left b ≡ Err e
-    → sequence_of (read_item left) steps b ≡ (no_items, b)
-unfolding sequence_of
-none_read left zero b e ends = refl
-none_read left (suc n) b e ends = rw ends refl
-
-pub sequence_rest : (left : ℕ) (found : Items) (b : List ℕ) (e : Error) (whole : Items × List ℕ)
-    → read_item left b ≡ Err e → SoFar left found b whole → whole.1 ≡ b
-sequence_rest left found b e whole ends s =
-    sym (ap (λ (x : Items × List ℕ). x.1) s.same) ∙ ap (λ (x : Items × List ℕ). x.1) (none_read left s.steps b e ends)
-
-pub all_items : (level : ℕ) (found : Items) (b rest : List ℕ) (e : Error) (none : Bool) → level ≤ 128
-    → read_item (levels_left (level + 1)) rest ≡ Err e
-    → SoFar (levels_left (level + 1)) found rest (sequence_at (levels_left (level + 1)) b)
-    → none ≡ (length rest == 0) → none ≡ is_sequence level b
-all_items level found b rest e none low ends s is =
-    let left = levels_left (level + 1) in
-    let last = sequence_rest left found rest e (sequence_at left b) ends s in
-    let within : nat_le level 128 ≡ true = grind (arith, nat_tests, low) in
-    is ∙ empty_is rest ∙ ap is_empty (sym last)
-    ∙ sym (ap (λ t. t && is_empty (sequence_at left b).1) within)
 
 pub heads_end : (n : ℕ) (b : List ℕ) (total : Bool) → length b ≡ 0 → are_heads n b ≡ total → total ≡ true
 unfolding are_heads

@@ -1,6 +1,6 @@
 use Rattle.std.proofs.Common.{◌≡◌, ℕ, ◌≤◌, length}
-use Rattle.cbor_edn_writer.specs.Same.{are_heads, is_strict}
-use Rattle.cbor_edn_writer.proofs.print.same.is_strict.Given as goal
+use Rattle.cbor_inside.specs.Strict.{are_heads, is_strict}
+use Rattle.cbor_inside.proofs.strict.is_strict.Given as goal
 
 -- the rest decides
 abbrev pub invariant-heads : goal.invariant-heads

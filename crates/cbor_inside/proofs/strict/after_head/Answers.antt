@@ -1,6 +1,6 @@
 -- The bytes after a break or a head.
-use Rattle.cbor_edn_writer.proofs.writing.Heads.{head_none, head_break, read_on}
-use Rattle.cbor_edn_writer.proofs.print.same.after_head.Goals as goal
+use Rattle.cbor_inside.proofs.Heads.{head_none, head_break, read_on}
+use Rattle.cbor_inside.proofs.strict.after_head.Goals as goal
 
 pub returns-in-empty-clause-next : goal.returns-in-empty-clause-next
 returns-in-empty-clause-next c = head_none c.args.bytes.now c.in-empty.len_below

@@ -1,7 +1,7 @@
 -- A head more is passed.
 use Rattle.std.proofs.Common.{sym}
-use Rattle.cbor_edn_writer.proofs.writing.Heads.{heads_more, heads_fail, heads_end, none_left, some_left}
-use Rattle.cbor_edn_writer.proofs.print.same.is_strict.Goals as goal
+use Rattle.cbor_inside.proofs.Heads.{heads_more, heads_fail, heads_end, none_left, some_left}
+use Rattle.cbor_inside.proofs.strict.is_strict.Goals as goal
 
 pub heads-preserved : goal.heads-preserved
 heads-preserved c =

@@ -1,18 +1,12 @@
--- Which bytes EDN may show as the items in them, so that the same bytes are read back: no simple value below 32 in them
--- takes two bytes (f8 00 to f8 1f; `is_strict`). `is_sequence` tests whether bytes are a sequence of items.
-use Rattle.std.specs.Prelude.{ℕ, zero, suc, ◌+◌, List, [], ◌∷◌, length, drop, Option, Some, None, Ok, Err, Bool}
+-- Which bytes are written as items and read back as the same bytes: no simple value below 32 in them takes two bytes
+-- (f8 00 to f8 1f; `is_strict`).
+use Rattle.std.specs.Prelude.{ℕ, zero, suc, List, [], ◌∷◌, length, drop, Option, Some, None, Ok, Err, Bool}
 use Rattle.std.specs.Prelude.{true, false, ◌==◌, ◌&&◌, if◌then◌else◌, nat_lt, nat_le}
 use Rattle.cbor_grammar.specs.declared.argument.Argument.TheVariants.{Number}
 use Rattle.cbor_grammar.specs.declared.head.ItemHead.{ItemHead}
 use Rattle.cbor_grammar.specs.declared.head.ItemHead.TheVariants as item_head
-use Rattle.cbor_grammar.specs.Embedded.{sequence_at}
 use Rattle.cbor_grammar.specs.Head.{break_byte}
 use Rattle.cbor_grammar.specs.Reading.{Read, read_head}
-use Rattle.cbor_grammar.specs.WellFormed.{deepest, levels_left}
-
-abbrev pub is_empty : List ℕ → Bool
-is_empty [] = true
-is_empty (b ∷ bs) = false
 
 -- the bytes after a string's content
 abbrev pub after_length : ℕ → List ℕ → Option (List ℕ)
@@ -47,7 +41,3 @@ are_heads (suc n) (b ∷ bs) = go_on (are_heads n) (after_head (b ∷ bs))
 -- the bytes are heads with the content of strings, and breaks, none of them of such a value
 abbrev pub is_strict : List ℕ → Bool
 is_strict b = are_heads (length b) b
-
--- the bytes are a sequence of items, below a byte string at this level
-abbrev pub is_sequence : ℕ → List ℕ → Bool
-is_sequence level b = nat_le level deepest && is_empty (sequence_at (levels_left (level + 1)) b).1

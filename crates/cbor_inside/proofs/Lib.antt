@@ -1,0 +1,4 @@
+pub mod Heads
+pub mod Readings
+pub mod Places
+pub mod Shown
