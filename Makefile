@@ -236,6 +236,7 @@ check-cat: $(DIST)/bin/cborcat
 	checks/pairs $<
 	checks/completions $<
 	checks/compare/edn --count 1000 $<
+	checks/compare/inside --count 1000 $<
 	checks/compare/cddl --count 300 $<
 
 # The scripts that edit and merge files of CBOR, with editors that are scripts and in repositories.

@@ -1,12 +1,15 @@
 """What `checks/cborcat` checks of `--set` and `--delete`: rows worked out by hand, and items made by a seed, against the
 items of `cases.py` with another part, which this encodes anew."""
 import random
+import re
 
 from bytes_form import to_bytes
 from cases import any_item
 from edn_cases import strict
 from item import Array, Integer, Map
 
+# what is before and after the first two bytes of the hash in authenticator data
+AUTHENTICATOR = re.compile("(.*686175746844617461(?:58..|59....))....(.*)")
 WANTED = "cborcat: --set: expected a path, = and EDN, as in 1/exp=1700000000\n"
 
 
@@ -126,6 +129,7 @@ def widths(run, same):
 
 def in_strings(run, same, examples):
     """In byte strings that are shown as the item in them, by tags, by names, by `-e` and by `@`."""
+    uuid = "".join(f"{byte:02x}" for byte in range(1, 16))
     hexed(run, same, [
         (["--set", "0=6"], "d818 42 8105", "d818 42 8106"),
         (["--set", "@/0=1000"], "d818 42 8105", "d818 44 811903e8"),
@@ -138,7 +142,20 @@ def in_strings(run, same, examples):
         (["-e", "--set", "0/2=6"], "81 43 a10105", "81 45 a201050206"),
         (["--set", "0/@/2=6"], "81 41 a0", "81 43 a10206"),
         (["--set", "0/1=6", "--as=COSE_Sign1"], "84 43a10126 a0 40 40", "84 43a10106 a0 40 40"),
+        # Big numbers, UUIDs and bytes that are not written back as they are stay, but for an `@`.
+        (["-e", "--set", "*/1=9"], "82 c2 43 820102 43 820102", "82 c2 43 820102 43 820109"),
+        (["-e", "--set", "*/0=5"], f"82 d825 50 8f{uuid} 42 8100", f"82 d825 50 8f{uuid} 42 8105"),
+        (["-e", "--delete", "*/1"], "82 d91267 44 a101f818 43 a10102", "82 d91267 44 a101f818 41 a0"),
+        (["-e", "--delete", "*/0"], "82 d840 42 8101 42 8101", "82 d840 42 8101 41 80"),
+        (["--set", "*/0=5"], "82 d818 43 81f800 d818 42 8100", "82 d818 43 81f800 d818 42 8105"),
+        (["--set", "*/0=5"], "82 d83f 43 8100ff d83f 43 810000", "82 d83f 43 8100ff d83f 43 810500"),
+        (["--set", "0/@/0=5"], "81 c2 43 820102", "81 c2 43 820502"),
+        (["--set", "@/0=5"], "d818 43 81f800", "d818 42 8105"),
     ])
+    for words, digits in ((["--set", "a/1=9"], "a16161c243820102"), (["--set", "a/0=5"], f"a16161d825508f{uuid}"),
+                          (["--delete", "a/1"], "a16161c243820102")):
+        out, _, status = run("-e", *words, "-t", "digits", "-f", "hex", "-x", digits)
+        same(f"{words} changes no {digits}", (out.decode().strip() in ("", digits), status), (True, 1))
     signed = f"{examples}/cose-sign1.hex"
     before = run("-t", "digits", signed)[0].decode()
     same("the algorithm by its name", run("--set", "protected/alg=-257", "-t", "digits", signed),
@@ -146,6 +163,14 @@ def in_strings(run, same, examples):
     same("a header by its key", run("--set", 'protected/4="k"', "-t", "digits", signed),
          (before.replace("43a10126", "46a2012604616b").encode(), "", 0))
     same("without names", run("--no-names", "--set", "protected/alg=-257", "-t", "digits", signed)[::2], (b"", 1))
+    # The hash before the key looks like the head of a string that has the key.
+    given = run("-t", "digits", f"{examples}/webauthn.hex")[0].decode().strip()
+    hashed = AUTHENTICATOR.match(given)
+    looks = f"{hashed[1]}58a0{hashed[2]}"
+    wanted = looks.replace("a5010203262001", "a5010203262002") + "\n"
+    for path in ("authData/credentialPublicKey/-1", "authData/@71/-1"):
+        got = run("--set", f"{path}=2", "-t", "digits", "-f", "hex", data=looks.encode())
+        same(f"{path} after such a hash", got, (wanted.encode(), "", 0))
     same("and shown", run("--set", "protected/alg=-8", "-p", "protected/alg", "-t", "diag", signed), (b"-8\n", "", 0))
 
 

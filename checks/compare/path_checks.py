@@ -5,7 +5,7 @@ import random
 from bytes_form import to_bytes
 from cases import any_item
 from item import Array, Bytes, Integer, Map, Tagged
-from path_form import next_items, untagged
+from path_form import Place, next_items, untagged
 
 KEY = ("a50102032620012158" "20143329cce7868e416927599cf65a34f3ce2ffda55a7eca69ed8919a394d42f0f"
        "225820" "60f7f1a780d8a783bfb7a2dd6b2796e8128dbbcef9d3d168db9529971a36e7b9")
@@ -122,9 +122,16 @@ def inside_strings(run, same, examples):
         ("63(<<>>)", "63(<<>>)"),
         ("<<[1]>>", "/  h'8101'\n"),
         ("24(<<<<[5]>>>>)", "@  h'8105'\n"),
+        ("24(h'81f800')", "24(h'81f800')"),
+        ("63(h'05f818')", "63(h'05f818')"),
     ):
         wanted = wanted if wanted.endswith("\n") else f"/  {wanted}\n"
         same(f"the lines of {text}", run("-t", "paths", "-f", "diag", "-x", text), (wanted.encode(), "", 0))
+    for digits, wanted in (("d9126744a101f818", "4711(h'a101f818')"), ("c243820102", "2(h'820102')"),
+                           ("d9126744a101f820", None)):
+        wanted = f"/  {wanted}\n" if wanted else "@/1  simple(32)\n"
+        got = run("-e", "-t", "paths", "-f", "hex", "-x", digits)
+        same(f"the lines of {digits} with -e", got, (wanted.encode(), "", 0))
     items = run("-t", "paths", log)[0].decode().splitlines()
     same("lines of later items", [line.partition(":")[0] for line in items if line[:1].isdigit()],
          ["1"] * 3 + ["2"] * 3 + ["3"] * 2)
@@ -179,6 +186,10 @@ def in_shown_strings(run, same, examples):
         ([], "@2", "d83f 43 810506", b"6\n"),
         (["-e"], "0/1", "81 43 a10105", b"5\n"),
         (["-e"], "0/@/1", "81 43 a10105", b"5\n"),
+        (["-e"], "*/0", "82 c2 43 820102 43 820102", b"1\n"),
+        (["-e"], "*/1", "82 d91267 44 a101f818 43 a10105", b"5\n"),
+        (["-e"], "*/@/1", "82 d91267 44 a101f818 43 a10105", b"simple(24)\n5\n"),
+        ([], "*/0", "83 d818 43 81f800 d818 42 8105 d83f 43 05f800", b"5\n"),
     ]
     for words, path, digits, wanted in rows:
         same(f"{path} of {digits}", run(*words, "-p", path, "-t", "diag", "-f", "hex", "-x", digits), (wanted, "", 0))
@@ -188,10 +199,15 @@ def in_shown_strings(run, same, examples):
         ("0/*", "81 43 a10105", "0/*: a byte string is at 0; 0/@ is the item in it"),
         ("0/1", "81 43 a101ff", "0/1: no array or map is at 0"),
         ("a/2", "a1 6161 d818 43 a10105", "a/2: no such key; the map at a/@ has 1"),
+        ("0", "d818 43 81f800", "0: a byte string is there; @ is the item in it"),
+        ("0", "d83f 43 8105ff", "0: no array or map is there"),
     ]
     for path, digits, words in said:
         same(f"{path} of {digits}", run("-p", path, "-t", "diag", "-f", "hex", "-x", digits),
              (b"", f"cborcat: -x: {words}\n", 1))
+    for path, digits in (("0/0", "81 c2 43 820102"), ("0/1", "81 d91267 44 a101f818"), ("0/0", "81 d825 42 8105")):
+        same(f"-e: {path} of {digits}", run("-e", "-p", path, "-t", "diag", "-f", "hex", "-x", digits),
+             (b"", f"cborcat: -x: {path}: a byte string is at 0; 0/@ is the item in it\n", 1))
 
 
 def by_names(run, same, examples):
@@ -205,6 +221,11 @@ def by_names(run, same, examples):
     same("a key wins", run("--as=COSE_Key", "-p", "kty", "-t", "diag", "-f", "hex", "-x", "a2 01 04 636b7479 05"),
          (b"5\n", "", 0))
     same("without names", run("--no-names", "-p", "payload", "-t", "diag", token)[::2], (b"", 1))
+    closed = ("-f", "hex", "-x", "d2 84 44 a101f800 a0 40 40")
+    same("a header that is shown as bytes", run("-p", "protected/alg", "-t", "diag", *closed), (
+        b"", "cborcat: -x: protected/alg: a byte string is at 0; 0/@ is the item in it\n", 1))
+    same("and gone into by @", run("-p", "protected/@/alg", "-t", "digits", *closed), (b"f800\n", "", 0))
+    same("and its line", run("-t", "paths", *closed)[0].splitlines()[0], b"0  h'a101f800'")
     same("no such name", run("-p", "payload/isss", token), (
         b"", f"cborcat: {token}: payload/isss: no such key; the map at 2/@ has iss, sub, aud, exp, nbf, iat, cti\n", 1))
     same("no such member", run("-p", "pay", token), (
@@ -246,8 +267,8 @@ def any_step(chance, parts):
     """A step, mostly one that may lead somewhere from one of these."""
     steps = ["*", "@", "@0", "@1", "0", "1"]
     if parts and chance.random() < 0.8:
-        part = untagged(chance.choice(parts))
-        steps = ["@", "@0", "@1"] if isinstance(part, Bytes) else ["*", "*", "0", "1"]
+        part, _ = untagged(chance.choice(parts))
+        steps = ["@", "@0", "@1"] if isinstance(part.item, Bytes) else ["*", "*", "0", "1"]
     return chance.choice(steps)
 
 
@@ -257,11 +278,11 @@ def any_paths(run, same):
     some = 0
     for _ in range(1000):
         item = nested(chance, 3)
-        steps, parts = [], [item]
+        steps, parts = [], [Place(item)]
         for _ in range(chance.randrange(1, 4)):
             steps.append(any_step(chance, parts))
             parts = [found for part in parts for found in next_items(part, steps[-1])]
-        wanted = b"".join(to_bytes(part) for part in parts)
+        wanted = b"".join(to_bytes(part.item) for part in parts)
         path = "/".join(steps)
         out, _, status = run("-f", "bytes", "-t", "bytes", "-p", path, data=to_bytes(item))
         same(f"{path} in {to_bytes(item).hex()}", (out, status), (wanted, 0 if parts else 1))

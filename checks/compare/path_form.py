@@ -1,10 +1,12 @@
 """Where paths lead: share/man/cborcat.1, PATHS."""
 
 import re
+from typing import NamedTuple
 
 from bytes_form import item_at, parse_bytes, to_bytes
 from edn_form import edn_to_bytes
 from edn_text import Writer
+from inside import items_in
 from item import Array, Bytes, Integer, Map, Negative, Refused, Tagged, Text
 
 
@@ -43,65 +45,76 @@ def is_like(key, wanted):
     return to_bytes(key) == to_bytes(wanted)
 
 
-def untagged(item):
-    while isinstance(item, Tagged):
-        item = item.value
-    return item
+class Place(NamedTuple):
+    """An item, and its level in the outermost one, which is 1."""
+
+    item: object
+    level: int = 1
 
 
-def tag_before(item):
-    """The innermost tag of an item, or none."""
+def untagged(place):
+    """The item below its tags, and the innermost of these, or none."""
     tag = None
-    while isinstance(item, Tagged):
-        tag, item = item.number, item.value
-    return tag
+    while isinstance(place.item, Tagged):
+        tag, place = place.item.number, Place(place.item.value, place.level + 1)
+    return place, tag
 
 
-def shown_below(item):
-    """The item below its tags, or that in it, where that is a byte string below tag 24 or 63, which are shown so."""
-    while tag_before(item) in (24, 63):
-        inside = items_inside(item, "")
+def shown_below(place, embedded):
+    """The item below its tags, or the first item in it, as long as that is a byte string that is open."""
+    while True:
+        place, tag = untagged(place)
+        is_string = isinstance(place.item, Bytes)
+        inside = items_in(place.item.content, place.level, tag, embedded) if is_string else None
         if not inside:
-            break
-        item = inside[0]
-    return untagged(item)
+            return place
+        place = Place(inside[0], place.level + 1)
 
 
-def next_items(item, step):
+def members(place):
+    """The members of an array, or the values of a map."""
+    item = place.item
+    if isinstance(item, Array):
+        found = item.members
+    else:
+        found = [value for _, value in item.pairs] if isinstance(item, Map) else []
+    return [Place(one, place.level + 1) for one in found]
+
+
+def next_items(place, step, embedded=False):
     """Where one step leads: to one item or none, but for `*`."""
     if re.fullmatch("@[0-9]*", step):
-        return items_inside(item, step[1:])
-    item = shown_below(item)
+        return items_inside(place, step[1:])
+    place = shown_below(place, embedded)
+    found = members(place)
     if step == "*":
-        if isinstance(item, Array):
-            return list(item.members)
-        return [value for _, value in item.pairs] if isinstance(item, Map) else []
+        return found
     wanted = parse_bytes(key_of(step))
-    if isinstance(item, Array):
-        return [item.members[wanted.value]] if isinstance(wanted, Integer) and wanted.value < len(item.members) else []
-    values = [value for key, value in item.pairs if is_like(key, wanted)] if isinstance(item, Map) else []
-    return values[:1]
+    if isinstance(place.item, Array):
+        return found[wanted.value:][:1] if isinstance(wanted, Integer) else []
+    keys = [key for key, _ in place.item.pairs] if isinstance(place.item, Map) else []
+    return [value for key, value in zip(keys, found) if is_like(key, wanted)][:1]
 
 
-def items_inside(item, digits):
+def items_inside(place, digits):
     """The item at a byte of a byte string, or with no digits the one that it is, or the first one below tag 63."""
-    is_sequence = tag_before(item) == 63
-    item = untagged(item)
+    place, tag = untagged(place)
+    item = place.item
     if not isinstance(item, Bytes) or int(digits or 0) >= len(item.content):
         return []
     try:
         inner, end = item_at(item.content, int(digits or 0), 1)
     except Refused:
         return []
-    return [inner] if digits or is_sequence or end == len(item.content) else []
+    return [Place(inner, place.level + 1)] if digits or tag == 63 or end == len(item.content) else []
 
 
-def parts_of(item, path):
+def parts_of(item, path, embedded=False):
     """The items that a path leads to."""
-    found = [item]
+    found = [Place(item)]
     for step in steps_of(path):
-        found = [part for one in found for part in next_items(one, step)]
-    return found
+        found = [part for one in found for part in next_items(one, step, embedded)]
+    return [place.item for place in found]
 
 
 def show_items(data, path):

@@ -4,8 +4,9 @@
 use crate::tally::{Tally, is_answered};
 use cbor_diag::Error;
 use cbor_edn::EdnStyle;
+use cbor_inside::Inside;
 use cbor_inspect::{End, Form, Picture, Show, Step, Stream, Style, lost_at, show_items, steps_of};
-use cbor_places::{Around, ByteNumbers, Entered, Leaves, Piece, lines_at};
+use cbor_places::{Around, ByteNumbers, Leaves, Piece, lines_at};
 use std::alloc::Global;
 use std::io::{self, Print};
 use std::process::Abort;
@@ -147,12 +148,6 @@ head: 01 # 1
 item: byte 5 (0x5)
 ";
 
-/// Paths enter byte strings below the tags 24 and 63 alone.
-const BELOW_TAGS: Entered<'static> = Entered {
-    embedded: false,
-    encoded: &[],
-};
-
 /// What is said of a place in an item, and its lines.
 fn placed(alloc: Global) -> Result<Vec<u8>, Error> {
     let piece = Piece {
@@ -162,7 +157,7 @@ fn placed(alloc: Global) -> Result<Vec<u8>, Error> {
     let around = Around::of_end(alloc, piece)?;
     let mut out = around.words(&ByteNumbers, false)?;
     out.push('\n')?;
-    out.push_str(&lines_at(alloc, (0, piece), 5, BELOW_TAGS)?)?;
+    out.push_str(&lines_at(alloc, (0, piece), 5, Inside::TAGGED)?)?;
     Ok(out.into_bytes())
 }
 
@@ -172,7 +167,7 @@ fn lined(alloc: Global) -> Result<Vec<u8>, Error> {
         bytes: MAP,
         begins: 0,
     };
-    let mut leaves = Leaves::new(alloc, items, EdnStyle::LINE, BELOW_TAGS).with_places(true);
+    let mut leaves = Leaves::new(alloc, items, EdnStyle::LINE, Inside::TAGGED).with_places(true);
     let mut out = String::new(alloc);
     leaves.push_block(&mut out)?;
     Ok(out.into_bytes())

@@ -12,6 +12,7 @@ use crate::answer::refused;
 use crate::faults::{NO_PLACE, in_bytes};
 use crate::names::NO_PART;
 use cbor_grammar::Error;
+use cbor_inside::Inside;
 use cbor_inspect::{NameError, steps_of};
 use cbor_paths::{Found, Picture, follow};
 use std::alloc::Global;
@@ -44,7 +45,7 @@ pub(crate) fn parts_at(alloc: Global, input: &[u8], path: &[u8]) -> Result<Vec<F
         return Err(NameError::Cbor(Error::Memory));
     };
     let picture = Picture {
-        tagged: true,
+        inside: Some(Inside::TAGGED),
         ..Picture::plain()
     };
     match follow(alloc, input, &steps, picture) {

@@ -9,9 +9,10 @@ use crate::faults::in_bytes;
 use crate::names::{NO_TYPE, type_of};
 use cbor_edn_writer::EdnStyle;
 use cbor_grammar::Error;
+use cbor_inside::Inside;
 use cbor_inspect::{End, Form, Naming, Show, show_items};
 use cbor_names::known_names;
-use cbor_places::{Entered, Leaves, Piece};
+use cbor_places::{Leaves, Piece};
 use std::alloc::Global;
 
 /// Returns an item in EDN over several lines, with names and notes, and a line feed.
@@ -80,11 +81,7 @@ fn lines(alloc: Global, input: &[u8]) -> Result<String, Error>
         begins: 0,
         bytes: input,
     };
-    let entered = Entered {
-        embedded: false,
-        encoded: &[],
-    };
-    let mut leaves = Leaves::new(alloc, items, EdnStyle::LINE, entered);
+    let mut leaves = Leaves::new(alloc, items, EdnStyle::LINE, Inside::TAGGED);
     let mut lines = String::new(alloc);
     for _ in 0..u64::MAX {
         if leaves.is_done() {

@@ -32,7 +32,7 @@ pub(crate) enum Next {
 
 /// What two containers hold.
 #[derive(Drop)]
-pub(crate) enum Inside {
+pub(crate) enum Held {
     /// Two arrays, whose members are compared by their index.
     Arrays(Members, Members),
     /// Two maps, whose members are matched by their keys.
@@ -44,7 +44,7 @@ pub(crate) enum Inside {
 /// Two containers, as far as they were compared.
 #[derive(Drop)]
 pub(crate) struct Level {
-    pub inside: Inside,
+    pub held: Held,
     /// Where each is, with its tags.
     pub old: Span,
     pub new: Span,
@@ -68,15 +68,15 @@ impl Level {
     pub(crate) fn next(&mut self, old: &[u8], new: &[u8]) -> Next {
         let index = self.index;
         self.index = index.saturating_add(1);
-        match &mut self.inside {
-            Inside::Arrays(first, second) => match (first.next(old), second.next(new)) {
+        match &mut self.held {
+            Held::Arrays(first, second) => match (first.next(old), second.next(new)) {
                 (Some(a), Some(b)) => Next::Both(a, b),
                 (Some(a), None) => Next::Old(a),
                 (None, Some(b)) => Next::New(b),
                 (None, None) => Next::End,
             },
-            Inside::Maps(members) => members.get(index).copied().unwrap_or(Next::End),
-            Inside::Items(first, second) => {
+            Held::Maps(members) => members.get(index).copied().unwrap_or(Next::End),
+            Held::Items(first, second) => {
                 if index == 0 {
                     Next::Both(*first, *second)
                 } else {

@@ -7,9 +7,8 @@ use cbor_bytes::{Extent, extent};
 use cbor_grammar::argument::Argument;
 use cbor_grammar::head::ItemHead;
 use cbor_grammar::strings::StringKind;
-use cbor_notes::Note;
-use cbor_paths::{Found, Members, Picture, Step, bytes_from, follow, lost_at};
-use cbor_trace::{Span, head_at};
+use cbor_paths::{Found, Members, Picture, Step, bytes_from, follow, follow_from, lost_from};
+use cbor_trace::{Span, Spot, head_at};
 use std::alloc::{AllocError, Global};
 
 /// What is changed at a place.
@@ -31,46 +30,22 @@ pub(crate) struct Target {
     pub what: What,
 }
 
-/// The notes on the item in this span and on items in it, at their places in the item.
-fn notes_in<'n>(
-    alloc: Global,
-    notes: &'n [Note<'n>],
-    span: Span,
-) -> Result<Vec<Note<'n>>, AllocError> {
-    let mut list = Vec::new(alloc);
-    let first = notes.partition_point(|note| note.start < span.start);
-    for note in notes.iter().skip(first) {
-        if note.start >= span.end {
-            break;
+/// An item that steps lead to.
+#[derive(Drop)]
+struct Reached {
+    /// Where the byte strings begin that it is in, the outermost first.
+    around: Vec<usize>,
+    item: Found,
+}
+
+impl Reached {
+    /// Where the item begins.
+    fn spot(&self) -> Spot {
+        Spot {
+            start: self.item.span.start,
+            level: self.item.level,
         }
-        list.push(Note {
-            start: note.start.saturating_sub(span.start),
-            ..*note
-        })?;
     }
-    Ok(list)
-}
-
-/// Whether a step is one into a byte string, by `@`.
-fn is_inside(step: &[Step]) -> bool {
-    matches!(step.first(), Some(Step::Inside | Step::InsideAt(_)))
-}
-
-/// The parts of the item at a place that a step leads to.
-fn found_at(
-    alloc: Global,
-    bytes: &[u8],
-    from: &EnclosedSpan,
-    step: (&[Step], Picture),
-) -> Result<Vec<Found>, AllocError> {
-    let (steps, picture) = step;
-    let notes = notes_in(alloc, picture.notes, from.span)?;
-    let named = Picture {
-        notes: &notes,
-        tagged: picture.tagged,
-        embedded: picture.embedded,
-    };
-    follow(alloc, from.span.bytes(bytes), steps, named)
 }
 
 /// The item at a place, below its tags and in the byte strings that are shown as the item in them,
@@ -78,18 +53,10 @@ fn found_at(
 fn lost_in(
     alloc: Global,
     bytes: &[u8],
-    from: &EnclosedSpan,
+    from: &Reached,
     step: (&[Step], Picture),
 ) -> Result<Option<Span>, AllocError> {
-    let (steps, picture) = step;
-    let notes = notes_in(alloc, picture.notes, from.span)?;
-    let named = Picture {
-        notes: &notes,
-        tagged: picture.tagged,
-        embedded: picture.embedded,
-    };
-    let lost = lost_at(alloc, from.span.bytes(bytes), steps, named)?;
-    let start = from.span.start.saturating_add(lost.start);
+    let start = lost_from(alloc, bytes, from.spot(), step)?.start;
     match extent(bytes_from(bytes, start)) {
         Extent::Item(len) => Ok(Some(Span {
             start,
@@ -99,67 +66,45 @@ fn lost_in(
     }
 }
 
-/// The place of a span in the item at another place, and where the container begins that it is in.
-/// The span is right in the first byte string around it, or goes on to the item in it.
-fn place_in(
+/// Where the byte strings begin around the items that are right in a holder, the outermost first. A
+/// step leads from an item to that holder: the item below its tags, or the one in it, as long as it
+/// is a byte string. Also returns whether the holder is a byte string.
+fn strings_around(
     alloc: Global,
     bytes: &[u8],
-    from: &EnclosedSpan,
-    to: (Span, bool),
-) -> Result<(EnclosedSpan, usize), AllocError> {
-    let (span, is_inside) = to;
+    from: &Reached,
+    holder: usize,
+) -> Result<(Vec<usize>, bool), AllocError> {
     let mut around = Vec::from_slice(alloc, &from.around)?;
-    let mut at = from.span.start;
+    let mut at = from.item.span.start;
     for _ in 0..bytes.len() {
-        if at >= span.start {
-            break;
-        }
         at = match head_at(bytes, at) {
             Some((ItemHead::Tag(..), inner)) => inner,
             Some((ItemHead::String(StringKind::Bytes, Argument::Number(..)), inner)) => {
                 around.push(at)?;
-                if is_inside {
-                    break;
+                if at >= holder {
+                    return Ok((around, true));
                 }
                 inner
             }
             _ => break,
         };
     }
-    Ok((EnclosedSpan { around, span }, at))
+    Ok((around, false))
 }
 
-/// The span of a part that was found in the item at a place, or of its key and its value.
-fn span_of(from: &EnclosedSpan, found: Found, with_key: bool) -> Span {
-    let begins = from.span.start;
-    let start = if with_key {
-        found.named
-    } else {
-        found.span.start
-    };
-    Span {
-        start: begins.saturating_add(start),
-        end: begins.saturating_add(found.span.end),
-    }
-}
-
-/// The places that a step leads to from another.
-fn push_places(
-    places: &mut Vec<EnclosedSpan>,
+/// Appends the items that a step leads to from another.
+fn push_reached(
+    places: &mut Vec<Reached>,
     bytes: &[u8],
-    from: &EnclosedSpan,
+    from: &Reached,
     step: (&[Step], Picture),
 ) -> Result<(), AllocError> {
     let alloc = *places.allocator();
-    let is_inside = is_inside(step.0);
-    for found in &found_at(alloc, bytes, from, step)? {
-        let (place, _) = place_in(
-            alloc,
-            bytes,
-            from,
-            (span_of(from, *found, false), is_inside),
-        )?;
-        places.push(place)?;
+    for found in &follow_from(alloc, bytes, from.spot(), step)? {
+        let item = *found;
+        let (around, _) = strings_around(alloc, bytes, from, item.holder)?;
+        places.push(Reached { around, item })?;
     }
     Ok(())
 }
@@ -168,19 +113,20 @@ fn push_places(
 fn push_dropped(
     targets: &mut Vec<Target>,
     bytes: &[u8],
-    from: &EnclosedSpan,
+    from: &Reached,
     step: (&[Step], Picture),
 ) -> Result<(), AllocError> {
     let alloc = *targets.allocator();
-    let is_inside = is_inside(step.0);
-    for found in &found_at(alloc, bytes, from, step)? {
-        let span = span_of(from, *found, !is_inside);
-        let (place, at) = place_in(alloc, bytes, from, (span, is_inside))?;
-        let what = if is_inside {
-            What::Part
+    for found in &follow_from(alloc, bytes, from.spot(), step)? {
+        let Span { start, end } = found.span;
+        let (around, in_string) = strings_around(alloc, bytes, from, found.holder)?;
+        let (start, what) = if in_string {
+            (start, What::Part)
         } else {
-            What::Member(at)
+            (found.named, What::Member(found.holder))
         };
+        let span = Span { start, end };
+        let place = EnclosedSpan { around, span };
         targets.push(Target { place, what })?;
     }
     Ok(())
@@ -190,27 +136,24 @@ fn push_dropped(
 fn push_set(
     targets: &mut Vec<Target>,
     bytes: &[u8],
-    from: &EnclosedSpan,
+    from: &Reached,
     step: (&[Step], Picture),
 ) -> Result<(), AllocError> {
     let alloc = *targets.allocator();
-    let is_inside = is_inside(step.0);
-    let all = found_at(alloc, bytes, from, step)?;
+    let all = follow_from(alloc, bytes, from.spot(), step)?;
     for found in &all {
-        let (place, _) = place_in(
-            alloc,
-            bytes,
-            from,
-            (span_of(from, *found, false), is_inside),
-        )?;
+        let span = found.span;
+        let (around, _) = strings_around(alloc, bytes, from, found.holder)?;
+        let place = EnclosedSpan { around, span };
         let what = What::Part;
         targets.push(Target { place, what })?;
     }
     if all.is_empty()
-        && let Some(container) = lost_in(alloc, bytes, from, step)?
-        && let Some(what) = added_to(bytes, container, step.0)
+        && let Some(span) = lost_in(alloc, bytes, from, step)?
+        && let Some(what) = added_to(bytes, span, step.0)
     {
-        let (place, _) = place_in(alloc, bytes, from, (container, false))?;
+        let (around, _) = strings_around(alloc, bytes, from, span.start)?;
+        let place = EnclosedSpan { around, span };
         targets.push(Target { place, what })?;
     }
     Ok(())
@@ -236,25 +179,23 @@ fn added_to(bytes: &[u8], container: Span, step: &[Step]) -> Option<What> {
     Some(What::Container { is_map })
 }
 
-/// The places of what the steps lead to, in order.
-fn places_of(
+/// The items that the steps lead to, in order.
+fn reached(
     alloc: Global,
     item: &[u8],
     steps: &[Step],
     picture: Picture,
-) -> Result<Vec<EnclosedSpan>, AllocError> {
+) -> Result<Vec<Reached>, AllocError> {
     let mut places = Vec::new(alloc);
-    places.push(EnclosedSpan {
-        around: Vec::new(alloc),
-        span: Span {
-            start: 0,
-            end: item.len(),
-        },
-    })?;
+    for found in &follow(alloc, item, &[], picture)? {
+        let around = Vec::new(alloc);
+        let item = *found;
+        places.push(Reached { around, item })?;
+    }
     for index in 0..steps.len() {
         let mut next = Vec::new(alloc);
         for place in &places {
-            push_places(&mut next, item, place, (&steps[index..index + 1], picture))?;
+            push_reached(&mut next, item, place, (&steps[index..index + 1], picture))?;
         }
         places = next;
     }
@@ -274,7 +215,7 @@ pub(crate) fn targets(
         return Ok(targets);
     }
     let (before, last) = steps.split_at(steps.len() - 1);
-    for place in &places_of(alloc, item, before, picture)? {
+    for place in &reached(alloc, item, before, picture)? {
         if is_dropped {
             push_dropped(&mut targets, item, place, (last, picture))?;
         } else {

@@ -1,25 +1,20 @@
 -- Without steps, viewers append the output of the whole item at the front; with steps, they append that of its parts.
--- In both cases it is what is shown of the first item (`IsShownOfFirst`). Bytes that are an item without an overlong
--- simple value are its `encoded` bytes, and `slice_rotate_right` moves the end of a list to its front.
-use Rattle.std.proofs.Common.{◌≡◌, ℕ, ◌-◌, ◌⊎◌, List, [], ◌∷◌, ◌++◌, length, take, drop, refl, sym, ap, subst}
+-- In both cases it is what is shown of the first item (`IsShownOfFirst`). `slice_rotate_right` moves the end of a list
+-- to its front.
+use Rattle.std.proofs.Common.{◌≡◌, ℕ, ◌-◌, List, [], ◌∷◌, ◌++◌, length, take, drop, refl, sym, ap, subst}
 use Rattle.std.proofs.Common.{◌∙◌, arith, Result, Ok, Err, IfOk, length-append, append-nil}
-use Rattle.std.proofs.Math.Seq.{take-length}
 use Rattle.std.specs.List.{slice_rotate_right}
 use Rattle.std.proofs.lemmas.List.{take_at, drop_at}
-use Rattle.cbor_grammar.specs.mirror.StrictHeads.{NoLongSimple, StrictHeads}
-use Rattle.cbor_bytes.proofs.bytes.StrictHeads.{strict_is}
 use Rattle.cbor_grammar.specs.Item.{Item}
-use Rattle.cbor_grammar.specs.Facts.{IsItem, BeginsWithItem}
-use Rattle.cbor_grammar.specs.Written.{encoded}
+use Rattle.cbor_grammar.specs.Facts.{BeginsWithItem}
 use Rattle.cbor_paths.specs.declared.step.Step.{Step}
 use Rattle.cbor_inspect.specs.Forms.{IsForm}
-use Rattle.cbor_inspect.specs.Shows.{IsPartForm, ShowsPart}
+use Rattle.cbor_inspect.specs.Shows.{ShowsPart}
 use Rattle.cbor_paths.specs.Sequence.{ShowsEach, ShowsFront, IsShownOfFirst}
 use Rattle.cbor_paths.specs.declared.end.End.{End}
 use Rattle.cbor_inspect.specs.declared.items.Show.{Show}
 use Rattle.cbor_inspect.specs.Shows.{Shows, steps_of}
 use Rattle.cbor_paths.proofs.Sequences.{one_shown, shows_both}
-use Rattle.cbor_paths.proofs.Fronts.{front_length}
 
 -- without steps what is written is that of the item
 pub front_shown : (show : Show) (steps : List Step) (b output : List ℕ) (n : ℕ) → steps ≡ []
@@ -29,7 +24,7 @@ front_shown show steps b output n none h =
 
 -- with steps it is that of parts
 abbrev pub ShowsParts : Show → List ℕ → Type 0
-ShowsParts show output = (parts : List Item) × ShowsEach (IsPartForm show.style.form show) parts output
+ShowsParts show output = (parts : List Item) × ShowsEach (IsForm show) parts output
 
 pub parts_shown : (show : Show) (steps : List Step) (i : Item) (output : List ℕ) → (length steps ≡ 0 → ⊥)
     → ShowsParts show output → ShowsPart show steps i output
@@ -40,16 +35,6 @@ parts_shown show (s ∷ steps) i output some h = h
 pub one_more : (Shows : Item → List ℕ → Type 0) (is : List Item) (j : Item) (a b : List ℕ) → ShowsEach Shows is a
     → Shows j b → ShowsEach Shows (is ++ j ∷ []) (a ++ b)
 one_more Shows is j a b first more = shows_both Shows is (j ∷ []) a b first (b, [], sym (append-nil b), more, refl)
-
--- bytes without a simple value that is too long are the encoding of their item
-pub item_encoded : (b : List ℕ) → (i : Item) × IsItem b i → NoLongSimple b ⊎ StrictHeads b
-    → (i : Item) × IsItem b i × (b ≡ encoded i)
-item_encoded b h s =
-    let whole : IsItem (take (length b) b) h.0 =
-    subst (λ (x : List ℕ). IsItem x h.0) (sym (take-length b)) h.1 in
-    let begins : BeginsWithItem b h.0 (length b) = (front_length b h.0 h.1, omega arith, whole) in
-    let is = strict_is b h.0 (length b) begins (omega arith) s in
-    (h.0, is.0, is.1)
 
 -- what is behind goes to the front
 pub rotated : (x y : List ℕ) → slice_rotate_right (x ++ y) (length y) ≡ y ++ x
@@ -71,7 +56,7 @@ Appends old new Written = (written : List ℕ) × (new ≡ old ++ written) × Wr
 pub first_appended : (show : Show) (b old new : List ℕ) (r : Result ℕ End) → (length (steps_of show) ≡ 0 → ⊥)
     → IfOk r (λ n. (i : Item) × BeginsWithItem b i n)
     → IfOk r (λ n. (written : List ℕ) × (new ≡ old ++ written)
-    × (parts : List Item) × ShowsEach (IsPartForm show.style.form show) parts written)
+    × (parts : List Item) × ShowsEach (IsForm show) parts written)
     → IfOk r (λ n. Appends old new (λ w. IsShownOfFirst (Shows show) b w (drop n b)))
 first_appended show b old new (Ok n) some item h = (
   h.0,

@@ -3,8 +3,8 @@
 use Rattle.std.specs.Prelude.{◌≡◌, ◌&&◌, ℕ, Bool, true, false, List, [], ◌∷◌, ◌++◌, Option, Some, None}
 use Rattle.hex.specs.Hex.{encode_lower}
 use Rattle.cbor_grammar.specs.Item.{Item}
+use Rattle.cbor_grammar.specs.Facts.{IsItem}
 use Rattle.cbor_dump.specs.Dump.{dump}
-use Rattle.cbor_grammar.specs.Written.{encoded}
 use Rattle.cbor_edn_writer.specs.declared.style.EdnStyle.{EdnStyle}
 use Rattle.cbor_notes.specs.declared.note.Note.{Note}
 use Rattle.cbor_edn_writer.specs.Written.{IsNotedText}
@@ -39,13 +39,14 @@ abbrev pub IsLineOf : Option Naming → EdnStyle → Item → List ℕ → Type 
 IsLineOf named style i output = (notes : List Note) × AreBeside named style notes
     × (text : List ℕ) × (output ≡ text ++ 10 ∷ []) × IsNotedText style notes i text
 
--- the item in that form, where it is EDN in that style
+-- The item in that form, where it is EDN in that style. Bytes and digits are those of an encoding of the item.
 abbrev pub IsFormOf : Form → Option Naming → EdnStyle → Item → List ℕ → Type 0
 IsFormOf form.Pretty named style i output = IsLineOf named style i output
 IsFormOf form.Diag named style i output = IsLineOf named style i output
 IsFormOf form.Hex named style i output = output ≡ dump i
-IsFormOf form.Digits named style i output = output ≡ encode_lower (encoded i) ++ 10 ∷ []
-IsFormOf form.Bytes named style i output = output ≡ encoded i
+IsFormOf form.Digits named style i output =
+    (bytes : List ℕ) × IsItem bytes i × (output ≡ encode_lower bytes ++ 10 ∷ [])
+IsFormOf form.Bytes named style i output = IsItem output i
 
 -- the item as it is to be shown
 abbrev pub IsForm : Show → Item → List ℕ → Type 0

@@ -1,31 +1,21 @@
 -- `Shows`: the output of a viewer for an item: all of it (`IsForm` of `Forms.antt`), or parts of it if there is a path.
 -- `ChecksSo`: whether the `End` of a check by RFC 8949 is true of the bytes that remain.
-use Rattle.std.specs.Prelude.{◌≡◌, ℕ, List, [], ◌∷◌, ◌++◌}
-use Rattle.hex.specs.Hex.{encode_lower}
+use Rattle.std.specs.Prelude.{ℕ, List, [], ◌∷◌}
 use Rattle.cbor_grammar.specs.Item.{Item}
-use Rattle.cbor_grammar.specs.Facts.{IsItem}
 use Rattle.cbor_paths.specs.declared.end.End.{End}
 use Rattle.cbor_paths.specs.declared.end.End.TheVariants as end
 use Rattle.cbor_paths.specs.declared.step.Step.{Step}
 use Rattle.cbor_paths.specs.Ends.{EndsSo}
 use Rattle.cbor_paths.specs.Sequence.{ShowsEach}
-use Rattle.cbor_inspect.specs.declared.form.Form.{Form}
-use Rattle.cbor_inspect.specs.declared.form.Form.TheVariants as form
 use Rattle.cbor_inspect.specs.declared.items.Show.{Show}
 use Rattle.cbor_inspect.specs.Forms.{IsForm}
 use Rattle.cbor_inspect.specs.Rfc8949.{BeginsNo8949}
-
--- what is written of a part: its bytes as they are, or their digits and a line feed, or what is written of its item
-abbrev pub IsPartForm : Form → Show → Item → List ℕ → Type 0
-IsPartForm form.Bytes show i output = IsItem output i
-IsPartForm form.Digits show i output = (b : List ℕ) × IsItem b i × (output ≡ encode_lower b ++ 10 ∷ [])
-IsPartForm other show i output = IsForm show i output
 
 -- what is written of a whole item, or with steps of items that are its parts
 abbrev pub ShowsPart : Show → List Step → Item → List ℕ → Type 0
 ShowsPart show [] i output = IsForm show i output
 ShowsPart show (s ∷ steps) i output =
-    (parts : List Item) × ShowsEach (IsPartForm show.style.form show) parts output
+    (parts : List Item) × ShowsEach (IsForm show) parts output
 
 -- the path to the part that is written
 abbrev pub steps_of : Show → List Step

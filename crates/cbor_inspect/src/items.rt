@@ -1,7 +1,7 @@
 //! `show_items` writes the whole items at the front of bytes, one after the other, and returns why
 //! it stopped. [`Show`]: how items are written, that is, the style, the names and the path to a
 //! part.
-ghost use Rattle.std.specs.Prelude.{◌≡◌, ℕ, ◌≤◌, ◌++◌, ◌∷◌, [], List, length, drop};
+ghost use Rattle.std.specs.Prelude.{◌≡◌, ℕ, ◌≤◌, ◌++◌, ◌∷◌, [], List, length, take, drop};
 ghost use Rattle.std.specs.Prelude.{IfOk, IfErr, IfSome, OnOk, OnErr, IsTrue, true, false, Ok};
 ghost use Rattle.std.specs.Prelude.{None, Some};
 ghost use Rattle.std.specs.String.{string_bytes};
@@ -10,7 +10,6 @@ ghost use Rattle.cbor_grammar.specs.Item.{Item};
 ghost use Rattle.cbor_grammar.specs.Answer.{RefusedSo};
 ghost use Rattle.cbor_dump.specs.Dump.{dump};
 ghost use Rattle.cbor_grammar.specs.Facts.{IsItem, BeginsWithItem, IsCut, HasFault};
-ghost use Rattle.cbor_grammar.specs.Written.{encoded};
 ghost use Rattle.cbor_inspect.specs.Forms.{IsForm, edn_style};
 ghost use Rattle.cbor_paths.specs.Sequence.{IsShownOfFirst, ShowsFront, OneAtMost};
 ghost use Rattle.cbor_paths.specs.Ends.{EndsSo, StopsSo};
@@ -21,12 +20,11 @@ use crate::naming::Naming;
 use crate::notation::{Work, push_notation};
 use crate::part::push_part;
 use crate::picture::NamedPart;
-use cbor_bytes::strict::is_strict;
 use cbor_bytes::{Extent, extent};
-use cbor_diag::parse_bytes;
 use cbor_dump::push_bytes_to_hex_partial;
 use cbor_edn_writer::{EdnStyle, NotedStyle};
 use cbor_grammar::Error;
+use cbor_inside::Inside;
 use cbor_marks::Marks;
 use cbor_notes::Note;
 use cbor_paths::{End, Picture, Shown, Step};
@@ -124,8 +122,10 @@ impl<'a> Show<'a> {
     pub fn picture<'m>(&self) -> Picture<'m> {
         Picture {
             notes: &[],
-            tagged: true,
-            embedded: self.style.embedded,
+            inside: Some(Inside {
+                embedded: self.style.embedded,
+                named: &[],
+            }),
         }
     }
 }
@@ -148,6 +148,10 @@ pub fn show_items(show: &Show, bytes: &[u8], out: &mut Vec<u8>) -> Shown
 
     // One item at most is passed, if so asked.
     ensures one { IsTrue show.now.one → OneAtMost bytes.now (drop result.used bytes.now) }
+
+    // As bytes, items are written as they are in the input.
+    ensures own { show.now.style.form ≡ Form.Bytes → steps_of show.now ≡ []
+        → out.new.items ≡ out.old.items ++ take result.used bytes.now }
 {
     let limit = out.len().saturating_add(BLOCK);
     let mut work = Work::new(*out.allocator());
@@ -184,6 +188,10 @@ pub(crate) fn show_first(
         × IsShownOfFirst (Shows show.now) bytes.now written (drop used bytes.now)) }
     ensures ends { IfErr result (StopsSo bytes.now) }
     ensures unchanged { OnErr result (out.new.items ≡ out.old.items) }
+
+    // Its own bytes.
+    ensures own { show.now.style.form ≡ Form.Bytes → steps_of show.now ≡ [] → IfOk result
+        (λ used. out.new.items ≡ out.old.items ++ take used bytes.now) }
 {
     work.text.clear();
     if show.steps.is_empty() {
@@ -208,9 +216,11 @@ pub(crate) fn push_front(
         × ShowsFront (IsForm show.now) bytes.now written used) }
     ensures ends { IfErr result (StopsSo bytes.now) }
     ensures unchanged { OnErr result (out.new.items ≡ out.old.items) }
+    ensures own { show.now.style.form ≡ Form.Bytes → IfOk result
+        (λ used. out.new.items ≡ out.old.items ++ take used bytes.now) }
 {
     if show.style.form == Form::Bytes {
-        return push_encoding(bytes, known, out);
+        return push_own(bytes, known, out);
     }
     if let Some(marks) = show.marks {
         marks.begin(out.len());
@@ -261,13 +271,14 @@ pub(crate) fn push_text(text: &mut String, out: &mut Vec<u8>) -> Result<(), Allo
     Ok(())
 }
 
-/// Appends the encoding of the item at the front. An item is built only if a simple value takes
-/// more bytes than it has to.
-fn push_encoding(bytes: &[u8], known: Option<usize>, out: &mut Vec<u8>) -> Result<usize, End>
+/// Appends the bytes of the item at the front, as they are.
+fn push_own(bytes: &[u8], known: Option<usize>, out: &mut Vec<u8>) -> Result<usize, End>
     requires { IfSome known (λ n. (i : Item) × BeginsWithItem bytes.now i n) }
     ensures written { IfOk result (λ used. (written : List ℕ)
         × (out.new.items ≡ out.old.items ++ written)
-        × (i : Item) × BeginsWithItem bytes.now i used × (written ≡ encoded i)) }
+        × (i : Item) × BeginsWithItem bytes.now i used × IsItem written i) }
+    ensures own { IfOk result (λ used. out.new.items
+        ≡ out.old.items ++ take used bytes.now) }
     ensures ends { IfErr result (StopsSo bytes.now) }
     ensures unchanged { OnErr result (out.new.items ≡ out.old.items) }
 {
@@ -275,71 +286,32 @@ fn push_encoding(bytes: &[u8], known: Option<usize>, out: &mut Vec<u8>) -> Resul
         Ok(used) => used,
         Err(end) => return Err(end),
     };
-    match push_encoded(&bytes[..used], out) {
+    match out.extend_from_slice(&bytes[..used]) {
         Ok(()) => Ok(used),
         Err(_) => Err(End::Memory),
     }
 }
 
-/// Appends the encoding of the item that the bytes encode.
-fn push_encoded(bytes: &[u8], out: &mut Vec<u8>) -> Result<(), Error>
-    requires { (i : Item) × IsItem bytes.now i }
-    ensures encoding { OnOk result ((i : Item) × IsItem bytes.now i
-        × (out.new.items ≡ out.old.items ++ encoded i)) }
-    ensures unchanged { OnErr result (out.new.items ≡ out.old.items) }
-{
-    if is_strict(bytes) {
-        out.extend_from_slice(bytes)?;
-        return Ok(());
-    }
-    let encoding = parse_bytes(*out.allocator(), bytes)?.to_bytes(*out.allocator())?;
-    out.extend_from_slice(&encoding)?;
-    Ok(())
-}
-
-/// Appends the encoding of the item at the front in hex, and a line feed. The text is empty.
+/// Appends the bytes of the item at the front in hex, as they are, and a line feed. The text is
+/// empty.
 fn push_digits(bytes: &[u8], known: Option<usize>, text: &mut String) -> Result<usize, End>
     requires known { IfSome known (λ n. (i : Item) × BeginsWithItem bytes.now i n) }
     requires empty { string_bytes text.old ≡ [] }
     ensures written { IfOk result (λ used. (i : Item) × BeginsWithItem bytes.now i used
-        × (string_bytes text.new ≡ encode_lower (encoded i) ++ 10 ∷ [])) }
+        × (b : List ℕ) × IsItem b i × (string_bytes text.new ≡ encode_lower b ++ 10 ∷ [])) }
     ensures ends { IfErr result (StopsSo bytes.now) }
 {
     let used = match first_len(bytes, known) {
         Ok(used) => used,
         Err(end) => return Err(end),
     };
-    match push_line_of_hex(&bytes[..used], text) {
+    let Ok(()) = push_hex(text, &bytes[..used]) else {
+        return Err(End::Memory);
+    };
+    match text.push('\n') {
         Ok(()) => Ok(used),
         Err(_) => Err(End::Memory),
     }
-}
-
-/// Appends the encoding of the item that the bytes encode in hex, and a line feed.
-fn push_line_of_hex(bytes: &[u8], text: &mut String) -> Result<(), Error>
-    requires { (i : Item) × IsItem bytes.now i }
-    ensures { OnOk result ((i : Item) × IsItem bytes.now i × (string_bytes text.new
-        ≡ string_bytes text.old ++ (encode_lower (encoded i) ++ 10 ∷ []))) }
-{
-    push_encoded_hex(bytes, text)?;
-    text.push('\n')?;
-    Ok(())
-}
-
-/// Appends the encoding of the item that the bytes encode in hex.
-fn push_encoded_hex(bytes: &[u8], text: &mut String) -> Result<(), Error>
-    requires { (i : Item) × IsItem bytes.now i }
-    ensures { OnOk result ((i : Item) × IsItem bytes.now i × (string_bytes text.new
-        ≡ string_bytes text.old ++ encode_lower (encoded i))) }
-{
-    if is_strict(bytes) {
-        push_hex(text, bytes)?;
-        return Ok(());
-    }
-    let alloc = *text.allocator();
-    let encoding = parse_bytes(alloc, bytes)?.to_bytes(alloc)?;
-    push_hex(text, &encoding)?;
-    Ok(())
 }
 
 /// Appends the dump of the item at the front. The text is empty.

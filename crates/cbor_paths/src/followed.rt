@@ -1,5 +1,6 @@
 //! Follows the steps of a path from an item. `follow` returns the parts that they lead to.
 //! `lost_at` returns how many steps lead somewhere, and to which item, if the path leads nowhere.
+//! `follow_from` and `lost_from` do the same from an item in another.
 ghost use Rattle.std.specs.Prelude.{IfOk, IfSome};
 ghost use Rattle.std.specs.List.{AllByRecursion};
 ghost use Rattle.cbor_paths.specs.Followed.{IsItemSpan, IsPart};
@@ -10,7 +11,7 @@ use crate::picture::Picture;
 use crate::skip::bytes_from;
 use crate::step::Step;
 use cbor_bytes::{Extent, extent};
-use cbor_trace::Span;
+use cbor_trace::{Span, Spot};
 use std::alloc::{AllocError, Global};
 
 /// A part of an item.
@@ -20,6 +21,11 @@ pub struct Found {
     pub named: usize,
     /// Its bytes.
     pub span: Span,
+    /// Its level; the outermost is 1.
+    pub level: u8,
+    /// Where the array, the map or the byte string begins that it is right in; where it begins if
+    /// it is in none.
+    pub holder: usize,
     /// Where the outermost of the tags around it begins, if it has one.
     pub tag: Option<usize>,
 }
@@ -33,15 +39,16 @@ struct Reach {
     places: Vec<At>,
 }
 
-/// Follows the steps as far as they lead from the item at the front.
+/// Follows the steps as far as they lead from the item there.
 fn reached(
     alloc: Global,
     bytes: &[u8],
-    steps: &[Step],
-    picture: Picture,
+    from: Spot,
+    way: (&[Step], Picture),
 ) -> Result<Reach, AllocError> {
+    let (steps, picture) = way;
     let mut places = Vec::new(alloc);
-    places.push(At::new(0))?;
+    places.push(At::of_spot(from))?;
     let mut taken = 0usize;
     for step in steps {
         let mut next = Vec::new(alloc);
@@ -98,7 +105,22 @@ pub fn follow(
     // Each of them is an item of the bytes.
     ensures items { IfOk result (λ found. AllByRecursion (IsPart bytes.now) found.items) }
 {
-    let reached = reached(alloc, bytes, steps, picture)?;
+    follow_from(alloc, bytes, Spot::outermost(), (steps, picture))
+}
+
+/// Returns the parts of the item there that the steps lead to, as [`follow`] does. The notes of the
+/// picture are at their places in the bytes.
+pub fn follow_from(
+    alloc: Global,
+    bytes: &[u8],
+    from: Spot,
+    way: (&[Step], Picture),
+) -> Result<Vec<Found>, AllocError>
+    // Each of them is an item of the bytes.
+    ensures items { IfOk result (λ found. AllByRecursion (IsPart bytes.now) found.items) }
+{
+    let reached = reached(alloc, bytes, from, way)?;
+    let (steps, _) = way;
     let mut found = Vec::new(alloc);
     if reached.steps < steps.len() {
         return Ok(found);
@@ -108,6 +130,8 @@ pub fn follow(
             found.push(Found {
                 named: at.named,
                 span,
+                level: at.level,
+                holder: at.holder,
                 tag: at.tag,
             })?;
         }
@@ -133,20 +157,31 @@ pub fn lost_at(
     steps: &[Step],
     picture: Picture,
 ) -> Result<Lost, AllocError> {
-    let reached = reached(alloc, bytes, steps, picture)?;
-    let start = match reached.places.first() {
-        Some(at) => at.start,
-        None => 0,
+    lost_from(alloc, bytes, Spot::outermost(), (steps, picture))
+}
+
+/// Follows the steps as far as they lead from the item there, as [`lost_at`] does.
+pub fn lost_from(
+    alloc: Global,
+    bytes: &[u8],
+    from: Spot,
+    way: (&[Step], Picture),
+) -> Result<Lost, AllocError> {
+    let (steps, picture) = way;
+    let reached = reached(alloc, bytes, from, way)?;
+    let at = match reached.places.first() {
+        Some(at) => *at,
+        None => At::of_spot(from),
     };
     let below = match steps.get(reached.steps) {
-        Some(Step::Inside | Step::InsideAt(_)) => Below::new(bytes, start),
-        _ => shown_below(bytes, start, picture),
+        Some(Step::Inside | Step::InsideAt(_)) => Below::new(bytes, at),
+        _ => shown_below(bytes, at, picture),
     };
     Ok(Lost {
         steps: reached.steps,
         start: match below {
             Some(below) => below.start,
-            None => start,
+            None => at.start,
         },
     })
 }

@@ -23,7 +23,7 @@ mod skip;
 mod step;
 
 pub use end::{End, Shown};
-pub use followed::{Found, Lost, follow, lost_at};
+pub use followed::{Found, Lost, follow, follow_from, lost_at, lost_from};
 pub use key::is_key;
 pub use members::{At, Members};
 pub use picture::Picture;

@@ -4,26 +4,19 @@
 use crate::key::{index_of, is_key, text_of};
 use crate::members::{At, Below, Members};
 use crate::picture::Picture;
+use crate::skip::bytes_from;
 use crate::step::Step;
 use cbor_bytes::{Extent, extent};
-use cbor_grammar::argument::Argument;
-use cbor_grammar::head::ItemHead;
-use cbor_grammar::strings::StringKind;
+use cbor_grammar::layout::Content;
+use cbor_inside::{ByteString, content_after};
 use std::alloc::AllocError;
-
-/// The tag of a byte string that is one item.
-const ENCODED: u64 = 24;
 
 /// The tag of a byte string that is items, one after the other.
 const SEQUENCE: u64 = 63;
 
 /// The content of a byte string of definite length.
 fn content(bytes: &[u8], below: Below) -> Option<&[u8]> {
-    let ItemHead::String(StringKind::Bytes, Argument::Number(len, _)) = below.head else {
-        return None;
-    };
-    let len = usize::try_from(len).ok()?;
-    bytes.get(below.inner..below.inner.saturating_add(len))
+    content_after(below.head, bytes_from(bytes, below.inner))
 }
 
 /// The item that a byte string encodes, or the first of them below tag 63.
@@ -31,7 +24,7 @@ fn inside(bytes: &[u8], below: Below) -> Option<At> {
     let content = content(bytes, below)?;
     match extent(content) {
         Extent::Item(len) if len == content.len() || below.tag == Some(SEQUENCE) => {
-            Some(At::new(below.inner))
+            Some(below.item_in(below.inner))
         }
         _ => None,
     }
@@ -41,28 +34,31 @@ fn inside(bytes: &[u8], below: Below) -> Option<At> {
 fn inside_at(bytes: &[u8], below: Below, byte: usize) -> Option<At> {
     let content = content(bytes, below)?;
     match extent(content.get(byte..)?) {
-        Extent::Item(_) => Some(At::new(below.inner.saturating_add(byte))),
+        Extent::Item(_) => Some(below.item_in(below.inner.saturating_add(byte))),
         _ => None,
     }
 }
 
-/// The item in a byte string that is shown as the item in it.
-pub(crate) fn shown_inside(bytes: &[u8], below: Below, picture: Picture) -> Option<At> {
-    let tagged = picture.tagged && matches!(below.tag, Some(ENCODED | SEQUENCE));
-    if tagged || picture.embedded || picture.is_encoded(below.start) {
-        inside(bytes, below)
-    } else {
-        None
+/// The item in a byte string that is shown as the items in it; of several the first.
+fn shown_inside(bytes: &[u8], below: Below, picture: Picture) -> Option<At> {
+    let string = ByteString {
+        start: below.start,
+        level: below.level,
+        tag: below.tag,
+    };
+    match picture.content(string, content(bytes, below)?) {
+        Content::Bytes => None,
+        _ => inside(bytes, below),
     }
 }
 
 /// The item itself, or the item in it, as long as it is a byte string that is shown so: the first
 /// that is none.
-pub(crate) fn shown_below(bytes: &[u8], start: usize, picture: Picture) -> Option<Below> {
-    let mut below = Below::new(bytes, start)?;
+pub(crate) fn shown_below(bytes: &[u8], at: At, picture: Picture) -> Option<Below> {
+    let mut below = Below::new(bytes, at)?;
     for _ in 0..bytes.len() {
         match shown_inside(bytes, below, picture) {
-            Some(inner) => below = Below::new(bytes, inner.start)?,
+            Some(inner) => below = Below::new(bytes, inner)?,
             None => break,
         }
     }
@@ -99,8 +95,12 @@ fn named(bytes: &[u8], members: Members, name: &str, picture: Picture) -> Option
     None
 }
 
-/// The item in a byte string that has this name in the picture, whatever bytes are around it.
+/// The item in a byte string that has this name in the picture, whatever bytes are around it: in
+/// one that holds no item by its own name, as authenticator data.
 fn named_inside(bytes: &[u8], below: Below, name: &str, picture: Picture) -> Option<At> {
+    if picture.is_encoded(below.start) {
+        return None;
+    }
     let len = content(bytes, below)?.len();
     for note in picture.notes {
         let byte = note.start.saturating_sub(below.inner);
@@ -112,8 +112,8 @@ fn named_inside(bytes: &[u8], below: Below, name: &str, picture: Picture) -> Opt
 }
 
 /// Where a key leads: to an index or a key, or else to a name that is shown.
-fn member(bytes: &[u8], start: usize, key: &[u8], picture: Picture) -> Option<At> {
-    let below = shown_below(bytes, start, picture)?;
+fn member(bytes: &[u8], around: At, key: &[u8], picture: Picture) -> Option<At> {
+    let below = shown_below(bytes, around, picture)?;
     let Some(members) = Members::new(below) else {
         return named_inside(bytes, below, text_of(key)?, picture);
     };
@@ -133,7 +133,7 @@ fn push_members(
     around: At,
     picture: Picture,
 ) -> Result<(), AllocError> {
-    let Some(below) = shown_below(bytes, around.start, picture) else {
+    let Some(below) = shown_below(bytes, around, picture) else {
         return Ok(());
     };
     let Some(mut members) = Members::new(below) else {
@@ -157,10 +157,10 @@ pub(crate) fn push_next(
     way: (&Step, Picture),
 ) -> Result<(), AllocError> {
     let (step, picture) = way;
-    let below = Below::new(bytes, around.start);
+    let below = Below::new(bytes, around);
     let next = match (step, below) {
         (Step::Each, _) => return push_members(places, bytes, around, picture),
-        (Step::Key(key), _) => member(bytes, around.start, key, picture),
+        (Step::Key(key), _) => member(bytes, around, key, picture),
         (Step::Inside, Some(below)) => inside(bytes, below),
         (Step::InsideAt(byte), Some(below)) => inside_at(bytes, below, *byte),
         (_, None) => None,

@@ -1,17 +1,17 @@
 //! `Picture`: what is shown of an item besides its bytes: names, and byte strings as the item in
 //! them. A step of a path may be such a name.
 
+use cbor_grammar::layout::Content;
+use cbor_inside::{ByteString, Inside};
 use cbor_notes::Note;
 
 /// What is shown of an item.
 #[derive(Clone, Copy)]
 pub struct Picture<'a> {
-    /// Names, and byte strings that are shown as the item in them, in the order of their places.
+    /// Names, and which byte strings hold an item by them, in the order of their places.
     pub notes: &'a [Note<'a>],
-    /// Whether byte strings below tags 24 and 63 are shown as the items in them.
-    pub tagged: bool,
-    /// Whether each byte string that is one item is shown so.
-    pub embedded: bool,
+    /// Which other byte strings are shown as the items in them; with `None` no byte string is.
+    pub inside: Option<Inside<'a>>,
 }
 
 impl<'a> Picture<'a> {
@@ -19,8 +19,7 @@ impl<'a> Picture<'a> {
     pub fn plain() -> Picture<'a> {
         Picture {
             notes: &[],
-            tagged: false,
-            embedded: false,
+            inside: None,
         }
     }
 
@@ -50,11 +49,23 @@ impl<'a> Picture<'a> {
         }
     }
 
-    /// Whether what begins at a place has a note that it is shown as the item in it.
+    /// Whether a name says of the byte string that begins at a place that it holds an item.
     pub(crate) fn is_encoded(self, place: usize) -> bool {
         match self.note_at(place) {
             Some(note) => note.encoded,
             None => false,
         }
+    }
+
+    /// What a byte string with this content is shown as.
+    pub(crate) fn content(self, string: ByteString, content: &[u8]) -> Content {
+        let Some(inside) = self.inside else {
+            return Content::Bytes;
+        };
+        let inside = Inside {
+            embedded: inside.embedded || self.is_encoded(string.start),
+            ..inside
+        };
+        inside.content(string, content)
     }
 }

@@ -2,14 +2,14 @@
 //! end of a truncated item. It writes these in words, for messages. `item_with` finds which of
 //! several items contains a byte.
 
-use crate::entered::{ByteString, Entered, content_at};
 use crate::nouns::{count_of, noun_of_open, push_there};
 use crate::path::Path;
 use crate::piece::{Piece, Places};
 use cbor_bytes::{Extent, extent};
 use cbor_grammar::argument::Argument;
 use cbor_grammar::layout::Content;
-use cbor_trace::{Open, Part, Spot, part_at};
+use cbor_inside::{ByteString, Inside, content_after};
+use cbor_trace::{Open, Part, Spot, head_at, part_at};
 use std::alloc::{AllocError, Global};
 use std::fmt::Write;
 
@@ -29,7 +29,7 @@ pub(crate) struct Named {
 
 /// A container that is open.
 #[derive(Clone, Copy)]
-pub(crate) struct Inside {
+pub(crate) struct Container {
     pub(crate) open: Open,
     pub(crate) item: Named,
 }
@@ -46,11 +46,11 @@ pub struct Around<'a> {
     /// Whether that is in a key.
     pub in_key: bool,
     /// The innermost container that is open.
-    pub(crate) last: Option<Inside>,
+    pub(crate) last: Option<Container>,
     /// Whether an array or a map of indefinite length is open.
     pub(crate) in_indefinite: bool,
     /// The innermost array or map that the path leads into.
-    around: Option<Inside>,
+    around: Option<Container>,
 }
 
 /// How many items are before the one that has this byte of the data, and the bytes from that one
@@ -108,11 +108,11 @@ impl<'a> Around<'a> {
         Ok(())
     }
 
-    /// Goes on into byte strings that paths enter, to the innermost item that has this byte of the
+    /// Goes on into byte strings that are open, to the innermost item that has this byte of the
     /// data.
-    pub(crate) fn go_inside(&mut self, byte: usize, entered: Entered) -> Result<(), AllocError> {
+    pub(crate) fn go_inside(&mut self, byte: usize, opened: Inside) -> Result<(), AllocError> {
         for _ in 0..=u8::MAX {
-            let Some((step, piece)) = self.held_at(byte, entered) else {
+            let Some((step, piece)) = self.held_at(byte, opened) else {
                 break;
             };
             self.path.push_inside(step)?;
@@ -127,18 +127,17 @@ impl<'a> Around<'a> {
         Ok(())
     }
 
-    /// If the innermost item is a byte string that paths enter, and has this byte of the data in
-    /// its content: the byte of the content that the step has, and the bytes from the item there
-    /// on.
-    fn held_at(&self, byte: usize, entered: Entered) -> Option<(Option<usize>, Piece<'a>)> {
-        let content = content_at(self.piece.bytes, self.spot.start)?;
-        let begins = self.piece.number(content.start);
-        if self.in_key || byte < begins || self.piece.number(content.end) <= byte {
+    /// If the innermost item is a byte string that is open, and has this byte of the data in its
+    /// content: the byte of the content that the step has, and the bytes from the item there on.
+    fn held_at(&self, byte: usize, opened: Inside) -> Option<(Option<usize>, Piece<'a>)> {
+        let (head, inner) = head_at(self.piece.bytes, self.spot.start)?;
+        let bytes = content_after(head, self.piece.bytes.get(inner..)?)?;
+        let begins = self.piece.number(inner);
+        let items = Piece { begins, bytes };
+        if self.in_key || byte < begins || items.number(bytes.len()) <= byte {
             return None;
         }
-        let bytes = content.bytes(self.piece.bytes);
-        let items = Piece { begins, bytes };
-        match entered.content(self.byte_string(), bytes) {
+        match opened.content(self.byte_string(), bytes) {
             Content::Bytes => None,
             Content::Item => Some((None, items)),
             Content::Sequence => {
@@ -172,7 +171,7 @@ impl<'a> Around<'a> {
 
     /// Goes into a part of the innermost item.
     fn enter(&mut self, part: Part) -> Result<(), AllocError> {
-        let inside = Inside {
+        let inside = Container {
             open: part.open,
             item: self.named(),
         };

@@ -5,7 +5,6 @@ ghost use Rattle.std.specs.String.{string_bytes};
 ghost use Rattle.cbor_places.specs.Heads.{counted, head_digits, kind_word, IsHeadWords, head_line};
 
 use crate::around::Around;
-use crate::entered::Entered;
 use crate::path::push_number;
 use crate::piece::Piece;
 use cbor_edn_writer::bytes_to_edn;
@@ -13,6 +12,7 @@ use cbor_grammar::Error;
 use cbor_grammar::argument::Argument;
 use cbor_grammar::head::ItemHead;
 use cbor_grammar::strings::StringKind;
+use cbor_inside::Inside;
 use cbor_tokens::push_hex;
 use cbor_trace::{end_at, head_at};
 use std::alloc::{AllocError, Global};
@@ -25,11 +25,11 @@ pub fn lines_at(
     alloc: Global,
     nth_item: (usize, Piece),
     byte: usize,
-    entered: Entered,
+    inside: Inside,
 ) -> Result<String, Error> {
     let (number, item) = nth_item;
     let mut around = Around::new(alloc, item, byte.saturating_sub(item.begins))?;
-    around.go_inside(byte, entered)?;
+    around.go_inside(byte, inside)?;
     let mut out = String::from_str(alloc, "path: ")?;
     push_number(&mut out, number)?;
     out.push_str(around.path.as_str())?;

@@ -1,7 +1,7 @@
 //! Writes the message for a truncated item: what its head states and how much is there, such as
 //! "the array at a (byte 3) has 4 items, 2 are there".
 
-use crate::around::{Around, Inside, Named};
+use crate::around::{Around, Container, Named};
 use crate::nouns::{
     count_of, noun_of_kind, noun_of_open, plural_of, push_number_there, push_there,
 };
@@ -56,7 +56,7 @@ impl Around<'_> {
         &self,
         out: &mut String,
         places: &P,
-        inside: Inside,
+        inside: Container,
     ) -> Result<(), AllocError> {
         let noun = noun_of_open(inside.open);
         if let Open::Tag { number, .. } = inside.open {

@@ -1,7 +1,6 @@
 //! `Leaves` goes through the items that hold no other item, with the path to each. It also writes a
 //! line for each: the path, and the item in EDN.
 
-use crate::entered::{ByteString, Entered, content_behind};
 use crate::path::{Path, push_number};
 use crate::piece::Piece;
 use cbor_bytes::{Extent, extent};
@@ -10,6 +9,7 @@ use cbor_grammar::Error;
 use cbor_grammar::argument::Argument;
 use cbor_grammar::head::ItemHead;
 use cbor_grammar::layout::Content;
+use cbor_inside::{ByteString, Inside, content_after};
 use cbor_marks::Marks;
 use cbor_trace::{Span, head_at};
 use std::alloc::{AllocError, Global};
@@ -23,7 +23,7 @@ const LONGEST: usize = 1024;
 
 /// What holds the items that come next.
 #[derive(Clone, Copy)]
-enum Inside {
+enum Holder {
     /// An array of that count.
     Array(Argument),
     /// A map of that count.
@@ -37,7 +37,7 @@ enum Inside {
 /// What holds items, as far as it was passed.
 #[derive(Clone, Copy)]
 struct Level {
-    inside: Inside,
+    holder: Holder,
     /// How many items or pairs of it were passed.
     index: usize,
     /// How long the path to it is.
@@ -65,7 +65,7 @@ struct Next {
 pub struct Leaves<'a> {
     items: Piece<'a>,
     style: EdnStyle,
-    entered: Entered<'a>,
+    inside: Inside<'a>,
     /// How many items of the data begin before what comes next.
     number: usize,
     /// Whether each line has the place before the path.
@@ -82,20 +82,15 @@ pub struct Leaves<'a> {
 impl<'a> Leaves<'a> {
     /// The lines of these items: the path of each that holds no other, and the item in EDN on one
     /// line without notes, with the widths of this style.
-    pub fn new(
-        alloc: Global,
-        items: Piece<'a>,
-        style: EdnStyle,
-        entered: Entered<'a>,
-    ) -> Leaves<'a> {
+    pub fn new(alloc: Global, items: Piece<'a>, style: EdnStyle, inside: Inside<'a>) -> Leaves<'a> {
         Leaves {
             items,
             style: EdnStyle {
-                embedded: entered.embedded,
+                embedded: inside.embedded,
                 widths: style.widths,
                 ..EdnStyle::LINE
             },
-            entered,
+            inside,
             number: 0,
             places: false,
             any_index: false,
@@ -193,8 +188,8 @@ impl<'a> Leaves<'a> {
             return false;
         }
         let _ = self.levels.pop();
-        if let Inside::Array(Argument::Indefinite)
-        | Inside::Map(Argument::Indefinite) = level.inside
+        if let Holder::Array(Argument::Indefinite)
+        | Holder::Map(Argument::Indefinite) = level.holder
         {
             self.pass(1);
         }
@@ -203,15 +198,15 @@ impl<'a> Leaves<'a> {
 
     /// Whether no item of a level comes next.
     fn is_end_of(&self, level: Level) -> bool {
-        match level.inside {
-            Inside::Array(Argument::Indefinite) | Inside::Map(Argument::Indefinite) => {
+        match level.holder {
+            Holder::Array(Argument::Indefinite) | Holder::Map(Argument::Indefinite) => {
                 self.rest().first() == Some(&0xff)
             }
-            Inside::Array(Argument::Number(count, _)) | Inside::Map(Argument::Number(count, _)) => {
+            Holder::Array(Argument::Number(count, _)) | Holder::Map(Argument::Number(count, _)) => {
                 level.index as u64 >= count
             }
-            Inside::Item => level.index > 0,
-            Inside::Items(content) => self.at >= content.end,
+            Holder::Item => level.index > 0,
+            Holder::Items(content) => self.at >= content.end,
         }
     }
 
@@ -223,9 +218,9 @@ impl<'a> Leaves<'a> {
         self.push_step()?;
         let start = self.at;
         if let Some(next) = self.pass_tags()
-            && let Some(inside) = self.inside_of(next)
+            && let Some(holder) = self.holder_of(next)
         {
-            self.enter(next, inside)?;
+            self.enter(next, holder)?;
             return Ok(None);
         }
         let len = len_of(self.rest());
@@ -241,15 +236,15 @@ impl<'a> Leaves<'a> {
         let Some(level) = self.levels.last_mut() else {
             return Ok(());
         };
-        let (inside, index) = (level.inside, level.index);
+        let (holder, index) = (level.holder, level.index);
         let any_index = self.any_index && !level.is_record;
         level.index = index.saturating_add(1);
-        match inside {
-            Inside::Array(_) | Inside::Items(_) if any_index => self.path.push_each(),
-            Inside::Array(_) => self.path.push_index(index),
-            Inside::Map(_) => self.push_key(),
-            Inside::Item => self.path.push_inside(None),
-            Inside::Items(content) => {
+        match holder {
+            Holder::Array(_) | Holder::Items(_) if any_index => self.path.push_each(),
+            Holder::Array(_) => self.path.push_index(index),
+            Holder::Map(_) => self.push_key(),
+            Holder::Item => self.path.push_inside(None),
+            Holder::Items(content) => {
                 let byte = self.at.saturating_sub(content.start);
                 self.path.push_inside(Some(byte))
             }
@@ -288,46 +283,47 @@ impl<'a> Leaves<'a> {
     }
 
     /// What the next item is, if it has parts, which then have lines in place of it.
-    fn inside_of(&self, next: Next) -> Option<Inside> {
+    fn holder_of(&self, next: Next) -> Option<Holder> {
         match next.head {
             ItemHead::Array(count) if has_parts(self.items.bytes, count, next.end) => {
-                Some(Inside::Array(count))
+                Some(Holder::Array(count))
             }
             ItemHead::Map(count) if has_parts(self.items.bytes, count, next.end) => {
-                Some(Inside::Map(count))
+                Some(Holder::Map(count))
             }
-            ItemHead::String(..) => self.inside_string(next),
+            ItemHead::String(..) => self.holder_of_string(next),
             _ => None,
         }
     }
 
-    /// The same of a string: a byte string that is entered.
-    fn inside_string(&self, next: Next) -> Option<Inside> {
-        let content = content_behind(self.items.bytes, next.head, next.end)?;
+    /// The same of a string: a byte string that is open.
+    fn holder_of_string(&self, next: Next) -> Option<Holder> {
+        let rest = self.items.bytes.get(next.end..)?;
+        let content = content_after(next.head, rest)?;
         let string = ByteString {
             start: self.items.number(self.at),
             level: next.level,
             tag: next.tag,
         };
-        match self
-            .entered
-            .content(string, content.bytes(self.items.bytes))
-        {
-            Content::Item => Some(Inside::Item),
-            Content::Sequence if content.len() > 0 => Some(Inside::Items(content)),
+        match self.inside.content(string, content) {
+            Content::Item => Some(Holder::Item),
+            Content::Sequence if !content.is_empty() => Some(Holder::Items(Span {
+                start: next.end,
+                end: next.end.saturating_add(content.len()),
+            })),
             _ => None,
         }
     }
 
     /// Goes into the next item.
-    fn enter(&mut self, next: Next, inside: Inside) -> Result<(), AllocError> {
+    fn enter(&mut self, next: Next, holder: Holder) -> Result<(), AllocError> {
         self.at = next.end;
         self.levels.push(Level {
-            inside,
+            holder,
             index: 0,
             path_len: self.path.len(),
             level: next.level.saturating_add(1),
-            is_record: next.tag.is_some() && is_short(inside),
+            is_record: next.tag.is_some() && is_short(holder),
         })?;
         Ok(())
     }
@@ -373,8 +369,8 @@ impl<'a> Leaves<'a> {
 const SHORT: u64 = 16;
 
 /// Whether this is an array of few members.
-fn is_short(inside: Inside) -> bool {
-    matches!(inside, Inside::Array(Argument::Number(count, _)) if count <= SHORT)
+fn is_short(holder: Holder) -> bool {
+    matches!(holder, Holder::Array(Argument::Number(count, _)) if count <= SHORT)
 }
 
 /// Whether a container has a part, whose head ends at that place.

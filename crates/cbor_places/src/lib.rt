@@ -3,7 +3,7 @@
 //!
 //! [`Around`] has the path to a byte and its containers, and says what a truncated item lacks.
 //! [`lines_at`] describes the item that contains a byte, and [`Leaves`] goes through the items that
-//! hold no other, also in byte strings that are [`Entered`]. [`fault_of`] says why bytes are not an
+//! hold no other, also in byte strings that are open. [`fault_of`] says why bytes are not an
 //! item, and [`partial_edn`] shows a truncated or malformed item.
 //!
 //! ```rust
@@ -25,7 +25,6 @@
 mod around;
 mod at;
 mod cut;
-mod entered;
 mod fault;
 mod leaves;
 mod misplaced;
@@ -36,7 +35,6 @@ mod piece;
 
 pub use around::{Around, item_with};
 pub use at::lines_at;
-pub use entered::Entered;
 pub use fault::{Fault, fault_of};
 pub use leaves::Leaves;
 pub use partial::{PartialText, partial_edn};

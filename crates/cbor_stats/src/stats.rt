@@ -4,7 +4,8 @@
 
 use crate::entry::Entry;
 use cbor_edn_writer::EdnStyle;
-use cbor_places::{Entered, Leaves, Piece};
+use cbor_inside::Inside;
+use cbor_places::{Leaves, Piece};
 use std::alloc::{AllocError, Global};
 use std::fmt::Write;
 
@@ -36,10 +37,10 @@ impl Stats {
     }
 
     /// Counts the values of whole items.
-    pub fn add(&mut self, items: Piece, entered: Entered) -> Result<(), AllocError> {
+    pub fn add(&mut self, items: Piece, inside: Inside) -> Result<(), AllocError> {
         let alloc = *self.entries.allocator();
         self.bytes = self.bytes.saturating_add(items.bytes.len() as u64);
-        let mut leaves = Leaves::new(alloc, items, EdnStyle::LINE, entered).with_any_index();
+        let mut leaves = Leaves::new(alloc, items, EdnStyle::LINE, inside).with_any_index();
         for _ in 0..u64::MAX {
             let Some(leaf) = leaves.next_leaf()? else {
                 break;

@@ -1,6 +1,6 @@
 //! `--diff`: compares the items of two inputs, and writes a line for each difference.
 
-use crate::encoded::{encoded_in, entered_of};
+use crate::encoded::{encoded_in, inside_of};
 use crate::output::{Output, Written};
 use crate::views::Views;
 use cbor_diff::{Change, Comparison, Difference, differences};
@@ -22,8 +22,8 @@ impl Views<'_> {
         let others = encoded_in(alloc, self.tables, whole(new))?;
         let how = Comparison {
             exact: self.job.exact,
-            old: entered_of(self.job, &encoded),
-            new: entered_of(self.job, &others),
+            old: inside_of(self.job, &encoded),
+            new: inside_of(self.job, &others),
         };
         let found = differences(alloc, old, new, how)?;
         for difference in &found {

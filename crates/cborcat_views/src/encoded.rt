@@ -1,9 +1,10 @@
-//! `encoded_in` finds the byte strings that hold an item, if the names say so. `entered_of`: which
-//! byte strings paths enter.
+//! `encoded_in` finds the byte strings that hold an item, if the names say so. `inside_of`: which
+//! byte strings are open.
 
 use cbor_bytes::{Extent, extent};
+use cbor_inside::Inside;
 use cbor_inspect::Naming;
-use cbor_places::{Entered, Piece};
+use cbor_places::Piece;
 use cborcat_arguments::Job;
 use std::alloc::{AllocError, Global};
 
@@ -53,10 +54,10 @@ fn push_encoded(places: &mut Vec<usize>, naming: Naming, item: Piece) -> Result<
     Ok(())
 }
 
-/// The byte strings that paths enter, where these hold items by names.
-pub fn entered_of<'n>(job: &Job, encoded: &'n [usize]) -> Entered<'n> {
-    Entered {
+/// Which byte strings are open, where these hold items by names.
+pub fn inside_of<'n>(job: &Job, named: &'n [usize]) -> Inside<'n> {
+    Inside {
         embedded: job.show.style.embedded,
-        encoded,
+        named,
     }
 }

@@ -22,7 +22,7 @@ mod views;
 pub use checks::Checks;
 pub use dumps::Dumps;
 pub use encode::Encoding;
-pub use encoded::{encoded_in, entered_of};
+pub use encoded::{encoded_in, inside_of};
 pub use index::Indexed;
 pub use item::{NotShown, ShowsItem};
 pub use output::{Output, Written};

@@ -4,7 +4,7 @@
 use crate::checks::Checks;
 use crate::dumps::Dumps;
 use crate::encode::Encoding;
-use crate::encoded::{encoded_in, entered_of};
+use crate::encoded::{encoded_in, inside_of};
 use crate::output::{Output, Written};
 use crate::plain::Plain;
 use crate::screen::Screen;
@@ -102,8 +102,8 @@ impl<'a> Views<'a> {
     ) -> Result<(Written, usize), Error> {
         let alloc = self.rt.alloc();
         let encoded = encoded_in(alloc, self.tables, items)?;
-        let entered = entered_of(self.job, &encoded);
-        let mut leaves = Leaves::new(alloc, items, self.job.show.style.edn(), entered)
+        let inside = inside_of(self.job, &encoded);
+        let mut leaves = Leaves::new(alloc, items, self.job.show.style.edn(), inside)
             .numbered_from(number)
             .with_places(self.job.places);
         let mut lines = Vec::new(alloc);
@@ -147,7 +147,7 @@ impl<'a> Views<'a> {
             _ => items,
         };
         let encoded = encoded_in(alloc, self.tables, item)?;
-        Ok(lines_at(alloc, (number, item), byte, entered_of(self.job, &encoded))?)
+        Ok(lines_at(alloc, (number, item), byte, inside_of(self.job, &encoded))?)
     }
 
     /// Writes the whole parts of an item that is truncated or malformed, and some of what remains,

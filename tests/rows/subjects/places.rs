@@ -12,7 +12,8 @@ use crate::subjects::numbers::number_of;
 use crate::texts::{lines_text, refused_text};
 use cbor_diag::{Error, Extent, extent};
 use cbor_edn::{EdnStyle, NotedStyle};
-use cbor_places::{Around, ByteNumbers, Entered, Leaves, Piece, item_with, lines_at, partial_edn};
+use cbor_inside::Inside;
+use cbor_places::{Around, ByteNumbers, Leaves, Piece, item_with, lines_at, partial_edn};
 use std::alloc::{AllocError, Global};
 
 /// What is said of the items of `partial_edn`.
@@ -75,11 +76,11 @@ fn fault_words(alloc: Global, row: &Row) -> Result<String, AllocError> {
     Around::of_end(alloc, piece(row).first(end))?.fault_words(&ByteNumbers, error)
 }
 
-/// The byte strings that paths enter: those below tags, or by this word all that hold items.
-fn entered<'a>(word: &str) -> Entered<'a> {
-    Entered {
+/// The byte strings that are open: those below tags, or by this word all that hold items.
+fn inside<'a>(word: &str) -> Inside<'a> {
+    Inside {
         embedded: word == "embedded",
-        encoded: &[],
+        named: &[],
     }
 }
 
@@ -87,7 +88,7 @@ fn entered<'a>(word: &str) -> Entered<'a> {
 fn lines_of_byte(alloc: Global, row: &Row) -> Result<String, Error> {
     let (byte, word) = row.argument.split_once(" ").unwrap_or((row.argument, ""));
     let byte = number_of(byte);
-    lines_at(alloc, item_with(piece(row), byte), byte, entered(word))
+    lines_at(alloc, item_with(piece(row), byte), byte, inside(word))
 }
 
 /// The EDN of an item that is not whole, unless what it says is not where it says.
@@ -107,7 +108,7 @@ fn leaves(alloc: Global, row: &Row) -> Result<String, Error> {
         alloc,
         piece(row),
         EdnStyle::LINE,
-        entered(row.argument),
+        inside(row.argument),
     ).with_places(row.argument == "places");
     let mut out = String::new(alloc);
     leaves.push_block(&mut out)?;

@@ -9,7 +9,7 @@ use cbor_inspect::End;
 use cbor_places::{Around, Piece};
 use cborcat_arguments::View;
 use cborcat_messages::{Status, say_out_of_memory};
-use cborcat_views::{Written, encoded_in, entered_of};
+use cborcat_views::{Written, encoded_in, inside_of};
 
 impl Conversion<'_> {
     /// Writes what was made of the items that were passed last.
@@ -64,7 +64,7 @@ impl Conversion<'_> {
             bytes: self.stream.passed(self.passed),
         };
         let encoded = encoded_in(self.rt.alloc(), self.tables, items)?;
-        self.stats.add(items, entered_of(self.job, &encoded))?;
+        self.stats.add(items, inside_of(self.job, &encoded))?;
         Ok(Written::Whole)
     }
 

@@ -1,6 +1,6 @@
 -- What a further part has is behind what those before it have.
 use Rattle.std.proofs.Common.{◌≡◌, ◌∙◌, ◌++◌, ◌∷◌, [], List, ℕ, ap, append_assoc, vec_items}
-use Rattle.cbor_inspect.specs.Shows.{IsPartForm}
+use Rattle.cbor_inspect.specs.Forms.{IsForm}
 use Rattle.cbor_inspect.proofs.OutputLemmas.{one_more}
 use Rattle.cbor_inspect.proofs.part.push_all.Goals as goal
 
@@ -14,6 +14,6 @@ each-preserved c =
           ∙ append_assoc (vec_items c.args.out.now) before.0 more.0,
       (
         before.2.0 ++ more.2 ∷ [],
-        one_more (IsPartForm show.style.form show) before.2.0 more.2 before.0 more.0 before.2.1 more.3,
+        one_more (IsForm show) before.2.0 more.2 before.0 more.0 before.2.1 more.3,
       ),
     )
