@@ -22,6 +22,8 @@ def check(run, same, examples):
     widths(run, same)
     in_strings(run, same, examples)
     sequences(run, same)
+    kept(run, same)
+    named(run, same, examples)
     in_forms(run, same)
     wrong(run, same)
     any_edits(run, same)
@@ -162,7 +164,8 @@ def in_strings(run, same, examples):
          (before.replace("43a10126", "45a101390100").encode(), "", 0))
     same("a header by its key", run("--set", 'protected/4="k"', "-t", "digits", signed),
          (before.replace("43a10126", "46a2012604616b").encode(), "", 0))
-    same("without names", run("--no-names", "--set", "protected/alg=-257", "-t", "digits", signed)[::2], (b"", 1))
+    same("without names", run("--no-names", "--set", "protected/alg=-257", "-t", "digits", signed)[::2],
+         (before.encode(), 1))
     # The hash before the key looks like the head of a string that has the key.
     given = run("-t", "digits", f"{examples}/webauthn.hex")[0].decode().strip()
     hashed = AUTHENTICATOR.match(given)
@@ -183,7 +186,7 @@ def sequences(run, same):
     same("one less", run("--delete", "1:", *items), (b"[1]\n5\n", "", 0))
     same("those that are left", run("--delete", "1:", "-p", "1:", *items), (b"5\n", "", 0))
     same("an item without the part", run("--set", "0=7", *items),
-         (b"[7]\n[7]\n", "cborcat: -x: 0: no array or map is there\n", 1))
+         (b"[7]\n[7]\n5\n", "cborcat: -x: 0: no array or map is there; item 2 stays as it is\n", 1))
     same("too few", run("--delete", "3:0", *items),
          (b"[1]\n[2]\n5\n", "cborcat: -x: 3: no such item; 3 items came, from 0 on\n", 1))
     same("in pieces", run("--set", "*=0", "-t", "diag", "-f", "bytes", data=b"\x9a\x00\x03\x00\x00" + b"\x01" * 196608)[0],
@@ -195,6 +198,87 @@ def sequences(run, same):
     same("after an offset", run("--offset=1", "--set", "0=1", "-t", "diag", "-f", "hex", "-x", "ff 8105"),
          (b"[1]\n", "", 0))
     same("one item", run("-1", "--set", "0=1", "-t", "diag", "-f", "hex", "-x", "8105"), (b"[1]\n", "", 0))
+
+
+def kept(run, same):
+    """No item is left out: a change is made where it can be, and what cannot be changed stays as it is."""
+    maps = ("-t", "diag", "-f", "diag", "-x", '{"a": 1}, {"b": 2}, 3')
+    all_of = b'{"a": 1}\n{"b": 2}\n3\n'
+    none = "b/c: none of the 3 items has such a part; nothing is deleted"
+    rows = [
+        # A part that some items have, and one that none has.
+        (["--delete", "b"], b'{"a": 1}\n{}\n3\n', []),
+        (["--delete", "b/c"], all_of, [none]),
+        (["--delete", "b/c", "--delete", "a"], b'{}\n{"b": 2}\n3\n', [none]),
+        (["--delete", "b/c", "--delete", "b/c"], all_of, [none, none]),
+        (["--delete", "b", "--delete", "b"], b'{"a": 1}\n{}\n3\n',
+         ["b: none of the 3 items has such a part; nothing is deleted"]),
+        # Of an item by its number, the message says what is there.
+        (["--delete", "0:b"], all_of, ['b: no such key; the map has "a"; nothing is deleted']),
+        (["--delete", "1:b"], b'{"a": 1}\n{}\n3\n', []),
+        (["--delete", "2:b"], all_of, ["b: no array or map is there; nothing is deleted"]),
+        (["--delete", "3:b"], all_of, ["3: no such item; 3 items came, from 0 on"]),
+        # Each change in its order, where it can be made.
+        (["--set", "b=5"], b'{"a": 1, "b": 5}\n{"b": 5}\n3\n', ["b: no array or map is there; item 2 stays as it is"]),
+        (["--set", "b=5", "--delete", "a"], b'{"b": 5}\n{"b": 5}\n3\n',
+         ["b: no array or map is there; item 2 stays as it is"]),
+        (["--set", "a/c=1", "--set", "b=5", "--set", "2:=4"], b'{"a": 1, "b": 5}\n{"b": 5}\n4\n',
+         ["a/c: no array or map is at a; item 0 stays as it is",
+          'a: no such key; the map has "b"; item 1 stays as it is',
+          "a: no array or map is there; item 2 stays as it is", "b: no array or map is there; item 2 stays as it is"]),
+        (["--delete", "2:", "--set", "c=1"], b'{"a": 1, "c": 1}\n{"b": 2, "c": 1}\n', []),
+    ]
+    for words, wanted, said in rows:
+        messages = "".join(f"cborcat: -x: {line}\n" for line in said)
+        same(f"{words}", run(*words, *maps), (wanted, messages, 1 if said else 0))
+    # Whatever is done with the items next, those that stay are among them.
+    for words, wanted, status in [(["-p", "0", "-t", "diag"], b"7\n[1]\n", 1),
+                                  (["-p", "1:0", "-t", "diag"], b"[1]\n", 1),
+                                  (["-t", "paths"], b"0  7\n1:0/0  1\n", 1), (["-t", "json"], b"[7]\n[[1]]\n", 1),
+                                  (["-c"], b"", 1), (["-t", "digits"], b"8107\n818101\n", 1)]:
+        got = run("--set", "0:0=7", "--set", "1:0/0/0=7", *words, "-f", "hex", "-x", "8101 818101")
+        same(f"and {words}", (got[0], got[1].startswith("cborcat: -x: 0/0/0: no array or map is at 0/0; item 1 stays"),
+                              got[2]), (wanted, True, status))
+    same("-1 with an item that stays", run("-1", "--set", "0=7", "-t", "diag", "-x", "5"),
+         (b"5\n", "cborcat: -x: 0: no array or map is there; item 0 stays as it is\n", 1))
+    same("--at", run("--delete", "1", "--at=1", "-f", "hex", "-x", "81 05")[2], 1)
+    same("nothing to delete in", run("--delete", "1", "-f", "bytes", data=b""), (b"", "", 0))
+    same("each input by itself", run("--delete", "a", "-t", "diag", "-", "-", data=b'{"a": 1}')[:1], (b"{}\n",))
+
+
+def named(run, same, examples):
+    """A new key by its name: what the types of COSE (RFC 9052) and CWT (RFC 8392) have."""
+    signed = f"{examples}/cwt-signed.hex"
+    before = run("-t", "digits", signed)[0].decode()
+    with_nonce = before.replace("5850a7", "5853a8").replace("420b71", "420b710a4101")
+    same("a claim", run("--set", "payload/nonce=h'01'", "-t", "digits", signed), (with_nonce.encode(), "", 0))
+    message = "d2 84 40 a0 40 40"
+    quoted = "in quotes adds the text; item 0 stays as it is"
+    hexed(run, same, [
+        (["--set", "unprotected/alg=-7"], message, "d284 40 a10126 40 40"),
+        (["--set", "unprotected/kid=h'31'"], message, "d284 40 a1044131 40 40"),
+        (["--set", 'unprotected/"alg"=-7'], message, "d284 40 a163616c6726 40 40"),
+        (["--set", "unprotected/5=1"], message, "d284 40 a10501 40 40"),
+        (["--set", "1/alg=-7", "--no-names"], message, "d284 40 a163616c6726 40 40"),
+        (["--set", "alg=-7", "--as=COSE_Key"], "a1 01 02", "a2 01 02 03 26"),
+        # crv depends on the type of the key: EC2 (2) has it, at -1.
+        (["--set", "crv=1", "--as=COSE_Key"], "a1 01 02", "a2 01 02 20 01"),
+        (["--set", "crv=1", "--set", "crv=2", "--as=COSE_Key"], "a1 01 02", "a2 01 02 20 02"),
+        (["--set", "*/alg=-7", "--as=COSE_KeySet"], "82 a1 01 02 a1 01 01", "82 a2 01 02 03 26 a2 01 01 03 26"),
+        # Nothing is known of such a map.
+        (["--set", "alg=-7"], "a0", "a1 63616c67 26"),
+        (["--set", "1/9/alg=-7"], "d284 40 a109a0 40 40", "d284 40 a109a163616c6726 40 40"),
+        (["--set", "unprotected/alg=-7", "--set", "unprotected/alg=-8"], message, "d284 40 a10127 40 40"),
+    ])
+    for words, digits, said in [
+            (["--set", "payload/expp=1"], before.strip(),
+             "payload/expp: no key and no name of CWT; exp is one; \"expp\""),
+            (["--set", "unprotected/zzz=1"], message, "unprotected/zzz: no key and no name of COSE_Header; \"zzz\""),
+            (["--set", "crv=1", "--as=COSE_Key"], "a1 01 04", "crv: no key and no name of COSE_Key; \"crv\""),
+            (["--set", "*/alk=1", "--as=COSE_KeySet"], "81a10102",
+             "*/alk: no key and no name of COSE_Key; alg is one; \"alk\"")]:
+        same(f"{words}", run(*words, "-t", "digits", "-f", "hex", data=digits.encode()),
+             (digits.replace(" ", "").encode() + b"\n", f"cborcat: standard input: {said} {quoted}\n", 1))
 
 
 def in_forms(run, same):
@@ -235,11 +319,12 @@ def wrong(run, same):
         (["--delete", "0"], "5", "0: no array or map is there"),
     ]
     for words, text, said in rows:
+        end = "nothing is deleted" if words[0] == "--delete" else "item 0 stays as it is"
         same(f"{words} of {text}", run(*words, "-t", "diag", "-f", "diag", "-x", text),
-             (b"", f"cborcat: -x: {said}\n", 1))
+             (f"{text}\n".encode(), f"cborcat: -x: {said}; {end}\n", 1))
     deep = "[" * 127 + "]" * 127
     same("too many levels", run("--set", f"0={deep}", "-t", "diag", "-f", "diag", "-x", "[[0]]")[2], 0)
-    same("and one more", run("--set", f"0/0={deep}", "-t", "diag", "-f", "diag", "-x", "[[0]]")[::2], (b"", 1))
+    same("and one more", run("--set", f"0/0={deep}", "-t", "diag", "-f", "diag", "-x", "[[0]]")[::2], (b"[[0]]\n", 1))
 
 
 def with_part(item, steps, part):

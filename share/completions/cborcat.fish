@@ -38,6 +38,7 @@ complete -c cborcat -l strict -d 'report what JSON does not keep as an error (-t
 complete -c cborcat -l elide -d 'cut strings of more than 32 bytes, or --elide=N'
 complete -c cborcat -l color -x -a 'auto always never' -d 'when to use colours'
 complete -c cborcat -s o -l output -r -d 'write this file'
+complete -c cborcat -s i -l in-place -d 'put what becomes of each file in its place'
 complete -c cborcat -l partial -d 'also show the part of a truncated or malformed item'
 complete -c cborcat -l places -d 'show the place of each item (-t paths)'
 complete -c cborcat -l at -x -d 'show the item that contains this byte'

@@ -52,6 +52,7 @@ fn no_item_is_refused(rt: HostRuntime) -> Result<(), Fail> {
     let edit = Edit {
         steps: &steps,
         part: Some(b"\x1f"),
+        keys: &[],
     };
     let found = edited(alloc, b"\x81\x01", edit, Picture::plain());
     assert!(rt; matches!(found, Err(EditError::NoItem)));

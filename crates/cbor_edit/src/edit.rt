@@ -20,6 +20,17 @@ pub struct Edit<'a> {
     pub steps: &'a [Step],
     /// The bytes of the item that takes its place; `None` if it is dropped.
     pub part: Option<&'a [u8]>,
+    /// The keys of maps that get another key than that of the last step.
+    pub keys: &'a [NewKey],
+}
+
+/// A key that a map gets.
+#[derive(Drop)]
+pub struct NewKey {
+    /// Where the map begins in the item.
+    pub map: usize,
+    /// The bytes of the key.
+    pub key: Vec<u8>,
 }
 
 /// Why an item is not edited.
@@ -191,9 +202,22 @@ fn with_changes(
     Ok(Some(bytes))
 }
 
-impl Edit<'_> {
-    /// What stands in place of a container that gets a member, which is the part, after the key of
-    /// the last step in a map.
+impl<'e> Edit<'e> {
+    /// The key that the map at a place gets: that of the last step, unless it has one of its own.
+    fn key_at(self, map: usize) -> &'e [u8] {
+        for new in self.keys {
+            if new.map == map {
+                return &new.key;
+            }
+        }
+        match self.steps.last() {
+            Some(Step::Key(key)) => key,
+            _ => b"",
+        }
+    }
+
+    /// What stands in place of a container that gets a member, which is the part, after its key in a
+    /// map.
     fn container(
         self,
         alloc: Global,
@@ -202,8 +226,8 @@ impl Edit<'_> {
     ) -> Result<Option<Vec<u8>>, AllocError> {
         let (span, is_map) = container;
         let mut member = Vec::new(alloc);
-        if is_map && let Some(Step::Key(key)) = self.steps.last() {
-            member.extend_from_slice(key)?;
+        if is_map {
+            member.extend_from_slice(self.key_at(span.start))?;
         }
         member.extend_from_slice(self.part.unwrap_or(b""))?;
         with_more(alloc, bytes, span, &member)
@@ -282,6 +306,23 @@ fn checked(bytes: Vec<u8>) -> Result<Vec<u8>, EditError>
         Extent::Item(len) if len == bytes.len() => Ok(bytes),
         _ => Err(EditError::NoItem),
     }
+}
+
+/// Returns where the maps begin, in order, that an edit with these steps adds a key to: those that
+/// the steps before the last one lead to, and that do not have its key.
+pub fn maps_without(
+    alloc: Global,
+    item: &[u8],
+    steps: &[Step],
+    picture: Picture,
+) -> Result<Vec<usize>, AllocError> {
+    let mut maps = Vec::new(alloc);
+    for target in &targets(alloc, item, (steps, picture), false)? {
+        if let What::Container { is_map: true } = target.what {
+            maps.push(target.place.span.start)?;
+        }
+    }
+    Ok(maps)
 }
 
 /// Returns the bytes of an item with another part in place of each that the path leads to, or

@@ -2,8 +2,8 @@
 //!
 //! [`edited`] changes what the steps of a path lead to. All other bytes stay. A count, or the
 //! length of a byte string around a change, keeps its width if the new number fits, and otherwise
-//! takes the shortest width. Indefinite lengths stay. [`replaced`], [`with_more`] and [`without`]
-//! make one change at a known place.
+//! takes the shortest width. Indefinite lengths stay. [`maps_without`] finds the maps that get a key.
+//! [`replaced`], [`with_more`] and [`without`] make one change at a known place.
 //!
 //! ```rust
 //! use cbor_edit::{Edit, edited};
@@ -15,6 +15,7 @@
 //! let edit = Edit {
 //!     steps: &steps,
 //!     part: Some(b"\x61a"),
+//!     keys: &[],
 //! };
 //! let found = edited(alloc, b"\x98\x02\x01\x02", edit, Picture::plain());
 //! let bytes = found.unwrap_or(Vec::new(alloc));
@@ -30,6 +31,6 @@ mod target;
 mod width;
 
 pub use container::{with_more, without};
-pub use edit::{Edit, EditError, edited};
+pub use edit::{Edit, EditError, NewKey, edited, maps_without};
 pub use place::{Change, EnclosedSpan};
 pub use replace::replaced;

@@ -26,6 +26,7 @@ mod define;
 mod expected;
 mod file;
 mod heads;
+mod key;
 mod known;
 mod marks;
 mod moment;
@@ -39,6 +40,7 @@ mod walk;
 mod way;
 
 pub use file::{Fault, FileError, with_file};
+pub use key::{NamedKey, OtherNames};
 pub use known::known_names;
 pub use marks::FirstMark;
 pub use note::Notes;

@@ -38,9 +38,11 @@ impl Names {
     /// Whether a part is of this key, in a map in which the key that it may depend on has this
     /// value.
     fn fits(&self, part: &PartRow, key: Scalar<'_>, chosen: Option<Scalar<'_>>) -> bool {
-        if !self.is(part.key, key) {
-            return false;
-        }
+        self.is(part.key, key) && self.applies(part, chosen)
+    }
+
+    /// Whether a part is one of a map in which the key that it may depend on has this value.
+    pub(crate) fn applies(&self, part: &PartRow, chosen: Option<Scalar<'_>>) -> bool {
         match (part.when, chosen) {
             (None, _) => true,
             (Some(when), Some(value)) => self.is(when, value),

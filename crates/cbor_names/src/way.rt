@@ -279,9 +279,20 @@ impl<'a, 'b> Way<'a, 'b> {
         names: &'a Names,
         bytes: &'b [u8],
     ) -> Result<Way<'a, 'b>, AllocError> {
+        Way::of(alloc, names, bytes, names.known_at(bytes))
+    }
+
+    /// Returns the way from the item at the front, if this is known of it. The only error is out of
+    /// memory.
+    pub fn of(
+        alloc: Global,
+        names: &'a Names,
+        bytes: &'b [u8],
+        known: Known,
+    ) -> Result<Way<'a, 'b>, AllocError> {
         let limit = bytes.len();
         let outermost = Around {
-            expected: Expected::outermost("", names.known_at(bytes)),
+            expected: Expected::outermost("", known),
             front: Front { bytes, limit },
             end: limit,
             inner: None,

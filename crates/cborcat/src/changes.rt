@@ -1,11 +1,13 @@
 //! `Changes`: makes the changes of `--set` and `--delete` in the items of an input as they arrive,
-//! before the items are shown or checked. Says why an item cannot be changed.
+//! before the items are shown or checked. An item in which a change cannot be made stays as it is,
+//! and a message says why.
 
-use cbor_edit::{Edit, EditError, edited};
+use cbor_edit::{Edit, EditError, NewKey, edited, maps_without};
 use cbor_inspect::{End, Naming, Picture, Stream};
+use cbor_names::{NamedKey, OtherNames, Way};
 use cborcat_arguments::{Change, Job, show_of};
-use cborcat_messages::{Origin, Status, report_change};
-use std::alloc::AllocError;
+use cborcat_messages::{Origin, Refused, Status, report_unchanged, report_undeleted};
+use std::alloc::{AllocError, Global};
 
 /// What changes items.
 #[derive(Drop)]
@@ -23,6 +25,19 @@ pub struct Changes<'a> {
     pub status: Status,
     /// Whether no more items are changed, because no item follows.
     ended: bool,
+    /// How each change went, in their order.
+    tallies: Vec<Tally>,
+}
+
+/// How a change went in the items so far.
+#[derive(Drop)]
+struct Tally {
+    /// Whether it was made in an item, or failed in one that has the part.
+    is_met: bool,
+    /// How many items have no such part.
+    without: usize,
+    /// What is said of the first of these.
+    words: String,
 }
 
 impl<'a> Changes<'a> {
@@ -42,6 +57,7 @@ impl<'a> Changes<'a> {
             count: 0,
             status: Status::Fine,
             ended: false,
+            tallies: Vec::new(rt.alloc()),
         }
     }
 
@@ -71,12 +87,9 @@ impl<'a> Changes<'a> {
                 break;
             }
             let len = before.saturating_sub(self.stream.rest().len());
-            let index = self.count;
-            self.count = index.saturating_add(1);
-            match self.changed(index, self.stream.passed(len))? {
-                Ok(item) => out.extend_from_slice(&item)?,
-                Err(status) => self.status = self.status.or(status),
-            }
+            let item = Vec::from_slice(alloc, self.stream.passed(len))?;
+            out.extend_from_slice(&self.changed(item)?)?;
+            self.count = self.count.saturating_add(1);
         }
         if self.ended {
             out.extend_from_slice(self.stream.rest())?;
@@ -84,37 +97,98 @@ impl<'a> Changes<'a> {
         Ok(out)
     }
 
-    /// An item with the changes, which is none if it was deleted, or why there is none: a message
-    /// said it.
-    fn changed(&self, index: usize, item: &[u8]) -> Result<Result<Vec<u8>, Status>, AllocError> {
-        let mut bytes = Vec::from_slice(self.rt.alloc(), item)?;
-        for change in &self.job.changes {
-            if change.item.is_some() && change.item != Some(index) || bytes.is_empty() {
+    /// The next item with each change that can be made in it; nothing is left of one that is deleted.
+    fn changed(&mut self, item: Vec<u8>) -> Result<Vec<u8>, AllocError> {
+        let mut bytes = item;
+        let job = self.job;
+        for (index, change) in job.changes.iter().enumerate() {
+            if change.item.is_some() && change.item != Some(self.count) || bytes.is_empty() {
                 continue;
             }
-            match self.with(change, &bytes) {
-                Ok(next) => bytes = next,
-                Err(EditError::Memory) => return Err(AllocError),
-                Err(error) => {
-                    let asked = (self.job, self.tables);
-                    let refused = (change, bytes.as_slice(), error);
-                    return Ok(Err(report_change(self.rt, asked, self.origin, refused)));
+            match self.with(change, &bytes)? {
+                Ok(next) => {
+                    self.tally(index)?.is_met = true;
+                    bytes = next;
                 }
+                Err(refused) => self.note_refused((index, change), &bytes, &refused)?,
             }
         }
-        Ok(Ok(bytes))
+        Ok(bytes)
     }
 
-    /// An item with a change.
-    fn with(&self, change: &Change, item: &[u8]) -> Result<Vec<u8>, EditError> {
+    /// How the change of this number went so far.
+    fn tally(&mut self, index: usize) -> Result<&mut Tally, AllocError> {
+        let alloc = self.rt.alloc();
+        for _ in self.tallies.len()..=index {
+            self.tallies.push(Tally {
+                is_met: false,
+                without: 0,
+                words: String::new(alloc),
+            })?;
+        }
+        self.tallies.get_mut(index).ok_or(AllocError)
+    }
+
+    /// Records that an item does not get a change. Says why, unless it lacks what is deleted: other
+    /// items may have that.
+    fn note_refused(
+        &mut self,
+        change: (usize, &Change),
+        item: &[u8],
+        refused: &Refused,
+    ) -> Result<(), AllocError> {
+        let (index, change) = change;
+        let alloc = self.rt.alloc();
+        let asked = (self.job, self.tables);
+        let is_deleted = change.part.is_none() && refused.is_lost();
+        let tally = self.tally(index)?;
+        if is_deleted {
+            tally.without = tally.without.saturating_add(1);
+            if tally.is_met || tally.without > 1 {
+                return Ok(());
+            }
+        }
+        let words = refused.words(alloc, asked, change, item);
+        if is_deleted && let Ok(words) = words {
+            self.tally(index)?.words = words;
+            return Ok(());
+        }
+        self.tally(index)?.is_met = true;
+        let status = report_unchanged(self.rt, self.origin, self.count, words);
+        self.status = self.status.or(status);
+        Ok(())
+    }
+
+    /// Says which parts were to be deleted that no item had.
+    pub fn report(&self) -> Status {
+        let mut status = self.status;
+        for (change, tally) in self.job.changes.iter().zip(self.tallies.iter()) {
+            if !tally.is_met && tally.without > 0 {
+                let without = (tally.without, tally.words.as_str());
+                let said = report_undeleted(self.rt, self.origin, change.path, without);
+                status = status.or(said);
+            }
+        }
+        status
+    }
+
+    /// An item with a change, or why it does not get it.
+    fn with(
+        &self,
+        change: &Change,
+        item: &[u8],
+    ) -> Result<Result<Vec<u8>, Refused<'a>>, AllocError> {
         let alloc = self.rt.alloc();
         let part = change.part.as_deref();
         if change.steps.is_empty() {
-            return Ok(Vec::from_slice(alloc, part.unwrap_or(b""))?);
+            return Ok(Ok(Vec::from_slice(alloc, part.unwrap_or(b""))?));
         }
-        let steps = change.steps.as_slice();
-        let edit = Edit { steps, part };
         let plain = show_of(self.job, self.tables).picture();
+        let edit = Edit {
+            steps: &change.steps,
+            part,
+            keys: &[],
+        };
         match self.tables {
             Some(naming) if naming.may_name(item) => {
                 let names = naming.notes(alloc, item)?;
@@ -123,9 +197,63 @@ impl<'a> Changes<'a> {
                     notes: &notes,
                     ..plain
                 };
-                edited(alloc, item, edit, named)
+                match new_keys(alloc, naming, change, (item, named))? {
+                    Ok(keys) => with_edit(
+                        alloc,
+                        item,
+                        Edit {
+                            keys: &keys,
+                            ..edit
+                        },
+                        named,
+                    ),
+                    Err(others) => Ok(Err(Refused::Unnamed(others))),
+                }
             }
-            _ => edited(alloc, item, edit, plain),
+            _ => with_edit(alloc, item, edit, plain),
         }
     }
+}
+
+/// An item that was edited, or why it is not.
+fn with_edit<'a>(
+    alloc: Global,
+    item: &[u8],
+    edit: Edit,
+    picture: Picture,
+) -> Result<Result<Vec<u8>, Refused<'a>>, AllocError> {
+    match edited(alloc, item, edit, picture) {
+        Ok(bytes) => Ok(Ok(bytes)),
+        Err(EditError::Memory) => Err(AllocError),
+        Err(error) => Ok(Err(Refused::Edit(error))),
+    }
+}
+
+/// The keys that the last word of a path stands for in the maps that get one; or the names of such a
+/// map, if it has no such name.
+fn new_keys<'a>(
+    alloc: Global,
+    naming: Naming<'a>,
+    change: &Change,
+    shown: (&[u8], Picture),
+) -> Result<Result<Vec<NewKey>, OtherNames<'a>>, AllocError> {
+    let (item, picture) = shown;
+    let mut keys = Vec::new(alloc);
+    let (Some(word), Some(_)) = (change.word, &change.part) else {
+        return Ok(Ok(keys));
+    };
+    let mut way = match naming.known {
+        Some(known) => Way::of(alloc, naming.names, item, known)?,
+        None => Way::new(alloc, naming.names, item)?,
+    };
+    for map in &maps_without(alloc, item, &change.steps, picture)? {
+        let known = way.known_at(*map)?;
+        let bytes = item.get(*map..).unwrap_or(b"");
+        match naming.names.key_of(alloc, known, bytes, word)? {
+            NamedKey::Unknown => {}
+            NamedKey::Key(key) => keys.push(NewKey { map: *map, key })?,
+            NamedKey::Other(others) => return Ok(Err(others)),
+        }
+    }
+    Ok(Ok(keys))
 }

@@ -53,9 +53,9 @@ pub struct Conversion<'a> {
     /// Where in the data the items end that are known not to be longer than is allowed.
     within: usize,
     /// Whether the item is longer than is allowed that follows the bytes that are left.
-    pub long: bool,
+    long: bool,
     /// Whether an item was converted.
-    pub any: bool,
+    any: bool,
     /// Whether the last item is a line feed behind others, in a file that is named as bytes.
     ends_line: bool,
     /// How many items were passed, if the number of one is asked for.
@@ -126,6 +126,11 @@ impl<'a> Conversion<'a> {
         self.status = self.status.or(status);
     }
 
+    /// Whether an item came, even if it is too long, or deleted.
+    pub fn has_some(&self) -> bool {
+        self.any || self.long || self.changes.count > 0
+    }
+
     /// Converts the items of all that the input has, as it arrives.
     pub fn all<R: Read>(&mut self, input: &mut R) -> Next {
         let mut block = Vec::new(self.rt.alloc());
@@ -189,9 +194,7 @@ impl<'a> Conversion<'a> {
             return self.stream.push(alloc, bytes);
         }
         let changed = self.changes.take(bytes, at_end)?;
-        let (status, some) = (self.changes.status, self.changes.count > 0);
-        self.ended(status);
-        self.any |= some && status != Status::Fine;
+        self.ended(self.changes.status);
         self.came = self.came.saturating_add(changed.len());
         self.stream.push(alloc, &changed)
     }
@@ -227,7 +230,10 @@ impl<'a> Conversion<'a> {
                 Err(_) => return self.stop(End::Memory),
             }
             match end {
-                _ if self.found || self.page.is_over => return Next::NextInput,
+                _ if self.found || self.page.is_over => {
+                    self.ended(self.changes.report());
+                    return Next::NextInput;
+                }
                 End::Full => {}
                 End::Done if self.long => return self.stop_long(),
                 End::Done | End::Cut if !at_end => return Next::More,
@@ -415,8 +421,9 @@ impl<'a> Conversion<'a> {
         };
     }
 
-    /// Says which items that were to be changed alone are not there.
+    /// Says which items that were to be changed alone are not there, and which parts no item had.
     fn note_few_changed(&mut self) {
+        self.ended(self.changes.report());
         let count = self.changes.count;
         for change in &self.job.changes {
             if let Some(item) = change.item

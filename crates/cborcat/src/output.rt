@@ -1,7 +1,7 @@
 //! Opens, writes and closes the output: standard output, or a file, which gets its name only once
 //! all input is converted.
 
-use cborcat_messages::say;
+use cborcat_messages::{label, say};
 use cborcat_views::{Output, Written};
 use std::fs::{File, OpenOptions, Permissions};
 use std::io::{ErrorKind, Write};
@@ -65,6 +65,20 @@ fn open_file(rt: &HostRuntime, name: &str) -> io::Result<Target> {
             remove(rt, &beside);
             Err(error)
         }
+    }
+}
+
+/// Whether a file may be replaced by its name; a message says if it is no regular file.
+pub fn may_be_replaced(rt: &HostRuntime, name: &str) -> bool {
+    match fs::metadata(rt, name) {
+        Ok(known) if !known.is_file() => {
+            let _ = eprintln!(rt;
+                "cborcat: {}: no regular file, so nothing can take its place",
+                label(name)
+            );
+            false
+        }
+        _ => true,
     }
 }
 

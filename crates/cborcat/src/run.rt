@@ -7,13 +7,15 @@ use crate::diff::Diff;
 use crate::input::{block_len, read_first};
 use crate::naming::{shown_of, tables_of};
 use crate::next::Next;
-use crate::output::{Target, close, open};
+use crate::output::{Target, close, may_be_replaced, open};
 use crate::recognized::{data_of, form_of};
 use cbor_inputs::{Input, Pasted, looks_like};
 use cbor_inspect::{Form, Naming};
 use cbor_marks::Marks;
 use cborcat_arguments::{Job, View};
-use cborcat_messages::{Origin, Status, say, say_no_text, say_notation, say_pasted};
+use cborcat_messages::{
+    Origin, Status, label, say, say_no_form, say_no_text, say_notation, say_pasted,
+};
 use cborcat_views::Views;
 use std::fs::File;
 use std::io;
@@ -23,7 +25,7 @@ use std::io::{IsTerminal, Read};
 pub fn run<'a>(rt: &'a HostRuntime, job: &'a Job<'_>) -> u8 {
     if matches!(job.view, View::Items | View::Encoded(_))
         && job.show.style.form == Form::Bytes
-        && job.output.is_none()
+        && job.is_on_screen()
         && rt.stdout().is_terminal()
     {
         let _ = eprintln!(rt;
@@ -132,10 +134,43 @@ impl Runner<'_> {
         if name == "-" {
             return self.input(name, &mut self.rt.stdin());
         }
+        if self.job.in_place && !may_be_replaced(self.rt, name) {
+            self.ended(Status::Trouble);
+            return Next::NextInput;
+        }
         match File::open(self.rt, name) {
+            Ok(mut file) if self.job.in_place => self.replace(name, &mut file),
             Ok(mut file) => self.input(name, &mut file),
             Err(error) => self.cannot_read(name, &error),
         }
+    }
+
+    /// Converts a file, and puts what is written of it in its place if all went well.
+    fn replace(&mut self, name: &str, file: &mut File) -> Next {
+        let Some(mut target) = open(self.rt, Some(name)) else {
+            self.ended(Status::Trouble);
+            return Next::NextInput;
+        };
+        let mut run = Runner {
+            target: &mut target,
+            status: Status::Fine,
+            rt: self.rt,
+            job: self.job,
+            tables: self.tables,
+            cddl: self.cddl,
+            marks: self.marks,
+        };
+        let next = run.input(name, file);
+        let status = run.status;
+        drop(run);
+        self.ended(status);
+        if status == Status::Bad {
+            let _ = eprintln!(self.rt; "cborcat: {} is unchanged", label(name));
+        }
+        if !close(self.rt, target, Some(name), status == Status::Fine) {
+            self.ended(Status::Trouble);
+        }
+        next
     }
 
     /// Says that an input cannot be read.
@@ -184,7 +219,7 @@ impl Runner<'_> {
     fn items<R: Read>(&mut self, origin: &Origin, first: Vec<u8>, input: &mut R) -> (Next, Ended) {
         let mut conversion = Conversion::new(self, origin, first);
         let next = conversion.all(input);
-        let (status, any) = (conversion.status, conversion.any || conversion.long);
+        let (status, any) = (conversion.status, conversion.has_some());
         drop(conversion);
         self.ended(status);
         let end = match status {
@@ -213,6 +248,11 @@ impl Runner<'_> {
                 return Next::NextInput;
             }
         };
+        let is_bytes = data.form == Input::Bytes || text.is_empty();
+        if self.job.in_place && !self.job.is_form_named && !is_bytes {
+            self.ended(say_no_form(self.rt, name, data.form));
+            return Next::NextInput;
+        }
         let mut none = b"".as_slice();
         let color = self.job.color;
         let origin = Origin {

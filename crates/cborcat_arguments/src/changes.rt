@@ -16,6 +16,8 @@ pub struct Change<'a> {
     pub path: &'a str,
     /// Its steps; none for the whole item.
     pub steps: Vec<Step>,
+    /// The last of them if it is a plain word, which may be a name.
+    pub word: Option<&'a str>,
     /// The bytes of what it is set to; `None` if it is deleted.
     pub part: Option<Vec<u8>>,
 }
@@ -116,12 +118,34 @@ fn change_at(alloc: Global, path: &str) -> Result<Option<Change<'_>>, AllocError
     if item.is_none() && steps.is_empty() {
         return Ok(None);
     }
+    let word = word_of(alloc, path, &steps)?;
     Ok(Some(Change {
         item,
         path,
         steps,
+        word,
         part: None,
     }))
+}
+
+/// The word that a path ends with, if it is a plain one: in quotes it would be the same step.
+fn word_of<'a>(
+    alloc: Global,
+    path: &'a str,
+    steps: &[Step],
+) -> Result<Option<&'a str>, AllocError> {
+    let path = path.strip_suffix("/").unwrap_or(path);
+    let (_, word) = path.rsplit_once("/").unwrap_or(("", path));
+    let quoted = format!(in alloc; "\"{word}\"")?;
+    let Ok(same) = steps_of(alloc, &quoted) else {
+        return Err(AllocError);
+    };
+    match (steps.last(), same.last()) {
+        (Some(Step::Key(key)), Some(Step::Key(text))) if key.as_slice() == text.as_slice() => {
+            Ok(Some(word))
+        }
+        _ => Ok(None),
+    }
 }
 
 /// The path and the EDN of a text: before and after the first `=` that is not between quotes.

@@ -44,7 +44,7 @@ pub(crate) enum Takes {
 pub(crate) type Row<'a> = (&'a str, Option<char>, Takes, Outputs);
 
 /// The options.
-pub(crate) const OPTIONS: [Row<'static>; 31] = [
+pub(crate) const OPTIONS: [Row<'static>; 32] = [
     ("from", Some('f'), Takes::From, ALL),
     ("text", Some('x'), Takes::Text, ALL - DIFF),
     ("one", Some('1'), Takes::Nothing, ALL - DIFF),
@@ -61,6 +61,7 @@ pub(crate) const OPTIONS: [Row<'static>; 31] = [
     ("width", None, Takes::Columns, PRETTY | HTML),
     ("strict", None, Takes::Nothing, JSON),
     ("output", Some('o'), Takes::Name, ALL - CHECKS),
+    ("in-place", Some('i'), Takes::Nothing, ENCODED),
     ("check", Some('c'), Takes::Rules, ALL - DIFF - AT),
     ("cddl", None, Takes::Texts, ALL - DIFF - AT),
     ("rule", None, Takes::Name, CDDL),
@@ -79,10 +80,17 @@ pub(crate) const OPTIONS: [Row<'static>; 31] = [
 ];
 
 /// Other arguments that cannot stand together; `file` is a file that is read.
-pub(crate) const CONFLICTS: [(&str, &str); 8] = [
+pub(crate) const CONFLICTS: [(&str, &str); 15] = [
     ("text", "file"),
     ("partial", "path"),
     ("partial", "encode"),
+    ("in-place", "text"),
+    ("in-place", "offset"),
+    ("in-place", "path"),
+    ("in-place", "output"),
+    ("in-place", "partial"),
+    ("in-place", "elide"),
+    ("in-place", "no-widths"),
     ("no-widths", "widths"),
     ("no-names", "as"),
     ("no-names", "names"),

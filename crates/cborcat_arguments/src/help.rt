@@ -36,7 +36,8 @@ Output:
   -p, --path=PATH    show only the part that PATH leads to, or each such part
       --set=PATH=EDN put the item EDN in place of that part, or add it at PATH
       --delete=PATH  leave that part out; --set and --delete are done in the
-                     order given, before -p
+                     order given, before -p; an item that a change does not fit
+                     stays as it is
   -e, --embedded     show byte strings that hold an array, a map or a tagged
                      item as <<..>>; in a dump, show the lines of that item
       --no-notes     no comments in notation, and no names
@@ -59,6 +60,9 @@ Output:
       --color=WHEN   auto, always or never (default: auto: in a terminal,
                      unless NO_COLOR is set)
   -o, --output=FILE  write FILE, once all input is converted
+  -i, --in-place     with --set, --delete or --encode: put what becomes of each
+                     FILE in its place, if all went well with it; as bytes, or
+                     in the form of -t
       --partial      also show the part of a truncated or malformed item that
                      is there
       --places       show the place of each item before its path (-t paths)
@@ -124,9 +128,9 @@ string. Tags need no step. Byte strings that are shown as <<..>> need no @.
 N: before a path selects item N of a sequence (the first is 0); N: without a
 path is that whole item.
 
-Exit status: 0 all input is CBOR; 1 some is not, or PATH leads nowhere;
-2 wrong arguments, out of memory, or a file cannot be read or written. With
---diff: 0 the items are the same; 1 they differ; 2 anything else.
+Exit status: 0 all input is CBOR; 1 some is not, PATH leads nowhere, or a change
+cannot be made; 2 wrong arguments, out of memory, or a file cannot be read or
+written. With --diff: 0 the items are the same; 1 they differ; 2 anything else.
 
 Examples:
   cborcat message.cbor

@@ -129,6 +129,10 @@ pub struct Job<'a> {
     pub strict: bool,
     /// The file that is written.
     pub output: Option<&'a str>,
+    /// Whether each file is replaced by what is written of it.
+    pub in_place: bool,
+    /// Whether the form of the output is named.
+    pub is_form_named: bool,
     /// The rules that a check asks for beyond those of RFC 8949's grammar.
     pub rules: Option<RuleSet>,
     /// The files of CDDL that each item has to fit.
@@ -161,6 +165,11 @@ impl Job<'_> {
         } else {
             None
         }
+    }
+
+    /// Whether the output goes to a terminal, if standard output is one.
+    pub fn is_on_screen(&self) -> bool {
+        self.output.is_none() && !self.in_place
     }
 
     /// Whether inputs are checked alone.

@@ -122,10 +122,15 @@ pub(crate) fn output_of(matches: &ArgMatches) -> Outputs {
     } else if matches.get_str("check").is_some() {
         CHECK
     } else {
+        let unnamed = if matches.get_flag("in-place") {
+            BYTES
+        } else {
+            PRETTY
+        };
         matches
             .get_str("to")
             .and_then(output_named)
-            .unwrap_or(PRETTY)
+            .unwrap_or(unnamed)
     }
 }
 

@@ -133,9 +133,23 @@ fn view_of(matches: &ArgMatches) -> View {
 /// open what is made of them.
 const MOST_ON_PAGE: usize = 256 * 1024;
 
+/// Why `--in-place` can replace no file, if it is given.
+fn refused_in_place(job: &Job) -> Option<&'static str> {
+    if !job.in_place {
+        None
+    } else if job.changes.is_empty() && !matches!(job.view, View::Encoded(_)) {
+        Some("--in-place is for --set, --delete and --encode: add one of them")
+    } else if job.files.is_empty() || job.files.contains(&"-") {
+        Some("--in-place changes files, and not standard input: name a FILE")
+    } else {
+        None
+    }
+}
+
 /// Why the files that the arguments name are too many or too few, if they are.
 fn refusal(job: &Job) -> Option<&'static str> {
     match job.view {
+        _ if job.in_place => refused_in_place(job),
         View::Html(_) if job.files.len() > 1 => Some("-t html makes one page, of one input"),
         View::Diff if job.files.len() != 2 => Some("--diff compares two files"),
         _ => None,
@@ -212,6 +226,8 @@ fn job_of<'a>(rt: &HostRuntime, matches: &ArgMatches<'a>) -> Asked<'a> {
         partial: matches.get_flag("partial"),
         strict: matches.get_flag("strict"),
         output: matches.get_str("output"),
+        in_place: matches.get_flag("in-place"),
+        is_form_named: matches.get_str("to").is_some(),
         schemas,
         rule: matches.get_str("rule"),
         rules: check.and_then(RuleSet::named),

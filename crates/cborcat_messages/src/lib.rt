@@ -20,12 +20,12 @@ pub use items::{
     report_byte, report_end, report_few, report_large_page, report_long, report_none_left, say_byte,
 };
 pub use lines::{label, say, say_no_memory, say_out_of_memory};
-pub use lost::{report_change, report_lost};
+pub use lost::{Refused, report_lost, report_unchanged, report_undeleted};
 pub use origin::Origin;
 pub use path::{path_to, push_steps};
 pub use shape::say_shape;
 pub use status::Status;
 pub use text::{
-    report_refusal, say_line_feed, say_named_bytes, say_no_text, say_none, say_notation,
-    say_pasted, say_printed, say_taken,
+    report_refusal, say_line_feed, say_named_bytes, say_no_form, say_no_text, say_none,
+    say_notation, say_pasted, say_printed, say_taken,
 };

@@ -121,6 +121,22 @@ pub fn say_named_bytes(rt: &HostRuntime, name: &str) {
     );
 }
 
+/// Says that `--in-place` makes no bytes of a text unless `-t` says so. Returns the status of wrong
+/// arguments.
+pub fn say_no_form(rt: &HostRuntime, name: &str, form: Input) -> Status {
+    let (read, own) = match form {
+        Input::Bytes => return Status::Fine,
+        Input::Hex => ("hex", "-t digits to write hex, or "),
+        Input::Diag => ("notation", "-t pretty or -t diag to write notation, or "),
+        Input::Base64 => ("base 64", ""),
+    };
+    let _ = eprintln!(rt;
+        "cborcat: {}: read as {read}, and -i writes bytes: add {own}-t bytes",
+        label(name)
+    );
+    Status::Trouble
+}
+
 /// Says that a text was read as bytes that a program printed or has, and whether it is hex, too.
 pub fn say_printed(
     rt: &HostRuntime,

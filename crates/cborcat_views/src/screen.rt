@@ -30,10 +30,10 @@ pub struct Screen<'a> {
 impl<'a> Screen<'a> {
     /// How the arguments ask for the output to be shown.
     pub fn new(rt: &'a HostRuntime, job: &Job, marks: &'a Marks) -> Screen<'a> {
-        let terminal = job.output.is_none() && rt.stdout().is_terminal();
+        let terminal = job.is_on_screen() && rt.stdout().is_terminal();
         Screen {
             rt,
-            colors: job.color.is_used(rt, terminal),
+            colors: !job.in_place && job.color.is_used(rt, terminal),
             widthless: job.widthless,
             most: job.elide,
             marks,
