@@ -93,26 +93,26 @@ FAULTS = [
 ]
 
 
-# A CDDL, options, items in EDN, and what is said: the byte, the message and the line below it; or another text.
+# A CDDL, options, items in EDN, and what is said: the column, the message and the line below it; or another text.
 PARTS = [
     ("a = int", ["-p", "x"], '{"x": 1, "y": "a"}', None),
-    ("a = int", ["-p", "y"], '{"x": 1, "y": "a"}', (6, 'expected int for a (a.cddl:1), found "a"', "at y")),
+    ("a = int", ["-p", "y"], '{"x": 1, "y": "a"}', (15, 'expected int for a (a.cddl:1), found "a"', "at y")),
     ("a = { b: int }", ["-p", "*"], '[{"b": 1}, {"b": "c"}]',
-     (8, 'expected int for b (a.cddl:1), found "c"', "at 1/b")),
+     (18, 'expected int for b (a.cddl:1), found "c"', "at 1/b")),
     ("a = { b: int }", ["-p", "0/@/*"], "[<<[{\"b\": 1}, {}]>>]",
-     (7, 'expected the key "b" for a (a.cddl:1), found a map of 0 without it', "at 0/@/1")),
+     (15, 'expected the key "b" for a (a.cddl:1), found a map of 0 without it', "at 0/@/1")),
     ("a = [b: int]", ["-p", "*/@/0"], "[<<[[1]]>>, <<[[1.5]]>>]",
-     (8, "expected int for b (a.cddl:1), found 1.5", "at 1/@/0/0")),
+     (17, "expected int for b (a.cddl:1), found 1.5", "at 1/@/0/0")),
     # By a name that is shown: 18([<<{1: -7}>>, {}, h'', h'']).
     ("a = tstr", ["-p", "protected/alg"], "18([h'a10126', {}, h'', h''])",
      (5, "expected tstr for a (a.cddl:1), found -7", "at protected/alg")),
     # Later items, with their numbers.
     ("a = { b: int }", [], '{"b": 1} {"b": 2} {"b": "c"}',
-     (11, 'expected int for b (a.cddl:1), found "c"', "at 2:b")),
-    ("a = int", [], '1 "a"', (1, 'expected int for a (a.cddl:1), found "a"', "at 1:/")),
-    ("a = int", ["-p", "*"], '[1] [2, "a"]', (4, 'expected int for a (a.cddl:1), found "a"', "at 1:1")),
+     (25, 'expected int for b (a.cddl:1), found "c"', "at 2:b")),
+    ("a = int", [], '1 "a"', (3, 'expected int for a (a.cddl:1), found "a"', "at 1:/")),
+    ("a = int", ["-p", "*"], '[1] [2, "a"]', (9, 'expected int for a (a.cddl:1), found "a"', "at 1:1")),
     ("a = int", ["-p", "1:"], '"a" 2 "b"', None),
-    ("a = int", ["-p", "1:x"], '"a" {"x": "b"} "c"', (5, 'expected int for a (a.cddl:1), found "b"', "at 1:x")),
+    ("a = int", ["-p", "1:x"], '"a" {"x": "b"} "c"', (11, 'expected int for a (a.cddl:1), found "b"', "at 1:x")),
 ]
 
 # The same of a path that leads nowhere.
@@ -131,6 +131,14 @@ def message_of(said):
     return "\n".join(lines) + "\n"
 
 
+def message_in_text(said, text):
+    """The message of an item in a line of text, with the line and the mark below its character."""
+    if said is None:
+        return ""
+    column, what, where = said
+    return f"cborcat: -x:1:{column}: {what}\n    {where}\n    {text}\n    {' ' * (column - 1)}^\n"
+
+
 def without_excerpt(said):
     """A message without the lines of bytes and of the mark below them."""
     lines = said.splitlines(True)
@@ -142,8 +150,7 @@ def check_parts(run, same, folder, written):
     for cddl, options, items, said in PARTS:
         written("a.cddl", cddl.encode())
         _, err, status = run("--cddl=a.cddl", *options, "-x", items, cwd=folder)
-        wanted = message_of(said).replace("a.cbor:", "-x:").replace("): expected", ") of the bytes of the notation: expected")
-        same(f"--cddl {options} on {items}", (without_excerpt(err), status), (wanted, 1 if said else 0))
+        same(f"--cddl {options} on {items}", (err, status), (message_in_text(said, items), 1 if said else 0))
     written("a.cddl", b"a = int")
     for options, items, said in LOST:
         same(f"--cddl {options} on {items}", run("--cddl=a.cddl", *options, "-x", items, cwd=folder), (b"", said, 1))

@@ -40,6 +40,8 @@ def check(run, same, examples):
     odd_paths(program)
     bytes_at(program)
     partial(program)
+    texts(program)
+    any_texts(program)
 
 
 def cuts_and_faults(program):
@@ -143,6 +145,103 @@ def bytes_at(program):
         program.same(f"--at {words}", program.run("--at=1", *words, data=b"\x81\xff")[2], 2)
 
 
+# what is said of the integer 7 in three bytes
+LONG_SEVEN = "not preferred: the number 7 takes 3 bytes; 1 is enough"
+
+
+# A text, its form, and the line and the column of the integer 7 in three bytes.
+TEXTS = [
+    ("7_1", "diag", 1, 1),
+    ("1, 2 7_1", "diag", 1, 6),
+    ("/a/ 1\n# b\n\t7_1", "diag", 3, 2),
+    ('{"\u00e4": "\u00e4\u20ac", /c/ 7_1: 1}', "diag", 1, 17),
+    ("{1: 2, 3: 7_1}", "diag", 1, 11),
+    ("{_ 1: [_ 2, 7_1]}", "diag", 1, 13),
+    ("(_ 'a', h'01'), 24(<<1, 2>>), 7_1", "diag", 1, 31),
+    ("[DT'1970-01-01T00:00:00Z', ip'1.2.3.4', 7_1]", "diag", 1, 41),
+    ("[18446744073709551616, ''_, 1.5, 7_1]", "diag", 1, 34),
+    ("1(  2(/c/ [  'a' + <<1>> + h'02', 7_1]))", "diag", 1, 35),
+    ("\ufeff[7_1]", "diag", 1, 3),
+    ("[-1, simple(99), false, NaN, float'3c00',7_1,]", "diag", 1, 42),
+    ("82 01 # one\n19 0007", "hex", 2, 1),
+    ("8201190007", "hex", 1, 5),
+    ("gg\nEZ AAc=", "base64", 2, 1),
+    ("\ufeffggEZAAc", "base64", 1, 4),
+    ("uint8_t m[] = {0x82, 1,\n 25, 0, 7};", "hex", 2, 2),
+]
+
+
+def texts(program):
+    """A violation in a text is at its line and column, and its line is shown."""
+    for text, form, line, column in TEXTS:
+        shown = "".join(it if " " <= it <= "~" else " " if it == "\t" else "?" for it in text.split("\n")[line - 1])
+        mark = "^^" if form == "hex" else "^"
+        said = program.run("--check=preferred", "-f", form, data=text.encode())[1].splitlines()
+        same_lines = [it for it in said if not it.startswith("    in ") and not it.startswith("    at ")]
+        wanted = [f"cborcat: standard input:{line}:{column}: {LONG_SEVEN}", f"    {shown}",
+                  f"    {' ' * (column - 1)}{mark}"]
+        program.same(f"the place of 7_1 in {text!r}", same_lines[-3:], wanted)
+    program.same("after a change", program.run("--check=preferred", "--set", "0=1", "-x", "[0, 7_1]")[1].splitlines()[0],
+                 f"cborcat: -x: byte 2 (0x2) of the changed bytes: {LONG_SEVEN}")
+    program.same("a byte in the text of a message", program.run("--check=valid", "-x", "{1: 2, /again/ 1: 3}")[1], (
+        "cborcat: -x:1:16: not valid: the key 1 was at 1:2\n    in a key of the map of 2 at 1:1\n"
+        "    {1: 2, /again/ 1: 3}\n                   ^\n"))
+    program.same("what JSON does not keep", program.run("-t", "json", "--strict", "-x", '[1, {"a":\n  h\'01\'}]')[1], (
+        "cborcat: -x:2:3: JSON does not keep a byte string\n    at 1/a, in the map of 1 at 1:5\n"
+        "      h'01'}]\n      ^\n"))
+
+
+def any_texts(program):
+    """Texts made by a seed, with one integer 7 in three bytes."""
+    chance = random.Random(5)
+    blanks = ["", " ", "\n", " /c, [/ ", " # ]\n", "  \t"]
+    leaves = ["0", "-5", '"a, ["', "h'01 02'", "<<1, [2]>>", "'b' + h'03'", "1.5", "null", "simple(40)", "(_ 'a', 'b')",
+              '"\u20ac"', "18446744073709551616", "[]", "{_ }"]
+
+    def blank():
+        return chance.choice(blanks)
+
+    def written(depth, found):
+        """The text of an item, which has the 7 if it is to be found."""
+        if depth == 0:
+            return "7_1" if found else chance.choice(leaves)
+        kind, count = chance.randrange(4), chance.randrange(1, 4)
+        if kind == 0:
+            return f"{chance.randrange(6, 20)}({blank()}{written(depth - 1, found)}{blank()})"
+        at = chance.randrange(count * (2 if kind == 1 else 1)) if found else -1
+        parts = [written(depth - 1 if number == at else 0, number == at)
+                 for number in range(count * (2 if kind == 1 else 1))]
+        opening = chance.choice(["", "_ ", "_1 "] if not found else ["", "_ "])
+        if kind == 1:
+            parts = [f"{key}{blank()}:{blank()}{value}" for key, value in zip(parts[::2], parts[1::2])]
+        inner = f"{blank()},{blank()}".join(parts)
+        open_close = "{}" if kind == 1 else "[]"
+        return f"{open_close[0]}{opening}{blank()}{inner}{blank()}{open_close[1]}"
+
+    for _ in range(200):
+        text = f"{blank()}{written(chance.randrange(1, 6), True)}{blank()}"
+        at = text.index("7_1")
+        before = text[:at].split("\n")
+        said = program.run("--check=preferred", "-f", "diag", data=text.encode())[1].splitlines()
+        program.same(f"the place in {text!r}", said[0],
+                     f"cborcat: standard input:{len(before)}:{len(before[-1]) + 1}: {LONG_SEVEN}")
+
+
+# A string, the part of it that is there, and what is shown of that.
+STRINGS = [
+    ("a byte string", "5840aabb", "/truncated/ h'aabb' /2 of 64 bytes/"),
+    ("a byte string without content", "5840", "/truncated/ h'' /0 of 64 bytes/"),
+    ("a head", "8159 01", "[/truncated/ h'5901']"),
+    ("a text", "a1 01 7840 6122", '{1: /truncated/ "a\\"" /2 of 64 bytes/}'),
+    ("a character", "7840 61e282", '/truncated/ "a" + h\'e282\' /3 of 64 bytes/'),
+    ("a long string", "5903e8" + 200 * "01", f"/truncated/ h'{64 * '01'}' /200 of 1000 bytes, 64 are shown/"),
+    ("a string in chunks", "5f 42 0102 43 03", "(_ h'0102', /truncated/ h'03' /1 of 3 bytes/)"),
+    ("a text in chunks", "7f 61 61 61 62 62 63", '(_ "a", "b", /truncated/ "c" /1 of 2 bytes/)'),
+    ("a string between chunks", "81 5f 41 01", "[(_ h'01', /truncated/ h'')]"),
+    ("a string before its first chunk", "5f", "/truncated/ h'5f'"),
+]
+
+
 def partial(program):
     """What is there of an item that is not whole."""
     def same_partial(what, form, data, wanted):
@@ -151,7 +250,9 @@ def partial(program):
 
     fault = f"/malformed: {WRONG}/"
     same_partial("a fault", "diag", b"\x01\xa1\x61a\x83\x01\x02\x1f\x00", f"1\n{{\"a\": [1, 2, {fault} h'1f00']}}\n")
-    same_partial("a cut", "diag", b"\x82\x01\x62a", "[1, /truncated/ h'6261']\n")
+    same_partial("a cut", "diag", b"\x82\x01\x62a", '[1, /truncated/ "a" /1 of 2 bytes/]\n')
+    for what, digits, wanted in STRINGS:
+        same_partial(f"{what} that is cut", "diag", bytes.fromhex(digits), f"{wanted}\n")
     same_partial("between items", "diag", b"\x82\x01", "[1, /truncated/ h'']\n")
     same_partial("in lines", "pretty", b"\x82\x01\x1f", f"[\n    1,\n    {fault} h'1f'\n]\n")
     same_partial("with names", "pretty", bytes.fromhex("d28443a10126a104"), """\

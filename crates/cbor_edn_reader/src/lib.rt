@@ -14,4 +14,4 @@ mod read;
 mod scalars;
 pub mod strings;
 
-pub use read::{edn_item_to_bytes, edn_to_bytes};
+pub use read::{edn_item_to_bytes, edn_to_bytes, place_of_byte};

@@ -1,10 +1,12 @@
 //! Reads the items of an EDN text straight to bytes, by recursion over the levels of nesting.
-//! `edn_to_bytes` reads any number of items, and `edn_item_to_bytes` exactly one.
+//! `edn_to_bytes` reads any number of items, and `edn_item_to_bytes` exactly one. `place_of_byte`
+//! finds where in a text the item of a byte begins.
 //!
 //! Each private function reads at a cursor. It appends the encoding of what it reads, and moves the
 //! cursor past that. After an error, the cursor is at the place where the text cannot go on, and
 //! part of an encoding may have been appended.
 mod pieces;
+mod place;
 
 ghost use Rattle.std.specs.Prelude.{◌≡◌, ◌+◌, ◌-◌, ◌<◌, ◌≤◌, length, IfOk, IfErr};
 ghost use Rattle.cbor_grammar.specs.Head.{FitsWidth};
@@ -38,6 +40,8 @@ use cbor_grammar::strings::StringKind;
 use cbor_grammar::width::count_fits;
 use pieces::{read_content, read_string};
 use std::alloc::Global;
+
+pub use place::place_of_byte;
 
 /// One more than a count. A text never has enough members that this does not fit.
 fn one_more(count: usize) -> Result<usize, Stop>

@@ -10,7 +10,7 @@ use cbor_tokens::base64_text::decode;
 use std::alloc::{AllocError, Global};
 
 /// Whether a byte is a blank or ends a line.
-fn is_blank(byte: u8) -> bool
+pub(crate) fn is_blank(byte: u8) -> bool
     ensures { result ≡ is_blank byte }
 {
     byte == b' ' || byte == b'\t' || byte == b'\r' || byte == b'\n'

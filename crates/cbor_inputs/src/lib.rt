@@ -3,8 +3,8 @@
 //!
 //! [`recognize`] finds the form of an input, and [`Input::decode`] the bytes of one whose form is
 //! known. [`printed_bytes`] reads the bytes of dumps and of code. [`is_text`] and [`text_fault`] tell
-//! text from bytes, [`place_of_digit`] finds a digit of hex, and [`looks_like`] guesses what an
-//! input is if nothing reads it.
+//! text from bytes, [`Input::place_of`] finds in a text where a byte is, and [`looks_like`] guesses
+//! what an input is if nothing reads it.
 //!
 //! ```rust
 //! use cbor_inputs::{Input, recognize};
@@ -19,11 +19,12 @@ mod base64_text;
 mod decode;
 mod loose;
 mod pasted;
+mod place;
 mod printed;
 mod text;
 
 pub use decode::{Input, Recognized, Refusal, recognize};
-pub use loose::{HexFault, place_of_digit};
+pub use loose::HexFault;
 pub use pasted::{Pasted, looks_like};
 pub use printed::{Printed, place_of_printed, printed_bytes};
 pub use text::{is_text, text_fault};

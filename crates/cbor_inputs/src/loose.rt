@@ -143,13 +143,7 @@ fn kept(alloc: Global, text: &[u8]) -> Result<Vec<u8>, AllocError>
 }
 
 /// The place in the text of the character that is kept after `count` others, or the text's length.
-///
-/// ```rust
-/// use cbor_inputs::place_of_digit;
-///
-/// assert_eq!(rt; place_of_digit(b"0x82 01", 2), 5);
-/// ```
-pub fn place_of_digit(text: &[u8], count: usize) -> usize
+pub(crate) fn place_of_digit(text: &[u8], count: usize) -> usize
     ensures { result ≤ length text.now }
 {
     let mut mode = Mode::Apart;

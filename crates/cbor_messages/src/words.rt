@@ -1,13 +1,12 @@
 //! `Message`: a text, and the place in the items that it is about. `Words`: writes such a text,
-//! with items, keys and byte numbers in it. `TWO_BYTES`: the message for a simple value below 32 in
+//! with items and keys in it, and with the places of bytes. `TWO_BYTES`: the message for a simple value below 32 in
 //! two bytes.
 
 use cbor_bytes::{Extent, extent};
 use cbor_edn_writer::bytes_to_edn;
 use cbor_grammar::Error;
-use cbor_places::Piece;
+use cbor_places::{Piece, Places};
 use std::alloc::{AllocError, Global};
-use std::fmt::Write;
 
 /// What is said of a place in items.
 #[derive(Drop)]
@@ -16,6 +15,33 @@ pub struct Message {
     pub place: usize,
     /// What is said, in one line. Keys and texts are in EDN.
     pub text: String,
+    /// The bytes of the data that are named in the text, in its order: where in the text the name
+    /// goes, and the number of the byte.
+    pub bytes: Vec<(usize, usize)>,
+}
+
+impl Message {
+    /// A message that names no byte.
+    pub fn new(alloc: Global, place: usize, text: String) -> Message {
+        Message {
+            place,
+            text,
+            bytes: Vec::new(alloc),
+        }
+    }
+
+    /// What is said, with the names of the bytes.
+    pub fn words<P: Places>(&self, alloc: Global, places: &P) -> Result<String, AllocError> {
+        let mut out = String::new(alloc);
+        let mut from = 0usize;
+        for (at, byte) in &self.bytes {
+            out.push_str(self.text.as_str().get(from..*at).unwrap_or(""))?;
+            places.push_byte(&mut out, *byte)?;
+            from = *at;
+        }
+        out.push_str(self.text.as_str().get(from..).unwrap_or(""))?;
+        Ok(out)
+    }
 }
 
 /// What is said of a simple value below 32 in two bytes.
@@ -31,13 +57,18 @@ pub(crate) struct Words<'a> {
     pub(crate) items: Piece<'a>,
     /// What was written.
     pub(crate) out: String,
+    /// The bytes that are named in it.
+    bytes: Vec<(usize, usize)>,
 }
 
 impl<'a> Words<'a> {
     /// No words yet.
     pub(crate) fn new(alloc: Global, items: Piece<'a>) -> Words<'a> {
-        let out = String::new(alloc);
-        Words { items, out }
+        Words {
+            items,
+            out: String::new(alloc),
+            bytes: Vec::new(alloc),
+        }
     }
 
     /// The message on this place.
@@ -45,6 +76,7 @@ impl<'a> Words<'a> {
         Message {
             place,
             text: self.out,
+            bytes: self.bytes,
         }
     }
 
@@ -58,10 +90,10 @@ impl<'a> Words<'a> {
         self.items.bytes.get(place..).unwrap_or(b"")
     }
 
-    /// Writes the number of the byte at a place.
+    /// Writes where the byte at a place is.
     pub(crate) fn push_byte(&mut self, place: usize) -> Result<(), AllocError> {
-        let byte = self.items.number(place);
-        write!(self.out, "at byte {byte}")
+        self.out.push_str("at ")?;
+        self.bytes.push((self.out.len(), self.items.number(place)))
     }
 
     /// The bytes of the item at a place; none if no whole item is there.

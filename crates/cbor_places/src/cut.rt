@@ -109,9 +109,12 @@ impl Around<'_> {
         let bytes = self.piece.bytes;
         if let Argument::Number(count, _) = length {
             self.push_subject(out, places, (noun, self.named()))?;
+            let dropped = places.dropped(self.piece.number(content));
+            let count = count.saturating_add(dropped as u64);
+            let there = bytes.len().saturating_sub(content).saturating_add(dropped);
             let what = if count == 1 { "byte" } else { "bytes" };
             write!(out, "{count} {what}, ")?;
-            return push_number_there(out, bytes.len().saturating_sub(content) as u64, "");
+            return push_number_there(out, there as u64, "");
         }
         let noun = format!(in *out.allocator(); "{noun} of indefinite length")?;
         self.push_subject(out, places, (&noun, self.named()))?;

@@ -1,7 +1,9 @@
 //! `partial_edn` writes what `cborcat --partial` shows of a truncated or malformed item in EDN: its
-//! whole parts with notes, then the error and the first 64 of the bytes that remain.
+//! whole parts with notes, then the error and the first 64 of the bytes that remain. Of a string
+//! that is cut it shows the content that is there.
 
 mod edn;
+mod strings;
 
 use cbor_edn_writer::NotedStyle;
 use cbor_grammar::Error;

@@ -35,6 +35,12 @@ impl<'a> Piece<'a> {
 pub trait Places {
     /// Appends the name of the byte with this number.
     fn push_byte(&self, out: &mut String, byte: usize) -> Result<(), AllocError>;
+
+    /// How many bytes of a string were dropped, whose content begins with the byte with this
+    /// number.
+    fn dropped(&self, _byte: usize) -> usize {
+        0
+    }
 }
 
 /// Bytes are named by their numbers, as in `byte 3`.

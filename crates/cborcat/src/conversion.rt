@@ -3,10 +3,12 @@
 mod checks;
 mod fronts;
 mod index;
+mod long;
 mod page;
 mod writing;
 
 use self::fronts::{drop_front, first_bytes, short_items};
+use self::long::MANY;
 use crate::cddl::Cddl;
 use crate::changes::Changes;
 use crate::each::Each;
@@ -21,7 +23,7 @@ use cbor_places::Piece;
 use cbor_stats::Stats;
 use cborcat_arguments::{Job, View, show_of};
 use cborcat_messages::{
-    Origin, Status, report_end, report_few, report_long, report_lost, report_none_left, say,
+    Hole, Origin, Status, report_end, report_few, report_long, report_lost, report_none_left, say,
     say_line_feed, say_shape,
 };
 use cborcat_views::{Indexed, Page, ShowsItem, Views, Written};
@@ -52,6 +54,10 @@ pub struct Conversion<'a> {
     skip: usize,
     /// Where in the data the items end that are known not to be longer than is allowed.
     within: usize,
+    /// How many bytes are to be left before one looks at their end again.
+    look_from: usize,
+    /// The parts of strings that were dropped of the item that the bytes begin with.
+    holes: Vec<Hole>,
     /// Whether the item is longer than is allowed that follows the bytes that are left.
     long: bool,
     /// Whether an item was converted.
@@ -107,6 +113,8 @@ impl<'a> Conversion<'a> {
             came,
             skip: job.offset - skipped,
             within: 0,
+            look_from: MANY,
+            holes: Vec::new(rt.alloc()),
             long: false,
             any: false,
             ends_line: false,
@@ -236,7 +244,7 @@ impl<'a> Conversion<'a> {
                 }
                 End::Full => {}
                 End::Done if self.long => return self.stop_long(),
-                End::Done | End::Cut if !at_end => return Next::More,
+                End::Done | End::Cut if !at_end => return self.wait(),
                 End::Done => return self.done(),
                 End::Lost { len } => self.pass_lost(len),
                 End::Cut
@@ -249,6 +257,16 @@ impl<'a> Conversion<'a> {
             }
         }
         Next::More
+    }
+
+    /// Waits for more bytes, unless the item is longer than is allowed that those which are left
+    /// begin with.
+    fn wait(&mut self) -> Next {
+        match self.look_at_end() {
+            Ok(false) => Next::More,
+            Ok(true) => self.stop_long(),
+            Err(_) => self.stop(End::Memory),
+        }
     }
 
     /// Converts some items, and tells what follows them.
@@ -264,6 +282,10 @@ impl<'a> Conversion<'a> {
         };
         let passed = before - self.stream.rest().len().min(before);
         self.passed = passed;
+        if passed > 0 {
+            self.holes.clear();
+            self.look_from = MANY;
+        }
         if !self.any && passed > 0 && self.job.item.is_none() {
             self.note_shape(passed);
         }
@@ -360,7 +382,7 @@ impl<'a> Conversion<'a> {
             Ok(_) => end,
             Err(_) => End::Memory,
         };
-        let status = report_end(self.rt, self.origin, self.left(), end);
+        let status = report_end(self.rt, &self.told(), self.left(), end);
         self.ended(status);
         Next::NextInput
     }
@@ -452,7 +474,8 @@ impl<'a> Conversion<'a> {
     fn leave_long(&mut self) -> Result<(), AllocError> {
         let begins = self.begins();
         let from = self.within.saturating_sub(begins);
-        let (at, long) = short_items(self.stream.rest(), from, self.job.limit);
+        let limits = (self.job.limit.saturating_sub(self.dropped()), self.job.limit);
+        let (at, long) = short_items(self.stream.rest(), from, limits);
         self.within = begins.saturating_add(at);
         if long {
             let before = first_bytes(self.rt.alloc(), self.stream.rest(), at)?;
@@ -465,7 +488,7 @@ impl<'a> Conversion<'a> {
 
     /// Says that the next item is longer than is allowed.
     fn stop_long(&mut self) -> Next {
-        report_long(self.rt, self.origin, self.begins(), self.job.limit);
+        report_long(self.rt, &self.told(), self.begins(), self.job.limit);
         self.ended(Status::Bad);
         Next::NextInput
     }

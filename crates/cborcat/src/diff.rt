@@ -63,6 +63,7 @@ impl Diff<'_> {
             text: &text,
             color: self.job.color,
             changed: false,
+            holes: &[],
         };
         self.check(&origin, &data.bytes)?;
         Ok(data.bytes)

@@ -5,7 +5,7 @@ use cbor_grammar::Error;
 use cbor_inspect::{End, Naming, Stream};
 use cbor_places::Piece;
 use cborcat_arguments::Job;
-use cborcat_messages::{Origin, Status, report_byte, report_lost};
+use cborcat_messages::{Origin, Status, report_byte, report_lost, report_message};
 use cborcat_views::{NotShown, ShowsItem};
 
 /// How many bytes are made before they are written.
@@ -82,7 +82,7 @@ impl Each<'_> {
         match why {
             NotShown::Lost => Ok(report_lost(self.rt, asked, self.origin, item.bytes)),
             NotShown::Refused(message) => {
-                report_byte(self.rt, self.origin, item, (message.place, &message.text))?;
+                report_message(self.rt, self.origin, item, message)?;
                 Ok(Status::Bad)
             }
             NotShown::NoTerminal(place) => {

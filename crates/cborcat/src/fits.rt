@@ -168,8 +168,7 @@ impl Fits<'_> {
         }
         let begins = nth.item.number(part.start).saturating_add(misfit.place);
         let at = begins.saturating_sub(nth.items.begins);
-        say_byte(self.rt, self.origin, nth.items, at, (&text, &in_item));
-        Ok(())
+        say_byte(self.rt, self.origin, nth.items, at, (&text, &in_item))
     }
 
     /// The path to what does not fit, as `-p` takes it: with the number of the item before it,

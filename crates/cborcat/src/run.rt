@@ -204,6 +204,7 @@ impl Runner<'_> {
             text,
             color,
             changed: !self.job.changes.is_empty(),
+            holes: &[],
         };
         let pasted = looks_like(&bytes);
         let (next, end) = self.items(&origin, bytes, input);
@@ -262,6 +263,7 @@ impl Runner<'_> {
             text,
             color,
             changed: !self.job.changes.is_empty(),
+            holes: &[],
         };
         let pasted = looks_like(&data.bytes);
         let (next, end) = self.items(&origin, data.bytes, &mut none);

@@ -5,9 +5,8 @@ use crate::lines::{label, say_at, say_excerpt, say_out_of_memory};
 use crate::origin::Origin;
 use crate::status::Status;
 use cbor_grammar::Error;
-use cbor_inputs::Input;
 use cbor_inspect::End;
-use cbor_messages::{Excerpt, TWO_BYTES};
+use cbor_messages::{Excerpt, Message, TWO_BYTES};
 use cbor_places::{Around, Piece, item_with};
 use cbor_trace::place_of_fault;
 use std::alloc::AllocError;
@@ -47,8 +46,18 @@ fn report_fault(
     let around = Around::of_end(rt.alloc(), left.first(end))?;
     let what = around.fault_words(origin, error)?;
     let words = around.words(origin, false)?;
-    say_byte(rt, origin, left, at, (&what, &words));
-    Ok(())
+    Ok(say_byte(rt, origin, left, at, (&what, &words))?)
+}
+
+/// Says what a message says of the bytes that are left, which begin with whole items.
+pub fn report_message(
+    rt: &HostRuntime,
+    origin: &Origin,
+    left: Piece,
+    message: &Message,
+) -> Result<(), Error> {
+    let words = message.words(rt.alloc(), origin)?;
+    report_byte(rt, origin, left, (message.place, &words))
 }
 
 /// Says what is wrong at a byte of a whole item, before which there may be others.
@@ -60,8 +69,7 @@ pub fn report_byte(
 ) -> Result<(), Error> {
     let (at_fault, what) = message;
     let words = words_around(rt, origin, left, at_fault)?;
-    say_byte(rt, origin, left, at_fault, (what, &words));
-    Ok(())
+    Ok(say_byte(rt, origin, left, at_fault, (what, &words))?)
 }
 
 /// Where in its item one of the bytes is that are left.
@@ -91,17 +99,18 @@ pub fn say_byte(
     left: Piece,
     at_fault: usize,
     words: (&str, &str),
-) {
+) -> Result<(), AllocError> {
     let (what, in_item) = words;
     let byte = left.number(at_fault);
-    match origin.digits(byte) {
+    match origin.place(rt.alloc(), byte)? {
         Some(at) => {
             say_at(rt, (origin.name, origin.text), at, what);
             say_where(rt, in_item);
-            let excerpt = Excerpt::of_text(origin.text, at, "^^");
+            let excerpt = Excerpt::of_text(origin.text, at, origin.mark());
             say_excerpt(rt, origin.color, &excerpt);
         }
         None => {
+            let byte = origin.number(byte);
             let _ = eprintln!(rt;
                 "cborcat: {}: byte {byte} (0x{byte:x}){}: {what}",
                 label(origin.name),
@@ -113,6 +122,7 @@ pub fn say_byte(
             }
         }
     }
+    Ok(())
 }
 
 /// Says which item is not whole, and how much of it is there.
@@ -120,7 +130,7 @@ fn report_cut(rt: &HostRuntime, origin: &Origin, left: Piece) -> Result<(), Erro
     let around = Around::of_end(rt.alloc(), left)?;
     let words = around.cut_words(origin)?;
     let end = left.number(left.bytes.len());
-    match origin.digits(end) {
+    match origin.place(rt.alloc(), end)? {
         Some(at) => say_at(
             rt,
             (origin.name, origin.text),
@@ -128,15 +138,7 @@ fn report_cut(rt: &HostRuntime, origin: &Origin, left: Piece) -> Result<(), Erro
             format_args!("truncated: {words}"),
         ),
         None => {
-            let within = match origin.form {
-                Input::Base64 => " in the base 64",
-                Input::Diag => " in the bytes of the notation",
-                _ => "",
-            };
-            let _ = eprintln!(rt;
-                "cborcat: {}: truncated{within}: {words}",
-                label(origin.name)
-            );
+            let _ = eprintln!(rt; "cborcat: {}: truncated: {words}", label(origin.name));
         }
     }
     Ok(())

@@ -17,11 +17,12 @@ mod text;
 
 pub use files::Files;
 pub use items::{
-    report_byte, report_end, report_few, report_large_page, report_long, report_none_left, say_byte,
+    report_byte, report_end, report_few, report_large_page, report_long, report_message,
+    report_none_left, say_byte,
 };
 pub use lines::{label, say, say_no_memory, say_out_of_memory};
 pub use lost::{Refused, report_lost, report_unchanged, report_undeleted};
-pub use origin::Origin;
+pub use origin::{Hole, Origin};
 pub use path::{path_to, push_steps};
 pub use shape::say_shape;
 pub use status::Status;

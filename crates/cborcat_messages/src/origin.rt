@@ -1,15 +1,24 @@
 //! `Origin`: the name, form and text of an input. Messages use them to name its bytes.
 
 use crate::lines::{label, say_at};
-use cbor_inputs::{Input, place_of_digit, place_of_printed};
+use cbor_inputs::{Input, place_of_printed};
 use cbor_messages::{Position, position_of};
 use cbor_places::Places;
 use cborcat_arguments::Color;
-use std::alloc::AllocError;
+use std::alloc::{AllocError, Global};
 use std::fmt::{Display, Write};
 
+/// Bytes of a string that were dropped when they had come.
+#[derive(Clone, Copy)]
+pub struct Hole {
+    /// The number of the byte after them.
+    pub end: usize,
+    /// How many they are.
+    pub len: usize,
+}
+
 /// Where the data of an input comes from.
-#[derive(Drop)]
+#[derive(Clone, Copy)]
 pub struct Origin<'a> {
     /// The name of the input.
     pub name: &'a str,
@@ -23,25 +32,47 @@ pub struct Origin<'a> {
     pub color: Color,
     /// Whether its items are changed before they are looked at.
     pub changed: bool,
+    /// Which of its bytes were dropped. Without these, the others are numbered from the last one
+    /// that came, so the numbers before a hole are too great.
+    pub holes: &'a [Hole],
 }
 
 impl Origin<'_> {
-    /// Where the digits of a byte of the data are in the text, if that is hex.
-    pub(crate) fn digits(&self, byte: usize) -> Option<usize> {
+    /// Where a byte of the data is in the text, if the data is that of a text.
+    pub(crate) fn place(&self, alloc: Global, byte: usize) -> Result<Option<usize>, AllocError> {
         match self.form {
-            _ if self.changed => None,
-            Input::Hex if self.is_printed => Some(place_of_printed(self.text, byte)),
-            Input::Hex => Some(place_of_digit(self.text, byte.saturating_mul(2))),
-            _ => None,
+            _ if self.changed => Ok(None),
+            Input::Bytes => Ok(None),
+            Input::Hex if self.is_printed => Ok(Some(place_of_printed(self.text, byte))),
+            form => Ok(Some(form.place_of(alloc, self.text, byte)?)),
+        }
+    }
+
+    /// The number in the data of a byte of this number.
+    pub(crate) fn number(&self, byte: usize) -> usize {
+        let mut number = byte;
+        for hole in self.holes {
+            if byte < hole.end {
+                number = number.saturating_sub(hole.len);
+            }
+        }
+        number
+    }
+
+    /// The mark below a byte of the text: the two digits of hex, or the character.
+    pub(crate) fn mark(&self) -> &'static str {
+        match self.form {
+            Input::Hex => "^^",
+            _ => "^",
         }
     }
 
     /// Says what is wrong at a byte of the data.
     pub fn say_at_byte<T: Display + Drop>(&self, rt: &HostRuntime, byte: usize, what: T) {
-        match self.digits(byte) {
-            Some(at) => say_at(rt, (self.name, self.text), at, what),
-            None => {
-                let name = label(self.name);
+        match self.place(rt.alloc(), byte) {
+            Ok(Some(at)) => say_at(rt, (self.name, self.text), at, what),
+            _ => {
+                let (name, byte) = (label(self.name), self.number(byte));
                 let _ = eprintln!(rt; "cborcat: {name}: byte {byte}{}: {what}", self.within());
             }
         }
@@ -49,23 +80,28 @@ impl Origin<'_> {
 
     /// What its bytes are counted in, if that is not the input.
     pub(crate) fn within(&self) -> &'static str {
-        match self.form {
-            _ if self.changed => " of the changed bytes",
-            Input::Base64 => " of the base 64",
-            Input::Diag => " of the bytes of the notation",
-            _ => "",
+        if self.changed {
+            " of the changed bytes"
+        } else {
+            ""
         }
     }
 }
 
 impl Places for Origin<'_> {
     fn push_byte(&self, out: &mut String, byte: usize) -> Result<(), AllocError> {
-        match self.digits(byte) {
+        match self.place(*out.allocator(), byte)? {
             Some(at) => {
                 let Position { line, column, .. } = position_of(self.text, at);
                 write!(out, "{line}:{column}")
             }
-            None => write!(out, "byte {byte}"),
+            None => write!(out, "byte {}", self.number(byte)),
         }
+    }
+
+    fn dropped(&self, byte: usize) -> usize {
+        let mut hole = self.holes.iter();
+        hole.find(|hole| hole.end == byte)
+            .map_or(0, |hole| hole.len)
     }
 }

@@ -46,10 +46,7 @@ impl Checks<'_> {
         let alloc = self.rt.alloc();
         if let Some(at) = two_byte_simple(part.bytes) {
             let text = String::from_str(alloc, TWO_BYTES)?;
-            return Ok(Some(Message {
-                place: at.saturating_add(1),
-                text,
-            }));
+            return Ok(Some(Message::new(alloc, at.saturating_add(1), text)));
         }
         match self.job.rules {
             Some(set) => first_violation(alloc, set, part),

@@ -30,9 +30,8 @@ impl<'b> PartOf<'_, 'b> {
 
     /// What keeps it from being shown, at a byte of the part.
     pub(crate) fn refused(self, message: Message) -> NotShown {
-        let Message { place, text } = message;
-        let place = self.span.start.saturating_add(place);
-        NotShown::Refused(Message { place, text })
+        let place = self.span.start.saturating_add(message.place);
+        NotShown::Refused(Message { place, ..message })
     }
 }
 

@@ -112,7 +112,8 @@ impl Plain<'_> {
                 let text = format!(in self.rt.alloc();
                     "{noun} has no raw content; a byte or text string has"
                 )?;
-                return Ok(Some(part.refused(Message { place: 0, text })));
+                let message = Message::new(self.rt.alloc(), 0, text);
+                return Ok(Some(part.refused(message)));
             }
         };
         if self.job.output.is_none() && self.rt.stdout().is_terminal() {

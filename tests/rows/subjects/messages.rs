@@ -15,7 +15,7 @@ use cbor_json::{JsonStyle, bytes_to_json};
 use cbor_messages::{
     Excerpt, Message, first_violation, lost_words, not_encoded, not_json, position_of,
 };
-use cbor_places::Piece;
+use cbor_places::{ByteNumbers, Piece};
 use cbor_reencode::reencoded;
 use cbor_rules::RuleSet;
 use std::alloc::{AllocError, Global};
@@ -46,7 +46,10 @@ fn items<'a>(row: &'a Row) -> Piece<'a> {
 /// The place of a message, and its text.
 fn said(alloc: Global, message: Result<Message, Error>) -> Result<String, AllocError> {
     match message {
-        Ok(Message { place, text }) => format!(in alloc; "{place} {text}"),
+        Ok(message) => {
+            let text = message.words(alloc, &ByteNumbers)?;
+            format!(in alloc; "{} {text}", message.place)
+        }
         Err(error) => refused_text(alloc, error),
     }
 }

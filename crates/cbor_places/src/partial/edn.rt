@@ -4,6 +4,7 @@
 ghost use Rattle.std.specs.Prelude.{◌+◌, ◌*◌, ◌<◌, ◌≤◌, ◌^◌, length};
 ghost use Rattle.cbor_grammar.specs.NotationText.{style_indent};
 
+use crate::partial::strings::{CutString, chunks_at_front};
 use crate::partial::{parts_before, shown_of};
 use cbor_bytes::head::read_head;
 use cbor_edn_writer::{NotedStyle, PartPlace, push_note_before, push_part_to_edn};
@@ -40,7 +41,11 @@ impl PartialEdn<'_> {
     {
         push_note_before(out, self.noted, spot.start)?;
         let Some(part) = part_at(self.bytes, spot, self.bytes.len()) else {
-            return Ok(self.push_remaining(out, spot.start)?);
+            let (_, item) = self.bytes.split_at(spot.start);
+            return match chunks_at_front(item) {
+                Some(chunks) => self.push_chunks(out, chunks, spot, indent),
+                None => Ok(self.push_remaining(out, spot.start)?),
+            };
         };
         let style = self.container_style(indent);
         self.push_opening(out, part.open, style)?;
@@ -53,7 +58,7 @@ impl PartialEdn<'_> {
     }
 
     /// Marks the token that was written from this place of the text on, if tokens are marked.
-    fn mark(&self, kind: Kind, start: usize, out: &String) {
+    pub(super) fn mark(&self, kind: Kind, start: usize, out: &String) {
         if let Some(marks) = self.noted.marks {
             marks.mark_from(kind, out, start);
         }
@@ -69,7 +74,7 @@ impl PartialEdn<'_> {
     }
 
     /// How a container is laid out.
-    fn container_style(&self, indent: usize) -> ContainerStyle
+    pub(super) fn container_style(&self, indent: usize) -> ContainerStyle
         ensures { style_indent result ≤ indent }
     {
         if self.noted.style.lines {
@@ -148,11 +153,14 @@ impl PartialEdn<'_> {
 
     /// Appends what is said of the bytes from a place on, and the first of them. Returns where the
     /// comment with the former is.
-    fn push_remaining(&self, out: &mut String, start: usize) -> Result<Span, AllocError>
+    pub(super) fn push_remaining(
+        &self,
+        out: &mut String,
+        start: usize,
+    ) -> Result<Span, AllocError>
         requires { start ≤ length self.now.bytes.now }
     {
         let (_, rest) = self.bytes.split_at(start);
-        let (shown, more) = shown_of(rest);
         let begins = out.len();
         out.push('/')?;
         out.push_str(self.said)?;
@@ -162,19 +170,32 @@ impl PartialEdn<'_> {
             end: out.len(),
         };
         self.mark(Kind::Fault, begins, out);
+        if let Some(cut) = CutString::at_front(rest) {
+            out.push(' ')?;
+            self.push_cut(out, cut)?;
+        } else {
+            self.push_first(out, rest)?;
+        }
+        Ok(said)
+    }
+
+    /// Appends the first of the bytes that remain, and how many more there are.
+    fn push_first(&self, out: &mut String, rest: &[u8]) -> Result<(), AllocError> {
+        let (shown, more) = shown_of(rest);
+        let start = out.len();
         out.push_str(" h'")?;
         push_hex(out, shown)?;
         out.push('\'')?;
-        self.mark(Kind::Bytes, said.end, out);
-        let end = out.len();
+        self.mark(Kind::Bytes, start, out);
+        let start = out.len();
         push_more(out, more)?;
-        self.mark(Kind::Note, end, out);
-        Ok(said)
+        self.mark(Kind::Note, start, out);
+        Ok(())
     }
 }
 
 /// How many blanks the lines of a member of a container begin with.
-fn lines_inside(style: ContainerStyle) -> usize
+pub(super) fn lines_inside(style: ContainerStyle) -> usize
     requires { style_indent style < 2 ^ 31 }
 {
     match style {

@@ -9,7 +9,7 @@ use cbor_inspect::{End, two_byte_simple};
 use cbor_messages::{TWO_BYTES, first_violation};
 use cbor_places::Piece;
 use cborcat_arguments::View;
-use cborcat_messages::{Status, report_byte};
+use cborcat_messages::{Status, report_message};
 
 impl<'a> Conversion<'a> {
     /// Says where the first simple value below 32 in two bytes is, if it is in the bytes that were
@@ -60,7 +60,7 @@ impl<'a> Conversion<'a> {
         let bytes = self.stream.passed(passed);
         let items = Piece { begins, bytes };
         if let Some(message) = first_violation(self.rt.alloc(), set, items)? {
-            report_byte(self.rt, self.origin, items, (message.place, &message.text))?;
+            report_message(self.rt, self.origin, items, &message)?;
             self.broken = true;
             self.ended(Status::Bad);
         }

@@ -16,10 +16,12 @@ pub(super) fn drop_front(bytes: &mut Vec<u8>, count: usize) {
 }
 
 /// Where the items end, from this place on, that are not longer than the limit, and whether a
-/// longer one follows. It looks at no item if at most as many bytes are left.
-pub(super) fn short_items(bytes: &[u8], from: usize, limit: usize) -> (usize, bool) {
+/// longer one follows. It looks at no item if at most as many bytes are left. The limits are that
+/// of the first of the items and that of the others.
+pub(super) fn short_items(bytes: &[u8], from: usize, limits: (usize, usize)) -> (usize, bool) {
     let mut at = from;
     for _ in 0..u64::MAX {
+        let limit = if at == 0 { limits.0 } else { limits.1 };
         let left = bytes.get(at..).unwrap_or(b"");
         if left.len() <= limit {
             break;
