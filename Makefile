@@ -54,6 +54,8 @@ MANUALS = $(patsubst share/man/%,$(DIST)/share/man/man1/%,$(wildcard share/man/*
 ZSH = $(wildcard share/completions/_*)
 FISH = $(wildcard share/completions/*.fish)
 BASH = $(filter-out $(ZSH) $(FISH),$(wildcard share/completions/*))
+# The files of names that the programs have built in.
+NAMES = $(wildcard share/names/*.cddl)
 
 # The files that a proof of these crates reads. With AS_BUILT=1 what is in dist/ is taken as it is, whatever its age.
 sources = $(if $(AS_BUILT),,crates.txt \
@@ -145,6 +147,7 @@ install: all
 	install -D -m 644 -t $(DESTDIR)$(PREFIX)/share/bash-completion/completions $(BASH)
 	install -D -m 644 -t $(DESTDIR)$(PREFIX)/share/zsh/site-functions $(ZSH)
 	install -D -m 644 -t $(DESTDIR)$(PREFIX)/share/fish/vendor_completions.d $(FISH)
+	install -D -m 644 -t $(DESTDIR)$(PREFIX)/share/semphluk/names $(NAMES)
 
 # The main job before any proof: cborcat, on these arguments, by the kit, or else by cargo. The kit gives it a copy of each
 # file that they name.

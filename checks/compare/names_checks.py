@@ -91,7 +91,6 @@ SHOWN = [
     (["--as=COSE-KeySet", "-x", "[{1: 4}]"], "/COSE_KeySet/ [{/kty/ 1: 4 /Symmetric/}]\n"),
     (["--as=COSE_Sign1", "-x", "{1: 2} [h'', {}, h'', h'']"],
      "{1: 2}\n/COSE_Sign1/ [/protected/ h'', /unprotected/ {}, /payload/ h'', /signature/ h'']\n"),
-    (["--as=COSE_Sign1", "-x", "[1, 2, 3]"], "[/protected/ 1, /unprotected/ 2, /payload/ 3]\n"),
     (["-x", "18([1, 2, 3, 4]), 18(\"a\")"], "18([1, 2, 3, 4])\n18(\"a\")\n"),
     (["--as=CWT", "-x", "{266: {\"a\": {1: \"x\"}, \"b\": h'd28440a04040'}}"],
      "/CWT/ {\n"
@@ -133,6 +132,57 @@ SHOWN = [
     (["-p", "3/0/0", "-x", "96([h'', {}, h'', [55799([h'a10101', {}, h''])]])"], "<<{/alg/ 1: 1 /A128GCM/}>>\n"),
     (["-p", "0/@/0", "-x", f"55799([<<{MESSAGE}>>])"], "<<{/alg/ 1: -7 /ES256/}>>\n"),
     (["-p", "1", "-x", "18([1, {4: '11'}, 3, 4])"], "{4: h'3131' /'11'/}\n"),
+    # A token's claims, by any two of them: an audience of several and a time with its tag (RFC 8392), a nonce and a UEID
+    # (RFC 9711), two of PSA's (RFC 9783), and one that is no token, since its audience is a number.
+    (["-p", "payload", "-x", "18([h'', {}, h'a20381616104c11a5612aeb0', h''])"],
+     "<<{/aud/ 3: [\"a\"], /exp/ 4: 1(1444064944 /2015-10-05T17:09:04Z/)}>>\n"),
+    (["-p", "payload", "-x", "18([h'', {}, h'a20a4101190100410102', h''])"], "h'a20a4101190100410102'\n"),
+    (["-p", "payload", "-x", "18([h'', {}, h'a20a41011901004102', h''])"], "<<{/nonce/ 10: h'01', /ueid/ 256: h'02'}>>\n"),
+    (["-p", "payload", "-x", "18([h'', {}, h'a20a814101190109617a', h''])"],
+     "<<{/nonce/ 10: [h'01'], /eat_profile/ 265: \"z\"}>>\n"),
+    (["-p", "payload", "-x", "18([h'', {}, h'a219095a0119095b193000', h''])"],
+     "<<{/psa-client-id/ 2394: 1, /psa-security-lifecycle/ 2395: 12288}>>\n"),
+    (["-p", "payload", "-x", "18([h'', {}, h'a219095c410119095f81a1016142', h''])"],
+     "<<{\n"
+     "    /psa-implementation-id/ 2396: h'01',\n"
+     "    /psa-software-components/ 2399: [{/measurement-type/ 1: \"B\"}],\n"
+     "}>>\n"),
+    (["-p", "payload", "-x", "18([h'', {}, h'a20301016161', h''])"], "h'a20301016161'\n"),
+    (["-p", "payload", "-x", "18([h'', {}, h'a10a4101', h''])"], "h'a10a4101'\n"),
+    # A payload with the tag of a type.
+    (["-p", "payload", "-x", "18([h'', {}, h'd83da1016161', h''])"], "<</CWT/ 61({/iss/ 1: \"a\"})>>\n"),
+    (["-p", "payload", "-x", "18([h'', {}, h'd28440a04040ff', h''])"], "h'd28440a04040ff'\n"),
+    # Headers: countersignatures (RFC 9052 and 9338), one or several; keys of key agreement (RFC 9053), hashes of
+    # certificates (RFC 9360), claims (RFC 9528).
+    (["-p", "1", "-x", "18([h'', {7: [h'', {4: '1'}, h'']}, h'', h''])"],
+     "{\n"
+     "    /counter signature/ 7: [\n"
+     "        /protected/ h'',\n"
+     "        /unprotected/ {/kid/ 4: h'31' /'1'/},\n"
+     "        /signature/ h'',\n"
+     "    ],\n"
+     "}\n"),
+    (["-p", "1/11/0/1", "-x", "18([h'', {11: [[h'', {4: '1'}, h'']]}, h'', h''])"], "{/kid/ 4: h'31' /'1'/}\n"),
+    (["-p", "1/11/1", "-x", "18([h'', {11: [h'', {4: '1'}, h'']}, h'', h''])"], "{/kid/ 4: h'31' /'1'/}\n"),
+    (["-x", "19([h'', {}, h''])"], "/COSE_Countersignature/ 19([/protected/ h'', /unprotected/ {}, /signature/ h''])\n"),
+    (["-p", "3/0/1", "-x", "96([h'', {}, h'', [[h'', {-1: {1: 2, -1: 1}, -20: h'', -23: h''}, h'']]])"],
+     "{\n"
+     "    /ephemeral key/ -1: {/kty/ 1: 2 /EC2/, /crv/ -1: 1 /P-256/},\n"
+     "    /salt/ -20: h'',\n"
+     "    /PartyU other/ -23: h'',\n"
+     "}\n"),
+    (["-p", "1", "-x", "18([h'', {14: {2: \"a\"}, 34: [-15, h'']}, h'', h''])"],
+     "{\n"
+     "    /kccs/ 14: {/sub/ 2: \"a\"},\n"
+     "    /x5t/ 34: [/hashAlg/ -15 /SHA-256-64/, /hashValue/ h''],\n"
+     "}\n"),
+    (["-p", "1", "-x", "18([h'', {258: -16, 260: \"u\", 395: 1, 396: {-1: []}}, h'', h''])"],
+     "{\n"
+     "    /payload-hash-alg/ 258: -16 /SHA-256/,\n"
+     "    /payload-location/ 260: \"u\",\n"
+     "    /vds/ 395: 1 /RFC9162_SHA256/,\n"
+     "    /vdp/ 396: {/inclusion proofs/ -1: []},\n"
+     "}\n"),
     # The type that is given is that of the part.
     (["--as=COSE_Key", "-p", "1", "-x", "18([h'', {1: 4}, h'', h''])"], "/COSE_Key/ {/kty/ 1: 4 /Symmetric/}\n"),
     (["--no-names", "-p", "0", "-x", MESSAGE], "h'a10126'\n"),
@@ -246,6 +296,175 @@ def words(run, same):
         same(f"refused {given}", (out, status), (b"", 2))
 
 
+# Words of --as where nothing has the shape of the type, what is written, and what the line calls the input.
+OTHER_SHAPES = [
+    (["--as=COSE_Sign1", "-x", "[1, 2, 3]"], "[/protected/ 1, /unprotected/ 2, /payload/ 3]\n", "COSE_Sign1"),
+    (["--as=cose-key", "-x", "1 [2]"], "1\n[2]\n", "cose-key"),
+    (["--as=CWT", "-p", "0", "-x", "[1]"], "1\n", "CWT"),
+    (["--as=CWT", "-t", "hex", "-x", "1"], "01 # unsigned(1)\n", "CWT"),
+]
+
+
+def other_shapes(run, same):
+    """A line says that the type of --as fits nothing. One item that fits is enough."""
+    for given, wanted, word in OTHER_SHAPES:
+        line = f"cborcat: -x: nothing that is shown has the shape of {word} (--as)\n"
+        same(f"no shape {given}", run(*given), (wanted.encode(), line, 0))
+    same("a shape among others", run("--as=CWT", "-x", "1 {} 2"), (b"1\n/CWT/ {}\n2\n", "", 0))
+    same("a shape among parts", run("--as=CWT", "-p", "*", "-x", "[1, {}]"), (b"1\n/CWT/ {}\n", "", 0))
+    same("no items", run("--as=CWT", data=b"")[::2], (b"", 0))
+
+
+# Files of names that define a known type again, or take its tag, and what is written.
+AGAIN = [
+    ("[COSE_Key]\nmap = { 3 = 'algorithm', 99 = 'mine' }\n", ["--as=COSE_Key", "-x", "{1: 4, 3: 5, -1: h'', 99: 1}"],
+     "/COSE_Key/ {\n"
+     "    /kty/ 1: 4 /Symmetric/,\n"
+     "    /algorithm/ 3: 5 /HMAC 256-256/,\n"
+     "    /k/ -1: h'',\n"
+     "    /mine/ 99: 1,\n"
+     "}\n"),
+    ("[COSE_Algorithm]\nvalues = { -7 = 'ours' }\n", ["-x", "18([<<{1: -7}>>, {1: -8}, h'', h''])"],
+     "/COSE_Sign1/ 18([\n"
+     "    /protected/ <<{/alg/ 1: -7 /ours/}>>,\n"
+     "    /unprotected/ {/alg/ 1: -8 /EdDSA/},\n"
+     "    /payload/ h'',\n"
+     "    /signature/ h'',\n"
+     "])\n"),
+    ("[Ticket]\ntag = 18\narray = ['head']\n", ["-x", "18([<<{1: -7}>>, {4: '1'}, h'', h''])"],
+     "/Ticket/ 18([\n"
+     "    /head/ <<{/alg/ 1: -7 /ES256/}>>,\n"
+     "    /unprotected/ {/kid/ 4: h'31' /'1'/},\n"
+     "    /payload/ h'',\n"
+     "    /signature/ h'',\n"
+     "])\n"),
+    # Another shape takes the place of the known one.
+    ("[CWT_Confirmation]\narray = ['key']\n", ["--as=CWT", "-x", "{8: {1: 2}}"], "/CWT/ {/cnf/ 8: {1: 2}}\n"),
+]
+
+# The same with CDDL. A map that says nothing is still that of the known type.
+AGAIN_BY_RULES = [
+    ("COSE_Key = { 3 => int, 99 => int }", ["--as=COSE_Key", "-x", "{3: 5, 99: 1}"],
+     "/COSE_Key/ {/alg/ 3: 5 /HMAC 256-256/, 99: 1}\n"),
+    ("m = #6.18([protected: bstr, unprotected: h, payload: bstr .cbor p, signature: bstr])\n"
+     "h = { * any => any }\np = { a => int }\na = 1\n", ["-x", "18([<<{1: -7}>>, {4: '1'}, <<{1: 2, 3: 4}>>, h''])"],
+     "/m/ 18([\n"
+     "    /protected/ <<{/alg/ 1: -7 /ES256/}>>,\n"
+     "    /unprotected/ {/kid/ 4: h'31' /'1'/},\n"
+     "    /payload/ <<{/a/ 1: 2, 3: 4}>>,\n"
+     "    /signature/ h'',\n"
+     "])\n"),
+    ("m = #6.1000({ 1 => e / [2* e], 2 => #6.24(bstr .cbor e), 3 => [* e], 4 => t })\n"
+     "e = { b => int }\nb = 7\nt = #6.1001(bstr .cbor e)\n",
+     ["-x", "1000({1: [{7: 1}, {7: 2}], 2: 24(h'a10703'), 3: 258([{7: 4}]), 4: 1001(h'a10705')}) 1000({1: {7: 6}})"],
+     "/m/ 1000({\n"
+     "    1: [{/b/ 7: 1}, {/b/ 7: 2}],\n"
+     "    2: 24(<<{/b/ 7: 3}>>),\n"
+     "    3: 258([{/b/ 7: 4}]),\n"
+     "    4: /t/ 1001(<<{/b/ 7: 5}>>),\n"
+     "})\n"
+     "/m/ 1000({1: {/b/ 7: 6}})\n"),
+]
+
+# The names that come with the program, by the documents that each file names. Types are found by --as alone, too.
+KEPT = [
+    ("suit", ["--as=SUIT_Manifest", "-x", "{1: 1, 2: 0, 7: h'82030f'}"],
+     "/SUIT_Manifest/ {\n"
+     "    /suit-manifest-version/ 1: 1,\n"
+     "    /suit-manifest-sequence-number/ 2: 0,\n"
+     "    /suit-validate/ 7: <<[\n"
+     "        /command/ 3 /suit-condition-image-match/,\n"
+     "        /argument/ 15,\n"
+     "    ]>>,\n"
+     "}\n"),
+    ("corim", ["--as=environment-map", "-x", "{0: {1: \"ACME\", 2: \"R\"}}"],
+     "/environment-map/ {/class/ 0: {/vendor/ 1: \"ACME\", /model/ 2: \"R\"}}\n"),
+    ("coswid", ["--as=concise-swid-tag", "-x", "{0: \"a\", 12: 0, 2: [{31: \"b\", 33: 1}]}"],
+     "/concise-swid-tag/ {\n"
+     "    /tag-id/ 0: \"a\",\n"
+     "    /tag-version/ 12: 0,\n"
+     "    /entity/ 2: [{/entity-name/ 31: \"b\", /role/ 33: 1 /tag-creator/}],\n"
+     "}\n"),
+    ("coswid", ["--as=entity-entry", "-x", "{33: [2, 6]}"],
+     "/entity-entry/ {/role/ 33: [2 /software-creator/, 6 /maintainer/]}\n"),
+    ("c509", ["--as=C509Certificate", "-x", "[2, h'01', 0, \"CA\", 0, 1, h'', 1, h'', 1, h'']"],
+     "/C509Certificate/ [\n"
+     "    /c509CertificateType/ 2,\n"
+     "    /certificateSerialNumber/ h'01',\n"
+     "    /issuerSignatureAlgorithm/ 0,\n"
+     "    /issuer/ \"CA\",\n"
+     "    /validityNotBefore/ 0 /1970-01-01T00:00:00Z/,\n"
+     "    /validityNotAfter/ 1 /1970-01-01T00:00:01Z/,\n"
+     "    /subject/ h'',\n"
+     "    /subjectPublicKeyAlgorithm/ 1,\n"
+     "    /subjectPublicKey/ h'',\n"
+     "    /extensions/ 1,\n"
+     "    /issuerSignatureValue/ h'',\n"
+     "]\n"),
+    ("cardano", ["--as=transaction_body", "-x", "{0: 258([[h'aa', 0]]), 1: [{0: h'01', 1: 5}], 2: 170000}"],
+     "/transaction_body/ {\n"
+     "    /inputs/ 0: 258([[/transaction_id/ h'aa', /index/ 0]]),\n"
+     "    /outputs/ 1: [{/address/ 0: h'01', /value/ 1: 5}],\n"
+     "    /fee/ 2: 170000,\n"
+     "}\n"),
+]
+
+# Types that their tags say, with --names alone.
+KEPT_TAGS = [
+    (["--names=suit", "-x", "107({3: h'a10101'})"],
+     "/SUIT_Envelope_Tagged/ 107({\n    /suit-manifest/ 3: <<{/suit-manifest-version/ 1: 1}>>,\n})\n"),
+    (["--names=coswid", "-x", "1398229316({1: \"a\", 14: 16384})"],
+     "/tagged-coswid/ 1398229316({\n    /software-name/ 1: \"a\",\n    /version-scheme/ 14: 16384 /semver/,\n})\n"),
+    (["--names=corim", "-x", "501({0: \"a\", 1: [506(h'a101a1006162')]})"],
+     "/tagged-unsigned-corim-map/ 501({\n"
+     "    /id/ 0: \"a\",\n"
+     "    /tags/ 1: [\n"
+     "        /tagged-concise-mid-tag/ 506(<<{/tag-identity/ 1: {/tag-id/ 0: \"b\"}}>>),\n"
+     "    ],\n"
+     "})\n"),
+    (["--names=corim", "-p", "payload", "-x", "18([h'', {}, h'd901f5a1006161', h''])"],
+     "<</tagged-unsigned-corim-map/ 501({/id/ 0: \"a\"})>>\n"),
+]
+
+
+def again(run, same, folder):
+    """A file of names takes no known name away."""
+    for rows, name in ((AGAIN, "again.toml"), (AGAIN_BY_RULES, "again.cddl")):
+        path = os.path.join(folder, name)
+        for text, given, wanted in rows:
+            with open(path, "w", encoding="utf-8") as file:
+                file.write(text)
+            same(f"a known type again {text!r}", run(f"--names={path}", *given), (wanted.encode(), "", 0))
+
+
+def kept(run, same, folder):
+    """The names that come with the program."""
+    for name, given, wanted in KEPT:
+        same(f"names of {name}", run(f"--names={name}", *given), (wanted.encode(), "", 0))
+        same(f"names of {name} by --as", run(*given), (wanted.encode(), "", 0))
+    for given, wanted in KEPT_TAGS:
+        same(f"names by a tag {given}", run(*given), (wanted.encode(), "", 0))
+    auth = "{\"issuerAuth\": [<<{1: -7}>>, {}, <<24(<<{\"deviceKeyInfo\": {\"deviceKey\": {1: 1}}}>>)>>, h'']}"
+    same("names of mdoc", run("--names=mdoc", "--as=IssuerSigned", "-x", auth), (
+        b'/IssuerSigned/ {\n'
+        b'    "issuerAuth": [\n'
+        b'        /protected/ <<{/alg/ 1: -7 /ES256/}>>,\n'
+        b'        /unprotected/ {},\n'
+        b'        /payload/ <<24(<<{\n'
+        b'            "deviceKeyInfo": {"deviceKey": {/kty/ 1: 1 /OKP/}},\n'
+        b'        }>>)>>,\n'
+        b'        /signature/ h\'\',\n'
+        b'    ],\n'
+        b'}\n', "", 0))
+    # A file of that name is read if its path says so.
+    with open(os.path.join(folder, "suit"), "w", encoding="utf-8") as file:
+        file.write("[Frame]\ntag = 1000\narray = ['version']\n")
+    same("a file with the name of names", run("--names=./suit", "-x", "1000([1])", cwd=folder),
+         (b"/Frame/ 1000([/version/ 1])\n", "", 0))
+    same("names beside such a file", run("--names=suit", "-x", "107({})", cwd=folder),
+         (b"/SUIT_Envelope_Tagged/ 107({})\n", "", 0))
+
+
 def files(run, same, folder):
     """Files of names."""
     path = os.path.join(folder, "names.toml")
@@ -321,5 +540,8 @@ def check(run, same, folder, scratch):
     examples(run, same, folder)
     words(run, same)
     dumps(run, same, folder)
+    other_shapes(run, same)
     files(run, same, scratch)
     by_rules(run, same, scratch)
+    again(run, same, scratch)
+    kept(run, same, scratch)

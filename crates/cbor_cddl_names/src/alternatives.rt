@@ -7,6 +7,9 @@ use cbor_cddl::Node;
 use cbor_names::Key;
 use std::alloc::AllocError;
 
+/// The tag of a byte string that holds an item.
+const ENCODED: u64 = 24;
+
 /// What an item of a type may be.
 #[derive(Clone, Copy)]
 pub(crate) struct Alternative<'a> {
@@ -115,11 +118,19 @@ impl<'a> Source<'a> {
         }
     }
 
+    /// The node of what a tag is around. For tag 24 that is the item in the byte string.
+    fn below_tag(&self, number: u64, item: usize) -> usize {
+        match self.schema.node(item) {
+            Node::Encoded { item: held, .. } if number == ENCODED => held,
+            _ => item,
+        }
+    }
+
     /// Whether a node is a tag, or the name of a rule that has a type.
     fn has_type(&self, node: usize, types: &[Option<usize>]) -> bool {
         match self.schema.node(node) {
             Node::Rule(rule) => matches!(types.get(rule), Some(Some(_))),
-            Node::Tag { .. } => true,
+            Node::Tag { number, item } => self.below_tag(number, item) == item,
             _ => false,
         }
     }
@@ -139,9 +150,10 @@ impl<'a> Source<'a> {
                     left.push(next.of_rule(*index, None))?;
                 }
             }
-            Node::Tag { item, .. } | Node::AnyTag { item, .. } => {
-                left.push(Alternative::new(item))?;
+            Node::Tag { number, item } => {
+                left.push(Alternative::new(self.below_tag(number, item)))?;
             }
+            Node::AnyTag { item, .. } => left.push(Alternative::new(item))?,
             Node::Both { target, .. }
             | Node::Unequal { target, .. }
             | Node::Size { target, .. }

@@ -28,6 +28,8 @@ enum Form {
     /// Arrays whose members are all of this type.
     Each(usize),
     Values,
+    /// Byte strings that hold an item of this type.
+    Encoded(usize),
 }
 
 /// A type with its parts.
@@ -38,8 +40,8 @@ struct Body<'a> {
 }
 
 /// Returns the tables with the types of a schema: each rule that is a map, an array, a tag or a
-/// choice of named values. A type takes the place of one that has its name, and a tag the place of
-/// the same one.
+/// choice of named values. Its names come before those of a type that has the same name or the same
+/// tag, and these stay where the schema has none.
 pub fn with_schema(alloc: Global, names: Names, schema: &Schema) -> Result<Names, AllocError> {
     let mut names = names;
     let source = Source::new(alloc, schema)?;
@@ -61,6 +63,7 @@ pub fn with_schema(alloc: Global, names: Names, schema: &Schema) -> Result<Names
         let body = types.body(index, node)?;
         types.push(&mut names, index, tag, &body)?;
     }
+    names.merge()?;
     Ok(names)
 }
 
@@ -72,10 +75,7 @@ impl<'a> Types<'a> {
             Some(Kind::Map) => self.map(index, &alternatives),
             Some(Kind::Array(group)) => self.array(index, group),
             Some(Kind::Values) => self.values(&alternatives),
-            None => Ok(Body {
-                form: Form::Array,
-                rows: Vec::new(self.source.alloc),
-            }),
+            None => self.encoded(index, node),
         }
     }
 
@@ -93,6 +93,24 @@ impl<'a> Types<'a> {
             }
         }
         let form = Form::Values;
+        Ok(Body { form, rows })
+    }
+
+    /// The item in a byte string below a tag, or nothing but a name.
+    fn encoded(&mut self, index: usize, node: usize) -> Result<Body<'a>, AllocError> {
+        let spot = Spot {
+            parent: index,
+            part: "item",
+        };
+        let held = match self.source.schema.node(node) {
+            Node::Tag { item, .. } => self.held(item, spot)?,
+            _ => None,
+        };
+        let form = match held {
+            Some(held) => Form::Encoded(held),
+            None => Form::Array,
+        };
+        let rows = Vec::new(self.source.alloc);
         Ok(Body { form, rows })
     }
 
@@ -225,6 +243,7 @@ impl<'a> Types<'a> {
         match known {
             Known::Nothing => What::Any,
             Known::Of(index) => What::Of(self.name(index)),
+            Known::OneOrMore(index) => What::OneOrMore(self.name(index)),
             Known::Encoded(index) => What::Encoded(self.name(index)),
             Known::Nested(index) => What::Nested(self.name(index)),
             Known::Date => What::Date,
@@ -245,6 +264,7 @@ impl<'a> Types<'a> {
             Form::MapTo(known) => Shape::MapTo(self.what(known)),
             Form::Each(each) => Shape::Each(self.name(each)),
             Form::Values => Shape::Values,
+            Form::Encoded(held) => Shape::Encoded(self.name(held)),
         };
         names.define(Definition {
             name: self.name(index),

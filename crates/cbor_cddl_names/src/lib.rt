@@ -1,5 +1,5 @@
 //! Makes names from CDDL: [`with_schema`] adds the rules of a loaded schema to tables of
-//! `cbor_names`, as types. docs/NAMES.md says what has which name.
+//! `cbor_names`, as types. [`KEPT`] has files of names. docs/NAMES.md says what has which name.
 //!
 //! ```rust
 //! use cbor_cddl::Schema;
@@ -19,7 +19,9 @@
 mod alternatives;
 mod builder;
 mod groups;
+mod kept;
 mod source;
 mod types;
 
 pub use builder::with_schema;
+pub use kept::KEPT;

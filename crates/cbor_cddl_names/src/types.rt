@@ -21,6 +21,8 @@ pub(crate) struct Type {
 pub(crate) enum Known {
     Nothing,
     Of(usize),
+    /// An item of the type, or an array of such items.
+    OneOrMore(usize),
     /// A byte string that holds an item of the type.
     Encoded(usize),
     /// An item of the type, or a byte string that holds one.
@@ -117,6 +119,18 @@ impl<'a> Types<'a> {
 
     /// The type at a node: that of a rule, or one of its own.
     pub(crate) fn at(&mut self, node: usize, spot: Spot) -> Result<Option<usize>, AllocError> {
+        let found = self.named(node)?;
+        if found.is_some() {
+            return Ok(found);
+        }
+        if !self.is_type(node)? {
+            return Ok(None);
+        }
+        Ok(Some(self.unnamed(node, spot)?))
+    }
+
+    /// The type of a rule at a node.
+    fn named(&self, node: usize) -> Result<Option<usize>, AllocError> {
         let alternatives = self
             .source
             .alternatives(node, Depth::Types, &self.of_rules)?;
@@ -130,10 +144,7 @@ impl<'a> Types<'a> {
                 break;
             }
         }
-        if !self.is_type(node)? {
-            return Ok(None);
-        }
-        Ok(Some(self.unnamed(node, spot)?))
+        Ok(None)
     }
 
     /// The type at a node that no rule names.
@@ -158,6 +169,9 @@ impl<'a> Types<'a> {
         let held = self.held(node, spot)?;
         match (plain, held) {
             (Some(found), Some(inner)) if found == inner => return Ok(Known::Nested(found)),
+            (Some(found), _) if self.has_arrays_of(node, found)? => {
+                return Ok(Known::OneOrMore(found));
+            }
             (Some(found), _) => return Ok(Known::Of(found)),
             (None, Some(inner)) => return Ok(Known::Encoded(inner)),
             (None, None) => {}
@@ -173,8 +187,32 @@ impl<'a> Types<'a> {
         Ok(Known::Nothing)
     }
 
+    /// Whether the items at a node, which are of this type, may also be arrays of items of it.
+    fn has_arrays_of(&self, node: usize, found: usize) -> Result<bool, AllocError> {
+        let alternatives = self
+            .source
+            .alternatives(node, Depth::Types, &self.of_rules)?;
+        for one in &alternatives {
+            let Node::Array(group) = self.source.schema.node(one.node) else {
+                continue;
+            };
+            let members = self.source.members(group)?;
+            if let [only] = members.as_slice()
+                && only.occurrence.most > 1
+                && self.named(only.value)? == Some(found)
+            {
+                return Ok(true);
+            }
+        }
+        Ok(false)
+    }
+
     /// The type of the item that a byte string at a node holds.
-    fn held(&mut self, node: usize, spot: Spot) -> Result<Option<usize>, AllocError> {
+    pub(crate) fn held(
+        &mut self,
+        node: usize,
+        spot: Spot,
+    ) -> Result<Option<usize>, AllocError> {
         let alternatives = self
             .source
             .alternatives(node, Depth::Types, &self.of_rules)?;

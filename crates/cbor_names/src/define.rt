@@ -1,7 +1,7 @@
 //! Builds a table of names: adds types and their parts to `Names`.
 
 use crate::part::{Definition, Key, Part, Shape, What};
-use crate::table::{KeyRow, Names, PartRow, ShapeRow, TextRange, Type, WhatRow};
+use crate::table::{Again, KeyRow, Names, PartRow, ShapeRow, TextRange, Type, WhatRow};
 use std::alloc::{AllocError, Global};
 
 impl Names {
@@ -13,17 +13,23 @@ impl Names {
             tags: 0,
             parts: Vec::new(alloc),
             last: 0,
+            again: Vec::new(alloc),
+            merged: 0,
         }
     }
 
     /// Defines a type, whose parts [`push`](Names::push) adds. It takes the place of one that has
-    /// its name, and its tag is no other type's any more.
+    /// its name, and its tag is no other type's any more. [`merge`](Names::merge) gives it what
+    /// these had.
     ///
     /// Types that a definition or a part names may be defined later. A type that is not says
     /// nothing of an item.
     pub fn define(&mut self, definition: Definition<'_>) -> Result<(), AllocError> {
         let index = self.place_of(definition.name)?;
         let shape = self.shape_row(definition.shape)?;
+        if let Some(before) = self.before(index, definition.tag) {
+            self.again.push(Again { index, before })?;
+        }
         if let Some(tag) = definition.tag {
             self.release(tag);
             self.tags |= 1 << (tag % 64);
@@ -71,6 +77,14 @@ impl Names {
             self.push(*part)?;
         }
         Ok(())
+    }
+
+    /// What a type was before it is defined with this tag, or else the type that has the tag.
+    fn before(&self, index: usize, tag: Option<u64>) -> Option<Type> {
+        match self.types.get(index) {
+            Some(found) if found.is_defined() => Some(*found),
+            _ => self.tagged(tag?),
+        }
     }
 
     /// No type has this tag any more.
@@ -121,6 +135,7 @@ impl Names {
             What::Any => Ok(WhatRow::Any),
             What::Of(name) => Ok(WhatRow::Of(self.place_of(name)?)),
             What::Each(name) => Ok(WhatRow::Each(self.place_of(name)?)),
+            What::OneOrMore(name) => Ok(WhatRow::OneOrMore(self.place_of(name)?)),
             What::Encoded(name) => Ok(WhatRow::Encoded(self.place_of(name)?)),
             What::Payload(name) => Ok(WhatRow::Payload(self.place_of(name)?)),
             What::Nested(name) => Ok(WhatRow::Nested(self.place_of(name)?)),
@@ -137,6 +152,7 @@ impl Names {
             Shape::MapTo(what) => Ok(ShapeRow::MapTo(self.what_row(what)?)),
             Shape::Each(name) => Ok(ShapeRow::Each(self.place_of(name)?)),
             Shape::Values => Ok(ShapeRow::Values),
+            Shape::Encoded(name) => Ok(ShapeRow::Encoded(self.place_of(name)?)),
         }
     }
 }

@@ -4,7 +4,7 @@
 
 ghost use Rattle.std.specs.Prelude.{◌≡◌, ◌+◌, ◌<◌};
 
-use crate::pairs::Pairs;
+use crate::pairs::{Pairs, after_item};
 use crate::scalar::Scalar;
 use crate::table::{Inside, Names, PartRow, WhatRow};
 use crate::way::Known;
@@ -25,6 +25,8 @@ pub(crate) struct Expected<'a> {
     pub tag: Option<u64>,
     /// The tag around that of the item, or of the array that it is a member of.
     pub around: Option<u64>,
+    /// Whether a map in a byte string that may hold an item of a type is one.
+    pub holds: bool,
 }
 
 /// The keys of a map, and the value of the one that some depend on.
@@ -67,21 +69,19 @@ impl Names {
     }
 
     /// What is known of the item that a byte string of this content holds.
-    pub(crate) fn held(
-        &self,
-        what: WhatRow,
-        around: Option<u64>,
-        content: &[u8],
-    ) -> Option<WhatRow> {
-        match what {
+    pub(crate) fn held(&self, expected: &Expected<'_>, content: &[u8]) -> Option<WhatRow> {
+        match expected.what {
             WhatRow::Encoded(index) | WhatRow::Nested(index) if !content.is_empty() => {
                 Some(WhatRow::Of(index))
             }
             WhatRow::Payload(index) => {
                 let held = self.types.get(index)?;
-                let below = held.tag.is_some() && held.tag == around;
-                if below || self.has_signs(held, content) {
+                let below = held.tag.is_some() && held.tag == expected.around;
+                let was_held = expected.holds && is_map(content);
+                if below || was_held || self.has_signs(held, content) {
                     Some(WhatRow::Of(index))
+                } else if self.says(content) && after_item(content) == Some(b"") {
+                    Some(WhatRow::Any)
                 } else {
                     None
                 }
@@ -89,6 +89,11 @@ impl Names {
             _ => None,
         }
     }
+}
+
+/// Whether bytes are a map.
+fn is_map(bytes: &[u8]) -> bool {
+    matches!(bytes, [0xa0..=0xbf, ..]) && after_item(bytes) == Some(b"")
 }
 
 impl<'a> Expected<'a> {
@@ -104,6 +109,7 @@ impl<'a> Expected<'a> {
             what: known.what,
             tag: known.tag,
             around: known.around,
+            holds: known.holds,
         }
     }
 
@@ -126,6 +132,7 @@ impl<'a> Expected<'a> {
             what: WhatRow::Any,
             tag: None,
             around: None,
+            holds: self.holds,
         }
     }
 

@@ -104,8 +104,9 @@ fn table_of(alloc: Global, text: &str) -> Result<Table, FileError> {
     }
 }
 
-/// Returns the tables with the types of a file, in TOML as docs/NAMES.md describes it. A type of
-/// the file takes the place of one that has its name, and a tag the place of the same one.
+/// Returns the tables with the types of a file, in TOML as docs/NAMES.md describes it. The names of
+/// the file come before those of a type that has the same name or the same tag, and these stay where
+/// the file has none.
 ///
 /// Returns what is wrong with the text, and the line: it is no TOML, it has more than 65,536 bytes,
 /// a table is no type, a name has a character that notes cannot have, or a type that is named is
@@ -121,5 +122,6 @@ pub fn with_file(alloc: Global, names: Names, text: &str) -> Result<Names, FileE
     if names.lacks(&names) {
         return Err(placed(alloc, text, Fault::NoType, Some(&names)));
     }
+    names.merge()?;
     Ok(names)
 }

@@ -92,10 +92,12 @@ impl Names {
     /// The name of the type that an item is of, if this is known of it.
     fn name_of(&self, what: WhatRow) -> &str {
         match what {
-            WhatRow::Of(index) | WhatRow::Nested(index) => match self.types.get(index) {
-                Some(found) => self.text(found.name),
-                None => "",
-            },
+            WhatRow::Of(index) | WhatRow::OneOrMore(index) | WhatRow::Nested(index) => {
+                match self.types.get(index) {
+                    Some(found) => self.text(found.name),
+                    None => "",
+                }
+            }
             _ => "",
         }
     }

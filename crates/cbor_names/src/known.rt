@@ -33,5 +33,6 @@ pub fn known_names(alloc: Global) -> Result<Names, AllocError> {
     cwt::add(&mut names)?;
     senml::add(&mut names)?;
     ctap2::add(&mut names)?;
+    names.merge()?;
     Ok(names)
 }

@@ -29,6 +29,7 @@ mod heads;
 mod key;
 mod known;
 mod marks;
+mod merge;
 mod moment;
 mod note;
 mod pairs;

@@ -5,6 +5,7 @@
 ghost use Rattle.std.specs.Prelude.{◌≡◌, ◌≤◌, ℕ, IfOk};
 ghost use Rattle.cbor_names.specs.Order.{AreInOrder, RiseTo, len_of};
 
+use crate::way::Known;
 use cbor_notes::Note;
 use std::alloc::{AllocError, Global};
 
@@ -13,6 +14,8 @@ use std::alloc::{AllocError, Global};
 #[derive(Drop)]
 pub struct Notes<'a> {
     len: usize,
+    /// What is known of the item.
+    known: Known,
     found: Vec<Found<'a>>,
     /// The meanings that no table has, one after the other.
     made: String,
@@ -100,10 +103,11 @@ fn push_next<'a>(list: &mut Vec<Note<'a>>, from: usize, note: Note<'a>) -> Resul
 }
 
 impl<'a> Notes<'a> {
-    /// No notes, of no bytes.
-    pub(crate) fn new(alloc: Global) -> Notes<'a> {
+    /// No notes, of no bytes, of an item of which this is known.
+    pub(crate) fn new(alloc: Global, known: Known) -> Notes<'a> {
         Notes {
             len: 0,
+            known,
             found: Vec::new(alloc),
             made: String::new(alloc),
         }
@@ -114,6 +118,21 @@ impl<'a> Notes<'a> {
         ensures { len_of result ≡ len }
     {
         Notes { len, ..self }
+    }
+
+    /// Records that a byte string holds an item of the type that it may hold.
+    pub(crate) fn holds(&mut self) {
+        self.known.holds = true;
+    }
+
+    /// Returns what is known of the item, as what is in it tells, if anything is. It still has
+    /// these names after a change of what told it.
+    pub fn known(&self) -> Option<Known> {
+        if self.known.is_nothing() {
+            None
+        } else {
+            Some(self.known)
+        }
     }
 
     /// How many there are.

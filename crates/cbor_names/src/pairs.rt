@@ -4,7 +4,7 @@
 
 ghost use Rattle.std.specs.Prelude.{◌<◌, length, IfSome};
 
-use crate::scalar::{Scalar, kind_at, scalar_at};
+use crate::scalar::{Scalar, scalar_at};
 use crate::table::{Inside, KeyRow, Names, Type, WhatRow};
 use crate::way::Known;
 use cbor_bytes::head::read_head;
@@ -118,10 +118,10 @@ impl Names {
             let Some(part) = self.part_at(parts, None, pair.key) else {
                 continue;
             };
-            if part.sign.is_none() {
+            let Some(sign) = part.sign else {
                 continue;
-            }
-            if part.sign != kind_at(pair.value) {
+            };
+            if !sign.is_at(pair.value) {
                 return None;
             }
             signs = signs.saturating_add(1);

@@ -28,6 +28,8 @@ pub enum Shape<'a> {
     Each(&'a str),
     /// Integers and texts that mean something; each part is one, with its meaning as its name.
     Values,
+    /// Byte strings that hold an encoded item of the type of this name.
+    Encoded(&'a str),
 }
 
 /// A member of an array, a key of a map, or a value that means something.
@@ -63,6 +65,8 @@ pub enum What<'a> {
     Of(&'a str),
     /// An array of items of this type.
     Each(&'a str),
+    /// An item of this type, which is no array whose first member is one, or an array of such items.
+    OneOrMore(&'a str),
     /// A byte string that holds an encoded item of this type.
     Encoded(&'a str),
     /// A byte string that holds an encoded item of this type if the tag of the type stands around
@@ -80,10 +84,18 @@ pub enum What<'a> {
 /// The kind of a value.
 #[derive(Clone, Copy, PartialEq, Eq, Debug)]
 pub enum Kind {
-    /// An integer or a float.
+    /// An integer or a float, also below tag 1.
     Number,
     Text,
     Bytes,
+    /// A text or a byte string.
+    TextOrBytes,
+    /// A text, or an array that begins with one.
+    Texts,
+    /// A byte string, or an array that begins with one.
+    ByteStrings,
+    Array,
+    Map,
 }
 
 impl<'a> Part<'a> {

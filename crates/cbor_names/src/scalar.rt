@@ -1,7 +1,8 @@
 //! Reads an integer, a text or a float at the front of bytes, and finds the row of the tables for
-//! an integer or a text. Also finds the kind of the item there.
+//! an integer or a text. `Kind::is_at`: whether the item there is of a kind.
 
 use crate::part::Kind;
+use crate::shape::EPOCH;
 use crate::table::{KeyRow, Names, PartRow};
 use cbor_bytes::head::read_head;
 use cbor_floats::EncodedFloat;
@@ -101,15 +102,41 @@ pub(crate) fn float_at(bytes: &[u8]) -> Option<EncodedFloat> {
     }
 }
 
-/// The kind of the item at the front, if it is one of them.
-pub(crate) fn kind_at(bytes: &[u8]) -> Option<Kind> {
-    let Ok((head, _)) = read_head(bytes) else {
-        return None;
-    };
-    match head {
-        ItemHead::Integer(..) | ItemHead::Negative(..) | ItemHead::Float(..) => Some(Kind::Number),
-        ItemHead::String(StringKind::Text, _) => Some(Kind::Text),
-        ItemHead::String(StringKind::Bytes, _) => Some(Kind::Bytes),
-        _ => None,
+impl Kind {
+    /// Whether the item at the front is of this kind.
+    pub(crate) fn is_at(self, bytes: &[u8]) -> bool {
+        let Ok((head, rest)) = read_head(bytes) else {
+            return false;
+        };
+        match (self, head) {
+            (Kind::Number, ItemHead::Tag(EPOCH, _)) => self.is_first(rest),
+            (Kind::Texts | Kind::ByteStrings, ItemHead::Array(_)) => self.is_first(rest),
+            (Kind::Array, ItemHead::Array(_)) | (Kind::Map, ItemHead::Map(_)) => true,
+            (_, head) => self.is_scalar(head),
+        }
+    }
+
+    /// The same of a number or a string.
+    fn is_first(self, bytes: &[u8]) -> bool {
+        match read_head(bytes) {
+            Ok((head, _)) => self.is_scalar(head),
+            Err(_) => false,
+        }
+    }
+
+    /// The same of the number or the string with this head.
+    fn is_scalar(self, head: ItemHead) -> bool {
+        match head {
+            ItemHead::Integer(..) | ItemHead::Negative(..) | ItemHead::Float(..) => {
+                self == Kind::Number
+            }
+            ItemHead::String(StringKind::Text, _) => {
+                matches!(self, Kind::Text | Kind::Texts | Kind::TextOrBytes)
+            }
+            ItemHead::String(StringKind::Bytes, _) => {
+                matches!(self, Kind::Bytes | Kind::ByteStrings | Kind::TextOrBytes)
+            }
+            _ => false,
+        }
     }
 }

@@ -3,7 +3,8 @@
 
 use crate::decimal::Scaled;
 use crate::scalar::float_at;
-use crate::table::{Inside, Names, PartRow, Type, WhatRow};
+use crate::table::{Inside, Names, PartRow, ShapeRow, Type, WhatRow};
+use crate::way::Known;
 use cbor_bytes::head::read_head;
 use cbor_bytes::skip::after_front;
 use cbor_grammar::argument::Argument;
@@ -12,6 +13,12 @@ use cbor_grammar::strings::StringKind;
 
 /// The tag whose item may be one of any type.
 pub(crate) const SELF_DESCRIBED: u64 = 55_799;
+
+/// The tag of a set, which is an array.
+pub(crate) const SET: u64 = 258;
+
+/// The tag of a byte string that holds an item.
+pub(crate) const ENCODED: u64 = 24;
 
 /// The tag of seconds from 1970.
 pub(crate) const EPOCH: u64 = 1;
@@ -40,6 +47,12 @@ impl Names {
 
     /// The same of an item whose head is read already.
     fn fit_head(&self, found: &Type, head: ItemHead, rest: &[u8]) -> Fit {
+        if let ShapeRow::Encoded(_) = found.shape {
+            return match head {
+                ItemHead::String(StringKind::Bytes, _) => Fit::Whole,
+                _ => Fit::Other,
+            };
+        }
         match (self.inside_of(found), head) {
             // The type has nothing but a name.
             (Inside::Members([]), _) => Fit::Whole,
@@ -54,7 +67,28 @@ impl Names {
         }
     }
 
-    /// The same of the item behind all tags.
+    /// Whether the item at the front has the shape of the type that is given; true if none is.
+    ///
+    /// ```rust
+    /// use cbor_names::{Known, known_names};
+    ///
+    /// let names = known_names(alloc)?;
+    /// let Some(found) = names.of("COSE_Key") else {
+    ///     return;
+    /// };
+    /// let key = Known::of(found);
+    /// // {1: 4}, and [1]
+    /// assert!(rt; names.has_shape(key, b"\xa1\x01\x04"));
+    /// assert!(rt; !names.has_shape(key, b"\x81\x01"));
+    /// ```
+    pub fn has_shape(&self, known: Known, bytes: &[u8]) -> bool {
+        match known.named {
+            Some(outer) => self.fit_behind_tags(&outer, bytes) == Fit::Whole,
+            None => true,
+        }
+    }
+
+    /// How far the item behind all tags has the shape of this type.
     pub(crate) fn fit_behind_tags(&self, found: &Type, bytes: &[u8]) -> Fit {
         let mut rest = bytes;
         for _ in 0..=u8::MAX {
@@ -128,7 +162,9 @@ impl Names {
             WhatRow::Encoded(_) | WhatRow::Payload(_) | WhatRow::AuthenticatorData => {
                 matches!(head, ItemHead::String(StringKind::Bytes, _))
             }
-            WhatRow::Each(_) => matches!(head, ItemHead::Array(_) | ItemHead::Tag(..)),
+            WhatRow::Each(_) | WhatRow::OneOrMore(_) => {
+                matches!(head, ItemHead::Array(_) | ItemHead::Tag(..))
+            }
             WhatRow::Of(_) => match self.inside(what) {
                 Inside::Members(_) | Inside::Each(_) => {
                     matches!(head, ItemHead::Array(_) | ItemHead::Tag(..))

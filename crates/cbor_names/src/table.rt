@@ -22,6 +22,18 @@ pub struct Names {
     pub(crate) parts: Vec<PartRow>,
     /// The type that was defined last.
     pub(crate) last: usize,
+    /// The types that were defined again since the last [`Names::merge`].
+    pub(crate) again: Vec<Again>,
+    /// How many types there were then.
+    pub(crate) merged: usize,
+}
+
+/// A type that was defined again, or that took the tag of another.
+#[derive(Clone, Copy)]
+pub(crate) struct Again {
+    pub index: usize,
+    /// What it was, or the other.
+    pub before: Type,
 }
 
 /// The text between two places.
@@ -56,6 +68,7 @@ pub(crate) enum ShapeRow {
     MapTo(WhatRow),
     Each(usize),
     Values,
+    Encoded(usize),
 }
 
 /// A part of a type.
@@ -82,6 +95,7 @@ pub(crate) enum WhatRow {
     Any,
     Of(usize),
     Each(usize),
+    OneOrMore(usize),
     Encoded(usize),
     Payload(usize),
     Nested(usize),
@@ -224,12 +238,28 @@ impl Names {
     /// What is known about the items in an item, if this is known about the item.
     pub(crate) fn inside(&self, what: WhatRow) -> Inside<'_> {
         match what {
-            WhatRow::Of(index) | WhatRow::Nested(index) => match self.types.get(index) {
-                Some(found) => self.inside_of(found),
-                None => Inside::Nothing,
-            },
+            WhatRow::Of(index) | WhatRow::OneOrMore(index) | WhatRow::Nested(index) => {
+                match self.types.get(index) {
+                    Some(found) => self.inside_of(found),
+                    None => Inside::Nothing,
+                }
+            }
             WhatRow::Each(index) => Inside::Each(index),
             _ => Inside::Nothing,
+        }
+    }
+
+    /// The same of the members of an array whose head is read already.
+    pub(crate) fn inside_array(&self, what: WhatRow, members: &[u8]) -> Inside<'_> {
+        match (what, self.inside(what), members) {
+            // An array of the type may have this first member.
+            (WhatRow::OneOrMore(_), Inside::Members(_) | Inside::Each(_), [first, ..])
+                if !matches!(*first, 0x80..=0x9f) =>
+            {
+                self.inside(what)
+            }
+            (WhatRow::OneOrMore(index), _, _) => Inside::Each(index),
+            (_, inside, _) => inside,
         }
     }
 
@@ -237,7 +267,7 @@ impl Names {
     pub(crate) fn inside_of(&self, found: &Type) -> Inside<'_> {
         let parts = self.parts.get(found.start..found.end).unwrap_or(&[]);
         match found.shape {
-            ShapeRow::Undefined => Inside::Nothing,
+            ShapeRow::Undefined | ShapeRow::Encoded(_) => Inside::Nothing,
             ShapeRow::Array => Inside::Members(parts),
             ShapeRow::Map => Inside::Keys(parts, None),
             ShapeRow::MapBy(key) => Inside::Keys(parts, Some(key)),
@@ -249,6 +279,14 @@ impl Names {
 }
 
 impl Type {
+    /// What is known of an item of this type.
+    pub(crate) fn what(self) -> WhatRow {
+        match self.shape {
+            ShapeRow::Encoded(index) => WhatRow::Encoded(index),
+            _ => WhatRow::Of(self.index),
+        }
+    }
+
     /// Whether it is defined, not named alone.
     pub(crate) fn is_defined(self) -> bool {
         !matches!(self.shape, ShapeRow::Undefined)

@@ -12,7 +12,7 @@ use crate::heads::after_leaf;
 use crate::moment::datetime_of_float;
 use crate::note::{Found, Notes};
 use crate::scalar::{Scalar, float_at, scalar_at};
-use crate::shape::{EPOCH, Fit, SELF_DESCRIBED};
+use crate::shape::{ENCODED, EPOCH, Fit, SELF_DESCRIBED, SET};
 use crate::table::{Inside, Names, PartRow, Type, WhatRow};
 use crate::way::Known;
 use cbor_bytes::head::read_head;
@@ -69,6 +69,18 @@ fn after_chunks(kind: StringKind, bytes: &[u8]) -> Result<&[u8], Stop>
     }
 }
 
+impl WhatRow {
+    /// What is known of a byte string that holds an item of which this is known.
+    fn encoded(self) -> WhatRow {
+        match self {
+            WhatRow::Of(index) | WhatRow::Encoded(index) | WhatRow::Nested(index) => {
+                WhatRow::Encoded(index)
+            }
+            _ => WhatRow::Any,
+        }
+    }
+}
+
 impl Names {
     /// The note of a tag, and what is known of the item below it, where this is known of what has
     /// the tag.
@@ -80,7 +92,7 @@ impl Names {
         bytes: &[u8],
     ) -> (Found<'a>, WhatRow) {
         if let Some(found) = self.type_of(tag) {
-            let inside = WhatRow::Of(found.index);
+            let inside = found.what();
             return match self.fit_below(found, bytes) {
                 Fit::Other => (note, WhatRow::Any),
                 Fit::Members => (note, inside),
@@ -88,7 +100,8 @@ impl Names {
             };
         }
         match tag {
-            SELF_DESCRIBED => (note, what),
+            SELF_DESCRIBED | SET => (note, what),
+            ENCODED => (note, what.encoded()),
             EPOCH if float_at(bytes).is_some() => (note, WhatRow::Date),
             _ => (note, WhatRow::Any),
         }
@@ -112,7 +125,7 @@ impl<'a> Pass<'a> {
         bytes: &[u8],
     ) -> Result<(), Stop> {
         let note = match expected.what {
-            WhatRow::Of(index) => self.meant(note, index, bytes),
+            WhatRow::Of(index) | WhatRow::OneOrMore(index) => self.meant(note, index, bytes),
             WhatRow::Date => {
                 let date = self.date_of(bytes)?;
                 self.notes.meaning(note, &date)?
@@ -278,7 +291,7 @@ impl<'a> Pass<'a> {
         ensures shorter { IfOk result (λ rest. length rest.now ≤ length bytes.now) }
     {
         let names = self.names;
-        let inside = names.inside(expected.what);
+        let inside = names.inside_array(expected.what, bytes);
         let mut index = 0;
         let mut rest = bytes;
         'members: loop {
@@ -366,11 +379,14 @@ impl<'a> Pass<'a> {
             self.notes.push(note)?;
             return Err(Stop::NoItem);
         };
-        let Some(what) = self.names.held(expected.what, expected.around, content) else {
+        let Some(what) = self.names.held(expected, content) else {
             let behind = rest.len().saturating_add(expected.behind);
             self.note_bytes(expected.what, note, content, behind)?;
             return Ok(rest);
         };
+        if let (WhatRow::Payload(_), WhatRow::Of(_)) = (expected.what, what) {
+            self.notes.holds();
+        }
         self.notes.push(note.encoded(true))?;
         let inside = Expected {
             what,
@@ -446,7 +462,7 @@ pub fn notes_of<'a>(
     let mut pass = Pass {
         alloc,
         names,
-        notes: Notes::new(alloc),
+        notes: Notes::new(alloc, known),
     };
     match pass.item(&Expected::outermost(name, known), bytes) {
         Err(Stop::OutOfMemory) => Err(AllocError),

@@ -28,6 +28,9 @@ pub struct Known {
     pub(crate) tag: Option<u64>,
     /// The tag around that of the item, or of the array that it is a member of.
     pub(crate) around: Option<u64>,
+    /// Whether a map in a byte string that may hold an item of a type is one: it was before a
+    /// change.
+    pub(crate) holds: bool,
 }
 
 impl Known {
@@ -35,7 +38,7 @@ impl Known {
     pub fn of(outer: Type) -> Known {
         Known {
             named: Some(outer),
-            ..Known::by_tables(WhatRow::Of(outer.index))
+            ..Known::by_tables(outer.what())
         }
     }
 
@@ -46,7 +49,13 @@ impl Known {
             what,
             tag: None,
             around: None,
+            holds: false,
         }
+    }
+
+    /// Whether nothing is known.
+    pub(crate) fn is_nothing(self) -> bool {
+        self.named.is_none() && matches!(self.what, WhatRow::Any) && !self.holds
     }
 }
 
@@ -156,7 +165,7 @@ impl<'a, 'b> Inner<'a, 'b> {
                     index: 0,
                     front: inner,
                 };
-                Inner::Members(names.inside(expected.what), members)
+                Inner::Members(names.inside_array(expected.what, rest), members)
             }
             ItemHead::Map(count) => {
                 let keys = names.keys(expected.what, count, rest);
@@ -182,7 +191,7 @@ impl<'a, 'b> Inner<'a, 'b> {
         let Ok((content, rest)) = split_at(front.bytes, len) else {
             return Inner::Nothing;
         };
-        let what = match names.held(expected.what, expected.around, content) {
+        let what = match names.held(expected, content) {
             Some(what) => what,
             None if after_item(content) == Some(b"") => WhatRow::Any,
             None => return Inner::Nothing,
@@ -221,6 +230,7 @@ impl<'a, 'b> Around<'a, 'b> {
             what => Some(Known {
                 tag: self.expected.tag,
                 around: self.expected.around,
+                holds: self.expected.holds,
                 ..Known::by_tables(what)
             }),
         }

@@ -5,10 +5,12 @@ mod fronts;
 mod index;
 mod long;
 mod page;
+mod shapes;
 mod writing;
 
 use self::fronts::{drop_front, first_bytes, short_items};
 use self::long::MANY;
+use self::shapes::Shapes;
 use crate::cddl::Cddl;
 use crate::changes::Changes;
 use crate::each::Each;
@@ -24,7 +26,7 @@ use cbor_stats::Stats;
 use cborcat_arguments::{Job, View, show_of};
 use cborcat_messages::{
     Hole, Origin, Status, report_end, report_few, report_long, report_lost, report_none_left, say,
-    say_line_feed, say_shape,
+    say_line_feed, say_other_shape, say_shape,
 };
 use cborcat_views::{Indexed, Page, ShowsItem, Views, Written};
 use std::alloc::AllocError;
@@ -72,6 +74,8 @@ pub struct Conversion<'a> {
     broken: bool,
     /// Whether the answer to `--at` was written.
     found: bool,
+    /// Whether what was shown has the shape of the type of `--as`.
+    shapes: Shapes,
     /// How many bytes were passed last.
     passed: usize,
     /// How many items were before these, as far as paths are asked for.
@@ -122,6 +126,7 @@ impl<'a> Conversion<'a> {
             noted: false,
             broken: false,
             found: false,
+            shapes: Shapes::none(),
             passed: 0,
             number: 0,
             views,
@@ -295,6 +300,9 @@ impl<'a> Conversion<'a> {
         if is_shown && (self.note_misfit(passed).is_err() || self.note_violation(passed).is_err()) {
             return End::Memory;
         }
+        if is_shown && self.note_type(passed).is_err() {
+            return End::Memory;
+        }
         end
     }
 
@@ -360,6 +368,16 @@ impl<'a> Conversion<'a> {
         end
     }
 
+    /// Notes whether the items that were shown have the shape of the type of `--as`.
+    fn note_type(&mut self, passed: usize) -> Result<(), AllocError> {
+        if self.job.outer.is_some() {
+            let items = self.stream.passed(passed);
+            let alloc = self.rt.alloc();
+            self.shapes = self.shapes.with(alloc, self.job, self.tables, items)?;
+        }
+        Ok(())
+    }
+
     /// Says in a terminal which type the first item looks like, if names are shown and no type is
     /// given.
     fn note_shape(&self, passed: usize) {
@@ -416,6 +434,11 @@ impl<'a> Conversion<'a> {
             }
         }
         self.note_few_changed();
+        if let Some(outer) = self.job.outer
+            && self.shapes.all_miss()
+        {
+            say_other_shape(self.rt, self.origin, outer);
+        }
         if self.ends_line {
             say_line_feed(self.rt, self.origin);
         }

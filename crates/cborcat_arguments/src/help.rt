@@ -45,7 +45,8 @@ Output:
                      gives its type, and show the names of its keys and values
       --names=FILE   also show the names of FILE: tables in TOML, or the rules
                      of a FILE.cddl; beside those of COSE, CWT, EAT, SenML and
-                     CTAP2
+                     CTAP2. Or of a word: c509, cardano, corim, coswid, mdoc,
+                     suit
       --no-names     no names; other comments stay
       --names-as-keys
                      write keys as their names (-t json)

@@ -28,5 +28,5 @@ pub use shape::say_shape;
 pub use status::Status;
 pub use text::{
     report_refusal, say_line_feed, say_named_bytes, say_no_form, say_no_text, say_none,
-    say_notation, say_pasted, say_printed, say_taken,
+    say_notation, say_other_shape, say_pasted, say_printed, say_taken,
 };
