@@ -372,24 +372,40 @@ class Matcher:
         return literal_text(entry.value) if literal else self.wanted(entry.value)
 
     def pairs(self, entry, rest, inside):
-        """Takes the first pairs that fit. With a cut, no pair may be left whose key fits and whose value does not."""
+        """Takes the first pairs that fit. With a cut, no pair may be left whose key fits."""
         keyed = [pair for pair in rest if self.is_fit(entry.key, pair[0])]
         fitting = [pair for pair in keyed if self.is_fit(entry.value, pair[1])]
         taken = fitting if entry.high == MANY else fitting[:entry.high]
         left = tuple(pair for pair in rest if not any(pair is one for one in taken))
+        # with a cut, what comes after the last pair that may be taken is too many, whatever its value
+        begin = keyed.index(taken[-1]) + 1 if taken else 0
+        after = keyed[begin:] if entry.cut and len(taken) == entry.high else []
         for pair in keyed:
-            if not any(pair is one for one in fitting):
+            if not any(pair is one for one in fitting + after):
                 self.fits(entry.value, pair[1], inside.reached(left) + pair[0].end - pair[0].start)
-        if entry.cut and len(keyed) > len(fitting):
+        if after:
+            self.note_too_many(entry, after[0][0], inside.reached(left))
+        if entry.cut and len(keyed) > len(taken):
             return CUTS, rest
         if len(taken) >= entry.low:
             return TAKES, left
         self.note_missing(entry, left, inside)
         return REFUSES, rest
 
+    def key_want(self, entry):
+        key = self.schema.literal(entry.key)
+        return literal_text(key) if key else self.wanted(entry.key)
+
+    def note_too_many(self, entry, key, reach):
+        count = f"at most {entry.high} key" + "s" * (entry.high != 1) if entry.high else "no key"
+        # the message names what the map is, not the entry
+        own = self.names.pop()
+        self.note(reach, key, f"{count} {self.key_want(entry)}", f"the key {key.shown()}")
+        self.names.append(own)
+
     def note_missing(self, entry, left, inside):
         item, key = inside.item, self.schema.literal(entry.key)
-        want = "the key " + (literal_text(key) if key else self.wanted(entry.key))
+        want = "the key " + self.key_want(entry)
         others = [one for one, _ in left if one.kind == "text"]
         like = cddl_load.nearest(key.value, [one.value for one in others]) if key and key.kind == "text" else None
         # the message names what the map is, not the entry that is missing

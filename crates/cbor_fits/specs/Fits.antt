@@ -98,27 +98,29 @@ one_member f (pairs ps) = Some refuses
 
 -- ---- entries of a map (RFC 8610, sections 3.5.1 to 3.5.4)
 
--- which pairs an entry leaves, how many more it may take, how many it has to take, and whether each value fits whose
--- key does
+-- which pairs an entry leaves, how many more it may take, how many it has to take, and whether it takes each pair whose
+-- key fits
 pub record Split : Type 0 where
   pub left : List (Value × Value)
   pub least : ℕ
   pub most : ℕ
-  pub all_fit : Bool
+  pub all_taken : Bool
 
+-- leaves a pair, whose key fits or not
 abbrev pub leave : Value × Value → Bool → Split → Split
-leave p fits s = record { left = s.left ++ p ∷ []; least = s.least; most = s.most; all_fit = s.all_fit && fits }
+leave p fits_key s =
+    record { left = s.left ++ p ∷ []; least = s.least; most = s.most; all_taken = s.all_taken && not fits_key }
 
 -- takes a pair, unless it has all that it may take
 abbrev pub take_pair : Value × Value → Split → Split
 take_pair p s =
     if s.most == 0 then leave p true s
-    else record { left = s.left; least = s.least - 1; most = s.most - 1; all_fit = s.all_fit }
+    else record { left = s.left; least = s.least - 1; most = s.most - 1; all_taken = s.all_taken }
 
 -- takes or leaves a pair, whose key and value fit or not
 abbrev pub with_pair : Value × Value → Bool → Bool → Split → Split
-with_pair p false fits_value s = leave p true s
-with_pair p true false s = leave p false s
+with_pair p false fits_value s = leave p false s
+with_pair p true false s = leave p true s
 with_pair p true true s = take_pair p s
 
 -- goes over the pairs in their order; a value is asked only if its key fits
@@ -129,12 +131,12 @@ split key fits (p ∷ ps) s =
 
 -- no pair is gone over yet
 abbrev pub no_split : Occurrence → Split
-no_split o = record { left = []; least = o.least; most = o.most; all_fit = true }
+no_split o = record { left = []; least = o.least; most = o.most; all_taken = true }
 
--- A cut says that a pair whose key fits has to fit.
+-- A cut says that no later entry takes a pair whose key fits: this one takes it, or cuts, also if it has its count.
 abbrev pub entry_outcome : Bool → Split → Outcome
 entry_outcome cut s =
-    if cut && not s.all_fit then cuts
+    if cut && not s.all_taken then cuts
     else if s.least == 0 then takes (pairs s.left) else refuses
 
 abbrev pub entry : (Value → Option Bool) → (Value → Option Bool) → Bool → Occurrence → List (Value × Value)

@@ -5,4 +5,4 @@ use Rattle.cbor_fits.specs.Rests.{pair_view_of}
 use Rattle.cbor_fits.specs.declared.split.Split.{Split}
 
 abbrev pub split_view : Split → spec.Split
-split_view s = record { left = map pair_view_of s.left.items; least = s.least; most = s.most; all_fit = s.all_fit }
+split_view s = record { left = map pair_view_of s.left.items; least = s.least; most = s.most; all_taken = s.all_taken }

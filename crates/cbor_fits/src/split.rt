@@ -16,7 +16,7 @@ use std::alloc::{AllocError, Global};
 pub(crate) struct Entry {
     /// The type of the key.
     pub(crate) key: usize,
-    /// Whether a pair whose key fits has to fit.
+    /// Whether no later entry takes a pair whose key fits.
     pub(crate) cut: bool,
     /// The type of the value.
     pub(crate) value: usize,
@@ -33,8 +33,8 @@ pub(crate) struct Split<'a> {
     least: u64,
     /// How many more it may take.
     most: u64,
-    /// Whether each value fits whose key does.
-    all_fit: bool,
+    /// Whether it takes each pair whose key fits.
+    all_taken: bool,
 }
 
 impl<'a> Split<'a> {
@@ -46,7 +46,7 @@ impl<'a> Split<'a> {
             left: Vec::new(alloc),
             least: occurrence.least,
             most: occurrence.most,
-            all_fit: true,
+            all_taken: true,
         }
     }
 
@@ -62,11 +62,9 @@ impl<'a> Split<'a> {
     {
         if !fits_key {
             self.left.push(pair)?;
-        } else if !fits_value {
+        } else if !fits_value || self.most == 0 {
             self.left.push(pair)?;
-            self.all_fit = false;
-        } else if self.most == 0 {
-            self.left.push(pair)?;
+            self.all_taken = false;
         } else {
             self.least = self.least.saturating_sub(1);
             self.most -= 1;
@@ -78,7 +76,7 @@ impl<'a> Split<'a> {
     pub(crate) fn outcome(self, cut: bool) -> Outcome<'a>
         ensures { outcome_view result ≡ entry_outcome cut (split_view self.entry) }
     {
-        if cut && !self.all_fit {
+        if cut && !self.all_taken {
             return Outcome::Cuts;
         }
         if self.least != 0 {

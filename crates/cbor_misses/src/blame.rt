@@ -12,6 +12,8 @@ pub enum Want {
     Type(usize),
     /// A key of a map, by its node.
     Key(usize),
+    /// No more keys of a node than this many.
+    AtMost(usize, u64),
     /// The end of an array, after this many items.
     ArrayEnd(usize),
     /// The end of a map.
@@ -35,8 +37,8 @@ pub enum Found {
     ArrayEnd(usize),
     /// A map of this many pairs, without the key.
     Without(usize),
-    /// A key that is like the one that is wanted.
-    LikeKey,
+    /// A key that is like the one that is wanted, or one too many.
+    Key,
     /// A key that no entry has, of a map that has to fit this group.
     OtherKey(usize),
     /// A key that the map has had before.

@@ -292,14 +292,16 @@ impl<'a> Run<'a> {
         Ok(fits)
     }
 
-    /// Takes the pairs of an entry. Values that do not fit are blamed as if they came after those
-    /// that do.
+    /// Takes the pairs of an entry. Values that do not fit, and a key too many of an entry with a
+    /// cut, are blamed as if they came after the pairs that fit.
     #[cycle(fits)]
     fn map_entry(&mut self, entry: Entry, frame: Frame, depth: u32) -> Result<Outcome, Stop> {
+        let most = entry.occurrence.most;
         let mark = self.blame.mark();
         self.blame.best = None;
         let mut count = 0u64;
         let mut all_fit = true;
+        let mut one_more = None;
         for place in 0..frame.item.count / 2 {
             let Some(pair) = self.pair(frame, place) else {
                 break;
@@ -307,15 +309,23 @@ impl<'a> Run<'a> {
             if self.is_taken(pair) || !self.fits_muted(entry.key, pair.key, depth)? {
                 continue;
             }
-            if !self.fits_value(entry, pair, frame, depth)? {
+            if entry.cut && count >= most {
+                one_more = one_more.or(Some(pair.key));
+            } else if !self.fits_value(entry, pair, frame, depth)? {
                 all_fit = false;
-            } else if count < entry.occurrence.most {
+            } else if count < most {
                 self.take(pair)?;
                 count = count.saturating_add(1);
             }
         }
         let gained = self.gained_in(frame);
         self.blame.resume(mark, gained)?;
+        if let Some(key) = one_more {
+            self.gained = gained;
+            self.miss(Want::AtMost(entry.key, most), key, Found::Key)?;
+            self.gained = frame.base;
+            return Ok(Outcome::Cuts);
+        }
         if entry.cut && !all_fit {
             return Ok(Outcome::Cuts);
         }
@@ -332,7 +342,7 @@ impl<'a> Run<'a> {
         let want = Want::Key(node);
         match self.like_key(node, frame) {
             Some(key) => {
-                self.miss(want, key, Found::LikeKey)?;
+                self.miss(want, key, Found::Key)?;
             }
             None => {
                 let found = Found::Without(frame.item.count / 2);

@@ -75,7 +75,20 @@ impl Words<'_, '_> {
     fn push_want(&self, out: &mut Text, want: Want) {
         match want {
             Want::Type(node) => self.push_type(out, node),
-            Want::Key(node) => self.push_key(out, node),
+            Want::Key(node) => {
+                out.push("the key ");
+                self.push_key(out, node);
+            }
+            Want::AtMost(node, 0) => {
+                out.push("no key ");
+                self.push_key(out, node);
+            }
+            Want::AtMost(node, most) => {
+                out.push("at most ");
+                out.push_count(most as usize, " key");
+                out.push(" ");
+                self.push_key(out, node);
+            }
             Want::ArrayEnd(count) => {
                 out.push("the end of the array after ");
                 out.push_count(count, " item");
@@ -87,7 +100,6 @@ impl Words<'_, '_> {
 
     /// Appends a key that is wanted.
     fn push_key(&self, out: &mut Text, node: usize) {
-        out.push("the key ");
         match self.schema.node(node) {
             Node::Text(span) => {
                 out.push("\"");
@@ -141,7 +153,7 @@ impl Words<'_, '_> {
                 out.push_numbered("a map of ", count as u64);
                 out.push(" without it");
             }
-            Found::LikeKey | Found::SecondKey | Found::OtherKey(_) => {
+            Found::Key | Found::SecondKey | Found::OtherKey(_) => {
                 self.push_found_key(out, miss);
             }
         }
