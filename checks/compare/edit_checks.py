@@ -281,6 +281,11 @@ def named(run, same, examples):
              (digits.replace(" ", "").encode() + b"\n", f"cborcat: standard input: {said} {quoted}\n", 1))
 
 
+    # Beside -p, --as may be the type of the part: that says nothing of the item.
+    same("--as of a part", run("--as=COSE_Key", "-p", "alk", "--set", "alk=1", "-t", "diag", "-x", "{1: 2}"),
+         (b"1\n", "", 0))
+
+
 def in_forms(run, same):
     """Whatever is written of the items, and whatever form they come in."""
     given = ("--set", "a=2", "-x", '{"a": 1}')

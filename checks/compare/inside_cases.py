@@ -1,6 +1,6 @@
 """Byte strings with what is in them: rows worked out by hand from docs/EDN.md, and strings made by a seed."""
 
-from bytes_form import to_bytes
+from bytes_form import sequence, to_bytes
 from inside import SAYING
 from item import Array, Bytes, Float, IndefiniteBytes, Integer, Map, Negative, Simple, Tagged, Text, shortest
 
@@ -70,8 +70,27 @@ def any_tags(chance):
     return chance.choice([*TAGS, (chance.choice(SAYING),), (chance.choice(SAYING), 1000)])
 
 
+def has_other_keys(item):
+    """Whether a key in an item, or in the items in its byte strings, is no integer."""
+    if isinstance(item, Bytes):
+        return any(map(has_other_keys, sequence(item.content, 1)[0]))
+    if isinstance(item, Map):
+        return any(not isinstance(key, Integer) or has_other_keys(value) for key, value in item.pairs)
+    if isinstance(item, Array):
+        return any(map(has_other_keys, item.members))
+    return isinstance(item, Tagged) and has_other_keys(item.value)
+
+
 def any_content(chance, depth):
-    """The content of a string: an item, several, or something near."""
+    """The content of a string, in which all keys are integers."""
+    while True:
+        content = some_content(chance, depth)
+        if not has_other_keys(string(content)):
+            return content
+
+
+def some_content(chance, depth):
+    """An item, several, or something near."""
     kind = chance.randrange(12)
     if kind == 0:
         return to_bytes(leaf(chance))

@@ -331,14 +331,15 @@ AGAIN = [
      "    /payload/ h'',\n"
      "    /signature/ h'',\n"
      "])\n"),
-    ("[Ticket]\ntag = 18\narray = ['head']\n", ["-x", "18([<<{1: -7}>>, {4: '1'}, h'', h''])"],
+    ("[Ticket]\ntag = 18\narray = ['head', {}, 'content', {}]\n", ["-x", "18([<<{1: -7}>>, {4: '1'}, h'', h''])"],
      "/Ticket/ 18([\n"
      "    /head/ <<{/alg/ 1: -7 /ES256/}>>,\n"
      "    /unprotected/ {/kid/ 4: h'31' /'1'/},\n"
-     "    /payload/ h'',\n"
+     "    /content/ h'',\n"
      "    /signature/ h'',\n"
      "])\n"),
     # Another shape takes the place of the known one.
+    ("[Pair]\ntag = 18\narray = ['one', 'two']\n", ["-x", "18([1, 2])"], "/Pair/ 18([/one/ 1, /two/ 2])\n"),
     ("[CWT_Confirmation]\narray = ['key']\n", ["--as=CWT", "-x", "{8: {1: 2}}"], "/CWT/ {/cnf/ 8: {1: 2}}\n"),
 ]
 
@@ -435,6 +436,43 @@ def again(run, same, folder):
             with open(path, "w", encoding="utf-8") as file:
                 file.write(text)
             same(f"a known type again {text!r}", run(f"--names={path}", *given), (wanted.encode(), "", 0))
+
+
+# Changes that take away what an item is known by: a claim of the two, and WebAuthn's. It keeps its names.
+CHANGED = [
+    (["--delete=payload/exp", "-p", "payload", "-x", MESSAGE], "<<{/iss/ 1: \"a\"}>>\n"),
+    (["--delete=payload/exp", "--delete=payload/iss", "-p", "payload", "-x", MESSAGE], "<<{}>>\n"),
+    (["--delete=payload/exp", "--set=payload/iss=\"b\"", "-t", "diag", "-p", "payload/iss", "-x", MESSAGE], "\"b\"\n"),
+    (["--delete=payload/exp", "-x", f"18([h'', {{}}, h'a10a4101', h'']) {MESSAGE}"],
+     "/COSE_Sign1/ 18([\n"
+     "    /protected/ h'',\n"
+     "    /unprotected/ {},\n"
+     "    /payload/ h'a10a4101',\n"
+     "    /signature/ h'',\n"
+     "])\n"
+     "/COSE_Sign1/ 18([\n"
+     "    /protected/ <<{/alg/ 1: -7 /ES256/}>>,\n"
+     "    /unprotected/ {/kid/ 4: h'3131' /'11'/},\n"
+     "    /payload/ <<{/iss/ 1: \"a\"}>>,\n"
+     "    /signature/ h'',\n"
+     "])\n"),
+    (["--delete=0/payload/exp", "-p", "0", "-x", f"[{MESSAGE}]"],
+     "/COSE_Sign1/ 18([\n"
+     "    /protected/ <<{/alg/ 1: -7 /ES256/}>>,\n"
+     "    /unprotected/ {/kid/ 4: h'3131' /'11'/},\n"
+     "    /payload/ <<{/iss/ 1: \"a\"}>>,\n"
+     "    /signature/ h'',\n"
+     "])\n"),
+    (["--delete=fmt", "-x", "{\"fmt\": \"none\", \"attStmt\": {\"alg\": -7}, \"authData\": h''}"],
+     "{\"attStmt\": {\"alg\": -7 /ES256/}, \"authData\": h''}\n"),
+]
+
+
+def changed(run, same):
+    """The type that was read stays after a change."""
+    for given, wanted in CHANGED:
+        out, _, status = run(*given)
+        same(f"names after {given}", (out.decode(), status), (wanted, 0 if "h'a10a4101'" not in wanted else status))
 
 
 def kept(run, same, folder):
@@ -544,4 +582,5 @@ def check(run, same, folder, scratch):
     files(run, same, scratch)
     by_rules(run, same, scratch)
     again(run, same, scratch)
+    changed(run, same)
     kept(run, same, scratch)

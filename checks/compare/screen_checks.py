@@ -165,6 +165,9 @@ def spelled(run, same):
     for digits in ("82f80001", "42f800", "8242f800f800", "d8184381f814", "f820f8ff", "bf6161f814ff", "9ff8009ff817ffff"):
         shown = "".join(line.partition("#")[0] for line in dump(digits).splitlines()).replace(" ", "")
         same(f"the digits of {digits}", shown, digits)
+    deepest = "81" * 127 + "5f428105ff"
+    shown = "".join(line.partition("#")[0] for line in dump(deepest, "-e").splitlines()).replace(" ", "")
+    same("the digits of chunks at the deepest level", shown, deepest)
 
 
 def partial_dumps(run, same):

@@ -208,11 +208,7 @@ impl<'a> Types<'a> {
     }
 
     /// The type of the item that a byte string at a node holds.
-    pub(crate) fn held(
-        &mut self,
-        node: usize,
-        spot: Spot,
-    ) -> Result<Option<usize>, AllocError> {
+    pub(crate) fn held(&mut self, node: usize, spot: Spot) -> Result<Option<usize>, AllocError> {
         let alternatives = self
             .source
             .alternatives(node, Depth::Types, &self.of_rules)?;

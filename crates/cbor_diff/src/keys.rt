@@ -1,11 +1,12 @@
-//! Matches the pairs of two maps by their keys, in whatever order the keys are.
+//! Matches the pairs of two maps by their keys, in whatever order the keys are. Of a key that
+//! stands twice the first is matched with the first.
 
-use crate::level::{Next, key_of};
+use crate::align::Row;
+use crate::member::{Match, Member};
 use cbor_bytes::head::read_head;
 use cbor_grammar::argument::Argument;
 use cbor_grammar::head::ItemHead;
 use cbor_grammar::strings::StringKind;
-use cbor_paths::{At, Members};
 use std::alloc::{AllocError, Global};
 use std::collections::BTreeMap;
 
@@ -25,8 +26,8 @@ enum Key<'a> {
 
 impl<'a> Key<'a> {
     /// That of a member of a map.
-    fn of(bytes: &'a [u8], at: At) -> Key<'a> {
-        let key = key_of(bytes, at);
+    fn of(bytes: &'a [u8], member: Member) -> Key<'a> {
+        let key = member.key(bytes);
         let Ok((head, content)) = read_head(key) else {
             return Key::Other(key);
         };
@@ -41,83 +42,72 @@ impl<'a> Key<'a> {
     }
 }
 
-/// The new one of two maps.
+/// The members of the new one of two maps.
 #[derive(Drop)]
 struct NewMap<'a> {
-    bytes: &'a [u8],
-    members: Vec<At>,
+    /// Of each key the first member with it that is not matched.
+    first: BTreeMap<Key<'a>, usize>,
+    /// Of each member the next one with the same key.
+    following: Vec<Option<usize>>,
     /// Which of the members were matched.
     matched: Vec<bool>,
-    /// Of each key the first member with it.
-    places: BTreeMap<Key<'a>, usize>,
-    /// The member after the one that was matched last.
-    next: usize,
 }
 
 impl<'a> NewMap<'a> {
-    fn new(alloc: Global, bytes: &'a [u8], mut members: Members) -> Result<NewMap<'a>, AllocError> {
+    fn new(alloc: Global, row: Row<'a>) -> Result<NewMap<'a>, AllocError> {
         let mut map = NewMap {
-            bytes,
-            members: Vec::new(alloc),
+            first: BTreeMap::new(alloc),
+            following: Vec::new(alloc),
             matched: Vec::new(alloc),
-            places: BTreeMap::new(alloc),
-            next: 0,
         };
-        for place in 0..bytes.len() {
-            let Some(at) = members.next(bytes) else {
-                break;
-            };
-            map.members.push(at)?;
-            map.matched.push(false)?;
-            map.places.entry(Key::of(bytes, at))?.or_insert(place);
+        map.following.resize(row.members.len(), None)?;
+        map.matched.resize(row.members.len(), false)?;
+        for member in row.members.iter().rev() {
+            let next = map.first.insert(Key::of(row.bytes, *member), member.index)?;
+            if let Some(following) = map.following.get_mut(member.index) {
+                *following = next;
+            }
         }
         Ok(map)
     }
 
-    /// Which member has this key: the next one, or else the first. Maps mostly have their keys in
-    /// one order, also where a key stands twice.
-    fn place_of(&self, key: Key<'a>) -> Option<usize> {
-        if let Some(at) = self.members.get(self.next)
-            && Key::of(self.bytes, *at) == key
-        {
-            return Some(self.next);
-        }
-        self.places.get(&key).copied()
-    }
-
-    /// Matches the member with this key.
-    fn take(&mut self, key: Key<'a>) -> Option<At> {
-        let place = self.place_of(key)?;
-        if let Some(matched) = self.matched.get_mut(place) {
+    /// Matches the next member with this key.
+    fn take(&mut self, key: Key<'a>) -> Option<usize> {
+        let index = self.first.get(&key).copied()?;
+        if let Some(matched) = self.matched.get_mut(index) {
             *matched = true;
         }
-        self.next = place.saturating_add(1);
-        self.members.get(place).copied()
+        let following = self.following.get(index).copied().flatten();
+        match (self.first.get_mut(&key), following) {
+            (Some(first), Some(next)) => *first = next,
+            _ => {
+                let _ = self.first.remove(&key);
+            }
+        }
+        Some(index)
     }
 }
 
 /// What comes of two maps: the members of the old one in their order, each with the member of the
-/// new one that has its key, and then those whose keys the new one alone has.
-pub(crate) fn matched(
-    alloc: Global,
-    old: (&[u8], Members),
-    new: (&[u8], Members),
-) -> Result<Vec<Next>, AllocError> {
-    let (bytes, mut members) = old;
-    let mut map = NewMap::new(alloc, new.0, new.1)?;
+/// new one that has its key, and then those whose keys the new one alone has. Values that are the
+/// same byte for byte are left out.
+pub(crate) fn matched(alloc: Global, old: Row, new: Row) -> Result<Vec<Match>, AllocError> {
+    let mut map = NewMap::new(alloc, new)?;
     let mut all = Vec::new(alloc);
-    for _ in 0..bytes.len() {
-        let Some(at) = members.next(bytes) else {
-            break;
-        };
-        all.push(match map.take(Key::of(bytes, at)) {
-            Some(other) => Next::Both(at, other),
-            None => Next::Old(at),
-        })?;
+    for member in old.members {
+        let index = map.take(Key::of(old.bytes, *member));
+        match index.and_then(|index| new.members.get(index)) {
+            Some(other) => {
+                if member.span.bytes(old.bytes) != other.span.bytes(new.bytes) {
+                    all.push(Match::Both(*member, *other))?;
+                }
+            }
+            None => all.push(Match::Old(*member))?,
+        }
     }
-    for (at, matched) in map.members.iter().zip(map.matched.iter()) {
+    for (member, matched) in new.members.iter().zip(map.matched.iter()) {
         if !*matched {
-            all.push(Next::New(*at))?;
+            all.push(Match::New(*member))?;
         }
     }
     Ok(all)

@@ -1,5 +1,6 @@
-//! Compares two sequences of items and lists what differs. Items are compared by their number,
-//! members of arrays by index, and values of maps by key, in any order.
+//! Compares two items and lists what differs: members of arrays are aligned by their longest common
+//! part, and values of maps are compared by key, in any order. [`pairs`] aligns the items of two
+//! sequences.
 //!
 //! ```rust
 //! use cbor_diff::{Change, Comparison, differences};
@@ -13,9 +14,14 @@
 //! ```
 #![tactic(auto)]
 
+mod align;
+mod common;
 mod compare;
 mod keys;
 mod level;
+mod member;
 mod same;
 
-pub use compare::{Change, Comparison, Difference, differences};
+pub use compare::{Change, Comparison, Difference, differences, pairs};
+pub use level::Side;
+pub use member::{Match, Member};

@@ -12,7 +12,7 @@ use std::alloc::{AllocError, Global};
 /// The core deterministic encoding of items, or `None` if they have none: the bytes are not items,
 /// or a map has two equal keys. Before `None` is returned, the bytes are checked again. If the
 /// check finds no violation, the error is that of memory. Tests show that this never happens.
-fn core_of(alloc: Global, items: &[u8]) -> Result<Option<Vec<u8>>, AllocError>
+pub(crate) fn core_of(alloc: Global, items: &[u8]) -> Result<Option<Vec<u8>>, AllocError>
     ensures some { IfOk result (λ found. IfSome found
         (λ core. IsReencoded CORE items.now core.items)) }
     ensures none { IfOk result (λ found. found ≡ None

@@ -1,5 +1,4 @@
 //! Finds where in a text a byte is that the text stands for.
-ghost use Rattle.std.specs.Prelude.{◌≤◌, length};
 
 use crate::base64_text::is_blank;
 use crate::decode::Input;
@@ -12,9 +11,7 @@ use std::alloc::{AllocError, Global};
 const BITS: usize = 6;
 
 /// The place of the first of the two digits of base 64 that have this byte, or the text's length.
-fn place_of_sextet(text: &[u8], byte: usize) -> usize
-    ensures { result ≤ length text.now }
-{
+fn place_of_sextet(text: &[u8], byte: usize) -> usize {
     let mut before = byte.saturating_mul(8) / BITS;
     let mut first = None;
     for (at, letter) in text.iter().enumerate().skip(mark_len(text)) {

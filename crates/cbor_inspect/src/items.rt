@@ -190,8 +190,8 @@ pub(crate) fn show_first(
     ensures unchanged { OnErr result (out.new.items ≡ out.old.items) }
 
     // Its own bytes.
-    ensures own { show.now.style.form ≡ Form.Bytes → steps_of show.now ≡ [] → IfOk result
-        (λ used. out.new.items ≡ out.old.items ++ take used bytes.now) }
+    ensures own { IfOk result (λ used. show.now.style.form ≡ Form.Bytes → steps_of show.now ≡ []
+        → out.new.items ≡ out.old.items ++ take used bytes.now) }
 {
     work.text.clear();
     if show.steps.is_empty() {
@@ -216,8 +216,8 @@ pub(crate) fn push_front(
         × ShowsFront (IsForm show.now) bytes.now written used) }
     ensures ends { IfErr result (StopsSo bytes.now) }
     ensures unchanged { OnErr result (out.new.items ≡ out.old.items) }
-    ensures own { show.now.style.form ≡ Form.Bytes → IfOk result
-        (λ used. out.new.items ≡ out.old.items ++ take used bytes.now) }
+    ensures own { IfOk result (λ used. show.now.style.form ≡ Form.Bytes
+        → out.new.items ≡ out.old.items ++ take used bytes.now) }
 {
     if show.style.form == Form::Bytes {
         return push_own(bytes, known, out);

@@ -28,6 +28,8 @@ pub struct Naming<'a> {
     pub names: &'a Names,
     /// What is known of what is shown, the whole item or its part. `None`: its tags tell.
     pub known: Option<Known>,
+    /// What was known of the whole item before it was changed, if nothing else is known of it.
+    pub before: Option<Known>,
 }
 
 /// How many bytes are looked through at once.
@@ -44,6 +46,7 @@ impl<'a> Naming<'a> {
         Naming {
             names,
             known: outer.map(Known::of),
+            before: None,
         }
     }
 
@@ -73,6 +76,7 @@ impl<'a> Naming<'a> {
             Some(_) => self,
             None => Naming {
                 known: part.known,
+                before: None,
                 ..self
             },
         }
@@ -85,10 +89,13 @@ impl<'a> Naming<'a> {
         item: &[u8],
         found: &[Found],
     ) -> Result<Vec<NamedPart>, AllocError> {
-        let is_known = self.names.knows(item);
+        let is_known = self.is_known(item);
         let mut parts = Vec::with_capacity(alloc, found.len())?;
         let mut start = 0;
-        let mut way = Way::new(alloc, self.names, item)?;
+        let mut way = match self.before {
+            Some(known) => Way::of(alloc, self.names, item, known)?,
+            None => Way::new(alloc, self.names, item)?,
+        };
         for part in found {
             let mut known = None;
             if let Some(around) = self.first_around(part, is_known) {
@@ -106,6 +113,11 @@ impl<'a> Naming<'a> {
         Ok(parts)
     }
 
+    /// Whether an item is known without a tag.
+    fn is_known(self, bytes: &[u8]) -> bool {
+        self.before.is_some() || self.names.knows(bytes)
+    }
+
     /// Where what is around a part begins to tell what the part is, if anything does: at the item
     /// that is known, or else at a tag.
     fn first_around(self, part: &Found, is_known: bool) -> Option<usize> {
@@ -119,7 +131,7 @@ impl<'a> Naming<'a> {
     /// Whether items of these bytes may have names: their type is known, or they have a tag that
     /// gives some.
     pub fn may_name(self, bytes: &[u8]) -> bool {
-        self.known.is_some() || self.names.knows(bytes) || self.is_marked(bytes)
+        self.known.is_some() || self.is_known(bytes) || self.is_marked(bytes)
     }
 
     /// How many bytes of items there are before the first mark, as far as they are looked through.
@@ -135,11 +147,11 @@ impl<'a> Naming<'a> {
     /// Whether an item is looked through before it is written, where the first `clear` bytes of it
     /// have no mark.
     pub(crate) fn is_near(self, bytes: &[u8], clear: usize) -> bool {
-        self.known.is_some() || clear < NEAR || self.names.knows(bytes)
+        self.known.is_some() || clear < NEAR || self.is_known(bytes)
     }
 
     /// Returns the notes of the item at the front.
     pub fn notes(self, alloc: Global, bytes: &[u8]) -> Result<Notes<'a>, AllocError> {
-        notes_of(alloc, bytes, self.names, self.known)
+        notes_of(alloc, bytes, self.names, self.known.or(self.before))
     }
 }

@@ -34,10 +34,11 @@ impl Message {
     pub fn words<P: Places>(&self, alloc: Global, places: &P) -> Result<String, AllocError> {
         let mut out = String::new(alloc);
         let mut from = 0usize;
-        for (at, byte) in &self.bytes {
-            out.push_str(self.text.as_str().get(from..*at).unwrap_or(""))?;
-            places.push_byte(&mut out, *byte)?;
-            from = *at;
+        for named in &self.bytes {
+            let (at, byte) = *named;
+            out.push_str(self.text.as_str().get(from..at).unwrap_or(""))?;
+            places.push_byte(&mut out, byte)?;
+            from = at;
         }
         out.push_str(self.text.as_str().get(from..).unwrap_or(""))?;
         Ok(out)

@@ -5,12 +5,14 @@ use std::alloc::AllocError;
 
 impl ShapeRow {
     /// The shape of a type that had another one before, if the parts of both count: the items are
-    /// of the same kind, or the later definition has no parts.
-    fn over(self, before: ShapeRow, has_parts: bool) -> Option<ShapeRow> {
+    /// of the same kind, or the later definition has no parts. `count` and `count_before` are the
+    /// numbers of their parts.
+    fn over(self, count: usize, before: ShapeRow, count_before: usize) -> Option<ShapeRow> {
         match (self, before) {
             (_, ShapeRow::Undefined) => None,
-            (ShapeRow::Array, _) if !has_parts => Some(before),
-            (ShapeRow::Array, ShapeRow::Array) | (ShapeRow::Values, ShapeRow::Values) => Some(self),
+            (ShapeRow::Array, _) if count == 0 => Some(before),
+            (ShapeRow::Array, ShapeRow::Array) if count == count_before => Some(self),
+            (ShapeRow::Values, ShapeRow::Values) => Some(self),
             (ShapeRow::Map | ShapeRow::MapTo(_), ShapeRow::Map | ShapeRow::MapBy(_)) => {
                 Some(before)
             }
@@ -45,7 +47,7 @@ impl Names {
     /// tag of another one with that type. The names of the last definition come first. A type that
     /// is new, and stands in a part of such a type, gets what the part had before.
     ///
-    /// A definition of another shape replaces what was there.
+    /// A definition of another shape, as an array of more members, replaces what was there.
     ///
     /// ```rust
     /// use cbor_names::{Definition, Key, Names, Part, Shape, notes};
@@ -78,33 +80,32 @@ impl Names {
         let Some(now) = self.types.get(again.index).copied() else {
             return Ok(());
         };
-        let has_parts = now.start < now.end;
-        let Some(shape) = now.shape.over(before.shape, has_parts) else {
+        let count = now.end.saturating_sub(now.start);
+        let count_before = before.end.saturating_sub(before.start);
+        let Some(shape) = now.shape.over(count, before.shape, count_before) else {
             return Ok(());
         };
         let is_array = matches!(shape, ShapeRow::Array);
         let start = self.parts.len();
-        let mut left = before.start;
+        let mut place = before.start;
         for at in now.start..now.end {
             let Some(row) = self.parts.get(at).copied() else {
                 break;
             };
             let old = if is_array {
-                self.part_of(before, left)
+                self.parts.get(place).copied()
             } else {
                 self.part_like(before, &row)
             };
-            left = left.saturating_add(1);
+            place = place.saturating_add(1);
             let row = self.filled(row, old)?;
             self.parts.push(row)?;
         }
-        let rest = if is_array { left } else { before.start };
+        // All members of an array are there by now, if there were some.
+        let rest = if is_array { place } else { before.start };
         for at in rest..before.end {
-            if let Some(old) = self.part_of(before, at) {
-                self.parts.push(PartRow {
-                    optional: old.optional || has_parts,
-                    ..old
-                })?;
+            if let Some(old) = self.parts.get(at).copied() {
+                self.parts.push(old)?;
             }
         }
         let tag = self.tag_of(now, before);
@@ -127,11 +128,6 @@ impl Names {
             (None, Some(tag)) if self.type_of(tag).is_none() => Some(tag),
             (tag, _) => tag,
         }
-    }
-
-    /// The part of a type at this place among all parts.
-    fn part_of(&self, found: Type, at: usize) -> Option<PartRow> {
-        self.parts.get(..found.end)?.get(at).copied()
     }
 
     /// The part of a type with the key of another one.

@@ -103,7 +103,7 @@ fn push_next<'a>(list: &mut Vec<Note<'a>>, from: usize, note: Note<'a>) -> Resul
 }
 
 impl<'a> Notes<'a> {
-    /// No notes, of no bytes, of an item of which this is known.
+    /// No notes of no bytes. This is known of the item.
     pub(crate) fn new(alloc: Global, known: Known) -> Notes<'a> {
         Notes {
             len: 0,

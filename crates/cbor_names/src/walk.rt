@@ -70,7 +70,7 @@ fn after_chunks(kind: StringKind, bytes: &[u8]) -> Result<&[u8], Stop>
 }
 
 impl WhatRow {
-    /// What is known of a byte string that holds an item of which this is known.
+    /// What is known of a byte string that holds an item, if this is known of the item.
     fn encoded(self) -> WhatRow {
         match self {
             WhatRow::Of(index) | WhatRow::Encoded(index) | WhatRow::Nested(index) => {

@@ -225,14 +225,16 @@ struct Around<'a, 'b> {
 impl<'a, 'b> Around<'a, 'b> {
     /// What is known of it, if anything is.
     fn known(&self) -> Option<Known> {
-        match self.expected.what {
-            WhatRow::Any => None,
-            what => Some(Known {
-                tag: self.expected.tag,
-                around: self.expected.around,
-                holds: self.expected.holds,
-                ..Known::by_tables(what)
-            }),
+        let known = Known {
+            tag: self.expected.tag,
+            around: self.expected.around,
+            holds: self.expected.holds,
+            ..Known::by_tables(self.expected.what)
+        };
+        if known.is_nothing() {
+            None
+        } else {
+            Some(known)
         }
     }
 

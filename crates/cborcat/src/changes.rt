@@ -4,7 +4,7 @@
 
 use cbor_edit::{Edit, EditError, NewKey, edited, maps_without};
 use cbor_inspect::{End, Naming, Picture, Stream};
-use cbor_names::{NamedKey, OtherNames, Way};
+use cbor_names::{Known, NamedKey, OtherNames, Way};
 use cborcat_arguments::{Change, Job, show_of};
 use cborcat_messages::{Origin, Refused, Status, report_unchanged, report_undeleted};
 use std::alloc::{AllocError, Global};
@@ -27,6 +27,8 @@ pub struct Changes<'a> {
     ended: bool,
     /// How each change went, in their order.
     tallies: Vec<Tally>,
+    /// What was known of each item that is left, before it was changed.
+    known: Vec<Option<Known>>,
 }
 
 /// How a change went in the items so far.
@@ -58,6 +60,7 @@ impl<'a> Changes<'a> {
             status: Status::Fine,
             ended: false,
             tallies: Vec::new(rt.alloc()),
+            known: Vec::new(rt.alloc()),
         }
     }
 
@@ -101,11 +104,12 @@ impl<'a> Changes<'a> {
     fn changed(&mut self, item: Vec<u8>) -> Result<Vec<u8>, AllocError> {
         let mut bytes = item;
         let job = self.job;
+        let naming = self.naming_before(&bytes)?;
         for (index, change) in job.changes.iter().enumerate() {
             if change.item.is_some() && change.item != Some(self.count) || bytes.is_empty() {
                 continue;
             }
-            match self.with(change, &bytes)? {
+            match self.with((change, naming), &bytes)? {
                 Ok(next) => {
                     self.tally(index)?.is_met = true;
                     bytes = next;
@@ -113,7 +117,36 @@ impl<'a> Changes<'a> {
                 Err(refused) => self.note_refused((index, change), &bytes, &refused)?,
             }
         }
+        if !bytes.is_empty() {
+            let known = match naming {
+                Some(naming) => naming.before,
+                None => None,
+            };
+            self.known.push(known)?;
+        }
         Ok(bytes)
+    }
+
+    /// The names, with what is known of an item before it is changed: it still has these names when
+    /// a change took away what it was known by.
+    fn naming_before(&self, item: &[u8]) -> Result<Option<Naming<'a>>, AllocError> {
+        match self.tables {
+            Some(naming) if naming.known.is_none() && naming.may_name(item) => {
+                let before = naming.notes(self.rt.alloc(), item)?.known();
+                Ok(Some(Naming { before, ..naming }))
+            }
+            tables => Ok(tables),
+        }
+    }
+
+    /// The names of the changed item of this number.
+    pub fn naming_of(&self, index: usize) -> Option<Naming<'a>> {
+        let naming = self.tables?;
+        let before = match self.known.get(index) {
+            Some(known) => *known,
+            None => None,
+        };
+        Some(Naming { before, ..naming })
     }
 
     /// How the change of this number went so far.
@@ -175,21 +208,22 @@ impl<'a> Changes<'a> {
     /// An item with a change, or why it does not get it.
     fn with(
         &self,
-        change: &Change,
+        change: (&Change, Option<Naming<'a>>),
         item: &[u8],
     ) -> Result<Result<Vec<u8>, Refused<'a>>, AllocError> {
+        let (change, tables) = change;
         let alloc = self.rt.alloc();
         let part = change.part.as_deref();
         if change.steps.is_empty() {
             return Ok(Ok(Vec::from_slice(alloc, part.unwrap_or(b""))?));
         }
-        let plain = show_of(self.job, self.tables).picture();
+        let plain = show_of(self.job, tables).picture();
         let edit = Edit {
             steps: &change.steps,
             part,
             keys: &[],
         };
-        match self.tables {
+        match tables {
             Some(naming) if naming.may_name(item) => {
                 let names = naming.notes(alloc, item)?;
                 let notes = names.list(alloc)?;
@@ -197,7 +231,7 @@ impl<'a> Changes<'a> {
                     notes: &notes,
                     ..plain
                 };
-                match new_keys(alloc, naming, change, (item, named))? {
+                match self.new_keys(naming, change, (item, named))? {
                     Ok(keys) => with_edit(
                         alloc,
                         item,
@@ -213,6 +247,42 @@ impl<'a> Changes<'a> {
             _ => with_edit(alloc, item, edit, plain),
         }
     }
+
+    /// The keys that the last word of a path stands for in the maps that get one; or the names of
+    /// such a map, if it has no such name.
+    fn new_keys(
+        &self,
+        naming: Naming<'a>,
+        change: &Change,
+        shown: (&[u8], Picture),
+    ) -> Result<Result<Vec<NewKey>, OtherNames<'a>>, AllocError> {
+        let alloc = self.rt.alloc();
+        let (item, picture) = shown;
+        let mut keys = Vec::new(alloc);
+        let (Some(word), Some(_)) = (change.word, &change.part) else {
+            return Ok(Ok(keys));
+        };
+        let mut way = match naming.known.or(naming.before) {
+            Some(known) => Way::of(alloc, naming.names, item, known)?,
+            None => Way::new(alloc, naming.names, item)?,
+        };
+        // Beside -p, the type of --as may be that of a part, and not that of the item.
+        let is_sure = naming.known.is_none() || self.job.path.is_empty();
+        for map in &maps_without(alloc, item, &change.steps, picture)? {
+            let known = way.known_at(*map)?;
+            let bytes = item.get(*map..).unwrap_or(b"");
+            match naming.names.key_of(alloc, known, bytes, word)? {
+                NamedKey::Unknown => {}
+                NamedKey::Key(key) => keys.push(NewKey { map: *map, key })?,
+                NamedKey::Other(others) => {
+                    if is_sure {
+                        return Ok(Err(others));
+                    }
+                }
+            }
+        }
+        Ok(Ok(keys))
+    }
 }
 
 /// An item that was edited, or why it is not.
@@ -227,33 +297,4 @@ fn with_edit<'a>(
         Err(EditError::Memory) => Err(AllocError),
         Err(error) => Ok(Err(Refused::Edit(error))),
     }
-}
-
-/// The keys that the last word of a path stands for in the maps that get one; or the names of such a
-/// map, if it has no such name.
-fn new_keys<'a>(
-    alloc: Global,
-    naming: Naming<'a>,
-    change: &Change,
-    shown: (&[u8], Picture),
-) -> Result<Result<Vec<NewKey>, OtherNames<'a>>, AllocError> {
-    let (item, picture) = shown;
-    let mut keys = Vec::new(alloc);
-    let (Some(word), Some(_)) = (change.word, &change.part) else {
-        return Ok(Ok(keys));
-    };
-    let mut way = match naming.known {
-        Some(known) => Way::of(alloc, naming.names, item, known)?,
-        None => Way::new(alloc, naming.names, item)?,
-    };
-    for map in &maps_without(alloc, item, &change.steps, picture)? {
-        let known = way.known_at(*map)?;
-        let bytes = item.get(*map..).unwrap_or(b"");
-        match naming.names.key_of(alloc, known, bytes, word)? {
-            NamedKey::Unknown => {}
-            NamedKey::Key(key) => keys.push(NewKey { map: *map, key })?,
-            NamedKey::Other(others) => return Ok(Err(others)),
-        }
-    }
-    Ok(Ok(keys))
 }

@@ -322,9 +322,19 @@ impl<'a> Conversion<'a> {
         End::Full
     }
 
+    /// Takes the names of the next item, if it may have been changed.
+    fn take_names(&mut self) {
+        if self.changes.are_asked() {
+            self.tables = self.changes.naming_of(self.index);
+            self.views = self.views.with(self.tables);
+        }
+    }
+
     /// Converts the items that have arrived, or only the next one.
     fn show_next(&mut self, one: bool) -> End {
+        self.take_names();
         let before = self.stream.rest().len();
+        let one = one || self.changes.are_asked();
         let is_one = one || self.job.item.is_some();
         let end = match self.job.view {
             View::Items => self.show_some(is_one),
@@ -348,6 +358,7 @@ impl<'a> Conversion<'a> {
             return self.show_each(&self.views.dumps(), is_one);
         }
         let mut show = show_of(self.job, self.tables);
+        show.one = is_one;
         show.marks = self.views.screen.edn_marks();
         self.stream.show(&show, &mut self.out)
     }
@@ -400,7 +411,8 @@ impl<'a> Conversion<'a> {
             Ok(_) => end,
             Err(_) => End::Memory,
         };
-        let status = report_end(self.rt, &self.told(), self.left(), end);
+        let origin = self.told();
+        let status = report_end(self.rt, &origin, self.left(), end);
         self.ended(status);
         Next::NextInput
     }
@@ -497,7 +509,10 @@ impl<'a> Conversion<'a> {
     fn leave_long(&mut self) -> Result<(), AllocError> {
         let begins = self.begins();
         let from = self.within.saturating_sub(begins);
-        let limits = (self.job.limit.saturating_sub(self.dropped()), self.job.limit);
+        let limits = (
+            self.job.limit.saturating_sub(self.dropped()),
+            self.job.limit,
+        );
         let (at, long) = short_items(self.stream.rest(), from, limits);
         self.within = begins.saturating_add(at);
         if long {
@@ -511,7 +526,8 @@ impl<'a> Conversion<'a> {
 
     /// Says that the next item is longer than is allowed.
     fn stop_long(&mut self) -> Next {
-        report_long(self.rt, &self.told(), self.begins(), self.job.limit);
+        let origin = self.told();
+        report_long(self.rt, &origin, self.begins(), self.job.limit);
         self.ended(Status::Bad);
         Next::NextInput
     }

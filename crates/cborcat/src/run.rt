@@ -104,6 +104,7 @@ impl Runner<'_> {
         let diff = Diff {
             rt: self.rt,
             job: self.job,
+            tables: self.tables,
             views: Views::new(self.rt, self.job, self.tables, self.marks),
         };
         let status = diff.run(self.target);
@@ -139,14 +140,14 @@ impl Runner<'_> {
             return Next::NextInput;
         }
         match File::open(self.rt, name) {
-            Ok(mut file) if self.job.in_place => self.replace(name, &mut file),
+            Ok(file) if self.job.in_place => self.replace(name, file),
             Ok(mut file) => self.input(name, &mut file),
             Err(error) => self.cannot_read(name, &error),
         }
     }
 
     /// Converts a file, and puts what is written of it in its place if all went well.
-    fn replace(&mut self, name: &str, file: &mut File) -> Next {
+    fn replace(&mut self, name: &str, file: File) -> Next {
         let Some(mut target) = open(self.rt, Some(name)) else {
             self.ended(Status::Trouble);
             return Next::NextInput;
@@ -160,9 +161,12 @@ impl Runner<'_> {
             cddl: self.cddl,
             marks: self.marks,
         };
-        let next = run.input(name, file);
+        let mut file = file;
+        let next = run.input(name, &mut file);
         let status = run.status;
         drop(run);
+        // Some systems replace no file that is open.
+        drop(file);
         self.ended(status);
         if status == Status::Bad {
             let _ = eprintln!(self.rt; "cborcat: {} is unchanged", label(name));

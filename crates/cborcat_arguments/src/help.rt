@@ -61,9 +61,9 @@ Output:
       --color=WHEN   auto, always or never (default: auto: in a terminal,
                      unless NO_COLOR is set)
   -o, --output=FILE  write FILE, once all input is converted
-  -i, --in-place     with --set, --delete or --encode: put what becomes of each
-                     FILE in its place, if all went well with it; as bytes, or
-                     in the form of -t
+  -i, --in-place     put what becomes of each FILE in its place, as bytes or in
+                     the form of -t, if all went well with it; this goes with
+                     --set, --delete and --encode
       --partial      also show the part of a truncated or malformed item that
                      is there
       --places       show the place of each item before its path (-t paths)
@@ -78,8 +78,10 @@ Output:
                      several are one text
       --rule=NAME    the rule that items have to fit (default: the first)
       --encode=RULES re-encode each item, or part at PATH, to keep RULES
-      --diff         compare two files: a line for each difference: ~ changed,
-                     + only in the second, - only in the first
+      --diff         compare two files, or the parts at PATH: a line for each
+                     difference: ~ changed, + only in the second, - only in the
+                     first; ~ and - with the path in the first file, + with
+                     that in the second
       --exact        with --diff, also report equal items that are encoded
                      differently
 

@@ -52,7 +52,7 @@ pub(crate) const ENTERED: Outputs = NAMED | DIAG | JSON | FOLLOWED;
 /// Where items are shown that are encoded anew.
 pub(crate) const ENCODED: Outputs = PRETTY | DIAG | HEX | DIGITS | BYTES;
 /// Where parts of items are looked at.
-pub(crate) const PARTS: Outputs = FORMS - PATHS - STATS - INDEX | CHECKS;
+pub(crate) const PARTS: Outputs = FORMS - PATHS - STATS - INDEX | CHECKS | DIFF;
 /// Where nothing is written.
 pub(crate) const CHECKS: Outputs = CHECK | CDDL;
 /// All outputs.

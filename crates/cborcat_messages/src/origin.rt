@@ -100,8 +100,11 @@ impl Places for Origin<'_> {
     }
 
     fn dropped(&self, byte: usize) -> usize {
-        let mut hole = self.holes.iter();
-        hole.find(|hole| hole.end == byte)
-            .map_or(0, |hole| hole.len)
+        for hole in self.holes {
+            if hole.end == byte {
+                return hole.len;
+            }
+        }
+        0
     }
 }

@@ -166,9 +166,7 @@ pub fn say_line_feed(rt: &HostRuntime, origin: &Origin) {
 /// Says that nothing in an input has the shape of the type of `--as`.
 pub fn say_other_shape(rt: &HostRuntime, origin: &Origin, outer: &str) {
     let name = label(origin.name);
-    let _ = eprintln!(rt;
-        "cborcat: {name}: nothing that is shown has the shape of {outer} (--as)"
-    );
+    let _ = eprintln!(rt; "cborcat: {name}: nothing that is shown has the shape of {outer} (--as)");
 }
 
 /// How many letters of base 64 are few: they may have been meant as a word.

@@ -6,6 +6,7 @@
 #![tactic(auto)]
 
 mod checks;
+mod compared;
 mod diff;
 mod dumps;
 mod encode;
@@ -18,8 +19,10 @@ mod part;
 mod plain;
 mod screen;
 mod views;
+mod window;
 
 pub use checks::Checks;
+pub use compared::Compared;
 pub use dumps::Dumps;
 pub use encode::Encoding;
 pub use encoded::{encoded_in, inside_of};
@@ -27,6 +30,7 @@ pub use index::Indexed;
 pub use item::{NotShown, ShowsItem};
 pub use output::{Output, Written};
 pub use page::{Page, megabytes};
+pub use part::{PartOf, parts_in};
 pub use plain::Plain;
 pub use screen::Screen;
 pub use views::Views;

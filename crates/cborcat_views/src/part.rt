@@ -11,10 +11,10 @@ use std::alloc::{AllocError, Global};
 
 /// A part of an item, or all of it.
 #[derive(Clone, Copy)]
-pub(crate) struct PartOf<'a, 'b> {
+pub struct PartOf<'a, 'b> {
     item: Piece<'b>,
     /// Its bytes in the item.
-    pub(crate) span: Span,
+    pub span: Span,
     /// Its names.
     pub(crate) naming: Option<Naming<'a>>,
 }
@@ -37,7 +37,7 @@ impl<'b> PartOf<'_, 'b> {
 
 /// The parts of an item that the path leads to, where paths may have these names; the item itself
 /// if there is no path.
-pub(crate) fn parts_in<'a, 'b>(
+pub fn parts_in<'a, 'b>(
     alloc: Global,
     asked: (&'a Job<'a>, Option<Naming<'a>>),
     item: Piece<'b>,

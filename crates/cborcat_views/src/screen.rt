@@ -182,7 +182,12 @@ impl<'a> Screen<'a> {
     }
 
     /// Appends a text as a token of this kind.
-    fn push_kind(self, out: &mut Vec<u8>, kind: Kind, text: &[u8]) -> Result<(), AllocError> {
+    pub(crate) fn push_kind(
+        self,
+        out: &mut Vec<u8>,
+        kind: Kind,
+        text: &[u8],
+    ) -> Result<(), AllocError> {
         if self.colors {
             push_in_color(out, kind, text)
         } else {

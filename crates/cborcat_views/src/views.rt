@@ -44,6 +44,11 @@ impl<'a> Views<'a> {
         }
     }
 
+    /// The same with other names.
+    pub fn with(self, tables: Option<Naming<'a>>) -> Views<'a> {
+        Views { tables, ..self }
+    }
+
     /// The dumps of items.
     pub fn dumps(self) -> Dumps<'a> {
         Dumps::new(self.rt, self.job, self.tables)

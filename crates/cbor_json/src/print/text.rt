@@ -15,6 +15,7 @@ ghost use Rattle.cbor_tokens.specs.Appends.{AppendsText};
 ghost use Rattle.cbor_json.specs.JsonLeaves.{in_quotes, twice_escaped, edn_string, string_at};
 ghost use Rattle.cbor_json.specs.JsonLeaves.{digits_in, value_digits, is_big_tag};
 ghost use Rattle.cbor_json.specs.JsonLeaves.{part_at, content_at as content_there};
+ghost use Rattle.cbor_json.specs.JsonLeaves.{but_sequence as no_sequence};
 ghost use Rattle.cbor_json.specs.JsonLeaves.{is_value as is_value_role};
 ghost use Rattle.cbor_json.specs.JsonLeaves.{is_big as is_big_number, BigText};
 ghost use Rattle.cbor_json.specs.JsonLeaves.{is_negative_tag, StringAt};
@@ -44,17 +45,24 @@ fn is_value(role: Role) -> bool
     }
 }
 
-/// What the bytes of a byte string there are written as, if those that may be one item are. A
-/// sequence of items is no value of JSON.
+/// The same, but bytes in place of a sequence of items, which is no value of JSON.
+fn but_sequence(content: Content) -> Content
+    ensures { result ≡ no_sequence content }
+{
+    match content {
+        Content::Item => Content::Item,
+        Content::Bytes | Content::Sequence => Content::Bytes,
+    }
+}
+
+/// What the bytes of a byte string there are written as, if those that may be one item are.
 pub(crate) fn content_at(place: &JsonPlace<'_>, bytes: &[u8]) -> Content
     ensures { result ≡ content_there place.now bytes.now }
 {
-    if !(place.style.embedded && is_value(place.role)) {
-        return Content::Bytes;
-    }
-    match content_under(true, place.level, place.tag, bytes) {
-        Content::Sequence => Content::Bytes,
-        content => content,
+    if place.style.embedded && is_value(place.role) {
+        but_sequence(content_under(true, place.level, place.tag, bytes))
+    } else {
+        Content::Bytes
     }
 }
 

@@ -153,11 +153,7 @@ impl PartialEdn<'_> {
 
     /// Appends what is said of the bytes from a place on, and the first of them. Returns where the
     /// comment with the former is.
-    pub(super) fn push_remaining(
-        &self,
-        out: &mut String,
-        start: usize,
-    ) -> Result<Span, AllocError>
+    pub(super) fn push_remaining(&self, out: &mut String, start: usize) -> Result<Span, AllocError>
         requires { start ≤ length self.now.bytes.now }
     {
         let (_, rest) = self.bytes.split_at(start);

@@ -35,8 +35,7 @@ impl<'a> CutString<'a> {
     pub(super) fn at_front(bytes: &'a [u8]) -> Option<CutString<'a>> {
         match read_head(bytes) {
             Ok((ItemHead::String(kind, Argument::Number(length, _)), content))
-                if (content.len() as u64) < length =>
-            {
+                if (content.len() as u64) < length => {
                 Some(CutString {
                     kind,
                     length,

@@ -28,12 +28,19 @@ const ALL: Inside<'static> = Inside {
     named: &[],
 };
 
+/// Whether an item, or a chunk of a string, may be here.
+pub(super) fn is_context(context: &DumpContext) -> bool
+    ensures { IsTrue result → IsContext context.now }
+{
+    context.level <= DEEPEST + 1 && context.depth < usize::from(context.level)
+}
+
 /// Whether an item here may hold others.
 pub(super) fn has_level_left(context: &DumpContext) -> bool
     ensures context { IsTrue result → IsContext context.now }
     ensures level { IsTrue result → context.now.level ≤ deepest }
 {
-    context.level <= DEEPEST && context.depth < usize::from(context.level)
+    context.level <= DEEPEST && is_context(context)
 }
 
 /// What holds items.
@@ -317,18 +324,17 @@ impl<'a> Walk<'a> {
         let StringContent::Bytes(bytes) = content else {
             return false;
         };
-        if !self.embedded || context.tag == Some(Tag::ENCODED_CBOR) {
-            return false;
-        }
+        let tag = match context.tag {
+            Some(tag) if tag == Tag::ENCODED_CBOR => return false,
+            Some(Tag(number)) => Some(number),
+            None => None,
+        };
         let string = ByteString {
             start: 0,
             level: context.level,
-            tag: match context.tag {
-                Some(Tag(number)) => Some(number),
-                None => None,
-            },
+            tag,
         };
-        matches!(ALL.content(string, bytes), Content::Item)
+        self.embedded && matches!(ALL.content(string, bytes), Content::Item)
     }
 
     /// Passes the chunks of a string of a kind, and its break.

@@ -4,7 +4,7 @@ ghost use Rattle.std.specs.Prelude.{◌≤◌, length};
 
 use crate::dump::beside::{Beside, push_word};
 use crate::dump::lines::{CutLine, Lines, MOST_DEPTH, at_most};
-use crate::dump::walk::has_level_left;
+use crate::dump::walk::{has_level_left, is_context};
 use cbor_dump::comment::Comment;
 use cbor_dump::context::DumpContext;
 use cbor_dump::hex_style::HexStyle;
@@ -195,7 +195,7 @@ impl Lines for Writing<'_> {
         context: &DumpContext,
         content: StringContent<'_>,
     ) -> Result<(), AllocError> {
-        if !has_level_left(context) {
+        if !is_context(context) {
             return Ok(());
         }
         self.walk.writer.string_content(context, content)

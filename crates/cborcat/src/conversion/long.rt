@@ -35,7 +35,8 @@ struct LongString {
 impl LongString {
     /// The string of definite length that truncated bytes end in.
     fn at_end(alloc: Global, left: Piece<'_>) -> Result<Option<LongString>, AllocError> {
-        let start = Around::of_end(alloc, left)?.spot.start;
+        let around = Around::of_end(alloc, left)?;
+        let start = around.spot.start;
         let item = left.bytes.get(start..).unwrap_or(b"");
         let Ok((ItemHead::String(kind, Argument::Number(length, _)), content)) = read_head(item)
         else {
@@ -71,6 +72,7 @@ impl LongString {
         let (before, rest) = bytes.split_at(self.content.min(bytes.len()));
         let (before, argument) = before.split_at(before.len().min(self.start.saturating_add(1)));
         let length = (self.length.saturating_sub(len) as u64).to_be_bytes();
+        let length = length.as_slice();
         let from = length.len().saturating_sub(argument.len());
         let mut kept = Vec::from_slice(alloc, before)?;
         kept.extend_from_slice(length.get(from..).unwrap_or(b""))?;
@@ -118,16 +120,16 @@ impl Conversion<'_> {
         }
         let kept = string.without(self.rt.alloc(), rest, len)?;
         self.stream = Stream::new(kept);
+        self.look_from = MANY;
+        let end = self.begins().saturating_add(string.content);
         for hole in &mut self.holes {
             hole.end = hole.end.saturating_add(len);
+            if hole.end == end {
+                hole.len = hole.len.saturating_add(len);
+                return Ok(());
+            }
         }
-        let end = self.begins().saturating_add(string.content);
-        match self.holes.last_mut() {
-            Some(hole) if hole.end == end => hole.len = hole.len.saturating_add(len),
-            _ => self.holes.push(Hole { end, len })?,
-        }
-        self.look_from = MANY;
-        Ok(())
+        self.holes.push(Hole { end, len })
     }
 
     /// How many bytes of the item at the front were dropped.

@@ -72,10 +72,13 @@ impl Shapes {
 
     /// Adds what was shown.
     fn add_part(&mut self, tables: Option<Naming<'_>>, part: &[u8]) {
-        if let Some(Naming {
-            names,
-            known: Some(known),
-        }) = tables
+        if let Some(
+            Naming {
+                names,
+                known: Some(known),
+            ..
+            },
+        ) = tables
         {
             let fits = names.has_shape(known, part);
             self.fits |= fits;
