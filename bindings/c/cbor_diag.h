@@ -262,6 +262,7 @@ int64_t cbor_diag_named(const uint8_t *input, size_t input_len, const uint8_t *t
                         size_t output_len);
 int64_t cbor_diag_recognize(const uint8_t *input, size_t input_len, uint32_t *form, uint8_t *output,
                             size_t output_len);
+int64_t cbor_diag_place_in_text(uint32_t form, const uint8_t *text, size_t text_len, size_t byte);
 int64_t cbor_diag_page(const uint8_t *input, size_t input_len, const uint8_t *type, size_t type_len,
                        const uint8_t *names, size_t names_len, uint32_t flags, uint8_t *output, size_t output_len);
 int64_t cbor_diag_names_fault(const uint8_t *names, size_t names_len, uint8_t *message, size_t message_len);
@@ -869,6 +870,29 @@ static inline int64_t cbor_diag_recognize_checked(const void *input, size_t inpu
     return cbor_diag_recognize(in, input_len, form ? form : &unused, out, output_len);
 }
 #define cbor_diag_recognize cbor_diag_recognize_checked
+
+/*
+ * Finds where in a text a byte is that the text stands for: the place of its first digit, or in EDN that of the
+ * innermost item that has it. So a place in bytes, such as that of a violation, becomes one in the text that they were
+ * read from. `form` is the enum cbor_diag_input that cbor_diag_recognize found. For CBOR_DIAG_INPUT_BYTES the place is
+ * `byte`.
+ *
+ * Returns how many bytes of the text come before the place: `text_len` if it stands for no such byte, and never more.
+ * On an error, returns minus CBOR_DIAG_ERROR_NO_FORM, for another form, or minus CBOR_DIAG_ERROR_MEMORY.
+ *
+ *     cbor_diag_place_in_text(CBOR_DIAG_INPUT_EDN, "{1: [2, 30]}", 12, 4);  // 8, where 30 is
+ *
+ * A pointer may be null if its length is 0.
+ */
+static inline int64_t cbor_diag_place_in_text_checked(uint32_t form, const void *text, size_t text_len, size_t byte)
+{
+    const uint8_t *in = text ? (const uint8_t *)text : cbor_diag_no_bytes();
+    if (text_len > (size_t)PTRDIFF_MAX) {
+        return -CBOR_DIAG_ERROR_MEMORY; /* no object is that large */
+    }
+    return cbor_diag_place_in_text(form, in, text_len, byte);
+}
+#define cbor_diag_place_in_text cbor_diag_place_in_text_checked
 
 /*
  * Writes the lines of a page of HTML that shows a sequence of items, each line of EDN beside its own bytes, as

@@ -1447,6 +1447,44 @@ static void test_recognizing(void)
     check_answer("no bytes at all", 0, cbor_diag_recognize(NULL, 0, NULL, NULL, 0));
 }
 
+/* Where in a text a byte is that it stands for. */
+static void test_places_in_texts(void)
+{
+    const struct {
+        const char *name;
+        struct text text;
+        uint32_t form;
+        size_t byte;
+        int64_t place;
+    } rows[] = {
+        {"a number in EDN", TEXT("{1: [2, 30]}"), CBOR_DIAG_INPUT_EDN, 4, 8},
+        {"its second byte", TEXT("{1: [2, 30]}"), CBOR_DIAG_INPUT_EDN, 5, 8},
+        {"the second item, behind a comment", TEXT("1 # one\n[true]"), CBOR_DIAG_INPUT_EDN, 2, 9},
+        {"behind a text of two bytes", TEXT("[\"\xc3\xa9\", 1_1]"), CBOR_DIAG_INPUT_EDN, 4, 7},
+        {"no such byte in EDN", TEXT("[1]"), CBOR_DIAG_INPUT_EDN, 2, 3},
+        {"hex", TEXT("82 01 02"), CBOR_DIAG_INPUT_HEX, 1, 3},
+        {"hex with comments", TEXT("82 # an array\n 01 // one\n 02"), CBOR_DIAG_INPUT_HEX, 2, 26},
+        {"hex with 0x", TEXT("0x82 0x01"), CBOR_DIAG_INPUT_HEX, 1, 7},
+        {"no such byte in hex", TEXT("8101"), CBOR_DIAG_INPUT_HEX, 2, 4},
+        {"a byte past any", TEXT("8101"), CBOR_DIAG_INPUT_HEX, SIZE_MAX, 4},
+        /* Byte n begins in the digit 8n / 6. */
+        {"base 64", TEXT("ggEC"), CBOR_DIAG_INPUT_BASE64, 1, 1},
+        {"base 64 on two lines", TEXT("gg\nEC"), CBOR_DIAG_INPUT_BASE64, 2, 3},
+        {"no such byte in base 64", TEXT("gQE="), CBOR_DIAG_INPUT_BASE64, 3, 4},
+        {"bytes", TEXT("\x82\x01\x02"), CBOR_DIAG_INPUT_BYTES, 2, 2},
+        {"past the bytes", TEXT("\x01"), CBOR_DIAG_INPUT_BYTES, 2, 1},
+        {"what is not UTF-8", TEXT("\xff"), CBOR_DIAG_INPUT_EDN, 0, 1},
+        {"another form", TEXT("01"), 4, 0, -CBOR_DIAG_ERROR_NO_FORM},
+    };
+    for (size_t i = 0; i < sizeof rows / sizeof *rows; i++) {
+        check_answer(rows[i].name, rows[i].place,
+                     cbor_diag_place_in_text(rows[i].form, rows[i].text.bytes, rows[i].text.length, rows[i].byte));
+    }
+    check_answer("a place in no text", 0, cbor_diag_place_in_text(CBOR_DIAG_INPUT_EDN, NULL, 0, 0));
+    check_answer("a place in 2^64 - 1 bytes", -CBOR_DIAG_ERROR_MEMORY,
+                 cbor_diag_place_in_text(CBOR_DIAG_INPUT_HEX, "01", SIZE_MAX, 0));
+}
+
 /* ---- the lines of a page */
 
 /* A file of names. */
@@ -1769,6 +1807,8 @@ static int64_t part_call(int call, unsigned char *buffer)
         return cbor_diag_schema_load(log_cddl, strlen(log_cddl), "name", 4, buffer, 8);
     case 10:
         return cbor_diag_schema_fault("a = [ uit ]", 11, NULL, 0, NULL, NULL, (char *)buffer, 8);
+    case 11:
+        return cbor_diag_place_in_text(CBOR_DIAG_INPUT_EDN, "[1, {\"a\": h'00'}]", 17, 2);
     default:
         counting = 0;
         start = (size_t)cbor_diag_schema_load(log_cddl, strlen(log_cddl), "name", 4, schema, sizeof schema);
@@ -1779,7 +1819,7 @@ static int64_t part_call(int call, unsigned char *buffer)
 
 static void test_parts_without_memory(void)
 {
-    for (int call = 0; call < 12; call++) {
+    for (int call = 0; call < 13; call++) {
         int64_t came = -CBOR_DIAG_ERROR_MEMORY;
         for (failing = 0; came == -CBOR_DIAG_ERROR_MEMORY && failing < 20000; failing++) {
             unsigned char buffer[8] = {0};
@@ -1839,6 +1879,10 @@ static void test_hostile_parts(void)
             int64_t lines = cbor_diag_paths(bytes, length, NULL, 0);
             check(whole == (lines > 0), "byte %zu is %d: paths came to %lld", at, byte, (long long)lines);
             cbor_diag_recognize(bytes, length, NULL, NULL, 0);
+            for (uint32_t form = 0; form < 4; form++) {
+                int64_t place = cbor_diag_place_in_text(form, bytes, length, at);
+                check(0 <= place && place <= (int64_t)length, "byte %zu is %d: a place is past the text", at, byte);
+            }
             check(cbor_diag_page(bytes, length, NULL, 0, NULL, 0, 0, NULL, 0) >= 0,
                   "byte %zu is %d: the lines of a page came to an error", at, byte);
             check(whole == (cbor_diag_convert(BYTES, HTML, bytes, length, NULL, 0) > 0),
@@ -2203,6 +2247,7 @@ int main(int argc, char **argv)
     test_values();
     test_shown();
     test_recognizing();
+    test_places_in_texts();
     test_pages();
     test_page_errors();
     test_names_faults();

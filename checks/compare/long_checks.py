@@ -1,4 +1,4 @@
-"""What `checks/cborcat` checks of long strings: a check keeps a block of them, and --limit refuses them by their heads."""
+"""What `checks/cborcat` checks of long strings: a check keeps some blocks of them, and --limit looks at their heads."""
 import random
 import resource
 import subprocess

@@ -181,7 +181,8 @@ def texts(program):
         wanted = [f"cborcat: standard input:{line}:{column}: {LONG_SEVEN}", f"    {shown}",
                   f"    {' ' * (column - 1)}{mark}"]
         program.same(f"the place of 7_1 in {text!r}", same_lines[-3:], wanted)
-    program.same("after a change", program.run("--check=preferred", "--set", "0=1", "-x", "[0, 7_1]")[1].splitlines()[0],
+    said = program.run("--check=preferred", "--set", "0=1", "-x", "[0, 7_1]")[1]
+    program.same("after a change", said.splitlines()[0],
                  f"cborcat: -x: byte 2 (0x2) of the changed bytes: {LONG_SEVEN}")
     program.same("a byte in the text of a message", program.run("--check=valid", "-x", "{1: 2, /again/ 1: 3}")[1], (
         "cborcat: -x:1:16: not valid: the key 1 was at 1:2\n    in a key of the map of 2 at 1:1\n"

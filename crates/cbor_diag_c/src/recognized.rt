@@ -1,11 +1,12 @@
 //! The C call `cbor_diag_recognize`: finds which form an input has, and writes the bytes that it
-//! stands for.
-ghost use Rattle.std.specs.Prelude.{◌≡◌};
-ghost use Rattle.cbor_diag_c.specs.Answers.{IfLength, IfError, IsMinus};
+//! stands for. `cbor_diag_place_in_text` finds where in the input one of these bytes is.
+ghost use Rattle.std.specs.Prelude.{◌≡◌, ◌⊎◌, ◌≤◌, length};
+ghost use Rattle.cbor_diag_c.specs.Answers.{IfLength, IfError, IsMinus, no_form};
 ghost use Rattle.cbor_diag_c.specs.Recognized.{input_number, refusal_number};
 ghost use Rattle.cbor_diag_c.specs.Recognized.{IsRecognized, IsNotRecognized};
 
 use crate::answer::{refused, write};
+use crate::form::NO_FORM;
 use cbor_grammar::Error;
 use cbor_inputs::{Input, Refusal, recognize};
 use std::alloc::Global;
@@ -65,5 +66,34 @@ pub extern "C" fn cbor_diag_recognize(
             write(&found.bytes, output)
         }
         Err(refusal) => not_recognized(refusal),
+    }
+}
+
+/// Finds where in a text a byte is that the text stands for, as `cborcat` shows what is wrong with
+/// its items: the place of its first digit, or in EDN of the innermost item that has it; the end of
+/// the text if there is no such byte. `form` is one that `cbor_diag_recognize` finds.
+///
+/// Returns how many bytes of the text come before that place, or minus the number of the error:
+/// `Memory`, or 11 for another form.
+#[unsafe(no_mangle)]
+pub extern "C" fn cbor_diag_place_in_text(
+    alloc: Global,
+    form: u32,
+    text: &[u8],
+    byte: usize,
+) -> i64
+    ensures place { IfLength result (λ n. n ≤ length text.now) }
+    ensures error { IfError result (λ n. (n ≡ 1) ⊎ (n ≡ no_form)) }
+{
+    let form = match form {
+        0 => Input::Bytes,
+        1 => Input::Hex,
+        2 => Input::Diag,
+        3 => Input::Base64,
+        _ => return NO_FORM,
+    };
+    match form.place_of(alloc, text, byte) {
+        Ok(place) => place.min(text.len()) as i64,
+        Err(_) => refused(Error::Memory),
     }
 }

@@ -180,7 +180,7 @@ fn added_to(bytes: &[u8], container: Span, step: &[Step]) -> Option<What> {
 }
 
 /// The items that the steps lead to, in order.
-fn reached(
+fn items_reached(
     alloc: Global,
     item: &[u8],
     steps: &[Step],
@@ -215,7 +215,7 @@ pub(crate) fn targets(
         return Ok(targets);
     }
     let (before, last) = steps.split_at(steps.len() - 1);
-    for place in &reached(alloc, item, before, picture)? {
+    for place in &items_reached(alloc, item, before, picture)? {
         if is_dropped {
             push_dropped(&mut targets, item, place, (last, picture))?;
         } else {

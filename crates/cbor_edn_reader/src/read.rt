@@ -39,9 +39,8 @@ use cbor_grammar::major::Major;
 use cbor_grammar::strings::StringKind;
 use cbor_grammar::width::count_fits;
 use pieces::{read_content, read_string};
-use std::alloc::Global;
-
 pub use place::place_of_byte;
+use std::alloc::Global;
 
 /// One more than a count. A text never has enough members that this does not fit.
 fn one_more(count: usize) -> Result<usize, Stop>

@@ -94,7 +94,8 @@ impl<'a> Words<'a> {
     /// Writes where the byte at a place is.
     pub(crate) fn push_byte(&mut self, place: usize) -> Result<(), AllocError> {
         self.out.push_str("at ")?;
-        self.bytes.push((self.out.len(), self.items.number(place)))
+        self.bytes.push((self.out.len(), self.items.number(place)))?;
+        Ok(())
     }
 
     /// The bytes of the item at a place; none if no whole item is there.

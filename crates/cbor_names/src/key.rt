@@ -39,12 +39,13 @@ impl Names {
     /// use cbor_names::{Known, NamedKey, known_names};
     ///
     /// let names = known_names(alloc)?;
-    /// let Some(outer) = names.of("COSE_Key") else {
-    ///     return Ok(());
-    /// };
+    /// let outer = names.of("COSE_Key").map(Known::of);
     /// // {1: 4}, a symmetric key
-    /// let found = names.key_of(alloc, Some(Known::of(outer)), b"\xa1\x01\x04", "alg")?;
-    /// assert!(rt; matches!(found, NamedKey::Key(key) if key.as_slice() == b"\x03".as_slice()));
+    /// let key = match names.key_of(alloc, outer, b"\xa1\x01\x04", "alg")? {
+    ///     NamedKey::Key(key) => key,
+    ///     _ => Vec::new(alloc),
+    /// };
+    /// assert_eq!(rt; key.as_slice(), b"\x03".as_slice());
     /// ```
     pub fn key_of<'a>(
         &'a self,

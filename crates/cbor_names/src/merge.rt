@@ -17,10 +17,8 @@ impl ShapeRow {
                 Some(before)
             }
             (ShapeRow::MapBy(_), ShapeRow::Map) => Some(self),
-            (
-                ShapeRow::MapBy(KeyRow::Integer(key)),
-                ShapeRow::MapBy(KeyRow::Integer(key_before)),
-            ) if key == key_before => Some(self),
+            (ShapeRow::MapBy(KeyRow::Integer(key)), ShapeRow::MapBy(KeyRow::Integer(key_before)))
+                if key == key_before => Some(self),
             _ => None,
         }
     }
@@ -64,10 +62,10 @@ impl Names {
     /// ```
     pub fn merge(&mut self) -> Result<(), AllocError> {
         for at in 0..usize::MAX {
-            let Some(again) = self.again.get(at) else {
+            let Some(again) = self.again.get(at).copied() else {
                 break;
             };
-            self.merge_type(*again)?;
+            self.merge_type(again)?;
         }
         self.again.clear();
         self.merged = self.types.len();

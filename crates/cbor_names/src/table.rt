@@ -254,10 +254,7 @@ impl Names {
         match (what, self.inside(what), members) {
             // An array of the type may have this first member.
             (WhatRow::OneOrMore(_), Inside::Members(_) | Inside::Each(_), [first, ..])
-                if !matches!(*first, 0x80..=0x9f) =>
-            {
-                self.inside(what)
-            }
+                if !matches!(*first, 0x80..=0x9f) => { self.inside(what) }
             (WhatRow::OneOrMore(index), _, _) => Inside::Each(index),
             (_, inside, _) => inside,
         }

@@ -1,6 +1,7 @@
 //! `Conversion`: converts one input as its bytes arrive. It shows, checks or skips the items, as
 //! the arguments ask, and says why it stops.
 mod checks;
+mod ends;
 mod fronts;
 mod index;
 mod long;
@@ -17,17 +18,12 @@ use crate::each::Each;
 use crate::input::{MORE, block_len, read_into};
 use crate::next::Next;
 use crate::output::Target;
-use crate::recognized::is_named_bytes;
 use crate::run::Runner;
-use cbor_inputs::Input;
-use cbor_inspect::{End, Form, Naming, Stream, skip_items};
+use cbor_inspect::{End, Form, Naming, Stream};
 use cbor_places::Piece;
 use cbor_stats::Stats;
 use cborcat_arguments::{Job, View, show_of};
-use cborcat_messages::{
-    Hole, Origin, Status, report_end, report_few, report_long, report_lost, report_none_left, say,
-    say_line_feed, say_other_shape, say_shape,
-};
+use cborcat_messages::{Hole, Origin, Status, report_long, report_lost, say, say_shape};
 use cborcat_views::{Indexed, Page, ShowsItem, Views, Written};
 use std::alloc::AllocError;
 use std::io;
@@ -399,97 +395,6 @@ impl<'a> Conversion<'a> {
             return;
         }
         say_shape(self.rt, self.origin, self.stream.passed(passed));
-    }
-
-    /// Says why no further item is converted.
-    fn stop(&mut self, end: End) -> Next {
-        let end = match self.write_left(end) {
-            Ok(Written::Failed) => {
-                self.ended(Status::Trouble);
-                end
-            }
-            Ok(_) => end,
-            Err(_) => End::Memory,
-        };
-        let origin = self.told();
-        let status = report_end(self.rt, &origin, self.left(), end);
-        self.ended(status);
-        Next::NextInput
-    }
-
-    /// No item came of an input that has to be one: all were deleted, or none was there.
-    fn none_came(&mut self) -> Next {
-        if self.changes.count == 0 {
-            return self.stop(End::Cut);
-        }
-        report_none_left(self.rt, self.origin);
-        self.ended(Status::Bad);
-        Next::NextInput
-    }
-
-    /// All bytes were converted.
-    fn done(&mut self) -> Next {
-        if self.job.show.one && !self.any {
-            return self.none_came();
-        }
-        if let Some(item) = self.job.item
-            && self.index <= item
-        {
-            report_few(self.rt, self.origin, item, self.index);
-            self.ended(Status::Bad);
-        }
-        if let View::Index(_) = self.job.view {
-            match self.write_last_piece() {
-                Ok(Written::Failed) => self.ended(Status::Trouble),
-                Ok(_) => {}
-                Err(_) => return self.stop(End::Memory),
-            }
-        }
-        self.note_few_changed();
-        if let Some(outer) = self.job.outer
-            && self.shapes.all_miss()
-        {
-            say_other_shape(self.rt, self.origin, outer);
-        }
-        if self.ends_line {
-            say_line_feed(self.rt, self.origin);
-        }
-        if let View::At(byte) = self.job.view {
-            let count = self.came;
-            let what = format_args!("no item has this byte; {count} bytes came");
-            self.origin.say_at_byte(self.rt, byte, what);
-            self.ended(Status::Bad);
-        }
-        Next::NextInput
-    }
-
-    /// Notes whether the last of the items that were passed is a line feed behind others: an editor
-    /// or `echo` adds it to a file.
-    fn note_line_feed(&mut self, passed: usize) {
-        let is_file = self.origin.form == Input::Bytes && is_named_bytes(self.origin.name);
-        if passed == 0 || !is_file {
-            return;
-        }
-        self.ends_line = match self.stream.passed(passed) {
-            [before @ .., b'\n'] => {
-                (self.any || !before.is_empty()) && skip_items(before, false).end == End::Done
-            }
-            _ => false,
-        };
-    }
-
-    /// Says which items that were to be changed alone are not there, and which parts no item had.
-    fn note_few_changed(&mut self) {
-        self.ended(self.changes.report());
-        let count = self.changes.count;
-        for change in &self.job.changes {
-            if let Some(item) = change.item
-                && count <= item
-            {
-                report_few(self.rt, self.origin, item, count);
-                self.ended(Status::Bad);
-            }
-        }
     }
 
     /// Says that the item of that length at the front does not have the part, and goes past it.

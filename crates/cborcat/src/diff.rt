@@ -117,6 +117,7 @@ impl<'a> Diff<'a> {
             text: b"",
             color: self.job.color,
             changed: false,
+            holes: &[],
         };
         let (mut item, mut count) = (items, 0usize);
         for _ in 0..self.job.item.unwrap_or(0) {

@@ -59,7 +59,8 @@ impl<'a> Compared<'a> {
             number,
             path,
             naming,
-        })
+        })?;
+        Ok(())
     }
 
     /// The notes of a part, if it may have some.

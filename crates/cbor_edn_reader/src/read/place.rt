@@ -88,5 +88,5 @@ pub fn place_of_byte(alloc: Global, text: &str, byte: usize) -> Result<usize, Al
             _ => break,
         }
     }
-    Ok(place)
+    Ok(place.min(text.len()))
 }

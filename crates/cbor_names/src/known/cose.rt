@@ -50,7 +50,11 @@ const HEADER: &[Part<'static>] = &[
     entry!(7, "counter signature", What::OneOrMore("COSE_Signature")),
     entry!(9, "CounterSignature0"),
     entry!(10, "kid context"),
-    entry!(11, "Countersignature version 2", What::OneOrMore("COSE_Countersignature")),
+    entry!(
+        11,
+        "Countersignature version 2",
+        What::OneOrMore("COSE_Countersignature")
+    ),
     entry!(12, "Countersignature0 version 2"),
     entry!(13, "kcwt"),
     entry!(14, "kccs", What::Of("CWT")),

@@ -124,7 +124,7 @@ impl PartialEdn<'_> {
     }
 
     /// Appends the chunks of a string of this kind: those that are whole, and in place of the rest
-    /// what is said of it and its first bytes. Returns where the comment is that says what is wrong.
+    /// what is said of it and its first bytes. Returns where the comment with the former is.
     pub(super) fn push_chunks(
         &self,
         out: &mut String,

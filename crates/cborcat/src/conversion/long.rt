@@ -129,7 +129,8 @@ impl Conversion<'_> {
                 return Ok(());
             }
         }
-        self.holes.push(Hole { end, len })
+        self.holes.push(Hole { end, len })?;
+        Ok(())
     }
 
     /// How many bytes of the item at the front were dropped.

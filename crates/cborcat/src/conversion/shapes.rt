@@ -60,8 +60,9 @@ impl Shapes {
         tables: Option<Naming<'_>>,
         item: &[u8],
     ) -> Result<(), AllocError> {
-        if job.show.steps.is_empty() {
-            self.add_part(tables, item);
+        self.add_part(tables, item);
+        // A path may begin with names that the type gives the whole item.
+        if self.fits || job.show.steps.is_empty() {
             return Ok(());
         }
         for part in &parts_of(alloc, &show_of(job, tables), item)? {
