@@ -11,7 +11,7 @@ from dataclasses import dataclass, field
 
 import cddl_load
 from cddl_item import Item
-from cddl_text import MANY, Choice, Name, Tag, Value
+from cddl_text import MANY, Choice, Control, Name, Range, Tag, Value
 
 TAKES, REFUSES, CUTS = "takes", "refuses", "cuts"
 KINDS = ("int", "int", "bytes", "text", "array", "map", "tag", "simple")
@@ -238,13 +238,28 @@ class Matcher:
     def control_size(self, node, item):
         """None if the size fits; otherwise what was found."""
         if item.kind == "int":
-            least = max(1, (item.value.bit_length() + 7) // 8) if item.value else 0
-            fits = any(self.is_fit(node.controller, whole(size)) for size in range(least, 9))
+            sizes = {*range(9), *self.ends_in(node.controller)}
+            enough = (size for size in sizes if size >= 0 and item.value < 256 ** min(size, 8))
+            fits = any(self.is_fit(node.controller, whole(size)) for size in enough)
             return None if fits else item.shown()
         content = item.value.encode() if item.kind == "text" else item.value
         if self.is_fit(node.controller, whole(len(content))):
             return None
         return f"{item.shown()} of {len(content)} byte" + "s" * (len(content) != 1)
+
+    def ends_in(self, node):
+        """The numbers at the ends of the ranges of a type: if a number fits it, one up to 8 does, or one of these."""
+        if isinstance(node, Name):
+            return self.ends_in(self.schema.body(node))
+        if isinstance(node, Choice):
+            return [end for one in node.types for end in self.ends_in(one)]
+        if isinstance(node, Range):
+            last = self.schema.literal(node.high).value
+            return [last if node.has_high else last - 1]
+        if isinstance(node, Control) and node.name in ORDERS:
+            return [*self.ends_in(node.target), *(self.schema.literal(node.controller).value + at for at in (-1, 0, 1))]
+        literal = self.schema.literal(node)
+        return [literal.value] if literal and literal.kind == "int" else []
 
     def control_bits(self, node, item):
         """None if all bits that are set are allowed; otherwise the first that is not."""
@@ -267,7 +282,9 @@ class Matcher:
             return None if self.is_fit(node.controller, item) else item.shown()
         if node.name == "ne":
             return None if not self.is_fit(node.controller, item) else item.shown()
-        return None if ORDERS[node.name](item.value, self.schema.literal(node.controller).value) else item.shown()
+        if ORDERS[node.name](item.value, self.schema.literal(node.controller).value):
+            return None
+        return "" if self.muted else item.shown()
 
     def fits_array(self, node, item, reach):
         if item.kind != "array":

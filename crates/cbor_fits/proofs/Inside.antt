@@ -54,11 +54,6 @@ from_next f n k m j whole inv h fails fewer next =
     ∙ (sym (any_from_next f n k h
     ∙ ap (λ p. p >>= (λ b. if b then Some true else any_from f (n - 1) (k + 1))) fails) ∙ inv))
 
-pub from_end : (f : ℕ → Option Bool) (n k : ℕ) (whole : Option Bool) → any_from f n k ≡ whole → n ≡ 0
-    → whole ≡ Some false
-unfolding any_from
-from_end f n k whole inv none = sym inv ∙ ap (λ c. any_from f c k) none
-
 pub repeated_next : (f : Rest → Option Outcome) (n least most : ℕ) (rest : Rest) → 0 < n
     → repeated f n least most rest ≡ (if most == 0 then Some (takes rest)
     else (f rest >>= (λ o. after_turn o rest least (repeated f (n - 1) (least - 1) (most - 1)))))

@@ -2,6 +2,7 @@ pub mod Views
 pub mod Levels
 pub mod Matches
 pub mod Inside
+pub mod Sizes
 pub mod Kept
 pub mod InOrder
 pub mod Decodes

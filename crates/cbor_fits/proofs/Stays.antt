@@ -2,13 +2,13 @@
 -- `in_map`, `has_size` and the others) keeps this: if the answers that it asks for stay, its own answer stays.
 -- `MoreLevels` needs this for one level.
 use Rattle.std.proofs.Common.{◌≡◌, ℕ, zero, suc, ◌+◌, ◌-◌, ◌/◌, ◌%◌, ◌==◌, List, [], ◌∷◌, Bool, true, false}
-use Rattle.std.proofs.Common.{Option, Some, None, if◌then◌else◌, pos, refl, ap, ◌∙◌}
+use Rattle.std.proofs.Common.{Option, Some, None, if◌then◌else◌, pos, refl, ap, ◌∙◌, ◌^◌, nat_lt}
 use Rattle.cbor_cddl.specs.declared.schema.Occurrence.{Occurrence}
 use Rattle.cbor_fits.specs.Value.{Value, integer, simple, bytes, text, array, map, tagged, list_of, list_of_pairs}
 use Rattle.cbor_fits.specs.Fits.{◌>>=◌, both, any_of, Rest, members, pairs, size, Outcome, takes, refuses, cuts}
 use Rattle.cbor_fits.specs.Fits.{then_takes, in_turn, or_else, first_of, after_turn, repeated, occurs, one_member}
 use Rattle.cbor_fits.specs.Fits.{Split, with_pair, split, no_split, occurs_under}
-use Rattle.cbor_fits.specs.Fits.{in_array, in_map, in_tag, in_simple, number_fits, bytes_needed, any_from, has_size}
+use Rattle.cbor_fits.specs.Fits.{in_array, in_map, in_tag, in_simple, number_fits, any_from, size_count, has_size}
 use Rattle.cbor_fits.specs.Fits.{all_bits, all_bits_of, has_bits, is_fit, has_inside, fails, fits_target}
 
 -- if the first one is an answer, the second one is the same
@@ -152,7 +152,7 @@ pub has_size_stays : {f g : ℕ → Option Bool} → ((n : ℕ) → Stays (f n) 
     → Stays (has_size f x) (has_size g x)
 has_size_stays h (bytes b) = h _
 has_size_stays h (text t) = h _
-has_size_stays h (integer (pos n)) = any_from_stays h 65 (bytes_needed 8 n)
+has_size_stays h (integer (pos n)) = any_from_stays (λ k. if_stays (nat_lt n (256 ^ k)) (h k) (same _)) size_count 0
 has_size_stays h x = same _
 
 all_bits_stays : {f g : ℕ → Option Bool} → ((n : ℕ) → Stays (f n) (g n)) → (count first n : ℕ)

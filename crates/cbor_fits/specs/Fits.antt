@@ -2,7 +2,7 @@
 -- answers for the types and groups one level further in (a `Matcher`). `matcher` applies `step` once for each level.
 use Rattle.std.specs.Prelude.{◌≡◌, ℕ, zero, suc, ◌+◌, ◌-◌, ◌/◌, ◌%◌, List, [], ◌∷◌, ◌++◌, length, Bool, true}
 use Rattle.std.specs.Prelude.{false}
-use Rattle.std.specs.Prelude.{Option, Some, None, not, ◌==◌, if◌then◌else◌, pos, ◌&&◌}
+use Rattle.std.specs.Prelude.{Option, Some, None, not, ◌==◌, if◌then◌else◌, pos, ◌&&◌, ◌^◌, nat_lt}
 use Rattle.cbor_cddl.specs.declared.schema.Node.{Node}
 use Rattle.cbor_cddl.specs.declared.schema.Node.TheVariants as node
 use Rattle.cbor_cddl.specs.declared.schema.Occurrence.{Occurrence}
@@ -184,21 +184,20 @@ number_fits f (Some t) n = f t (integer (pos n))
 
 -- ---- controls (RFC 8610, section 3.8; RFC 9165, section 4)
 
--- how many bytes a number needs
-abbrev pub bytes_needed : ℕ → ℕ → ℕ
-bytes_needed zero n = 0
-bytes_needed (suc most) n = if n == 0 then 0 else bytes_needed most (n / 256) + 1
-
 -- one of so many numbers from `first` on
 unfoldable pub any_from : (ℕ → Option Bool) → ℕ → ℕ → Option Bool
 any_from f zero first = Some false
 any_from f (suc count) first = f first >>= λ b. if b then Some true else any_from f count (first + 1)
 
--- `.size`: the bytes of a string, or a size that is enough for a number
+-- how many sizes there are: the numbers of a schema have 128 bits with their sign
+abbrev pub size_count : ℕ
+size_count = 2 ^ 127
+
+-- `.size` (RFC 8610, section 3.8.1): the bytes of a string; a number is below 256 ^ k for one of the sizes k
 abbrev pub has_size : (ℕ → Option Bool) → Value → Option Bool
 has_size f (bytes b) = f (length b)
 has_size f (text t) = f (length t)
-has_size f (integer (pos n)) = any_from f 65 (bytes_needed 8 n)
+has_size f (integer (pos n)) = any_from (λ k. if nat_lt n (256 ^ k) then f k else Some false) size_count 0
 has_size f x = Some false
 
 -- each of the lowest bits of a number that is set; the lowest one has the number `first`

@@ -1,36 +1,44 @@
 //! Checks whether an item fits a type with a control, such as `.size` (RFC 8610, section 3.8).
 
-ghost use Rattle.std.specs.Prelude.{◌≡◌, ◌≤◌, ◌+◌, ◌^◌, Some, IfOk, OnOk, pos};
+ghost use Rattle.std.specs.Prelude.{◌≡◌, ◌≤◌, ◌+◌, ◌-◌, ◌^◌, ℕ, nat_lt, nat_le, Some, IfOk, OnOk, pos};
+ghost use Rattle.std.specs.Prelude.{◌&&◌, int_le};
 ghost use Rattle.cbor_fits.specs.Value.{integer};
 ghost use Rattle.cbor_fits.specs.View.{view};
 ghost use Rattle.cbor_fits.specs.Tables.{rules_of};
 ghost use Rattle.cbor_fits.specs.Kept.{Holds};
-ghost use Rattle.cbor_fits.specs.Fits.{matcher, has_size, any_from};
+ghost use Rattle.cbor_fits.specs.Fits.{matcher, any_of, has_size, any_from, size_count};
 ghost use Rattle.cbor_fits.specs.Fits.{has_bits, all_bits_of, all_bits};
-ghost use Rattle.cbor_fits.specs.Fits.{has_inside, has_match, bytes_needed};
+ghost use Rattle.cbor_fits.specs.Fits.{has_inside, has_match};
 
 use crate::read::{read_item, read_sequence};
 use crate::tables::Tables;
 use crate::value::Datum;
 use crate::work::Work;
-use cbor_cddl::Stop;
+use cbor_cddl::{List, Node, Stop};
 
 /// No byte string in memory has a bit past this one.
 const LAST_BIT: u64 = 1 << 62;
 
-/// How many bytes a number needs.
-fn bytes_needed(number: u64, most: u8) -> u64
-    ensures needed { result ≡ bytes_needed most number }
-    ensures few { result ≤ most }
+/// How many bytes a number needs: the least `k` for which it is below `256^k`.
+fn bytes_needed(number: u64) -> u64
+    ensures needed { (k : ℕ) → nat_lt number (256 ^ k) ≡ nat_le result k }
+    ensures few { result ≤ number }
 {
-    if most == 0 || number == 0 {
+    if number == 0 {
         return 0;
     }
-    bytes_needed(number / 256, most - 1) + 1
+    bytes_needed(number / 256) + 1
+}
+
+/// Whether a range has a number that is at least the first one.
+fn has_number_from(least: i128, most: i128, first: u64) -> bool
+    ensures { result ≡ (int_le least most && int_le (pos first) most) }
+{
+    least <= most && i128::from(first) <= most
 }
 
 impl Tables<'_> {
-    /// `.size`: the length of a string fits, or a size that is enough for an integer.
+    /// `.size`: the length of a string fits, or a number is below `256^k` for a size `k` that fits.
     #[inline(never)]
     #[cycle(fits)]
     pub(crate) fn fits_size(
@@ -50,35 +58,86 @@ impl Tables<'_> {
             Datum::Bytes(content) => { self.fits_number(work, sizes, content.len() as u64, inner) }
             Datum::Text(content) => { self.fits_number(work, sizes, content.len() as u64, inner) }
             Datum::Unsigned(number) => {
-                self.fits_one_from(work, sizes, bytes_needed(*number, 8), inner)
+                self.has_size_from(work, sizes, bytes_needed(*number), inner)
             }
             _ => Ok(false),
         }
     }
 
-    /// Whether a number fits that is at least the first one, and at most 64 more.
+    /// Whether a size fits that is at least the first one: a number, a range, or a choice of these.
     #[inline(never)]
     #[cycle(fits)]
-    fn fits_one_from(
+    fn has_size_from(
+        &self,
+        work: &mut Work,
+        sizes: usize,
+        first: u64,
+        depth: u32,
+    ) -> Result<bool, Stop>
+        requires { Holds (rules_of self.now) work.old }
+        ensures right { IfOk result (λ b.
+            any_from (λ k. (matcher (rules_of self.now) depth).fits sizes (integer
+            (pos k))) (size_count - first) first ≡ Some b) }
+        ensures kept { OnOk result (Holds (rules_of self.now) work.new) }
+    {
+        if depth == 0 {
+            return Err(Stop::Deep);
+        }
+        work.step()?;
+        match self.node(sizes) {
+            Node::Integers { least, most } => Ok(has_number_from(least, most, first)),
+            Node::Major(major) => Ok(major == 0),
+            Node::Choice(list) => self.one_has_size_from(work, list, first, depth - 1),
+            Node::Rule(rule) => self.has_size_from(work, self.body(rule), first, depth - 1),
+            _ => self.finds_size_from(work, sizes, first, depth),
+        }
+    }
+
+    /// Whether a size fits one of several types that is at least the first one.
+    #[inline(never)]
+    #[cycle(fits)]
+    fn one_has_size_from(
+        &self,
+        work: &mut Work,
+        list: List,
+        first: u64,
+        inner: u32,
+    ) -> Result<bool, Stop>
+        requires { Holds (rules_of self.now) work.old }
+        ensures right { IfOk result (λ b.
+            any_from (λ k. any_of (λ t. (matcher (rules_of self.now) inner).fits t (integer
+            (pos k))) ((rules_of self.now).list list)) (size_count - first) first ≡ Some b) }
+        ensures kept { OnOk result (Holds (rules_of self.now) work.new) }
+    {
+        let mut found = false;
+        'types: for index in self.list(list) {
+            found |= self.has_size_from(work, *index, first, inner)?;
+        }
+        Ok(found)
+    }
+
+    /// Tries sizes from the first one on until one fits. If none does, that takes all steps.
+    #[inline(never)]
+    #[cycle(fits)]
+    fn finds_size_from(
         &self,
         work: &mut Work,
         sizes: usize,
         first: u64,
         inner: u32,
     ) -> Result<bool, Stop>
-        requires kept { Holds (rules_of self.now) work.old }
-        requires small { first ≤ 8 }
+        requires { Holds (rules_of self.now) work.old }
         ensures right { IfOk result (λ b.
             any_from (λ k. (matcher (rules_of self.now) inner).fits sizes (integer
-            (pos k))) 65 first ≡ Some b) }
+            (pos k))) (size_count - first) first ≡ Some b) }
         ensures kept { OnOk result (Holds (rules_of self.now) work.new) }
     {
-        'sizes: for more in 0..65u64 {
-            if self.fits_number(work, sizes, first + more, inner)? {
+        'sizes: for size in first..u64::MAX {
+            if self.fits_number(work, sizes, size, inner)? {
                 return Ok(true);
             }
         }
-        Ok(false)
+        Err(Stop::Work)
     }
 
     /// `.bits`: the number of each bit that is set fits.

@@ -108,7 +108,7 @@ impl<'a> Run<'a> {
                 (fits, Found::Sized)
             }
             Kind::Integer(number) if number >= 0 => {
-                let fits = self.fits_width(sizes, bytes_of(number), depth)?;
+                let fits = self.has_number(sizes, bytes_of(number), i128::MAX, depth)?;
                 (fits, Found::Item)
             }
             _ => (false, Found::Item),
@@ -117,17 +117,6 @@ impl<'a> Run<'a> {
             self.miss(Want::Type(node), index, found)?;
         }
         Ok(fits)
-    }
-
-    /// Whether one of the sizes is at least a number of bytes.
-    fn fits_width(&mut self, sizes: usize, least: i128, depth: u32) -> Result<bool, Stop> {
-        for more in 0..65u8 {
-            let size = least.saturating_add(i128::from(more));
-            if self.fits_number(sizes, size, depth)? {
-                return Ok(true);
-            }
-        }
-        Ok(false)
     }
 
     /// `.bits`

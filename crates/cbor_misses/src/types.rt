@@ -84,6 +84,17 @@ impl<'a> Run<'a> {
         number: i128,
         depth: u32,
     ) -> Result<bool, Stop> {
+        self.has_number(node, number, number, depth)
+    }
+
+    /// Whether a number within bounds fits a type, as a size that is enough.
+    pub(crate) fn has_number(
+        &mut self,
+        node: usize,
+        from: i128,
+        to: i128,
+        depth: u32,
+    ) -> Result<bool, Stop> {
         if depth == 0 {
             return Err(Stop::Deep);
         }
@@ -91,28 +102,28 @@ impl<'a> Run<'a> {
         self.step()?;
         match self.schema.node(node) {
             Node::Any => Ok(true),
-            Node::Major(major) => Ok(major == 0 && number >= 0),
-            Node::Integers { least, most } => Ok(least <= number && number <= most),
+            Node::Major(major) => Ok(major == 0 && to >= 0),
+            Node::Integers { least, most } => Ok(least.max(from) <= most.min(to)),
             Node::Rule(rule) => {
                 let node = self.rule_node(rule);
-                self.fits_number(node, number, inner)
+                self.has_number(node, from, to, inner)
             }
             Node::Choice(list) => {
                 for place in list.start..list.end {
                     let alternative = self.listed(place);
-                    if self.fits_number(alternative, number, inner)? {
+                    if self.has_number(alternative, from, to, inner)? {
                         return Ok(true);
                     }
                 }
                 Ok(false)
             }
             Node::Both { target, other } => {
-                let first = self.fits_number(target, number, inner)?;
-                Ok(first && self.fits_number(other, number, inner)?)
+                let first = self.has_number(target, from, to, inner)?;
+                Ok(first && self.has_number(other, from, to, inner)?)
             }
             Node::Unequal { target, other } => {
-                let first = self.fits_number(target, number, inner)?;
-                Ok(first && !self.fits_number(other, number, inner)?)
+                let first = self.has_number(target, from, to, inner)?;
+                Ok(first && (from < to || !self.has_number(other, from, to, inner)?))
             }
             _ => Ok(false),
         }

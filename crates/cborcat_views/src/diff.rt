@@ -88,7 +88,10 @@ impl Views<'_> {
         sides: (&Noted<'_>, &Noted<'_>),
     ) -> Result<(), Error> {
         let (old, new) = sides;
-        let path = self.path_of(difference, sides)?;
+        let path = match difference.change {
+            Change::Added => self.path_of(difference, new)?,
+            _ => self.path_of(difference, old)?,
+        };
         line.extend_from_slice(mark_of(difference.change).as_bytes())?;
         self.screen.push_path(line, &path)?;
         let (first, second) = (
@@ -110,16 +113,8 @@ impl Views<'_> {
         Ok(())
     }
 
-    /// The path of a difference in its input, and two blanks.
-    fn path_of(
-        self,
-        difference: &Difference,
-        sides: (&Noted<'_>, &Noted<'_>),
-    ) -> Result<String, AllocError> {
-        let side = match difference.change {
-            Change::Added => sides.1,
-            _ => sides.0,
-        };
+    /// The path of a difference in the input of one side, and two blanks.
+    fn path_of(self, difference: &Difference, side: &Noted<'_>) -> Result<String, AllocError> {
         let (mut path, steps) = (String::new(self.rt.alloc()), difference.path.as_str());
         if side.number > 0 {
             write!(path, "{}:", side.number)?;

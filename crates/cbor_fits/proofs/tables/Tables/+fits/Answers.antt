@@ -1,17 +1,21 @@
 -- One level is what the definition says of it, and each loop comes to the answer for all.
-use Rattle.std.proofs.Common.{◌≡◌, ◌+◌, ◌-◌, ◌%◌, ◌<◌, refl, rules, tests, ℕ, Bool, true, Option, Some, IfOk, map, pos}
+use Rattle.std.proofs.Common.{◌≡◌, ◌≤◌, ◌+◌, ◌-◌, ◌%◌, ◌<◌, ◌==◌, int_le, false, refl, rules, tests, ℕ, Bool, true, Option, Some, IfOk, map, pos}
 use Rattle.std.proofs.Common.{ap, sym, subst, ◌∙◌, arith}
+use mir.Syntax.{w128}
+use mir.Val.{SFits}
 use Rattle.std.proofs.lemmas.Bool.Decides.{nat_tests}
+use Rattle.std.proofs.lemmas.Int.{ints}
+use Rattle.std.proofs.lemmas.List.{get_or_default}
 use Rattle.cbor_fits.specs.Value.{integer}
 use Rattle.cbor_fits.specs.View.{view}
 use Rattle.cbor_fits.specs.Tables.{rules_of}
 use Rattle.cbor_fits.specs.Rests.{rest_view, outcome_view, pair_view, pair_view_of}
 use Rattle.cbor_fits.specs.Kept.{Holds}
-use Rattle.cbor_fits.specs.Fits.{Outcome, matcher, has_size, any_from, size}
+use Rattle.cbor_fits.specs.Fits.{Outcome, matcher, has_size, any_from, size, size_count}
 use Rattle.cbor_fits.proofs.Views.{view-Array, view-Map, view-Bytes, view-Unsigned}
 use Rattle.cbor_fits.proofs.Levels.{fits_at, fits_alone, fits_after, fits_not_after, takes_at}
 use Rattle.cbor_fits.proofs.Inside.{array_takes, map_takes, inside_fits, turn_on, bits_on, from_here, from_next}
-use Rattle.cbor_fits.proofs.Inside.{from_end}
+use Rattle.cbor_fits.proofs.Sizes.{from_needed, from_within, from_no_type, from_bounds, from_all, sizes_at, from_next_type}
 use Rattle.cbor_fits.proofs.tables.Tables.+fits.Goals as goal
 use Rattle.cbor_fits.proofs.tables.Tables.+fits.Goals.{fits_set_bits-then-is_set+in_ok-fits_number+else-not-branch}
 use Rattle.cbor_fits.proofs.tables.Tables.+fits.Goals.{fits_set_bits-else-is_set}
@@ -91,28 +95,78 @@ fits_sequence-returns-in_ok-fits-in-Some-clause-right t c =
     (ap view c.in-Bytes.is ∙ view-Bytes v) c.deref.ensures.value
     c.in_ok-items.ensures c.in-Some.is ∙ c.in_ok-fits-in-Some.ensures.right
 
-pub fits_one_from-returns-then-branch-clause-right : goal.fits_one_from-returns-then-branch-clause-right
-fits_one_from-returns-then-branch-clause-right t c =
-    from_here _ (65 - c.sizes.more) (c.args.first + c.sizes.more) _ c.sizes.invariant.right (omega arith)
+pub finds_size_from-returns-then-branch-clause-right : goal.finds_size_from-returns-then-branch-clause-right
+finds_size_from-returns-then-branch-clause-right t c =
+    from_here _ (size_count - c.sizes.size) c.sizes.size _ c.sizes.invariant.right (omega arith)
     (c.in_ok-fits_number.ensures.right ∙ ap (λ b. Some b) c.if-branch.true)
 
-pub fits_one_from-sizes-preserved : goal.fits_one_from-sizes-preserved
-fits_one_from-sizes-preserved t c =
-    let right = from_next _ (65 - c.sizes.more) (c.args.first + c.sizes.more) _ _ _ c.sizes.invariant.right
-    (omega arith)
+pub finds_size_from-sizes-preserved : goal.finds_size_from-sizes-preserved
+finds_size_from-sizes-preserved t c =
+    let right = from_next _ (size_count - c.sizes.size) c.sizes.size _ _ _ c.sizes.invariant.right (omega arith)
     (c.in_ok-fits_number.ensures.right ∙ ap (λ b. Some b) c.if-branch.false) (omega arith) (omega arith) in
     record { right = right; kept = c.in_ok-fits_number.ensures.kept }
 
-pub fits_one_from-returns-clause-right : goal.fits_one_from-returns-clause-right
-fits_one_from-returns-clause-right t c =
-    from_end _ (65 - c.sizes.more) (c.args.first + c.sizes.more) _ c.sizes.invariant.right (omega arith)
+pub has_size_from-returns-in-Integers-clause-right : goal.has_size_from-returns-in-Integers-clause-right
+has_size_from-returns-in-Integers-clause-right t c =
+    let r = rules_of c.args.self.now in
+    let h : 0 < c.args.depth = omega arith in
+    let count = size_count - c.args.first in
+    let e = sizes_at r c.args.depth c.args.sizes count c.args.first c.node.result _ h c.node.ensures c.in-Integers.is in
+    let low : SFits w128 c.in-Integers.least = search rules in
+    let high : SFits w128 c.in-Integers.most = search rules in
+    let top : int_le (pos (c.args.first + count)) c.in-Integers.most ≡ false = grind (arith, ints, high) in
+    e ∙ (from_within c.in-Integers.least c.in-Integers.most count c.args.first top
+    ∙ ap (λ b. Some b)
+    (from_bounds w128 c.in-Integers.least c.in-Integers.most c.args.first _ low high c.has_number_from.ensures))
+
+pub has_size_from-returns-in-Major-clause-right : goal.has_size_from-returns-in-Major-clause-right
+has_size_from-returns-in-Major-clause-right t c =
+    let r = rules_of c.args.self.now in
+    let h : 0 < c.args.depth = omega arith in
+    let count = size_count - c.args.first in
+    let some : 0 < count = omega arith in
+    let e = sizes_at r c.args.depth c.args.sizes count c.args.first c.node.result _ h c.node.ensures c.in-Major.is in
+    let turned : (0 == c.in-Major.major) ≡ (c.in-Major.major == 0) = grind (arith, nat_tests) in
+    e ∙ (from_all (0 == c.in-Major.major) count c.args.first some ∙ ap (λ b. Some b) turned)
+
+pub has_size_from-returns-in-Choice-clause-right : goal.has_size_from-returns-in-Choice-clause-right
+has_size_from-returns-in-Choice-clause-right t c =
+    let r = rules_of c.args.self.now in
+    let h : 0 < c.args.depth = omega arith in
+    let count = size_count - c.args.first in
+    let e = sizes_at r c.args.depth c.args.sizes count c.args.first c.node.result _ h c.node.ensures c.in-Choice.is in
+    subst (λ (a : Option Bool). IfOk c.one_has_size_from.result (λ b. a ≡ Some b)) (sym e)
+    c.one_has_size_from.ensures.right
+
+pub has_size_from-returns-in-Rule-clause-right : goal.has_size_from-returns-in-Rule-clause-right
+has_size_from-returns-in-Rule-clause-right t c =
+    let r = rules_of c.args.self.now in
+    let h : 0 < c.args.depth = omega arith in
+    let count = size_count - c.args.first in
+    let e = sizes_at r c.args.depth c.args.sizes count c.args.first c.node.result _ h c.node.ensures c.in-Rule.is in
+    let f = λ (n k : ℕ). (matcher r (c.args.depth - 1)).fits n (integer (pos k)) in
+    let whole = e ∙ ap (λ n. any_from (f n) count c.args.first) (sym c.body.ensures) in
+    subst (λ (a : Option Bool). IfOk c.has_size_from.result (λ b. a ≡ Some b)) (sym whole) c.has_size_from.ensures.right
+
+pub one_has_size_from-types-preserved : goal.one_has_size_from-types-preserved
+one_has_size_from-types-preserved t c =
+    let f = λ (u k : ℕ). (matcher (rules_of c.args.self.now) c.args.inner).fits u (integer (pos k)) in
+    let right = from_next_type f _ _ _ _ _ _ _ _ c.types.invariant.right c.types-test.true
+    (sym (get_or_default _ _ _ _ c.types-test.true)) c.in_ok-found.ensures.right in
+    record { right = right; kept = c.in_ok-found.ensures.kept }
+
+pub one_has_size_from-returns-clause-right : goal.one_has_size_from-returns-clause-right
+one_has_size_from-returns-clause-right t c =
+    let f = λ (u k : ℕ). (matcher (rules_of c.args.self.now) c.args.inner).fits u (integer (pos k)) in
+    from_no_type f _ _ _ _ _ _ c.types.invariant.right c.types-test.false
 
 pub fits_size-returns-in-Unsigned-clause-right : goal.fits_size-returns-in-Unsigned-clause-right
 fits_size-returns-in-Unsigned-clause-right t c =
     let f = λ (k : ℕ). (matcher (rules_of c.args.self.now) c.args.inner).fits c.args.sizes (integer (pos k)) in
+    let few : c.bytes_needed.result ≤ size_count = omega (arith, c.bytes_needed.ensures.few) in
     let e = ap (has_size f) (ap view c.in-Unsigned.is ∙ view-Unsigned _)
-    ∙ ap (any_from f 65) (sym c.bytes_needed.ensures.needed) in
-    subst (λ (a : Option Bool). IfOk c.fits_one_from.result (λ b. a ≡ Some b)) (sym e) c.fits_one_from.ensures.right
+    ∙ from_needed f _ c.bytes_needed.result size_count c.bytes_needed.ensures.needed few in
+    subst (λ (a : Option Bool). IfOk c.has_size_from.result (λ b. a ≡ Some b)) (sym e) c.has_size_from.ensures.right
 
 pub takes-returns-clause-right : goal.takes-returns-clause-right
 takes-returns-clause-right t c =

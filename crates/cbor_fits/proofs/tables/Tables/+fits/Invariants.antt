@@ -1,6 +1,6 @@
 -- Each call for what is inside has less depth left than the one that makes it. A loop over what is left comes to the
 -- answer for all.
-use Rattle.std.proofs.Common.{◌≡◌, ℕ, ◌+◌, ◌-◌, ◌*◌, drop, pos, map, if◌then◌else◌}
+use Rattle.std.proofs.Common.{◌≡◌, ℕ, ◌+◌, ◌-◌, ◌*◌, drop, pos, map, if◌then◌else◌, Bool, ◌||◌, Some}
 use Rattle.cbor_fits.specs.Value.{integer}
 use Rattle.cbor_fits.specs.View.{view}
 use Rattle.cbor_fits.specs.Tables.{rules_of}
@@ -8,7 +8,7 @@ use Rattle.cbor_fits.specs.Rests.{rest_view, pair_view_of}
 use Rattle.cbor_fits.specs.Kept.{Holds}
 use Rattle.cbor_fits.specs.Splits.{split_view}
 use Rattle.cbor_fits.specs.Fits.{matcher, any_of, any_from, all_bits, all_bits_of, in_turn, first_of, repeated, occurs}
-use Rattle.cbor_fits.specs.Fits.{split, no_split, refuses, cuts, size}
+use Rattle.cbor_fits.specs.Fits.{split, no_split, refuses, cuts, size, size_count}
 use Rattle.cbor_fits.proofs.tables.Tables.+fits.Given as goal
 
 abbrev pub decreases-fits : goal.decreases-fits
@@ -80,8 +80,14 @@ decreases-take_repeated l = l.inner * 9 + 5
 abbrev pub decreases-take_pairs : goal.decreases-take_pairs
 decreases-take_pairs l = l.inner * 9 + 5
 
-abbrev pub decreases-fits_one_from : goal.decreases-fits_one_from
-decreases-fits_one_from l = l.inner * 9 + 4
+abbrev pub decreases-has_size_from : goal.decreases-has_size_from
+decreases-has_size_from l = l.depth * 9 + 5
+
+abbrev pub decreases-one_has_size_from : goal.decreases-one_has_size_from
+decreases-one_has_size_from l = l.inner * 9 + 6
+
+abbrev pub decreases-finds_size_from : goal.decreases-finds_size_from
+decreases-finds_size_from l = l.inner * 9 + 4
 
 abbrev pub decreases-fits_set_bits : goal.decreases-fits_set_bits
 decreases-fits_set_bits l = l.inner * 9 + 4
@@ -98,11 +104,23 @@ invariant-fits_one_of-types l =
       kept : Holds (rules_of l.self) l.work;
     }
 
-abbrev pub invariant-fits_one_from-sizes : goal.invariant-fits_one_from-sizes
-invariant-fits_one_from-sizes l =
+-- the sizes that are left decide
+abbrev pub invariant-finds_size_from-sizes : goal.invariant-finds_size_from-sizes
+invariant-finds_size_from-sizes l =
     let fits = λ (k : ℕ). (matcher (rules_of l.self) l.inner).fits l.sizes (integer (pos k)) in
     record {
-      right : any_from fits (65 - l.more) (l.first + l.more) ≡ any_from fits 65 l.first;
+      right : any_from fits (size_count - l.size) l.size ≡ any_from fits (size_count - l.first) l.first;
+      kept : Holds (rules_of l.self) l.work;
+    }
+
+-- with an answer for the types that are left there is one for all
+abbrev pub invariant-one_has_size_from-types : goal.invariant-one_has_size_from-types
+invariant-one_has_size_from-types l =
+    let fits = λ (t k : ℕ). (matcher (rules_of l.self) l.inner).fits t (integer (pos k)) in
+    let count = size_count - l.first in
+    record {
+      right : (b : Bool) → any_from (λ k. any_of (λ t. fits t k) (drop l.index-index l.index-items)) count l.first ≡ Some b
+          → any_from (λ k. any_of (λ t. fits t k) ((rules_of l.self).list l.fn.list)) count l.first ≡ Some (l.found || b);
       kept : Holds (rules_of l.self) l.work;
     }
 
