@@ -10,9 +10,9 @@ function spaced(bytes) {
     return Array.from(bytes, (byte) => byte.toString(16).padStart(2, "0")).join(" ");
 }
 
-/** The place in a text that stands before so many bytes of its UTF-8. */
-function placeInText(text, bytes) {
-    return new TextDecoder().decode(utf8.encode(text).subarray(0, bytes)).length;
+/** The text of UTF-8 as a box has it: each of its lines ends in a line feed. */
+function textOf(bytes) {
+    return new TextDecoder("utf-8", { ignoreBOM: true }).decode(bytes).replace(/\r\n?/g, "\n");
 }
 
 /** A box of text, with what is wrong with it. */
@@ -39,10 +39,17 @@ class Box {
         this.area.removeAttribute("aria-invalid");
     }
 
-    /** Says what is wrong, with the line and a caret below the place. */
-    refuse({ message, place, read }) {
-        const text = this.area.value;
-        const at = place === null ? text.length : placeInText(text, place);
+    /** Says why what was given was not read. */
+    refuse(given, { message, place, read }) {
+        this.clear("");
+        this.point(given, place, `${read ? `no ${read}: ` : ""}${message}`);
+        this.area.setAttribute("aria-invalid", "true");
+    }
+
+    /** Says something of a place in what was given: its line, with a caret below the place. */
+    point(given, place, message) {
+        const text = textOf(given);
+        const at = place === null ? text.length : textOf(given.subarray(0, place)).length;
         const begin = text.lastIndexOf("\n", at - 1) + 1;
         const line = text.slice(0, at).split("\n").length;
         const from = Math.max(begin, at - 40);
@@ -51,13 +58,12 @@ class Box {
         shown.textContent = `${start.slice(0, 80)}\n${" ".repeat([...text.slice(from, at)].length)}^`;
         const go = document.createElement("button");
         go.textContent = "go there";
+        go.hidden = this.area.value !== text;
         go.addEventListener("click", () => {
             this.area.focus();
             this.area.setSelectionRange(at, at);
         });
         const where = `line ${line}, column ${[...text.slice(begin, at)].length + 1}`;
-        this.wrong.replaceChildren(`${where}: ${read ? `no ${read}: ` : ""}${message} `, go, shown);
-        this.area.setAttribute("aria-invalid", "true");
-        this.note.textContent = "";
+        this.wrong.append(`${where}: ${message} `, go, shown);
     }
 }

@@ -1,7 +1,7 @@
 // Makes calls of the library in the module, for page/check. Reads a call from each line of standard input, as JSON:
-// the name and the values. A value is a number, {"given": hex} for bytes, {"room": size} for an output, or
-// {"cell": size} for what a call sets. Writes a line for each call: what it returned, and what it wrote in hex; of what
-// is long the SHA-256.
+// the name and the values. A value is a number, {"size": number} for a size_t, {"given": hex} for bytes,
+// {"room": size} for an output, or {"cell": size} for what a call sets. Writes a line for each call: what it returned,
+// and what it wrote in hex; of what is long the SHA-256.
 //
 //     node calls.mjs MODULE < CALLS
 import { createHash } from "node:crypto";
@@ -16,8 +16,9 @@ const library = new Library(module);
 
 const valueOf = (value) =>
     typeof value === "number" ? value
+        : "size" in value ? BigInt(value.size)
         : "given" in value ? new Uint8Array(Buffer.from(value.given, "hex"))
-            : "room" in value ? new Room(value.room) : new Cell(value.cell);
+        : "room" in value ? new Room(value.room) : new Cell(value.cell);
 
 function digest(bytes) {
     const whole = Buffer.from(bytes);

@@ -51,8 +51,8 @@ class Library {
     }
 
     /**
-     * Makes a call. A number is passed as it is; a Uint8Array as the pointer and the length of a copy; a Room as those
-     * of free memory; a Cell as a pointer; Held as it is. Returns what the call returns.
+     * Makes a call. A number is passed as it is, and a size as a BigInt; a Uint8Array as the pointer and the length of a
+     * copy; a Room as those of free memory; a Cell as a pointer; Held as it is. Returns what the call returns.
      */
     call(name, ...values) {
         const held = [];
@@ -101,7 +101,7 @@ class Library {
 
     /** The words of a call for a value, whose memory is held until the call is over. */
     #passed(value, held) {
-        if (typeof value === "number") {
+        if (typeof value === "number" || typeof value === "bigint") {
             return [value];
         }
         if (value instanceof Held) {

@@ -99,6 +99,8 @@ on("encode", "click", async () => {
     const answer = await ask({ encode: true });
     if (answer.unencodable) {
         say(`No encoding keeps these rules: ${answer.unencodable.message} `, ...goThere(answer.unencodable.place));
+        boxOfGiven().wrong.replaceChildren();
+        showInText({ violation: answer.unencodable });
     } else if (answer.bytes) {
         give({ input: answer.bytes, as: "bytes" }, "", state.name);
     }

@@ -14,7 +14,7 @@ sys.path.insert(0, str(HERE.parent / "checks/compare"))
 from rows import DATA, file_names, rows_of
 
 BYTES, HEX, DIAG, EDN = 0, 1, 2, 4
-FORMS, RULES = range(9), range(7)
+FORMS, RULES, INPUTS = range(9), range(7), range(5)
 ROOM, WORD, HEAD, VALUE, PART = {"room": 1 << 16}, {"cell": 8}, {"cell": 24}, {"cell": 56}, {"room": 240}
 MISFIT = {"cell": 88}
 TYPES = ["", "COSE_Key", "CWT", "cose_sign1", "no such type"]
@@ -93,6 +93,8 @@ def calls(has_page):
         yield from calls_on_bytes(data, has_page)
     for text in texts:
         yield ["cbor_diag_recognize", [given(text), WORD, ROOM]]
+        yield from (["cbor_diag_place_in_text", [form, given(text), {"size": byte}]]
+                    for form in INPUTS for byte in [0, 1, 9])
         for form in [HEX, DIAG, EDN]:
             yield from calls_on(form, text)
 
@@ -121,6 +123,8 @@ def native_answer(library, name, values):
     for value in values:
         if isinstance(value, int):
             words.append(ctypes.c_uint32(value))
+        elif "size" in value:
+            words.append(ctypes.c_size_t(value["size"]))
         elif "given" in value:
             data = bytes.fromhex(value["given"])
             words += [ctypes.c_char_p(data), ctypes.c_size_t(len(data))]

@@ -93,6 +93,9 @@ const say = (text, ...more) => element("said").replaceChildren(text, ...more);
 const input = new Box("input", () => typed("input", "any"));
 const notation = new Box("notation", () => typed("notation", "notation"));
 
+/** The box whose text was read last. */
+const boxOfGiven = () => (state.from === "notation" ? notation : input);
+
 function typed(from, as) {
     give({ input: utf8.encode((from === "input" ? input : notation).area.value), as }, from, "");
 }
@@ -118,7 +121,7 @@ function showAnswer(answer) {
     if (answer.stopped) {
         say(`The library stopped: ${answer.stopped}. A new instance of it is ready.`);
     } else if (!answer.bytes) {
-        (state.from === "notation" ? notation : input).refuse(answer.fault);
+        boxOfGiven().refuse(state.given.input, answer.fault);
         element("lines").dataset.stale = "yes";
     } else if (answer.refused) {
         say(`No view: ${answer.refused}.`);
@@ -129,6 +132,7 @@ function showAnswer(answer) {
         showSize(answer);
         showTab(answer);
         showRules(answer);
+        showInText(answer);
         performance.mark("shown");
         dispatchEvent(new Event("shown"));
     }
@@ -145,7 +149,7 @@ function showBoxes({ bytes, form, notation: text }) {
     if (state.from === "") {
         const isBytes = form === "bytes";
         const fits = bytes.length <= BOX && state.given.input.length <= 3 * BOX;
-        input.show(fits ? (isBytes ? spaced(bytes) : new TextDecoder().decode(state.given.input)) : null, long);
+        input.show(fits ? (isBytes ? spaced(bytes) : textOf(state.given.input)) : null, long);
     }
     const read = state.from === "notation" ? "the bytes of the notation, in hex" : `read as ${READ[form]}`;
     input.clear(state.given.input.length ? read : "");
@@ -195,6 +199,17 @@ function showRules({ violation, broken }) {
     }
     say(`Not ${rules}: ${hexed(violation.place)}: ${violation.message} `, ...goThere(violation.place));
     light(state.lit);
+}
+
+/** Shows in the text that was given where the faults of its bytes are, if it was text. */
+function showInText({ violation, broken, lost }) {
+    const rules = element("rules").value;
+    const said = violation && { ...violation, message: `not ${rules}: ${violation.message}` };
+    for (const fault of [lost ?? broken, said]) {
+        if (typeof fault?.inText === "number") {
+            boxOfGiven().point(state.given.input, fault.inText, fault.message);
+        }
+    }
 }
 
 /** What begins at a byte, in the part of the view that is there. */

@@ -215,6 +215,36 @@ const steps = {
         choose("rules", "");
     },
 
+    async "shows in a text where its items violate rules, and what is lost in JSON"() {
+        choose("rules", "core");
+        type("input", '{"b": 1,\n "a": 2}');
+        const wrong = await until(() => element("input-wrong").textContent);
+        same(/^line 2, column 2: not core: .*go there "a": 2\}\n \^$/.test(wrong), true);
+        same([element("input-note").textContent, element("input").hasAttribute("aria-invalid")],
+            ["read as notation", false]);
+        same(element("said").textContent.startsWith("Not core: byte 4 (0x4): "), true);
+        element("input-wrong").querySelector("button").click();
+        same([document.activeElement.id, element("input").selectionStart], ["input", 10]);
+        type("input", "a2 61 62 01 # b\n61 61 02");
+        await until(() => element("input-wrong").textContent.startsWith("line 2, column 1: not core: "));
+        type("notation", '{"b": 1, "a": 2}');
+        await until(() => element("notation-wrong").textContent.startsWith("line 1, column 10: not core: "));
+        same(element("input-wrong").textContent, "");
+        open("two.cbor", bytesOf("a2616201616102"));
+        await until(() => element("input-note").textContent === "read as bytes");
+        same([element("input-wrong").textContent, element("notation-wrong").textContent], ["", ""]);
+        open("two.json", new TextEncoder().encode('{"b": 1,\r\n "a": 2}'));
+        await until(() => element("input-wrong").textContent.startsWith("line 2, column 2: not core: "));
+        same(element("input-wrong").querySelector("button").hidden, false);
+        choose("rules", "");
+        element("tab-json").click();
+        type("input", '{1: 2,\n "1": 3}');
+        await until(() => element("input-wrong").textContent.startsWith("line 2, column 2: two keys of a map "));
+        await until(() => element("other").textContent.includes("byte 3 (0x3)"));
+        element("tab-lines").click();
+        await until(() => !element("lines").hidden && element("input-wrong").textContent === "");
+    },
+
     async "copies, and saves"() {
         let copied = null;
         const clipboard = { writeText: async (text) => (copied = text) };

@@ -86,6 +86,21 @@ function outputs(library, bytes, { items, broken }, form) {
     return { texts, fault: broken };
 }
 
+/**
+ * Says of faults in bytes where they are in the text that these were read from: how many of its bytes come before, as
+ * `inText`. It is null for bytes of a file, and for a fault without a place.
+ */
+function placeInText(library, input, form, faults) {
+    for (const fault of faults.filter(Boolean)) {
+        fault.inText = null;
+        if (form !== "bytes" && fault.place !== null) {
+            const place = BigInt(fault.place);
+            const answer = library.call("cbor_diag_place_in_text", INPUTS.indexOf(form), input, place);
+            fault.inText = answer < 0 ? null : answer;
+        }
+    }
+}
+
 function errorText(library, answer) {
     return library.text("cbor_diag_error_text", -answer);
 }
@@ -116,7 +131,8 @@ function notationOf(library, { items }, type) {
  *
  * An answer has bytes, and form; count, how many items there are; what is shown in `shown`, as UTF-8; and if there is
  * one, notation; the fault of a text without bytes; broken, the fault of bytes; violation; why there is no encoding;
- * lost, the fault in an output of the tab; and why a view was refused.
+ * lost, the fault in an output of the tab; and why a view was refused. Faults of bytes have their place in these, and
+ * inText, that in the text that was read.
  */
 function worked(library, request) {
     const read = bytesOf(library, request);
@@ -137,7 +153,12 @@ function worked(library, request) {
     if (request.notation) {
         answer.notation = notationOf(library, sequence, request.type);
     }
-    return { ...answer, ...shownIn(library, request, bytes, sequence) };
+    Object.assign(answer, shownIn(library, request, bytes, sequence));
+    if (bytes === read.bytes) {
+        const { broken, violation, unencodable, lost } = answer;
+        placeInText(library, request.input, read.form, [broken, violation, unencodable, lost]);
+    }
+    return answer;
 }
 
 /** What a tab shows of bytes. */
