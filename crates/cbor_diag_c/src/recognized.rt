@@ -76,12 +76,7 @@ pub extern "C" fn cbor_diag_recognize(
 /// Returns how many bytes of the text come before that place, or minus the number of the error:
 /// `Memory`, or 11 for another form.
 #[unsafe(no_mangle)]
-pub extern "C" fn cbor_diag_place_in_text(
-    alloc: Global,
-    form: u32,
-    text: &[u8],
-    byte: usize,
-) -> i64
+pub extern "C" fn cbor_diag_place_in_text(alloc: Global, form: u32, text: &[u8], byte: usize) -> i64
     ensures place { IfLength result (λ n. n ≤ length text.now) }
     ensures error { IfError result (λ n. (n ≡ 1) ⊎ (n ≡ no_form)) }
 {

@@ -84,7 +84,10 @@ impl Side<'_> {
         let (head, start, begins) = head;
         let (tag, level) = around;
         let content = content_after(head, bytes.get(begins..)?)?;
-        match self.opened.content(ByteString { start, level, tag }, content) {
+        match self
+            .opened
+            .content(ByteString { start, level, tag }, content)
+        {
             Content::Item => Some(begins),
             _ => None,
         }

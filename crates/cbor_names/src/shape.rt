@@ -74,7 +74,7 @@ impl Names {
     ///
     /// let names = known_names(alloc)?;
     /// let Some(found) = names.of("COSE_Key") else {
-    ///     return;
+    ///     return Ok(());
     /// };
     /// let key = Known::of(found);
     /// // {1: 4}, and [1]

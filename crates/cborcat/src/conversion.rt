@@ -240,7 +240,8 @@ impl<'a> Conversion<'a> {
             }
             match end {
                 _ if self.found || self.page.is_over => {
-                    self.ended(self.changes.report());
+                    let status = self.changes.report();
+                    self.ended(status);
                     return Next::NextInput;
                 }
                 End::Full => {}

@@ -91,7 +91,8 @@ impl Conversion<'_> {
 
     /// Says which items that were to be changed alone are not there, and which parts no item had.
     fn note_few_changed(&mut self) {
-        self.ended(self.changes.report());
+        let status = self.changes.report();
+        self.ended(status);
         let count = self.changes.count;
         for change in &self.job.changes {
             if let Some(item) = change.item

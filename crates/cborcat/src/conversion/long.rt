@@ -79,6 +79,17 @@ impl LongString {
         kept.extend_from_slice(rest.get(len..).unwrap_or(b""))?;
         Ok(kept)
     }
+
+    /// The bytes without what can be dropped of its content, and how many that are; nothing if none
+    /// can be.
+    fn shorter(self, alloc: Global, bytes: &[u8]) -> Result<Option<(Vec<u8>, usize)>, AllocError> {
+        let len = self.droppable(bytes.get(self.content..).unwrap_or(b""));
+        if len == 0 {
+            return Ok(None);
+        }
+        let kept = self.without(alloc, bytes, len)?;
+        Ok(Some((kept, len)))
+    }
 }
 
 impl Conversion<'_> {
@@ -113,12 +124,9 @@ impl Conversion<'_> {
 
     /// Drops what came of the content of a string, but for its last bytes.
     fn drop_content(&mut self, string: LongString) -> Result<(), AllocError> {
-        let rest = self.stream.rest();
-        let len = string.droppable(rest.get(string.content..).unwrap_or(b""));
-        if len == 0 {
+        let Some((kept, len)) = string.shorter(self.rt.alloc(), self.stream.rest())? else {
             return Ok(());
-        }
-        let kept = string.without(self.rt.alloc(), rest, len)?;
+        };
         self.stream = Stream::new(kept);
         self.look_from = MANY;
         let end = self.begins().saturating_add(string.content);

@@ -77,7 +77,7 @@ impl Shapes {
             Naming {
                 names,
                 known: Some(known),
-            ..
+                ..
             },
         ) = tables
         {

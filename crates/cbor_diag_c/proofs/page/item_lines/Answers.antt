@@ -11,5 +11,5 @@ returns-in-Ok-clause-ok c =
     let lines = c.in-Ok.ensures.lines in
     let new = lines.2 ∙ ap (λ (old : List ℕ). old ++ lines.1) c.new-lines.ensures.items in
     let show = c.new-show.ensures in
-    lines_of _ b one.0 c.in-Ok.shown.used c.push_items.new.out.items one.1 all show.whole show.form
+    lines_of c.new-show.result b one.0 c.in-Ok.shown.used c.push_items.new.out.items one.1 all show.whole show.form
     show.names show.bytes show.notes show.widths show.columns (lines.0, lines.1, new, lines.3, lines.4)
