@@ -65,7 +65,7 @@ BELOW := $(filter-out cbor_diag_c $(PROGRAMS),$(shell sed -n 's/^\(cbor[a-z0-9_]
 
 .PHONY: all program library install try try-rt try-cargo try-nothing rust check-rust quick test gate planted check \
     check-pages check-commands check-docs check-cat check-editing check-allocations check-bindings check-packages tarball deb wheel vectors arm64 arm64-packages \
-    check-arm64 page check-page npm check-npm windows windows-packages check-windows release compare bench clean sqlite postgresql install-sqlite install-postgresql deb-sqlite deb-postgresql deb-sql
+    check-arm64 page check-page npm check-npm windows windows-packages check-windows release compare bench api clean sqlite postgresql install-sqlite install-postgresql deb-sqlite deb-postgresql deb-sql
 
 all: program library $(SCRIPT_FILES) $(MANUALS)
 
@@ -185,6 +185,10 @@ try-cargo check-rust: OFFLINE = $(wildcard /usr/share/cargo/registry/clap-4*)
 check-rust: rust
 	machines/rust/check --proved $(DIST)/bin $(RUST)
 
+# The references of the libraries, from the header, docstrings and doc comments, as far as their tools are installed.
+api:
+	bindings/api $(DIST)/api
+
 # All tests, without a proof: minutes.
 test:
 	@checks/tests
@@ -219,6 +223,8 @@ check-pages:
 	checks/names
 	checks/words
 	checks/page_files
+	checks/promises --self-test
+	checks/promises --check
 	packages/version
 	machines/test
 	machines/rust/test

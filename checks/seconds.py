@@ -5,15 +5,13 @@ a crate's folder counts for that crate, and for one of two kinds of work: the pr
 a must-fail edit, which the kit tries in a folder of its own. What a process takes in its last half
 second is lost.
 
-    python3 checks/seconds.py FILE PAGE
+    python3 checks/seconds.py FILE
 
-writes the table of a gate, which it left in FILE, into the page, in place of the table there. Needs Python 3 and its
-standard library only.
+prints the table of a gate, which it left in FILE, the dearest crate first. Needs Python 3 and its standard library only.
 """
 import collections
 import os
 import pathlib
-import re
 import sys
 import threading
 import time
@@ -22,7 +20,6 @@ TOP = pathlib.Path(__file__).resolve().parent.parent
 TICKS = os.sysconf("SC_CLK_TCK")
 KINDS = ["crate", "edits"]
 BETWEEN = 0.5
-TABLE = re.compile(r"(?<=<!-- the gate's seconds -->\n)(.*?)(?=<!-- end -->)", re.DOTALL)
 
 
 def owner(process):
@@ -84,7 +81,7 @@ def text_of(seconds, clock):
 
 
 def table_of(text):
-    """The table of the page."""
+    """The table, for people."""
     (_, clock, processors), *rows = [line.split() for line in text.splitlines()]
     rows = [(name, *map(int, numbers)) for name, *numbers in rows]
     totals = [sum(column) for column in list(zip(*rows))[1:]]
@@ -96,15 +93,7 @@ def table_of(text):
     return whole + "\n".join(lines) + "\n"
 
 
-def main(source, page):
-    table = table_of(pathlib.Path(source).read_text())
-    text = pathlib.Path(page).read_text()
-    if not TABLE.search(text):
-        sys.exit(f"{page} has no place for the table")
-    pathlib.Path(page).write_text(TABLE.sub(lambda _: table, text))
-
-
 if __name__ == "__main__":
-    if len(sys.argv) != 3:
+    if len(sys.argv) != 2:
         sys.exit(__doc__)
-    main(*sys.argv[1:])
+    print(table_of(pathlib.Path(sys.argv[1]).read_text()), end="")

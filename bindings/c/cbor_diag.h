@@ -571,6 +571,10 @@ static inline int64_t cbor_diag_violation_checked(uint32_t rules, const void *in
  *
  * cbor_diag_reencode_fault says what is wrong, and where.
  *
+ *     unsigned char core[64];
+ *     cbor_diag_reencode(CBOR_DIAG_RULES_CORE, "\xa2\x18\x02\x80\x01\x80", 6, core, sizeof core);
+ *     // 5, and core begins with a2 01 80 02 80
+ *
  * A pointer may be null if its length is 0. The output must not overlap the input.
  */
 static inline int64_t cbor_diag_reencode_checked(uint32_t rules, const void *input, size_t input_len, void *output,

@@ -1,4 +1,4 @@
-"""The texts of comments: numbers, escapes, addresses, UUIDs, dates, URLs (docs/NOTES.md)."""
+"""The texts of comments: numbers, escapes, addresses, UUIDs, dates, URLs (docs/DUMP.md)."""
 
 import base64
 import re

@@ -405,6 +405,13 @@ impl Extent {
 }
 
 /// Reports how bytes begin, without memory. A [`Scanner`] does the same for bytes that come in pieces.
+///
+/// ```rust
+/// use semphluk::{extent, Extent};
+///
+/// assert_eq!(extent(b"\x82\x02\x03\x01"), Extent::Item(3));
+/// assert_eq!(extent(b"\x82\x02"), Extent::Cut);
+/// ```
 pub fn extent(bytes: &[u8]) -> Extent {
     let mut end = 0;
     // SAFETY: the pointers are those of the slice, with its length, and of the variable.
